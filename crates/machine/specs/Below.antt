@@ -1,0 +1,19 @@
+-- For each number below k: a test of all of them, the first that passes one, and a sum over them.
+use Prim.Native.Nat.{ℕ, zero, suc, _+_}
+use mathlib.Core.Bool.{Bool, true, false, cond, _&&_}
+use mathlib.Core.Option.{Option, none, some}
+
+-- p holds of every number below k
+unfoldable pub allBelow : ℕ → (ℕ → Bool) → Bool
+allBelow zero p = true
+allBelow (suc k) p = allBelow k p && p k
+
+-- the lowest number below k of which p holds
+unfoldable pub firstBelow : ℕ → (ℕ → Bool) → Option ℕ
+firstBelow zero p = none
+firstBelow (suc k) p = elim (firstBelow k p) [ none ↦ cond (p k) (some k) none | some i ↦ some i ]
+
+-- f 0 + f 1 + .. + f (k - 1)
+unfoldable pub sumBelow : ℕ → (ℕ → ℕ) → ℕ
+sumBelow zero f = 0
+sumBelow (suc k) f = sumBelow k f + f k

@@ -1,0 +1,83 @@
+-- A call is its one or two words and nothing else. The cutting of a list into calls, the kinds of call, and what the
+-- places 10, 11, 13 and 14 test, which need no table (document 01, 'The calls' and 'Where each number is checked').
+use Prim.Native.Nat.{ℕ}
+use mathlib.Core.Bool.{Bool, true, false, cond, _&&_, _||_}
+use mathlib.Core.List.{List, [], _∷_}
+use mathlib.Core.Option.{Option, none, some}
+use lib.Dec.{eqb}
+use Rattle.machine.specs.Word.{kind, payload, caller, fieldA, fieldB, fieldC}
+
+pub data Call : Type 0 where
+  one : ℕ → Call
+  two : ℕ → ℕ → Call
+
+-- a call's first word
+unfoldable pub first : Call → ℕ
+first (one w) = w
+first (two w v) = w
+
+-- kinds 1 and 2, look up and send, want a second word
+unfoldable pub wantsSecond : ℕ → Bool
+wantsSecond k = eqb k 1 || eqb k 2
+
+-- w and v, one directly after the other, make one call of both
+unfoldable pub pairs : ℕ → ℕ → Bool
+pairs w v = wantsSecond (kind w) && eqb (kind v) 15
+
+-- the call that begins with the word w, where the words ws follow
+unfoldable pub callAt : ℕ → List ℕ → Call
+callAt w [] = one w
+callAt w (v ∷ ws) = cond (pairs w v) (two w v) (one w)
+
+-- the calls of words that stand behind the word p: a word that makes one call with the word before it begins none
+unfoldable pub cutAfter : ℕ → List ℕ → List Call
+cutAfter p [] = []
+cutAfter p (w ∷ ws) = let rest = cutAfter w ws in cond (pairs p w) rest (callAt w ws ∷ rest)
+
+-- the cutting of a whole list: nothing stands before its first word, and 0 pairs with no word
+unfoldable pub cut : List ℕ → List Call
+cut ws = cutAfter 0 ws
+
+-- the seven calls, a word of kind 15 that begins a call (document 01: a stray), and the unknown kinds
+pub data Kind : Type 0 where
+  lookUp send receive myEndpoints myRights grant remove stray unknown : Kind
+
+unfoldable pub kindOf : ℕ → Kind
+kindOf k =
+    cond (eqb k 1) lookUp
+    (cond (eqb k 2) send
+    (cond (eqb k 3) receive
+    (cond (eqb k 4) myEndpoints
+    (cond (eqb k 5) myRights (cond (eqb k 6) grant (cond (eqb k 7) remove (cond (eqb k 15) stray unknown)))))))
+
+unfoldable pub callKind : Call → Kind
+callKind c = kindOf (kind (first c))
+
+-- a call's caller is the number in bits 27–22 of its first word; a stray has none
+unfoldable pub callerOf : Call → Option ℕ
+callerOf c = cond (eqb (kind (first c)) 15) none (some (caller (first c)))
+
+-- the fields of the first word w that a call of a kind doesn't use
+unfoldable pub unusedFields : Kind → ℕ → List ℕ
+unusedFields lookUp w = fieldA w ∷ fieldB w ∷ fieldC w ∷ []
+unusedFields send w = fieldA w ∷ fieldC w ∷ []
+unusedFields receive w = fieldA w ∷ fieldC w ∷ []
+unusedFields myEndpoints w = fieldA w ∷ fieldB w ∷ fieldC w ∷ []
+unusedFields myRights w = fieldA w ∷ fieldB w ∷ fieldC w ∷ []
+unusedFields grant w = []
+unusedFields remove w = fieldB w ∷ []
+unusedFields stray w = []
+unusedFields unknown w = []
+
+unfoldable pub allZero : List ℕ → Bool
+allZero [] = true
+allZero (x ∷ xs) = eqb x 0 && allZero xs
+
+unfoldable pub hasSecond : Call → Bool
+hasSecond (one w) = false
+hasSecond (two w v) = true
+
+-- what a call's second word holds in bits 27–0: the name of a look up, the message of a send
+unfoldable pub secondPayload : Call → ℕ
+secondPayload (one w) = 0
+secondPayload (two w v) = payload v

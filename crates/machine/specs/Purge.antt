@@ -1,0 +1,87 @@
+-- The striking rule's terms: which domains can have reached d at each call (sources; document 01: the set), which calls are
+-- kept (purge), and what d sees at the end (its view) (document 01, 'The striking rule').
+use Prim.Native.Nat.{ℕ, suc, zero, _+_, _*_}
+use mathlib.Core.Bool.{Bool, true, false, cond, _&&_, _||_}
+use mathlib.Core.List.{List, [], _∷_, _++_}
+use mathlib.Core.Option.{Option, none, some}
+use lib.ListN.{getD, take, drop}
+use lib.Dec.{eqb, ltb}
+use Rattle.machine.specs.Table.{domains, endpoints, rightsAt, endpoint}
+use Rattle.machine.specs.Queue.{owner}
+use Rattle.machine.specs.Call.{Call, callerOf}
+use Rattle.machine.specs.Machine.{step}
+use Rattle.machine.specs.Influence.{reaches}
+
+-- A set of domains is the list of its members.
+unfoldable pub member : ℕ → List ℕ → Bool
+member u [] = false
+member u (v ∷ vs) = eqb u v || member u vs
+
+-- u has any right on a member
+unfoldable pub reachesAny : List ℕ → ℕ → List ℕ → Bool
+reachesAny t u [] = false
+reachesAny t u (v ∷ vs) = reaches t u v || reachesAny t u vs
+
+-- the set vs, joined by a call's caller where that is below n and has any right on a member in the table t
+unfoldable pub joinedBy : List ℕ → Option ℕ → List ℕ → List ℕ
+joinedBy t none vs = vs
+joinedBy t (some u) vs = cond (ltb u (domains t) && reachesAny t u vs) (u ∷ vs) vs
+
+-- the set at the first of the calls cs, which are run from the table t; past the last call it is d alone
+unfoldable pub sources : List ℕ → List Call → ℕ → List ℕ
+sources t [] d = d ∷ []
+sources t (c ∷ cs) d = joinedBy t (callerOf c) (sources (step t c) cs d)
+
+-- a call's caller is in a set
+unfoldable pub callerIn : Option ℕ → List ℕ → Bool
+callerIn none vs = false
+callerIn (some u) vs = member u vs
+
+-- kept are exactly the calls whose caller is in the set at that call
+unfoldable pub purge : List ℕ → List Call → ℕ → List Call
+purge t [] d = []
+purge t (c ∷ cs) d =
+    let rest = purge (step t c) cs d in
+    cond (callerIn (callerOf c) (sources t (c ∷ cs) d)) (c ∷ rest) rest
+
+-- a call is of domain d
+unfoldable pub calledBy : ℕ → Option ℕ → Bool
+calledBy d none = false
+calledBy d (some u) = eqb u d
+
+-- d's answers, out of the answer words of calls, three for each: all three words of each call whose caller is d, in order
+unfoldable pub answersOf : ℕ → List Call → List ℕ → List ℕ
+answersOf d [] ws = []
+answersOf d (c ∷ cs) ws =
+    let rest = answersOf d cs (drop 3 ws) in
+    cond (calledBy d (callerOf c)) (take 3 ws ++ rest) rest
+
+-- d's rights: the n words it holds
+unfoldable pub rightsOf : ℕ → List ℕ → List ℕ
+rightsOf d t = take (domains t) (drop (rightsAt (domains t) d 0) t)
+
+-- words of each of the first k endpoints that d owns
+unfoldable pub ofOwned : ℕ → List ℕ → (List ℕ → List ℕ) → ℕ → List ℕ
+ofOwned d t part zero = []
+ofOwned d t part (suc e) =
+    let before = ofOwned d t part e in
+    cond (eqb (owner (endpoint t e)) d) (before ++ part (endpoint t e)) before
+
+-- d's queues: the waiting word and all eight message words of each endpoint it owns
+unfoldable pub queuesOf : ℕ → List ℕ → List ℕ
+queuesOf d t = ofOwned d t (λ q. getD q 2 0 ∷ drop 4 q) (endpoints t)
+
+-- d's lost counts: those endpoints' lost words
+unfoldable pub lostOf : ℕ → List ℕ → List ℕ
+lostOf d t = ofOwned d t (λ q. getD q 3 0 ∷ []) (endpoints t)
+
+pub record View : Type 0 where
+  pub answers : List ℕ
+  pub rights : List ℕ
+  pub queues : List ℕ
+  pub lost : List ℕ
+
+-- what d sees of calls that were answered by the words ws and left the table t
+unfoldable pub view : ℕ → List Call → List ℕ → List ℕ → View
+view d cs ws t =
+    record { answers = answersOf d cs ws; rights = rightsOf d t; queues = queuesOf d t; lost = lostOf d t }

@@ -1,0 +1,177 @@
+-- Rows that pin what no code ever runs: the set at each call (sources), the kept calls (purge) and the whole view, on
+-- small tables. A theorem would stay true of definitions that keep too many calls or that see too little; these would not.
+-- Inputs and outcomes are literals, worked out by hand.
+use Prim.Native.Nat.{ℕ, _^_}
+use mathlib.Core.Path.{_≡_}
+use mathlib.Core.Bool.{cond}
+use mathlib.Core.List.{List, [], _∷_, _++_}
+use Rattle.machine.specs.Below.{sumBelow}
+use Rattle.machine.specs.Table.{domains}
+use Rattle.machine.specs.Call.{Call, cut, Call.one, Call.two}
+use Rattle.machine.specs.Machine.{step}
+use Rattle.machine.specs.Run.{run, answers}
+use Rattle.machine.specs.Purge.{member, sources, purge, View, view}
+use Rattle.machine.specs.Examples.{emptySlots}
+
+-- a set of domains as a number: bit u is set for each member u
+unfoldable pub bitsOf : ℕ → List ℕ → ℕ
+bitsOf n s = sumBelow n (λ u. cond (member u s) (2 ^ u) 0)
+
+-- the set at each call, and past the last
+unfoldable pub setsAt : List ℕ → List Call → ℕ → List ℕ
+setsAt t [] d = bitsOf (domains t) (sources t [] d) ∷ []
+setsAt t (c ∷ cs) d = bitsOf (domains t) (sources t (c ∷ cs) d) ∷ setsAt (step t c) cs d
+
+-- what the rows speak of: the sets, the kept calls, and what d sees of the whole run
+pub record Purged : Type 0 where
+  pub sets : List ℕ
+  pub kept : List Call
+  pub seen : View
+
+unfoldable pub purged : List ℕ → List Call → ℕ → Purged
+purged t cs d = record { sets = setsAt t cs d; kept = purge t cs d; seen = view d cs (answers t cs) (run t cs) }
+
+-- A row: from a table, a list and a domain to what is pinned.
+pub data PurgeRow : Type 0 where
+  pins : (table list : List ℕ) (d : ℕ) (outcome : Purged) → PurgeRow
+
+abbrev pub PurgeRowHolds : PurgeRow → Type 0
+PurgeRowHolds (pins t ws d o) = purged t (cut ws) d ≡ o
+
+-- the single claim about a list of such rows: each holds
+abbrev pub EveryPurgeRow : List PurgeRow → Type 0
+EveryPurgeRow [] = Unit {0}
+EveryPurgeRow (r ∷ rs) = PurgeRowHolds r × EveryPurgeRow rs
+
+-- three domains, each with one endpoint; endpoint 0 holds one message at most, the others two
+abbrev pub threeDomains : List ℕ → List ℕ
+threeDomains r =
+    0x1000_0303
+    ∷ r
+    ++ (0x3000_0001 ∷ 0x4000_0001 ∷ 0x5000_0000 ∷ 0x6000_0000 ∷ emptySlots)
+    ++ (0x3000_0002 ∷ 0x4000_0102 ∷ 0x5000_0000 ∷ 0x6000_0000 ∷ emptySlots)
+    ++ (0x3000_0003 ∷ 0x4000_0202 ∷ 0x5000_0000 ∷ 0x6000_0000 ∷ emptySlots)
+
+-- the rights words of domains 0, 1 and 2 on 0, 1 and 2
+abbrev pub none3 : List ℕ
+none3 = 0x2000_0000 ∷ 0x2000_0000 ∷ 0x2000_0000 ∷ []
+
+-- 1 has SEND on 0, and 2 has SEND on 1
+abbrev pub chain : List ℕ
+chain =
+    threeDomains
+    (none3 ++ (0x2000_0001 ∷ 0x2000_0000 ∷ 0x2000_0000 ∷ []) ++ (0x2000_0000 ∷ 0x2000_0001 ∷ 0x2000_0000 ∷ []))
+
+-- 1 has SEND and GRANT on 0, and SEND on 2
+abbrev pub giver : List ℕ
+giver = threeDomains (none3 ++ (0x2000_0003 ∷ 0x2000_0000 ∷ 0x2000_0001 ∷ []) ++ none3)
+
+-- domain 0's view with nothing in its queue, no right and no lost message
+abbrev pub quiet : List ℕ → View
+quiet ws = record { answers = ws; rights = none3; queues = 0x5000_0000 ∷ emptySlots; lost = 0x6000_0000 ∷ [] }
+
+-- domain 0's view with the message 7 in its queue, no right, no answer
+abbrev pub gotSeven : List ℕ → View
+gotSeven x =
+    record {
+      answers = [];
+      rights = none3;
+      queues =
+          0x5000_0001
+          ∷ 0xF000_0007
+          ∷ 0xF000_0000
+          ∷ 0xF000_0000
+          ∷ 0xF000_0000
+          ∷ 0xF000_0000
+          ∷ 0xF000_0000
+          ∷ 0xF000_0000
+          ∷ 0xF000_0000
+          ∷ [];
+      lost = x;
+    }
+
+abbrev pub purgeRows : List PurgeRow
+purgeRows =
+    -- a refused call (16) joins its caller 1, and so brings in the earlier caller 2
+    pins (chain) (0x2080_0100 ∷ 0xF000_0009 ∷ 0x3040_0900 ∷ []) 0
+    (record {
+      sets = 0b111 ∷ 0b011 ∷ 0b001 ∷ [];
+      kept = two 0x2080_0100 0xF000_0009 ∷ one 0x3040_0900 ∷ [];
+      seen = quiet [];
+    })
+    -- an unknown kind (9) does the same
+    ∷ pins (chain) (0x2080_0100 ∷ 0xF000_0009 ∷ 0x9040_0000 ∷ []) 0
+    (record {
+      sets = 0b111 ∷ 0b011 ∷ 0b001 ∷ [];
+      kept = two 0x2080_0100 0xF000_0009 ∷ one 0x9040_0000 ∷ [];
+      seen = quiet [];
+    })
+    -- a right that is REMOVE alone counts; a known caller with no right is struck
+    ∷ pins (threeDomains (none3 ++ (0x2000_0004 ∷ 0x2000_0000 ∷ 0x2000_0000 ∷ []) ++ none3)) (0x5040_0000 ∷ 0x5080_0000 ∷ []) 0
+    (record {
+      sets = 0b011 ∷ 0b001 ∷ 0b001 ∷ [];
+      kept = one 0x5040_0000 ∷ [];
+      seen = quiet [];
+    })
+    -- a right given on the way: 1 gives 2 SEND on 0, and then 2 sends
+    ∷ pins (giver) (0x6040_0201 ∷ 0x2080_0000 ∷ 0xF000_0007 ∷ []) 0
+    (record {
+      sets = 0b111 ∷ 0b101 ∷ 0b001 ∷ [];
+      kept = one 0x6040_0201 ∷ two 0x2080_0000 0xF000_0007 ∷ [];
+      seen = gotSeven (0x6000_0000 ∷ []);
+    })
+    -- a right removed by its holder's own calls after use: 1 sends, then gives up SEND, then REMOVE
+    ∷ pins (threeDomains (none3 ++ (0x2000_0005 ∷ 0x2000_0000 ∷ 0x2000_0000 ∷ []) ++ none3)) (0x2040_0000 ∷ 0xF000_0007 ∷ 0x7040_0001 ∷ 0x7040_0004 ∷ []) 0
+    (record {
+      sets = 0b011 ∷ 0b011 ∷ 0b011 ∷ 0b001 ∷ [];
+      kept = two 0x2040_0000 0xF000_0007 ∷ one 0x7040_0001 ∷ one 0x7040_0004 ∷ [];
+      seen = gotSeven (0x6000_0000 ∷ []);
+    })
+    -- a call made before its caller was given the right is struck
+    ∷ pins (giver) (0x5080_0000 ∷ 0x6040_0201 ∷ []) 0
+    (record {
+      sets = 0b011 ∷ 0b011 ∷ 0b001 ∷ [];
+      kept = one 0x6040_0201 ∷ [];
+      seen = quiet [];
+    })
+    -- a chain of two: 2 sends to 1, which receives and sends on to 0, which receives
+    ∷ pins (chain) (0x2080_0100 ∷ 0xF000_0009 ∷ 0x3040_0100 ∷ 0x2040_0000 ∷ 0xF000_0009 ∷ 0x3000_0000 ∷ []) 0
+    (record {
+      sets = 0b111 ∷ 0b011 ∷ 0b011 ∷ 0b001 ∷ 0b001 ∷ [];
+      kept = two 0x2080_0100 0xF000_0009 ∷ one 0x3040_0100 ∷ two 0x2040_0000 0xF000_0009 ∷ one 0x3000_0000 ∷ [];
+      seen = quiet (0x3000_0000 ∷ 9 ∷ 0 ∷ []);
+    })
+    -- a stray whose bits 27–22 name d is no call of d's
+    ∷ pins (chain) (0xF040_0003 ∷ 0x5040_0000 ∷ []) 1
+    (record {
+      sets = 0b010 ∷ 0b010 ∷ 0b010 ∷ [];
+      kept = one 0x5040_0000 ∷ [];
+      seen =
+          record {
+            answers = 0x5040_0000 ∷ 1 ∷ 0 ∷ [];
+            rights = 0x2000_0001 ∷ 0x2000_0000 ∷ 0x2000_0000 ∷ [];
+            queues = 0x5000_0000 ∷ emptySlots;
+            lost = 0x6000_0000 ∷ [];
+          };
+    })
+    -- a caller not below n is no known domain, whatever stands where its rights would
+    ∷ pins (chain) (0x50C0_0000 ∷ []) 0
+    (record {
+      sets = 0b001 ∷ 0b001 ∷ [];
+      kept = [];
+      seen = quiet [];
+    })
+    -- a full queue: the second message is lost, which d sees in its lost word; and a right given to d, in its rights
+    ∷ pins (threeDomains (none3 ++ (0x2000_0001 ∷ 0x2000_0000 ∷ 0x2000_0003 ∷ []) ++ none3)) (0x2040_0000 ∷ 0xF000_0007 ∷ 0x2040_0000 ∷ 0xF000_0008 ∷ 0x6042_0001 ∷ []) 0
+    (record {
+      sets = 0b011 ∷ 0b011 ∷ 0b011 ∷ 0b001 ∷ [];
+      kept = two 0x2040_0000 0xF000_0007 ∷ two 0x2040_0000 0xF000_0008 ∷ one 0x6042_0001 ∷ [];
+      seen =
+          record {
+            answers = [];
+            rights = 0x2000_0000 ∷ 0x2000_0000 ∷ 0x2000_0001 ∷ [];
+            queues = gotSeven [] .queues;
+            lost = 0x6000_0001 ∷ [];
+          };
+    })
+    ∷ []

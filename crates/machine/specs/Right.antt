@@ -1,0 +1,34 @@
+-- The rights that one domain holds on another: a set, as a number with a bit for each right (document 01, 'The table').
+use Prim.Native.Nat.{ℕ, _-_}
+use mathlib.Core.Bool.{Bool, not}
+use lib.Dec.{eqb}
+use lib.Bits.{bitAnd, bitOr}
+
+abbrev pub SEND : ℕ
+SEND = 1
+
+abbrev pub GRANT : ℕ
+GRANT = 2
+
+abbrev pub REMOVE : ℕ
+REMOVE = 4
+
+-- the largest set: every right there is
+abbrev pub allRights : ℕ
+allRights = 7
+
+-- every right of r is in the set s
+unfoldable pub holds : ℕ → ℕ → Bool
+holds s r = eqb (bitAnd s r) r
+
+-- the set s with the rights of r added
+unfoldable pub adds : ℕ → ℕ → ℕ
+adds s r = bitOr s r
+
+-- the set s without the rights of r
+unfoldable pub without : ℕ → ℕ → ℕ
+without s r = s - bitAnd s r
+
+-- some right is in the set s
+unfoldable pub hasAny : ℕ → Bool
+hasAny s = not (eqb s 0)

@@ -1,0 +1,2 @@
+// The machine of document 01 as definitions and theorems. It has no code: what a reader must believe stands in specs/,
+// what is proved of it in proofs/.
