@@ -5,3 +5,4 @@ pub mod Below
 pub mod Table
 pub mod Decide
 pub mod Accepted
+pub mod Frame
