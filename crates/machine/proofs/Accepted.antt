@@ -6,15 +6,15 @@ use mathlib.Core.List.{List}
 use Prim.Native.Nat.{ℕ, zero, suc, _+_, _*_, _/_, _%_, _<_, _≤_}
 use native.Mathlib.Nat.{div-lt-iff-lt-mul, mod-lt, div-add-mod'}
 use native.Mathlib.Omega.{arith}
-use borrow.Author.Tests.{leb-true, eqb-true, eqb-false, eq-eqb, not-false}
-use lib.Dec.{eqb, leb}
+use borrow.Author.Tests.{ltb-true, leb-true, eqb-true, eqb-false, eq-eqb, not-false}
+use lib.Dec.{eqb, leb, ltb}
 use lib.ListN.{length, getD}
 use lib.Arith.{digits-lt}
 use Rattle.machine.specs.Word.{kind, upper, fieldB, fieldC}
 use Rattle.machine.specs.Below.{allBelow}
 use Rattle.machine.specs.Table.{domains, endpoints, rightsWord, endpoint}
-use Rattle.machine.specs.Queue.{name}
-use Rattle.machine.specs.Check.{headerWordOk, rightsWordOk, endpointOk, nameNew, headerOk, lengthOk, rightsOk, endpointsOk, tableCode, Accepted}
+use Rattle.machine.specs.Queue.{name, owner, capacity}
+use Rattle.machine.specs.Check.{headerWordOk, rightsWordOk, nameWordOk, infoWordOk, identityOk, queueOk, endpointOk, nameNew, headerOk, lengthOk, rightsOk, endpointsOk, tableCode, Accepted}
 use Rattle.machine.proofs.Bools.{and-left, and-right, and-intro}
 use Rattle.machine.proofs.Below.{all-at, all-of, all-same}
 use Rattle.machine.proofs.Table.{Sized, domains-header, endpoints-header}
@@ -78,6 +78,19 @@ module _ (t : List ℕ) (a : Accepted t) where
 
   pub accepted-name : (e : ℕ) → e < endpoints t → nameNew t e ≡ true
   accepted-name e l = and-right (endpointOk (domains t) (endpoint t e)) (nameNew t e) (both e l)
+
+-- an endpoint's owner is a domain, and its capacity 1 to 8
+pub info-of : (n : ℕ) (q : List ℕ) → endpointOk n q ≡ true → (owner q < n) × (1 ≤ capacity q) × (capacity q ≤ 8)
+unfolding endpointOk identityOk infoWordOk owner capacity
+info-of n q h =
+    let w = getD q 1 0 in
+    let i4 = and-right (nameWordOk (getD q 0 0)) _ (and-left _ (queueOk q) h) in
+    let i3 = and-left (eqb (kind w) 4 && eqb (upper w) 0 && ltb (fieldB w) n && leb 1 (fieldC w)) (leb (fieldC w) 8) i4 in
+    let i2 = and-left (eqb (kind w) 4 && eqb (upper w) 0 && ltb (fieldB w) n) (leb 1 (fieldC w)) i3 in
+    (ltb-true _ _ (and-right (eqb (kind w) 4 && eqb (upper w) 0) (ltb (fieldB w) n) i2), leb-true _ _ (and-right (eqb (kind w) 4 && eqb (upper w) 0 && ltb (fieldB w) n) (leb 1 (fieldC w)) i3), leb-true _ _ (and-right (eqb (kind w) 4 && eqb (upper w) 0 && ltb (fieldB w) n && leb 1 (fieldC w)) (leb (fieldC w) 8) i4))
+
+pub accepted-owner : (t : List ℕ) → Accepted t → (e : ℕ) → e < endpoints t → owner (endpoint t e) < domains t
+accepted-owner t a e l = info-of (domains t) (endpoint t e) (accepted-endpoint t a e l) .0
 
 -- A table like an accepted one: as long, with the same first word and the same names, every rights word and endpoint in
 -- order. It is accepted too.

@@ -6,3 +6,4 @@ pub mod Table
 pub mod Decide
 pub mod Accepted
 pub mod Frame
+pub mod Consistency
