@@ -7,3 +7,4 @@ pub mod Decide
 pub mod Accepted
 pub mod Frame
 pub mod Consistency
+pub mod Right
