@@ -13,6 +13,7 @@ pub mod Influence
 pub mod Purge
 pub mod Counts
 pub mod Claims
+pub mod Trail
 pub mod Everything
 pub mod Examples
 pub mod PurgeExamples
