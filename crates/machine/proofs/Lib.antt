@@ -8,3 +8,4 @@ pub mod Accepted
 pub mod Frame
 pub mod Consistency
 pub mod Right
+pub mod Step
