@@ -4,3 +4,4 @@ pub mod Bools
 pub mod Below
 pub mod Table
 pub mod Decide
+pub mod Queue
