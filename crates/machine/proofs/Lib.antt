@@ -9,3 +9,4 @@ pub mod Frame
 pub mod Consistency
 pub mod Right
 pub mod Step
+pub mod Queue
