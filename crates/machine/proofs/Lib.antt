@@ -8,4 +8,6 @@ pub mod Accepted
 pub mod Frame
 pub mod Consistency
 pub mod Right
+pub mod Step
+pub mod Queue
 pub mod Trail
