@@ -1,32 +1,28 @@
 -- No right from nowhere (specs/Trail): call by call, and from there along every list of calls.
 -- Assumes nothing.
 use mathlib.Core.Path.{_≡_, refl, sym, ap, ap₂, subst, _∙_}
-use mathlib.Core.Bool.{Bool, true, false, not, _&&_, _||_, or-true, and-false}
+use mathlib.Core.Bool.{true, false, not, _&&_, or-true, and-false}
 use mathlib.Core.Logic.{_⊎_, _⊎_.inl, _⊎_.inr, ⊎-elim}
-use mathlib.Core.List.{List, [], _∷_, _++_}
-use mathlib.Core.Option.{Option, none, some}
-use Prim.Native.Nat.{ℕ, _^_, _<_, _≤_}
-use native.Mathlib.Decide.{ℕ-discrete}
+use mathlib.Core.List.{List, [], _∷_}
+use mathlib.Core.Option.{some}
+use Prim.Native.Nat.{ℕ, _^_, _<_}
 use native.Mathlib.Omega.{arith}
-use lib.ListN.{length}
-use Rattle.machine.specs.Word.{payload, word, caller, fieldA, fieldB, fieldC}
-use Rattle.machine.specs.Right.{GRANT, REMOVE, allRights, holds, adds, without}
-use Rattle.machine.specs.Table.{domains, endpoints, rightsWord, rights, endpoint, setRights, setEndpoint}
-use Rattle.machine.specs.Queue.{sent, received}
+use Rattle.machine.specs.Word.{payload, caller}
+use Rattle.machine.specs.Right.{GRANT, REMOVE, holds, adds, without}
+use Rattle.machine.specs.Table.{domains, rights, setRights, setEndpoint}
 use Rattle.machine.specs.Check.{Accepted}
-use Rattle.machine.specs.Call.{Call, first, callerOf}
-use Rattle.machine.specs.Machine.{Decision, Effect, decide, effect, after, step, mayGive}
+use Rattle.machine.specs.Call.{Call, callerOf}
+use Rattle.machine.specs.Machine.{Decision, decide, effect, after, step, mayGive}
 use Rattle.machine.specs.Machine.{Decision.grants, Decision.removes, Effect.newRights, Effect.newEndpoint}
 use Rattle.machine.specs.Run.{run}
 use Rattle.machine.specs.Claims.{GivenBy, StaysAccepted}
 use Rattle.machine.specs.Trail.{GivenAlong, NoRightFromNowhere, RemovedBy, EachRight}
 use Rattle.machine.proofs.Bools.{and-left, or-cases, either}
 use Rattle.machine.proofs.Table as table
-use Rattle.machine.proofs.Table.{Sized}
-use Rattle.machine.proofs.Right.{adds-within, without-le, holds-adds, holds-without, holds-trans, rights-payload, rights-within}
-use Rattle.machine.proofs.Accepted.{accepted-sized, accepted-rights}
-use Rattle.machine.proofs.Step.{InOrder, after-frame, after-accepted}
-use Rattle.machine.proofs.Decide.{Rows, Known, decide-elim}
+use Rattle.machine.proofs.Right.{holds-adds, holds-without, holds-trans, rights-payload}
+use Rattle.machine.proofs.Accepted.{accepted-sized}
+use Rattle.machine.proofs.Step.{InOrder, call-in-order, stays-accepted}
+use Rattle.machine.proofs.Decide.{Rows, decide-elim}
 
 -- ---- a set of rights after one call
 
@@ -36,8 +32,8 @@ unfolding rights
 written t a h g s o =
     ap payload (table.setRights-same t (accepted-sized t a) h g s (o .0) (o .1)) ∙ rights-payload s (o .2)
 
--- The set is as it was, or was added to by a grant under all that its places have shown, or was cut by h's own remove.
-module _ (t : List ℕ) (c : Call) (a : Accepted t) (ok : InOrder t (effect t (decide t c))) (h g : ℕ) (ph : h < domains t) (pg : g < domains t)
+-- What h holds on g is as it was, or was added to by a grant under all that its places have shown, or was cut by h's own remove.
+module _ (t : List ℕ) (c : Call) (a : Accepted t) (h g : ℕ) (ph : h < domains t) (pg : g < domains t)
     (P : ℕ → Type 0)
     (kept : P (rights t h g))
     (granted : (u r : ℕ) → callerOf c ≡ some u → decide t c ≡ grants g h r → holds (rights t u g) GRANT ≡ true → holds (rights t u g) r ≡ true → mayGive t u h ≡ true → P (adds (rights t h g) r))
@@ -78,15 +74,14 @@ module _ (t : List ℕ) (c : Call) (a : Accepted t) (ok : InOrder t (effect t (d
 
   pub rights-elim : P (rights (step t c) h g)
   unfolding Left step
-  rights-elim = decide-elim t c Left rows refl ok
+  rights-elim = decide-elim t c Left rows refl (call-in-order t c a)
 
 -- ---- a single right after one call
 
-module _ (in-order : (t : List ℕ) (c : Call) → Accepted t → InOrder t (effect t (decide t c)))
-    (stays : (t : List ℕ) (c : Call) → Accepted t → StaysAccepted t (step t c)) where
-  had-or-given : (t : List ℕ) (c : Call) → Accepted t → (h g k : ℕ) → h < domains t → g < domains t → holds (rights (step t c) h g) (2 ^ k) ≡ true → (holds (rights t h g) (2 ^ k) ≡ true) ⊎ GivenBy t c h g (2 ^ k)
-  had-or-given t c a h g k ph pg =
-      rights-elim t c a (in-order t c a) h g ph pg
+module _ (t : List ℕ) (c : Call) (a : Accepted t) (h g k : ℕ) (ph : h < domains t) (pg : g < domains t) where
+  pub had-or-given : holds (rights (step t c) h g) (2 ^ k) ≡ true → (holds (rights t h g) (2 ^ k) ≡ true) ⊎ GivenBy t c h g (2 ^ k)
+  had-or-given =
+      rights-elim t c a h g ph pg
       (λ s. holds s (2 ^ k) ≡ true → (holds (rights t h g) (2 ^ k) ≡ true) ⊎ GivenBy t c h g (2 ^ k)) inl
       (λ u r by comes may had toward now.
       ⊎-elim inl
@@ -105,57 +100,51 @@ module _ (in-order : (t : List ℕ) (c : Call) → Accepted t → InOrder t (eff
       (or-cases (holds (rights t h g) (2 ^ k)) (holds r (2 ^ k)) (sym (holds-adds (rights t h g) r k) ∙ now)))
       (λ r _ _ _ now. inl (and-left (holds (rights t h g) (2 ^ k)) _ (sym (holds-without (rights t h g) r k) ∙ now)))
 
-  kept-or-removed : (t : List ℕ) (c : Call) → Accepted t → (h g k : ℕ) → h < domains t → g < domains t → holds (rights t h g) (2 ^ k) ≡ true → (holds (rights (step t c) h g) (2 ^ k) ≡ true) ⊎ RemovedBy t c h g (2 ^ k)
-  kept-or-removed t c a h g k ph pg had =
-      rights-elim t c a (in-order t c a) h g ph pg
+  kept-or-removed : holds (rights t h g) (2 ^ k) ≡ true → (holds (rights (step t c) h g) (2 ^ k) ≡ true) ⊎ RemovedBy t c h g (2 ^ k)
+  kept-or-removed had =
+      rights-elim t c a h g ph pg
       (λ s. (holds s (2 ^ k) ≡ true) ⊎ RemovedBy t c h g (2 ^ k)) (inl had)
-      (λ u r _ _ _ _ _. inl (holds-adds (rights t h g) r k ∙ ap (λ b. b || holds r (2 ^ k)) had))
+      (λ u r _ _ _ _ _. inl (rw (holds-adds, had)))
       (λ r by comes may.
       ⊎-elim (λ x. inr (record { removed = r; remove = comes; among = x; calledBy = by; mayRemove = may }))
       (λ x. inl (holds-without (rights t h g) r k ∙ ap₂ (λ b d. b && not d) had x))
       (either (holds r (2 ^ k))))
 
-  -- the set after a call that came to one of the two rows that write a rights word
-  now : (t : List ℕ) (c : Call) → Accepted t → (h g s : ℕ) → effect t (decide t c) ≡ newRights h g s → rights (step t c) h g ≡ s
+  -- the set after a call that writes it
+  now : (s : ℕ) → effect t (decide t c) ≡ newRights h g s → rights (step t c) h g ≡ s
   unfolding step after
-  now t c a h g s e =
-      ap (λ x. rights (after t x) h g) e ∙ written t a h g s (subst (InOrder t) e (in-order t c a))
+  now s e = ap (λ x. rights (after t x) h g) e ∙ written t a h g s (subst (InOrder t) e (call-in-order t c a))
 
-  given-now : (t : List ℕ) (c : Call) → Accepted t → (h g k : ℕ) → GivenBy t c h g (2 ^ k) → holds (rights (step t c) h g) (2 ^ k) ≡ true
+  given-now : GivenBy t c h g (2 ^ k) → holds (rights (step t c) h g) (2 ^ k) ≡ true
   unfolding effect
-  given-now t c a h g k x =
-      rw (now t c a h g (adds (rights t h g) (x .given)) (ap (effect t) (x .grant)), holds-adds, x .among, or-true)
+  given-now x = rw (now (adds (rights t h g) (x .given)) (ap (effect t) (x .grant)), holds-adds, x .among, or-true)
 
-  removed-now : (t : List ℕ) (c : Call) → Accepted t → (h g k : ℕ) → RemovedBy t c h g (2 ^ k) → holds (rights (step t c) h g) (2 ^ k) ≡ false
+  removed-now : RemovedBy t c h g (2 ^ k) → holds (rights (step t c) h g) (2 ^ k) ≡ false
   unfolding effect
-  removed-now t c a h g k x =
-      rw (now t c a h g (without (rights t h g) (x .removed)) (ap (effect t) (x .remove)), holds-without, x .among, and-false)
+  removed-now x =
+      rw (now (without (rights t h g) (x .removed)) (ap (effect t) (x .remove)), holds-without, x .among, and-false)
 
-  pub each-right : (t : List ℕ) (c : Call) → Accepted t → (h g k : ℕ) → h < domains t → g < domains t → EachRight t c h g (2 ^ k)
-  each-right t c a h g k ph pg =
-      record {
-        hadOrGiven = had-or-given t c a h g k ph pg;
-        keptOrRemoved = kept-or-removed t c a h g k ph pg;
-        given = given-now t c a h g k;
-        removed = removed-now t c a h g k;
-      }
+  pub each-right : EachRight t c h g (2 ^ k)
+  each-right =
+      record { hadOrGiven = had-or-given; keptOrRemoved = kept-or-removed; given = given-now; removed = removed-now }
 
-  -- ---- along calls
-  first-gave : (t : List ℕ) (c : Call) (cs : List Call) (h g r : ℕ) → GivenBy t c h g r → GivenAlong t (c ∷ cs) h g r
-  unfolding run
-  first-gave t c cs h g r by = record { before = []; call = c; later = cs; among = refl; given = by }
+-- ---- along calls
 
-  later-gave : (t : List ℕ) (c : Call) (cs : List Call) (h g r : ℕ) → GivenAlong (step t c) cs h g r → GivenAlong t (c ∷ cs) h g r
-  unfolding run
-  later-gave t c cs h g r x =
-      record { before = c ∷ x .before; call = x .call; later = x .later; among = ap (_∷_ c) (x .among); given = x .given }
+first-gave : (t : List ℕ) (c : Call) (cs : List Call) (h g r : ℕ) → GivenBy t c h g r → GivenAlong t (c ∷ cs) h g r
+unfolding run
+first-gave t c cs h g r by = record { before = []; call = c; later = cs; among = refl; given = by }
 
-  pub no-right-from-nowhere : (t : List ℕ) (cs : List Call) → Accepted t → NoRightFromNowhere t cs
-  unfolding run
-  no-right-from-nowhere t [] a h g k ph pg held = inl held
-  no-right-from-nowhere t (c ∷ cs) a h g k ph pg held =
-      let n : domains (step t c) ≡ domains t = stays t c a .frame .sameDomains in
-      ⊎-elim
-      (λ x. ⊎-elim inl (λ y. inr (first-gave t c cs h g (2 ^ k) y)) (had-or-given t c a h g k ph pg x))
-      (λ x. inr (later-gave t c cs h g (2 ^ k) x))
-      (no-right-from-nowhere (step t c) cs (stays t c a .accepted) h g k (omega arith) (omega arith) held)
+later-gave : (t : List ℕ) (c : Call) (cs : List Call) (h g r : ℕ) → GivenAlong (step t c) cs h g r → GivenAlong t (c ∷ cs) h g r
+unfolding run
+later-gave t c cs h g r x =
+    record { before = c ∷ x .before; call = x .call; later = x .later; among = ap (_∷_ c) (x .among); given = x .given }
+
+pub no-right-from-nowhere : (t : List ℕ) (cs : List Call) → Accepted t → NoRightFromNowhere t cs
+unfolding run
+no-right-from-nowhere t [] a h g k ph pg held = inl held
+no-right-from-nowhere t (c ∷ cs) a h g k ph pg held =
+    let stays : StaysAccepted t (step t c) = stays-accepted t c a in
+    let n : domains (step t c) ≡ domains t = stays .frame .sameDomains in
+    ⊎-elim (λ x. ⊎-elim inl (λ y. inr (first-gave t c cs h g (2 ^ k) y)) (had-or-given t c a h g k ph pg x))
+    (λ x. inr (later-gave t c cs h g (2 ^ k) x))
+    (no-right-from-nowhere (step t c) cs (stays .accepted) h g k (omega arith) (omega arith) held)
