@@ -7,15 +7,18 @@ use mathlib.Core.List.{List, [], _∷_}
 use mathlib.Core.Option.{some}
 use Prim.Native.Nat.{ℕ, _^_, _<_}
 use native.Mathlib.Omega.{arith}
-use Rattle.machine.specs.Word.{payload, caller}
-use Rattle.machine.specs.Right.{GRANT, REMOVE, holds, adds, without}
+use lib.ListN.{drop}
+use Rattle.machine.specs.Word.{payload}
+use Rattle.machine.specs.Right.{SEND, GRANT, REMOVE, holds, adds, without}
 use Rattle.machine.specs.Table.{domains, rights, setRights, setEndpoint}
 use Rattle.machine.specs.Check.{Accepted}
-use Rattle.machine.specs.Call.{Call, callerOf}
+use Rattle.machine.specs.Call.{Call, Call.one, Call.two, callerOf, cut}
 use Rattle.machine.specs.Machine.{Decision, decide, effect, after, step, mayGive}
 use Rattle.machine.specs.Machine.{Decision.grants, Decision.removes, Effect.newRights, Effect.newEndpoint}
 use Rattle.machine.specs.Run.{run}
 use Rattle.machine.specs.Claims.{GivenBy, StaysAccepted}
+use Rattle.machine.specs.Everything.{everything}
+use Rattle.machine.specs.Examples.{T, L}
 use Rattle.machine.specs.Trail.{GivenAlong, NoRightFromNowhere, RemovedBy, EachRight}
 use Rattle.machine.proofs.Bools.{and-left, or-cases, either}
 use Rattle.machine.proofs.Table as table
@@ -148,3 +151,30 @@ no-right-from-nowhere t (c ∷ cs) a h g k ph pg held =
     ⊎-elim (λ x. ⊎-elim inl (λ y. inr (first-gave t c cs h g (2 ^ k) y)) (had-or-given t c a h g k ph pg x))
     (λ x. inr (later-gave t c cs h g (2 ^ k) x))
     (no-right-from-nowhere (step t c) cs (stays .accepted) h g k (omega arith) (omega arith) held)
+
+-- ---- both come about: in L the second call gives domain 0 SEND on domain 2, and in P11 domain 1 gives up REMOVE on it
+
+pub given-in-L : GivenAlong T (cut L) 0 2 SEND
+unfolding everything
+given-in-L =
+    record {
+      before = two 0x2000_0100 0xF000_0005 ∷ [];
+      call = one 0x6042_0001;
+      later = cut (drop 3 L);
+      among = refl;
+      given =
+          record {
+            given = SEND;
+            caller = 1;
+            grant = refl;
+            among = refl;
+            calledBy = refl;
+            held = refl;
+            mayGrant = refl;
+            toward = refl;
+          };
+    }
+
+pub removed-in-P11 : RemovedBy T (one 0x7042_0004) 1 2 REMOVE
+unfolding everything
+removed-in-P11 = record { removed = REMOVE; remove = refl; among = refl; calledBy = refl; mayRemove = refl }
