@@ -1,2 +1,3 @@
 -- What is proved of the machine.
 pub mod Examples
+pub mod Unwinding
