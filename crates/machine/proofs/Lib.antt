@@ -1,3 +1,4 @@
 -- What is proved of the machine.
 pub mod Examples
+pub mod Purge
 pub mod Unwinding

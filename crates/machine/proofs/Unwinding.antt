@@ -1,19 +1,19 @@
 -- The unwinding theorem and its cases (specs/Unwinding), by induction on the choice of struck calls. Assumes nothing.
 -- First what holds of sets and sources for every machine, then what the conditions give.
 use Prim.Native.Nat.{ℕ}
-use mathlib.Core.Path.{_≡_, refl, sym, ap, _∙_, subst}
+use mathlib.Core.Path.{_≡_, refl, sym, ap, ap₂, _∙_, subst}
 use mathlib.Core.Bool.{Bool, true, false, cond, _||_, or-true, true≢false, false≢true}
 use mathlib.Core.List.{List, [], _∷_, _++_}
 use mathlib.Core.Option.{Option, none, some}
 use lib.Dec.{eqb}
 use borrow.Author.Tests.{eqb-true, eq-eqb}
 use Rattle.machine.specs.Purge.{member, callerIn, calledBy}
-use Rattle.machine.specs.Unwinding.{StateMachine, run, outputs, reachesAny, joinedBy, sources, purge, influences, Closed}
-use Rattle.machine.specs.Unwinding.{Keeps, Keeps.done, Keeps.keep, Keeps.strike, callerOfGroup, ofGroup}
-use Rattle.machine.specs.Unwinding.{Unwinding, ObservEquivalent, SameFor}
-use Rattle.machine.specs.Unwinding.{Unwinds, Noninterference, Noninfluence, Nonleakage, SameSources}
+use Rattle.machine.specs.Unwinding.{StateMachine, run, outputs, reachesAny, joinedBy, sources, purge, influences}
+use Rattle.machine.specs.Unwinding.{Keeps, Keeps.done, Keeps.keep, Keeps.strike, Closed, fromGroup, groupCalls}
+use Rattle.machine.specs.Unwinding.{SameFor, Unwinding, Agree, ObservEquivalent}
+use Rattle.machine.specs.Unwinding.{UnwindingTheorem, Noninfluence, Noninterference, Nonleakage, SameSources}
 
--- A test passes or fails.
+-- Tests.
 either : {P : Type 0} (b : Bool) → (b ≡ true → P) → (b ≡ false → P) → P
 either true f g = f refl
 either false f g = g refl
@@ -29,17 +29,31 @@ contra : (a b : Bool) → (a ≡ true → b ≡ true) → b ≡ false → a ≡ 
 contra true b f e = absurd (true≢false (sym (f refl) ∙ e))
 contra false b f e = refl
 
--- Sets and callers.
+-- Members of a set, and callers.
 member-first : (v : ℕ) (vs : List ℕ) → member v (v ∷ vs) ≡ true
 unfolding member
 member-first v vs = ap (λ b. b || member v vs) (eq-eqb v v refl)
+
+member-rest : (v w : ℕ) (vs : List ℕ) → member v vs ≡ true → member v (w ∷ vs) ≡ true
+unfolding member
+member-rest v w vs m = or-right (eqb v w) (member v vs) m
+
+member-elim :
+    (P : ℕ → Type 0) (w : ℕ) (vs : List ℕ)
+    → P w
+    → ((v : ℕ) → member v vs ≡ true → P v)
+    → (v : ℕ)
+    → member v (w ∷ vs) ≡ true
+    → P v
+unfolding member
+member-elim P w vs p ps v m =
+    or-elim (eqb v w) (member v vs) (λ e. subst P (sym (eqb-true v w e)) p) (ps v) m
 
 called : (d : ℕ) (q : Option ℕ) → calledBy d q ≡ true → q ≡ some d
 unfolding calledBy
 called d none e = absurd (false≢true e)
 called d (some u) e = ap {B = Option ℕ} some (eqb-true u d e)
 
--- a member's call is a call from the set
 called-in : (d : ℕ) (q : Option ℕ) (vs : List ℕ) → member d vs ≡ true → calledBy d q ≡ true → callerIn q vs ≡ true
 unfolding callerIn
 called-in d q vs m e = rw (called d q e) m
@@ -48,45 +62,61 @@ in-group :
     (group : ℕ → Bool) (q : Option ℕ) (vs : List ℕ)
     → ((v : ℕ) → member v vs ≡ true → group v ≡ true)
     → callerIn q vs ≡ true
-    → callerOfGroup group q ≡ true
-unfolding callerIn callerOfGroup
-in-group group none vs all e = absurd (false≢true e)
-in-group group (some u) vs all e = all u e
+    → fromGroup group q ≡ true
+unfolding callerIn fromGroup
+in-group group none vs ps e = absurd (false≢true e)
+in-group group (some u) vs ps e = ps u e
 
+-- Sources and choices of struck calls, in any machine.
 module _ (M : StateMachine) where
   open StateMachine M using (State, Call, step, caller, reaches)
 
+  -- u reaches a set where it reaches a member, and only there
   reaches-any :
-      (s : State) (u v : ℕ) (vs : List ℕ) → reaches s u v ≡ true → member v vs ≡ true → reachesAny M s u vs ≡ true
+      (s : State) (u : ℕ) (vs : List ℕ) (v : ℕ) → member v vs ≡ true → reaches s u v ≡ true → reachesAny M s u vs ≡ true
   unfolding reachesAny member
-  reaches-any s u v [] r m = absurd (false≢true m)
-  reaches-any s u v (w ∷ vs) r m =
-      or-elim (eqb v w) (member v vs)
-        (λ e. ap (λ b. b || reachesAny M s u vs) (ap (reaches s u) (sym (eqb-true v w e)) ∙ r))
-        (λ e. or-right (reaches s u w) (reachesAny M s u vs) (reaches-any s u v vs r e))
-        m
+  reaches-any s u [] v m r = absurd (false≢true m)
+  reaches-any s u (w ∷ vs) v m r =
+      member-elim (λ x. reaches s u x ≡ true → reachesAny M s u (w ∷ vs) ≡ true) w vs
+      (λ e. ap (λ b. b || reachesAny M s u vs) e)
+      (λ x h e. or-right (reaches s u w) (reachesAny M s u vs) (reaches-any s u vs x h e))
+      v m r
 
   reached :
       (s : State) (u : ℕ) (vs : List ℕ)
       → reachesAny M s u vs ≡ true
       → (v : ℕ) × (member v vs ≡ true) × (reaches s u v ≡ true)
-  unfolding reachesAny member
+  unfolding reachesAny
   reached s u [] r = absurd (false≢true r)
-  reached s u (v ∷ vs) r =
-      or-elim (reaches s u v) (reachesAny M s u vs)
-        (λ e. (v, member-first v vs, e))
-        (λ e. let (w, m, f) = reached s u vs e in (w, or-right (eqb w v) (member w vs) m, f))
-        r
+  reached s u (w ∷ vs) r =
+      or-elim (reaches s u w) (reachesAny M s u vs)
+      (λ e. (w, member-first w vs, e))
+      (λ e. let (v, m, f) = reached s u vs e in (v, member-rest v w vs m, f))
+      r
+
+  same-any :
+      (s t : State) (u : ℕ) (vs : List ℕ)
+      → ((v : ℕ) → member v vs ≡ true → reaches s u v ≡ reaches t u v)
+      → reachesAny M s u vs ≡ reachesAny M t u vs
+  unfolding reachesAny
+  same-any s t u [] e = refl
+  same-any s t u (v ∷ vs) e =
+      ap₂ _||_ (e v (member-first v vs)) (same-any s t u vs (λ w m. e w (member-rest w v vs m)))
+
+  same-joined :
+      (s t : State) (q : Option ℕ) (vs : List ℕ)
+      → ((u v : ℕ) → member v vs ≡ true → reaches s u v ≡ reaches t u v)
+      → joinedBy M s q vs ≡ joinedBy M t q vs
+  unfolding joinedBy
+  same-joined s t none vs e = refl
+  same-joined s t (some u) vs e = ap (λ b. cond b (u ∷ vs) vs) (same-any s t u vs (e u))
 
   -- the set only grows going back
   grows : (s : State) (q : Option ℕ) (vs : List ℕ) (v : ℕ) → member v vs ≡ true → member v (joinedBy M s q vs) ≡ true
-  unfolding joinedBy member
+  unfolding joinedBy
   grows s none vs v m = m
   grows s (some u) vs v m =
-      elim (reachesAny M s u vs) as (λ b. member v (cond b (u ∷ vs) vs) ≡ true) [
-          true ↦ or-right (eqb v u) (member v vs) m
-        | false ↦ m
-      ]
+      either (reachesAny M s u vs) (λ r. rw r (member-rest v u vs m)) (λ r. rw r m)
 
   -- a caller that influences a member is in the set at its call
   joins :
@@ -98,17 +128,17 @@ module _ (M : StateMachine) where
   joins s none vs v m i = absurd (false≢true i)
   joins s (some u) vs v m i =
       or-elim (eqb u v) (reaches s u v)
-        (λ e. grows s (some u) vs u (subst (λ w. member w vs ≡ true) (sym (eqb-true u v e)) m))
-        (λ r. rw (reaches-any s u v vs r m) (member-first u vs))
-        i
+      (λ e. grows s (some u) vs u (subst (λ w. member w vs ≡ true) (sym (eqb-true u v e)) m))
+      (λ r. rw (reaches-any s u vs v m r) (member-first u vs))
+      i
 
-  -- d is in its own set
+  -- d is among its sources
   in-sources : (s : State) (cs : List Call) (d : ℕ) → member d (sources M s cs d) ≡ true
   unfolding sources
   in-sources s [] d = member-first d []
   in-sources s (c ∷ cs) d = grows s (caller c) (sources M (step s c) cs d) d (in-sources (step s c) cs d)
 
-  -- a closed group with d in it has every source of d in it
+  -- a closed group that has d has every source of d
   joined-closed :
       (P : ℕ → Type 0) (s : State) (q : Option ℕ) (vs : List ℕ)
       → ((u v : ℕ) → q ≡ some u → reaches s u v ≡ true → P v → P u)
@@ -116,17 +146,13 @@ module _ (M : StateMachine) where
       → (v : ℕ)
       → member v (joinedBy M s q vs) ≡ true
       → P v
-  unfolding joinedBy member
-  joined-closed P s none vs k all v m = all v m
-  joined-closed P s (some u) vs k all v m =
-      either (reachesAny M s u vs)
-        (λ r.
-           let (w, mw, e) = reached s u vs r in
-           or-elim (eqb v u) (member v vs)
-             (λ h. subst P (sym (eqb-true v u h)) (k u w refl e (all w mw)))
-             (all v)
-             (rw r at m))
-        (λ r. all v (rw r at m))
+  unfolding joinedBy
+  joined-closed P s none vs k ps v m = ps v m
+  joined-closed P s (some u) vs k ps v m =
+      either (reachesAny M s u vs) (λ r. member-elim P u vs (joiner r) ps v (rw r at m)) (λ r. ps v (rw r at m))
+    where
+      joiner : reachesAny M s u vs ≡ true → P u
+      joiner r = let (w, h, e) = reached s u vs r in k u w refl e (ps w h)
 
   sources-closed :
       (P : ℕ → Type 0) (s : State) (cs : List Call) (d : ℕ)
@@ -136,12 +162,11 @@ module _ (M : StateMachine) where
       → member v (sources M s cs d) ≡ true
       → P v
   unfolding sources member
-  sources-closed P s [] d p k v m =
-      or-elim (eqb v d) false (λ e. subst P (sym (eqb-true v d e)) p) (λ e. absurd (false≢true e)) m
+  sources-closed P s [] d p k v m = member-elim P d [] p (λ w h. absurd (false≢true h)) v m
   sources-closed P s (c ∷ cs) d p k v m =
       joined-closed P s (caller c) (sources M (step s c) cs d) (k .0) (sources-closed P (step s c) cs d p (k .1)) v m
 
-  -- Choices of struck calls: by a test that strikes no call of the set; the purge, all calls, and the calls of a group.
+  -- a test that fails on no call of a source, then the three choices: the purge, all calls, and a closed group's calls
   choose :
       {d : ℕ} {s : State} {cs ks : List Call} (c : Call) (b : Bool)
       → (b ≡ false → callerIn (caller c) (sources M s (c ∷ cs) d) ≡ false)
@@ -164,15 +189,13 @@ module _ (M : StateMachine) where
       (group : ℕ → Bool) (d : ℕ) (s : State) (cs : List Call)
       → group d ≡ true
       → Closed M (λ v. group v ≡ true) s cs
-      → Keeps M d s cs (ofGroup M group cs)
-  unfolding ofGroup
+      → Keeps M d s cs (groupCalls M group cs)
+  unfolding groupCalls
   keeps-group group d s [] p k = done
   keeps-group group d s (c ∷ cs) p k =
-      choose c (callerOfGroup group (caller c))
-        (contra (callerIn (caller c) (sources M s (c ∷ cs) d)) (callerOfGroup group (caller c))
-           (in-group group (caller c) (sources M s (c ∷ cs) d)
-              (sources-closed (λ v. group v ≡ true) s (c ∷ cs) d p k)))
-        (keeps-group group d (step s c) cs p (k .1))
+      let inside = sources-closed (λ v. group v ≡ true) s (c ∷ cs) d p k in
+      let test = in-group group (caller c) (sources M s (c ∷ cs) d) inside in
+      choose c (fromGroup group (caller c)) (contra _ _ test) (keeps-group group d (step s c) cs p (k .1))
 
 -- What the conditions give.
 module _
@@ -193,22 +216,32 @@ module _
   ok-both : {s t : State} (c : Call) → ok s t → ok (step s c) (step t c)
   ok-both c o = okSym (ok-next c (okSym (ok-next c o)))
 
-  -- each source of a domain is a domain
   domains-closed : (s : State) (cs : List Call) → ok s s → Closed M Domain s cs
   domains-closed s [] o = tt
   domains-closed s (c ∷ cs) o = (λ u v e r p. reachesDomain o r, domains-closed (step s c) cs (ok-both c o))
 
-  source-domain :
-      (d : ℕ) (s : State) (cs : List Call) → Domain d → ok s s → (v : ℕ) → member v (sources M s cs d) ≡ true → Domain v
-  source-domain d s cs p o = sources-closed M Domain s cs d p (domains-closed s cs o)
+  -- each source of d is a domain, to which the states look the same
+  known :
+      {d : ℕ} {s t : State} {cs : List Call}
+      → Agree M ok same d s cs t
+      → (v : ℕ)
+      → member v (sources M s cs d) ≡ true
+      → Domain v × same v s t
+  known {d} {s} {cs = cs} a v m =
+      let closed = domains-closed s cs (ok-self (a .proper)) in
+      (sources-closed M Domain s cs d (a .domain) closed v m, a .each v m)
 
-  same-influences :
-      {s t : State} {v : ℕ} (q : Option ℕ) → ok s t → Domain v → same v s t → influences M s q v ≡ influences M t q v
-  unfolding influences
-  same-influences none o p e = refl
-  same-influences {v} (some u) o p e = ap (λ b. eqb u v || b) (policyRespect u o p e)
+  -- so is each source at the next call
+  known-next :
+      {d : ℕ} {s t : State} (c : Call) (cs : List Call)
+      → Agree M ok same d s (c ∷ cs) t
+      → (v : ℕ)
+      → member v (sources M (step s c) cs d) ≡ true
+      → Domain v × same v s t
+  unfolding sources
+  known-next {d} {s} c cs a v m = known a v (grows M s (caller c) (sources M (step s c) cs d) v m)
 
-  -- a call on one side only, whose caller doesn't influence v
+  -- One call and one domain v: on one side only, by a caller that doesn't influence v;
   alone :
       {s t : State} {v : ℕ} (c : Call)
       → ok s t
@@ -220,36 +253,120 @@ module _
       let next = okStep c (ok-self o) in
       sameTrans (okSym next) o (sameSym next (localRespect c (ok-self o) p i)) e
 
-  -- a call on both sides, whose caller influences v
+  same-influences :
+      {s t : State} {v : ℕ} (q : Option ℕ) → ok s t → Domain v → same v s t → influences M s q v ≡ influences M t q v
+  unfolding influences
+  same-influences none o p e = refl
+  same-influences {v} (some u) o p e = ap (λ b. eqb u v || b) (policyRespect u o p e)
+
+  -- on both sides, by a caller that doesn't influence v;
+  uninfluenced :
+      {s t : State} {v : ℕ} (c : Call)
+      → ok s t
+      → Domain v
+      → influences M s (caller c) v ≡ false
+      → same v s t
+      → same v (step s c) (step t c)
+  uninfluenced c o p i e =
+      let o′ = okSym (ok-next c o) in
+      let i′ = sym (same-influences (caller c) o p e) ∙ i in
+      sameSym (ok-next c o′) (alone c o′ p i′ (sameSym (ok-next c o) (alone c o p i e)))
+
+  -- and on both sides, by a caller that does and is itself known.
   influenced :
       {s t : State} {v : ℕ} (c : Call) (q : Option ℕ) (vs : List ℕ)
       → caller c ≡ q
       → ok s t
-      → Domain v
-      → ((u : ℕ) → member u vs ≡ true → Domain u)
-      → SameFor same vs s t
-      → same v s t
-      → influences M s q v ≡ true
+      → ((u : ℕ) → member u vs ≡ true → Domain u × same u s t)
       → callerIn q vs ≡ true
+      → Domain v
+      → influences M s q v ≡ true
+      → same v s t
       → same v (step s c) (step t c)
-  unfolding influences callerIn
-  influenced c none vs h o p ps a e i m = absurd (false≢true m)
-  influenced c (some u) vs h o p ps a e i m = weaklyStepConsistent c o (ps u m) p h i (a u m) e
+  unfolding callerIn
+  influenced c none vs e o ps h p i x = absurd (false≢true h)
+  influenced c (some u) vs e o ps h p i x = weaklyStepConsistent c o (ps u h .0) p e i (ps u h .1) x
 
-  -- a call on both sides (CapFlow: lemma-1): from the set at the call to the set after it
-  both :
-      {s t : State} (c : Call) (vs : List ℕ)
-      → ok s t
-      → ((v : ℕ) → member v (joinedBy M s (caller c) vs) ≡ true → Domain v)
-      → SameFor same (joinedBy M s (caller c) vs) s t
-      → SameFor same vs (step s c) (step t c)
-  both {s} {t} c vs o ps a v m =
-      let m′ = grows M s (caller c) vs v m in
-      let p = ps v m′ in
-      let e = a v m′ in
-      either (influences M s (caller c) v)
-        (λ i. influenced c (caller c) (joinedBy M s (caller c) vs) refl o p ps a e i (joins M s (caller c) vs v m i))
-        (λ i.
-           let o′ = okSym (ok-next c o) in
-           let e′ = sameSym (ok-next c o) (alone c o p i e) in
-           sameSym (ok-next c o′) (alone c o′ p (sym (same-influences (caller c) o p e) ∙ i) e′))
+  -- One call and all sources of d: on both sides (CapFlow: lemma-1),
+  agree-both :
+      {d : ℕ} {s t : State} (c : Call) (cs : List Call)
+      → Agree M ok same d s (c ∷ cs) t
+      → Agree M ok same d (step s c) cs (step t c)
+  unfolding sources
+  agree-both {d} {s} {t} c cs a = record { domain = a .domain; proper = ok-both c o; each = each }
+    where
+      o : ok s t
+      o = a .proper
+
+      each : SameFor same (sources M (step s c) cs d) (step s c) (step t c)
+      each v m =
+          let (p, x) = known-next c cs a v m in
+          let joined = joins M s (caller c) (sources M (step s c) cs d) v m in
+          either (influences M s (caller c) v)
+          (λ i. influenced c (caller c) (sources M s (c ∷ cs) d) refl o (known a) (joined i) p i x)
+          (λ i. uninfluenced c o p i x)
+
+  -- and struck.
+  agree-struck :
+      {d : ℕ} {s t : State} (c : Call) (cs : List Call)
+      → Agree M ok same d s (c ∷ cs) t
+      → callerIn (caller c) (sources M s (c ∷ cs) d) ≡ false
+      → Agree M ok same d (step s c) cs t
+  unfolding sources
+  agree-struck {d} {s} {t} c cs a h = record { domain = a .domain; proper = ok-next c (a .proper); each = each }
+    where
+      each : SameFor same (sources M (step s c) cs d) (step s c) t
+      each v m =
+          let (p, x) = known-next c cs a v m in
+          let joined = joins M s (caller c) (sources M (step s c) cs d) v m in
+          alone c (a .proper) p (contra _ _ joined h) x
+
+  -- what d is answered, with one call more in front
+  same-answers :
+      {d : ℕ} {s t : State} {cs : List Call} {xs ys : List ℕ} (c : Call)
+      → Agree M ok same d s (c ∷ cs) t
+      → xs ≡ ys
+      → cond (calledBy d (caller c)) (out s c ++ xs) xs ≡ cond (calledBy d (caller c)) (out t c ++ ys) ys
+  same-answers {d} {s} {cs = cs} c a e =
+      let (p, x) = known a d (in-sources M s (c ∷ cs) d) in
+      either (calledBy d (caller c))
+      (λ b. rw b (ap₂ _++_ (outputConsistent c (a .proper) p (called d (caller c) b) x) e))
+      (λ b. rw b e)
+
+  pub unwinding : UnwindingTheorem M ok same
+  unfolding run outputs
+  unwinding d s t cs ks a done =
+      record { proper = a .proper; state = a .each d (in-sources M s [] d); answers = refl }
+  unwinding d s t cs ks a (keep c {cs = cs′} {ks = ks′} k) =
+      let next = unwinding d (step s c) (step t c) cs′ ks′ (agree-both c cs′ a) k in
+      record { proper = next .proper; state = next .state; answers = same-answers c a (next .answers) }
+  unwinding d s t cs ks a (strike c {cs = cs′} h k) =
+      let next = unwinding d (step s c) t cs′ ks (agree-struck c cs′ a h) k in
+      let other = contra _ _ (called-in d (caller c) _ (in-sources M s (c ∷ cs′) d)) h in
+      record { proper = next .proper; state = next .state; answers = rw other (next .answers) }
+
+  -- The cases.
+  pub same-sources : SameSources M ok same
+  unfolding sources
+  same-sources d s t [] a = refl
+  same-sources d s t (c ∷ cs) a =
+      same-joined M s t (caller c) (sources M (step s c) cs d)
+      (λ u v m. let (p, x) = known-next c cs a v m in policyRespect u (a .proper) p x)
+      ∙ ap (joinedBy M t (caller c)) (same-sources d (step s c) (step t c) cs (agree-both c cs a))
+
+  same-purge : (d : ℕ) (s t : State) (cs : List Call) → Agree M ok same d s cs t → purge M s cs d ≡ purge M t cs d
+  unfolding purge
+  same-purge d s t [] a = refl
+  same-purge d s t (c ∷ cs) a =
+      ap₂ (λ vs ks. cond (callerIn (caller c) vs) (c ∷ ks) ks)
+      (same-sources d s t (c ∷ cs) a)
+      (same-purge d (step s c) (step t c) cs (agree-both c cs a))
+
+  pub noninfluence : Noninfluence M ok same
+  noninfluence d s t cs a = unwinding d s t cs _ a (rw (← same-purge d s t cs a) (keeps-purge M d s cs))
+
+  pub noninterference : Noninterference M ok same
+  noninterference d s cs p o = noninfluence d s s cs (record { domain = p; proper = o; each = λ v m. sameRefl o })
+
+  pub nonleakage : Nonleakage M ok same
+  nonleakage d s t cs a = unwinding d s t cs cs a (keeps-all M d s cs)

@@ -24,6 +24,11 @@ pub record StateMachine : Type 1 where
   -- u has a right on v in a state: this moves with the state
   pub reaches : State → ℕ → ℕ → Bool
 
+-- a call's caller is in a group
+unfoldable pub fromGroup : (ℕ → Bool) → Option ℕ → Bool
+fromGroup group none = false
+fromGroup group (some u) = group u
+
 module _ (M : StateMachine) where
   open StateMachine M using (State, Call, step, out, caller, reaches)
 
@@ -77,21 +82,18 @@ module _ (M : StateMachine) where
   influences s none v = false
   influences s (some u) v = eqb u v || reaches s u v
 
-  -- Along the calls run from s, whoever reaches a member of the group P is a member.
+  -- along the calls run from s, a caller that reaches a member of the group P is a member
   abbrev pub Closed : (ℕ → Type 0) → State → List Call → Type 0
   Closed P s [] = Unit {0}
   Closed P s (c ∷ cs) =
       ((u v : ℕ) → caller c ≡ some u → reaches s u v ≡ true → P v → P u) × Closed P (step s c) cs
 
--- a call's caller is in a group; no caller is in none
-unfoldable pub callerOfGroup : (ℕ → Bool) → Option ℕ → Bool
-callerOfGroup group none = false
-callerOfGroup group (some u) = group u
-
--- the calls of a group, whatever the run
-unfoldable pub ofGroup : (M : StateMachine) → (ℕ → Bool) → List (M .Call) → List (M .Call)
-ofGroup M group [] = []
-ofGroup M group (c ∷ cs) = let rest = ofGroup M group cs in cond (callerOfGroup group (M .caller c)) (c ∷ rest) rest
+  -- exactly the calls whose caller is in a group, whatever the run
+  unfoldable pub groupCalls : (ℕ → Bool) → List Call → List Call
+  groupCalls group [] = []
+  groupCalls group (c ∷ cs) =
+      let rest = groupCalls group cs in
+      cond (fromGroup group (caller c)) (c ∷ rest) rest
 
 -- two states look the same to each member of a set (CapFlow: ivpeq)
 abbrev pub SameFor : {S : Type 0} → (ℕ → S → S → Type 0) → List ℕ → S → S → Type 0
@@ -136,50 +138,36 @@ module _ (M : StateMachine) (ok : M .State → M .State → Type 0) (same : ℕ 
     pub outputConsistent :
         {s t : State} {u : ℕ} (c : Call) → ok s t → Domain u → caller c ≡ some u → same u s t → out s c ≡ out t c
 
-  -- What d sees of cs run from s is what it sees of ks run from t (CapFlow: observ-equivalence, here with the answers).
+  -- s and t look the same to every source of the domain d along cs.
+  pub record Agree (d : ℕ) (s : State) (cs : List Call) (t : State) : Type 0 where
+    pub domain : Domain d
+    pub proper : ok s t
+    pub each : SameFor same (sources M s cs d) s t
+
+  -- What d sees of cs run from s is what it sees of ks run from t (CapFlow: observ-equivalence; here with the answers).
   pub record ObservEquivalent (d : ℕ) (s : State) (cs : List Call) (t : State) (ks : List Call) : Type 0 where
     pub proper : ok (run M s cs) (run M t ks)
     pub state : same d (run M s cs) (run M t ks)
     pub answers : outputs M d s cs ≡ outputs M d t ks
 
-  -- The theorem: where s and t look the same to every source of d, so do the calls and whatever keeps those of the sources.
-  abbrev pub Unwinds : Type 0
-  Unwinds =
-      (d : ℕ) (s t : State) (cs ks : List Call)
-      → Domain d
-      → ok s t
-      → SameFor same (sources M s cs d) s t
-      → Keeps M d s cs ks
-      → ObservEquivalent d s cs t ks
+  -- The theorem: of states that look the same to every source of d, d sees the same, whatever calls of others are struck.
+  abbrev pub UnwindingTheorem : Type 0
+  UnwindingTheorem =
+      (d : ℕ) (s t : State) (cs ks : List Call) → Agree d s cs t → Keeps M d s cs ks → ObservEquivalent d s cs t ks
 
-  -- Its cases. One state, and the purge:
+  -- Its cases: the purge, worked out on the second state;
+  abbrev pub Noninfluence : Type 0
+  Noninfluence = (d : ℕ) (s t : State) (cs : List Call) → Agree d s cs t → ObservEquivalent d s cs t (purge M t cs d)
+
+  -- the purge, on one state;
   abbrev pub Noninterference : Type 0
   Noninterference =
       (d : ℕ) (s : State) (cs : List Call) → Domain d → ok s s → ObservEquivalent d s cs s (purge M s cs d)
 
-  -- two states, and the purge worked out on the second:
-  abbrev pub Noninfluence : Type 0
-  Noninfluence =
-      (d : ℕ) (s t : State) (cs : List Call)
-      → Domain d
-      → ok s t
-      → SameFor same (sources M s cs d) s t
-      → ObservEquivalent d s cs t (purge M t cs d)
-
-  -- two states, and all calls:
+  -- nothing struck;
   abbrev pub Nonleakage : Type 0
-  Nonleakage =
-      (d : ℕ) (s t : State) (cs : List Call)
-      → Domain d
-      → ok s t
-      → SameFor same (sources M s cs d) s t
-      → ObservEquivalent d s cs t cs
+  Nonleakage = (d : ℕ) (s t : State) (cs : List Call) → Agree d s cs t → ObservEquivalent d s cs t cs
 
-  -- and the set worked out on the second is then the same set.
+  -- and the sources worked out on the second state are the same.
   abbrev pub SameSources : Type 0
-  SameSources =
-      (d : ℕ) (s t : State) (cs : List Call)
-      → Domain d
-      → ok s t
-      → SameFor same (sources M s cs d) s t
-      → sources M s cs d ≡ sources M t cs d
+  SameSources = (d : ℕ) (s t : State) (cs : List Call) → Agree d s cs t → sources M s cs d ≡ sources M t cs d
