@@ -1,5 +1,6 @@
 -- The unwinding theorem and its cases (specs/Unwinding), by induction on the choice of struck calls. Assumes nothing.
--- First what holds of sets and sources for every machine, then what the conditions give.
+-- First what holds of sets and sources for every machine, then what the conditions give. Of the letters, m is a membership,
+-- p a domain, o an ok, x a same, i an influence or its absence, a an agreement, k a closed group or a choice of struck calls.
 use Prim.Native.Nat.{ℕ}
 use mathlib.Core.Path.{_≡_, refl, sym, ap, ap₂, _∙_, subst}
 use mathlib.Core.Bool.{Bool, true, false, cond, _||_, or-true, true≢false, false≢true}
@@ -112,7 +113,7 @@ module _ (M : StateMachine) where
   same-joined s t (some u) vs e = ap (λ b. cond b (u ∷ vs) vs) (same-any s t u vs (e u))
 
   -- the set only grows going back
-  grows : (s : State) (q : Option ℕ) (vs : List ℕ) (v : ℕ) → member v vs ≡ true → member v (joinedBy M s q vs) ≡ true
+  pub grows : (s : State) (q : Option ℕ) (vs : List ℕ) (v : ℕ) → member v vs ≡ true → member v (joinedBy M s q vs) ≡ true
   unfolding joinedBy
   grows s none vs v m = m
   grows s (some u) vs v m =
@@ -133,7 +134,7 @@ module _ (M : StateMachine) where
       i
 
   -- d is among its sources
-  in-sources : (s : State) (cs : List Call) (d : ℕ) → member d (sources M s cs d) ≡ true
+  pub in-sources : (s : State) (cs : List Call) (d : ℕ) → member d (sources M s cs d) ≡ true
   unfolding sources
   in-sources s [] d = member-first d []
   in-sources s (c ∷ cs) d = grows s (caller c) (sources M (step s c) cs d) d (in-sources (step s c) cs d)
@@ -154,7 +155,7 @@ module _ (M : StateMachine) where
       joiner : reachesAny M s u vs ≡ true → P u
       joiner r = let (w, h, e) = reached s u vs r in k u w refl e (ps w h)
 
-  sources-closed :
+  pub sources-closed :
       (P : ℕ → Type 0) (s : State) (cs : List Call) (d : ℕ)
       → P d
       → Closed M P s cs
@@ -191,11 +192,11 @@ module _ (M : StateMachine) where
       → Closed M (λ v. group v ≡ true) s cs
       → Keeps M d s cs (groupCalls M group cs)
   unfolding groupCalls
-  keeps-group group d s [] p k = done
-  keeps-group group d s (c ∷ cs) p k =
-      let inside = sources-closed (λ v. group v ≡ true) s (c ∷ cs) d p k in
+  keeps-group group d s [] h k = done
+  keeps-group group d s (c ∷ cs) h k =
+      let inside = sources-closed (λ v. group v ≡ true) s (c ∷ cs) d h k in
       let test = in-group group (caller c) (sources M s (c ∷ cs) d) inside in
-      choose c (fromGroup group (caller c)) (contra _ _ test) (keeps-group group d (step s c) cs p (k .1))
+      choose c (fromGroup group (caller c)) (contra _ _ test) (keeps-group group d (step s c) cs h (k .1))
 
 -- What the conditions give.
 module _
@@ -249,15 +250,15 @@ module _
       → influences M s (caller c) v ≡ false
       → same v s t
       → same v (step s c) t
-  alone c o p i e =
+  alone c o p i x =
       let next = okStep c (ok-self o) in
-      sameTrans (okSym next) o (sameSym next (localRespect c (ok-self o) p i)) e
+      sameTrans (okSym next) o (sameSym next (localRespect c (ok-self o) p i)) x
 
   same-influences :
       {s t : State} {v : ℕ} (q : Option ℕ) → ok s t → Domain v → same v s t → influences M s q v ≡ influences M t q v
   unfolding influences
-  same-influences none o p e = refl
-  same-influences {v} (some u) o p e = ap (λ b. eqb u v || b) (policyRespect u o p e)
+  same-influences none o p x = refl
+  same-influences {v} (some u) o p x = ap (λ b. eqb u v || b) (policyRespect u o p x)
 
   -- on both sides, by a caller that doesn't influence v;
   uninfluenced :
@@ -267,10 +268,10 @@ module _
       → influences M s (caller c) v ≡ false
       → same v s t
       → same v (step s c) (step t c)
-  uninfluenced c o p i e =
+  uninfluenced c o p i x =
       let o′ = okSym (ok-next c o) in
-      let i′ = sym (same-influences (caller c) o p e) ∙ i in
-      sameSym (ok-next c o′) (alone c o′ p i′ (sameSym (ok-next c o) (alone c o p i e)))
+      let i′ = sym (same-influences (caller c) o p x) ∙ i in
+      sameSym (ok-next c o′) (alone c o′ p i′ (sameSym (ok-next c o) (alone c o p i x)))
 
   -- and on both sides, by a caller that does and is itself known.
   influenced :
