@@ -10,3 +10,5 @@ pub mod Consistency
 pub mod Right
 pub mod Step
 pub mod Queue
+pub mod Purge
+pub mod Unwinding
