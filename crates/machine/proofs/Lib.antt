@@ -12,3 +12,4 @@ pub mod Step
 pub mod Queue
 pub mod Purge
 pub mod Unwinding
+pub mod Noninterference
