@@ -10,4 +10,7 @@ pub mod Consistency
 pub mod Right
 pub mod Step
 pub mod Queue
+pub mod Purge
+pub mod Unwinding
+pub mod Noninterference
 pub mod Trail

@@ -11,6 +11,7 @@ pub mod Run
 pub mod Entry
 pub mod Influence
 pub mod Purge
+pub mod Unwinding
 pub mod Counts
 pub mod Claims
 pub mod Trail
