@@ -14,3 +14,4 @@ pub mod Purge
 pub mod Unwinding
 pub mod Noninterference
 pub mod Trail
+pub mod Cut
