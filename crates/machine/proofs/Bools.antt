@@ -1,6 +1,6 @@
 -- Laws of tests: a conjunction taken apart and put together, and a case split that keeps its equation.
 -- Assumes nothing.
-use mathlib.Core.Path.{_≡_, refl, sym, _∙_}
+use mathlib.Core.Path.{_≡_, refl, sym, ap, _∙_}
 use mathlib.Core.Bool.{Bool, true, false, cond, not, _&&_, _||_, true≢false, false≢true}
 use mathlib.Core.Logic.{_⊎_, _⊎_.inl, _⊎_.inr}
 
@@ -36,3 +36,11 @@ either false = inr refl
 pub cond-elim {ℓ} : {A : Type ℓ} (P : A → Type 0) (b : Bool) {x y : A} → (b ≡ true → P x) → (b ≡ false → P y) → P (cond b x y)
 cond-elim P true f g = f refl
 cond-elim P false f g = g refl
+
+-- equal tests and, where they hold, equal first arms make equal choices
+pub cond-same : {A : Type 0} {b b′ : Bool} {x y : A} (z : A) → b ≡ b′ → (b′ ≡ true → x ≡ y) → cond b x z ≡ cond b′ y z
+cond-same {A} {b} {b′} {x} {y} z e f = ap (λ (t : Bool). cond t x z) e ∙ go b′ f
+  where
+    go : (t : Bool) → (t ≡ true → x ≡ y) → cond t x z ≡ cond t y z
+    go true g = g refl
+    go false g = refl

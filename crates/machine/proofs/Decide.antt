@@ -63,7 +63,7 @@ number : (n : ℕ) → 10 ≤ n → n ≤ 23 → Number n
 number n l u = record { least = l; most = u }
 
 -- a known kind's call has a caller
-calls-back : (k : ℕ) (c : Call) → kind (first c) ≡ k → eqb k 15 ≡ false → callerOf c ≡ some (caller (first c))
+pub calls-back : (k : ℕ) (c : Call) → kind (first c) ≡ k → eqb k 15 ≡ false → callerOf c ≡ some (caller (first c))
 unfolding callerOf
 calls-back k c e f = rw (e, f)
 

@@ -4,4 +4,8 @@ pub mod Bools
 pub mod Below
 pub mod Table
 pub mod Decide
+pub mod Accepted
+pub mod Frame
+pub mod Consistency
+pub mod Right
 pub mod Queue
