@@ -8,4 +8,5 @@ pub mod Accepted
 pub mod Frame
 pub mod Consistency
 pub mod Right
+pub mod Step
 pub mod Queue
