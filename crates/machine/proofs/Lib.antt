@@ -10,3 +10,4 @@ pub mod Consistency
 pub mod Right
 pub mod Step
 pub mod Queue
+pub mod Counts
