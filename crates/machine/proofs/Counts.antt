@@ -1,29 +1,30 @@
 -- The counts of an endpoint are borne out by a run, and its messages are received in turn (specs/Claims: CountsBorneOut,
 -- InTurn); counts add up over lists that are run one after another.
 -- Assumes nothing.
-use mathlib.Core.Path.{_≡_, refl, sym, ap, ap₂, subst, _∙_}
-use mathlib.Core.Logic.{_≢_, _⊎_, ⊎-elim}
+use mathlib.Core.Path.{_≡_, refl, sym, ap, subst, _∙_}
+use mathlib.Core.Logic.{_≢_, ⊎-elim}
 use mathlib.Core.Bool.{Bool, true, false, cond, not, _&&_}
 use mathlib.Core.List.{List, [], _∷_, _++_, append-assoc, append-nil}
-use Prim.Native.Nat.{ℕ, _+_, _*_, _-_, _/_, _%_, _<_, _≤_, min}
+use Prim.Native.Nat.{ℕ, _+_, _*_, _%_, _<_, _≤_, min}
 use native.Mathlib.Omega.{arith}
 use borrow.Author.Tests.{ltb-true, eq-eqb, ne-eqb}
-use lib.Dec.{eqb, ltb}
-use lib.ListN.{length, getD, drop, length-append}
+use lib.Dec.{eqb}
+use lib.ListN.{length}
 use Rattle.machine.specs.Word.{kind, fieldB}
 use Rattle.machine.specs.Table.{domains, endpoints, endpoint, setEndpoint}
-use Rattle.machine.specs.Queue.{capacity, waiting, lost, oldest, mostLost, hasSpace, sendWithSpace, sendToFull, sent, received}
+use Rattle.machine.specs.Queue.{capacity, waiting, lost, oldest, mostLost, hasSpace, sent, received}
 use Rattle.machine.specs.Check.{endpointOk, Accepted}
 use Rattle.machine.specs.Call.{Call, first, secondPayload}
 use Rattle.machine.specs.Machine.{Decision, decide, effect, after, step, code, firstData, answerWord, answerTo, answer}
-use Rattle.machine.specs.Machine.{Decision.refused, Decision.lookedUp, Decision.sends, Decision.receives}
+use Rattle.machine.specs.Machine.{Decision.refused}
 use Rattle.machine.specs.Run.{run, answers}
 use Rattle.machine.specs.Counts.{doneOn, countDone, messagesFrom, sendsTo, fullSends, messagesTo, messages}
-use Rattle.machine.specs.Claims.{StaysAccepted, SameFrame, CountsBorneOut, InTurn}
+use Rattle.machine.specs.Claims.{CountsBorneOut, InTurn}
 use Rattle.machine.proofs.Table as table
 use Rattle.machine.proofs.Table.{Sized}
 use Rattle.machine.proofs.Accepted.{accepted-sized, accepted-endpoint, info-of}
-use Rattle.machine.proofs.Decide.{Number, Known, Rows, decide-elim}
+use Rattle.machine.proofs.Decide.{Number, decide-elim}
+use Rattle.machine.proofs.Step.{stays-accepted}
 use Rattle.machine.proofs.Queue as queue
 
 -- ---- what one call does to one endpoint's queue q, which it leaves as q′: whether it sends the message there, and whether
@@ -31,11 +32,12 @@ use Rattle.machine.proofs.Queue as queue
 pub record Served (sends receives : Bool) (message told : ℕ) (q q′ : List ℕ) : Type 0 where
   pub balance : cond sends 1 0 + waiting q ≡ cond receives 1 0 + cond (sends && not (hasSpace q)) 1 0 + waiting q′
   pub raised : lost q′ ≡ min (lost q + cond (sends && not (hasSpace q)) 1 0) mostLost
-  pub inTurn : cond receives (told ∷ []) [] ++ messages q′ ≡ messages q ++ cond (sends && hasSpace q) (message ∷ []) []
+  -- where what is received later, and then left, is what waits now and what comes later, so it was before this call
+  pub inTurn : (out left later : List ℕ) → out ++ left ≡ messages q′ ++ later → cond receives (told ∷ out) out ++ left ≡ messages q ++ cond (sends && hasSpace q) (message ∷ later) later
 
 untouched : {message told : ℕ} (q : List ℕ) → Served false false message told q q
 untouched q =
-    record { balance = omega arith; raised = omega (arith, queue.lost-small q); inTurn = sym (append-nil (messages q)) }
+    record { balance = omega arith; raised = omega (arith, queue.lost-small q); inTurn = λ _ _ _ p. p }
 
 module _ (n : ℕ) (q : List ℕ) (twelve : length q ≡ 12) (ok : endpointOk n q ≡ true) where
   served-send : {told : ℕ} (m : ℕ) → m ≤ mostLost → Served true false m told q (sent q m)
@@ -47,13 +49,18 @@ module _ (n : ℕ) (q : List ℕ) (twelve : length q ≡ 12) (ok : endpointOk n 
       record {
         balance = rw (b, queue.sendWithSpace-waiting q twelve m w) (omega arith);
         raised = rw (b, queue.sendWithSpace-lost q twelve m) (omega (arith, queue.lost-small q));
-        inTurn = rw b (queue.sendWithSpace-messages q twelve m small w)
+        inTurn =
+            λ _ _ later p.
+            rw b
+            (p
+            ∙ ap (λ (x : List ℕ). x ++ later) (queue.sendWithSpace-messages q twelve m small w)
+            ∙ append-assoc (messages q) (m ∷ []) later);
       })
       (λ b.
       record {
         balance = rw (b, queue.sendToFull-waiting q twelve m) (omega arith);
         raised = rw b (queue.sendToFull-lost q twelve m);
-        inTurn = rw b (queue.sendToFull-messages q twelve m ∙ sym (append-nil (messages q)))
+        inTurn = λ _ _ later p. rw b (p ∙ ap (λ (x : List ℕ). x ++ later) (queue.sendToFull-messages q twelve m));
       })
 
   served-receive : {m : ℕ} → waiting q ≢ 0 → Served false true m (oldest q) q (received q)
@@ -62,7 +69,10 @@ module _ (n : ℕ) (q : List ℕ) (twelve : length q ≡ 12) (ok : endpointOk n 
       record {
         balance = rw (queue.received-waiting q twelve some most) (omega arith);
         raised = rw (queue.received-lost q twelve some most) (omega (arith, queue.lost-small q));
-        inTurn = queue.received-messages q twelve some most ∙ sym (append-nil (messages q))
+        inTurn =
+            λ _ _ later p.
+            ap (λ (x : List ℕ). oldest q ∷ x) p
+            ∙ ap (λ (x : List ℕ). x ++ later) (queue.received-messages q twelve some most);
       }
 
 -- ---- which calls are done on the endpoint e, by their answers
@@ -144,15 +154,54 @@ module _ (t : List ℕ) (e : ℕ) (c : Call) where
           endpointsListed = λ _ k. idle _ 4 k refl refl refl refl;
           rightsListed = λ _ k. idle _ 5 k refl refl refl refl;
           granting = λ _ k g h _ _ _ _. idle _ 6 k refl refl refl (table.setRights-endpoint t sized _ _ _ h g e le);
-          removing = λ u k g _ _. idle _ 7 k refl refl refl (table.setRights-endpoint t sized _ _ _ (u .below) g e le)
+          removing = λ u k g _ _. idle _ 7 k refl refl refl (table.setRights-endpoint t sized _ _ _ (u .below) g e le);
         })
 
 -- ---- the run of a list, call by call
-count-cons : (k e : ℕ) (t : List ℕ) (c : Call) (cs : List Call) → countDone k e (c ∷ cs) (answers t (c ∷ cs)) ≡ cond (doneOn k e c (answer t c)) 1 0 + countDone k e cs (answers (step t c) cs)
-unfolding countDone doneOn answers answer answerTo
-count-cons k e t c cs = refl
+still-below : (t : List ℕ) (c : Call) → Accepted t → (e : ℕ) → e < endpoints t → e < endpoints (step t c)
+still-below t c a e l = rw (stays-accepted t c a .frame .sameEndpoints) l
 
-counts-borne-out : (t : List ℕ) (cs : List Call) → Accepted t → (e : ℕ) → e < endpoints t → CountsBorneOut e t cs (answers t cs) (run t cs)
-unfolding run answers answer countDone fullSends sendsTo
+pub counts-borne-out : (t : List ℕ) (cs : List Call) → Accepted t → (e : ℕ) → e < endpoints t → CountsBorneOut e t cs (answers t cs) (run t cs)
+unfolding run countDone fullSends sendsTo doneOn answers answer answerTo
 counts-borne-out t [] a e l = record { balance = omega arith; raised = omega (arith, queue.lost-small (endpoint t e)) }
-counts-borne-out t (c ∷ cs) a e l = ?
+counts-borne-out t (c ∷ cs) a e l =
+    let s = served t e c a l in
+    let rest = counts-borne-out (step t c) cs (stays-accepted t c a .accepted) e (still-below t c a e l) in
+    record {
+      balance = omega (arith, s .balance, rest .balance);
+      raised = omega (arith, s .raised, rest .raised);
+    }
+
+pub in-turn : (t : List ℕ) (cs : List Call) → Accepted t → (e : ℕ) → e < endpoints t → InTurn e t cs (answers t cs) (run t cs)
+unfolding run messagesFrom messagesTo sendsTo doneOn answers answer answerTo
+in-turn t [] a e l = sym (append-nil (messages (endpoint t e)))
+in-turn t (c ∷ cs) a e l =
+    served t e c a l .inTurn _ _ _ (in-turn (step t c) cs (stays-accepted t c a .accepted) e (still-below t c a e l))
+
+-- ---- lists run one after another
+pub answers-length : (t : List ℕ) (cs : List Call) → length (answers t cs) ≡ 3 * length cs
+unfolding answers answer answerTo
+answers-length t [] = refl
+answers-length t (c ∷ cs) = let rest = answers-length (step t c) cs in omega arith
+
+pub run-append : (t : List ℕ) (cs ds : List Call) → run t (cs ++ ds) ≡ run (run t cs) ds
+unfolding run
+run-append t [] ds = refl
+run-append t (c ∷ cs) ds = run-append (step t c) cs ds
+
+pub answers-append : (t : List ℕ) (cs ds : List Call) → answers t (cs ++ ds) ≡ answers t cs ++ answers (run t cs) ds
+unfolding run answers
+answers-append t [] ds = refl
+answers-append t (c ∷ cs) ds =
+    ap (λ (x : List ℕ). answer t c ++ x) (answers-append (step t c) cs ds)
+    ∙ sym (append-assoc (answer t c) (answers (step t c) cs) (answers (run (step t c) cs) ds))
+
+pub count-append : (k e : ℕ) (t : List ℕ) (cs ds : List Call) (ws : List ℕ) → countDone k e (cs ++ ds) (answers t cs ++ ws) ≡ countDone k e cs (answers t cs) + countDone k e ds ws
+unfolding countDone doneOn answers answer answerTo
+count-append k e t [] ds ws = omega arith
+count-append k e t (c ∷ cs) ds ws = let rest = count-append k e (step t c) cs ds ws in omega arith
+
+pub full-append : (e : ℕ) (t : List ℕ) (cs ds : List Call) → fullSends e t (cs ++ ds) ≡ fullSends e t cs + fullSends e (run t cs) ds
+unfolding fullSends run
+full-append e t [] ds = omega arith
+full-append e t (c ∷ cs) ds = let rest = full-append e (step t c) cs ds in omega arith

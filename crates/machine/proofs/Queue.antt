@@ -11,18 +11,17 @@ use native.Mathlib.Numerals.{add-one}
 use native.Mathlib.Omega.{arith}
 use borrow.Author.Tests.{ltb-true, ltb-false, leb-true, eqb-true, le-leb, eq-eqb}
 use lib.Dec.{eqb, leb, ltb}
-use Rattle.machine.specs.Below.{allBelow}
 use lib.ListN.{length, getD, take, drop, set, length-set, length-take, length-drop, length-append, List·getD-append}
 use lib.Seq.{getD-set-same, getD-set-other, take-set-le, drop-set-lt, drop-set-add, take-suc-set, length-take-le, getD-take, getD-drop, take-append-le, take-take, take-at, drop-at, drop-cons, getD-append-add, getD-at}
+use Rattle.machine.specs.Below.{allBelow}
 use Rattle.machine.specs.Word.{kind, payload, word}
-use Rattle.machine.specs.Queue.{capacity, waiting, lost, oldest, emptySlot, mostLost, hasSpace, sendWithSpace, sendToFull, sent, movedUp, received}
+use Rattle.machine.specs.Queue.{name, owner, capacity, waiting, lost, oldest, emptySlot, mostLost, hasSpace, sendWithSpace, sendToFull, sent, movedUp, received}
 use Rattle.machine.specs.Check.{waitingWordOk, lostWordOk, slotWordOk, identityOk, queueOk, endpointOk}
 use Rattle.machine.specs.Call.{Call, secondPayload, Call.one, Call.two}
 use Rattle.machine.specs.Counts.{messages}
 use Rattle.machine.proofs.Bools.{and-left, and-right, and-intro, or-cases, cond-elim}
 use Rattle.machine.proofs.Below.{all-at, all-of}
 use Rattle.machine.proofs.Accepted.{info-of}
-use Rattle.machine.proofs.Frame.{same-capacity}
 
 -- a word gives back the kind and the payload that it was made of
 pub kind-word : (k p : ℕ) → p ≤ mostLost → kind (word k p) ≡ k
@@ -90,13 +89,26 @@ queue-ok q s =
     and-intro (and-intro (and-intro (eq-eqb _ _ (s .isWaiting)) (le-leb _ _ (s .fits))) (eq-eqb _ _ (s .isLost)))
     (all-of 8 _ (λ i l. slot-ok (waiting q) i (getD q (4 + i) 0) (s .slots i l)))
 
--- the test of the first two words sees only these
-identity-kept : (n : ℕ) (p q : List ℕ) → take 2 p ≡ take 2 q → identityOk n p ≡ identityOk n q
-unfolding identityOk
-identity-kept n p q same = sym (seen p) ∙ ap (identityOk n) same ∙ seen q
-  where
-    seen : (l : List ℕ) → identityOk n (take 2 l) ≡ identityOk n l
-    seen l = rw (getD-take 2 l 0 0 (omega arith), getD-take 2 l 1 0 (omega arith))
+-- ---- the name, the owner and the capacity stand in the first two words
+identity-word : (p q : List ℕ) → take 2 p ≡ take 2 q → (k : ℕ) → k < 2 → getD p k 0 ≡ getD q k 0
+identity-word p q e k h = sym (getD-take 2 p k 0 h) ∙ ap (λ (l : List ℕ). getD l k 0) e ∙ getD-take 2 q k 0 h
+
+module _ (p q : List ℕ) (same : take 2 p ≡ take 2 q) where
+  pub name-kept : name p ≡ name q
+  unfolding name
+  name-kept = rw (identity-word p q same 0 (omega arith))
+
+  pub owner-kept : owner p ≡ owner q
+  unfolding owner
+  owner-kept = rw (identity-word p q same 1 (omega arith))
+
+  pub capacity-kept : capacity p ≡ capacity q
+  unfolding capacity
+  capacity-kept = rw (identity-word p q same 1 (omega arith))
+
+  pub identity-kept : (n : ℕ) → identityOk n p ≡ identityOk n q
+  unfolding identityOk
+  identity-kept n = rw (identity-word p q same 0 (omega arith), identity-word p q same 1 (omega arith))
 
 -- counts are payloads, so they fit a word
 pub waiting-small : (q : List ℕ) → waiting q ≤ mostLost
@@ -174,7 +186,7 @@ module _ (q : List ℕ) (twelve : length q ≡ 12) (m : ℕ) where
       record {
         isWaiting = ap kind sendWithSpace-count ∙ kind-word 5 (waiting q + 1) (omega arith);
         fits =
-            rw (sendWithSpace-waiting (omega arith), same-capacity (sendWithSpace q m) q sendWithSpace-identity) (omega arith);
+            rw (sendWithSpace-waiting (omega arith), capacity-kept (sendWithSpace q m) q sendWithSpace-identity) (omega arith);
         isLost = ap kind (sendWithSpace-other 3 (omega arith) (omega arith)) ∙ s .isLost;
         slots = λ i l. rw (sendWithSpace-waiting (omega arith)) (sendWithSpace-slots small (omega arith) s i l);
       }
@@ -225,7 +237,7 @@ module _ (q : List ℕ) (twelve : length q ≡ 12) (m : ℕ) where
   sendToFull-sound s =
       record {
         isWaiting = ap kind (sendToFull-other 2 (omega arith)) ∙ s .isWaiting;
-        fits = rw (sendToFull-waiting, same-capacity (sendToFull q m) q sendToFull-identity) (s .fits);
+        fits = rw (sendToFull-waiting, capacity-kept (sendToFull q m) q sendToFull-identity) (s .fits);
         isLost = ap kind sendToFull-count ∙ kind-word 6 (min (lost q + 1) mostLost) (omega arith);
         slots = λ i l. rw (sendToFull-waiting, sendToFull-other (4 + i) (omega arith)) (s .slots i l);
       }
@@ -319,7 +331,7 @@ module _ (q : List ℕ) (twelve : length q ≡ 12) (some : waiting q ≢ 0) (mos
   received-sound s =
       record {
         isWaiting = ap kind received-count ∙ kind-word 5 (waiting q - 1) (omega arith);
-        fits = rw (received-waiting, same-capacity (received q) q received-identity) (omega (arith, s .fits));
+        fits = rw (received-waiting, capacity-kept (received q) q received-identity) (omega (arith, s .fits));
         isLost = ap kind (received-before 3 (omega arith) (omega arith)) ∙ s .isLost;
         slots = λ i l. rw received-waiting (received-slots s i l);
       }
@@ -353,7 +365,7 @@ module _ (q : List ℕ) (twelve : length q ≡ 12) (m : ℕ) where
 endpoint-kept : (n : ℕ) (p q : List ℕ) → take 2 p ≡ take 2 q → Sound p → endpointOk n q ≡ true → endpointOk n p ≡ true
 unfolding endpointOk
 endpoint-kept n p q same s h =
-    and-intro (identity-kept n p q same ∙ and-left (identityOk n q) (queueOk q) h) (queue-ok p s)
+    and-intro (identity-kept p q same n ∙ and-left (identityOk n q) (queueOk q) h) (queue-ok p s)
 
 pub sent-ok : (n : ℕ) (q : List ℕ) (m : ℕ) → length q ≡ 12 → m ≤ mostLost → endpointOk n q ≡ true → endpointOk n (sent q m) ≡ true
 sent-ok n q m twelve small h =
