@@ -15,3 +15,4 @@ pub mod Unwinding
 pub mod Noninterference
 pub mod Trail
 pub mod Cut
+pub mod Counts

@@ -1,5 +1,5 @@
 -- Laws of an endpoint's twelve words (specs/Queue): what a send and a receive leave of the words, the counts and the messages,
--- and that sound words (specs/Check) stay sound. Nothing here sees the rest of the table.
+-- and that sound words (specs/Check) stay sound. No law here sees the rest of the table.
 -- Assumes nothing.
 use mathlib.Core.Path.{_≡_, refl, sym, ap, subst, _∙_}
 use mathlib.Core.Logic.{_≢_, ⊎-elim}
@@ -11,16 +11,17 @@ use native.Mathlib.Numerals.{add-one}
 use native.Mathlib.Omega.{arith}
 use borrow.Author.Tests.{ltb-true, ltb-false, leb-true, eqb-true, le-leb, eq-eqb}
 use lib.Dec.{eqb, leb, ltb}
-use Rattle.machine.specs.Below.{allBelow}
 use lib.ListN.{length, getD, take, drop, set, length-set, length-take, length-drop, length-append, List·getD-append}
 use lib.Seq.{getD-set-same, getD-set-other, take-set-le, drop-set-lt, drop-set-add, take-suc-set, length-take-le, getD-take, getD-drop, take-append-le, take-take, take-at, drop-at, drop-cons, getD-append-add, getD-at}
-use Rattle.machine.specs.Word.{kind, payload, word, upper, fieldB, fieldC}
+use Rattle.machine.specs.Below.{allBelow}
+use Rattle.machine.specs.Word.{kind, payload, word}
 use Rattle.machine.specs.Queue.{name, owner, capacity, waiting, lost, oldest, emptySlot, mostLost, hasSpace, sendWithSpace, sendToFull, sent, movedUp, received}
-use Rattle.machine.specs.Check.{nameWordOk, infoWordOk, waitingWordOk, lostWordOk, slotWordOk, identityOk, queueOk, endpointOk}
+use Rattle.machine.specs.Check.{waitingWordOk, lostWordOk, slotWordOk, identityOk, queueOk, endpointOk}
 use Rattle.machine.specs.Call.{Call, secondPayload, Call.one, Call.two}
 use Rattle.machine.specs.Counts.{messages}
 use Rattle.machine.proofs.Bools.{and-left, and-right, and-intro, or-cases, cond-elim}
 use Rattle.machine.proofs.Below.{all-at, all-of}
+use Rattle.machine.proofs.Accepted.{info-of}
 
 -- a word gives back the kind and the payload that it was made of
 pub kind-word : (k p : ℕ) → p ≤ mostLost → kind (word k p) ≡ k
@@ -123,19 +124,8 @@ pub endpoint-sound : (n : ℕ) (q : List ℕ) → endpointOk n q ≡ true → So
 unfolding endpointOk
 endpoint-sound n q h = sound-of q (and-right (identityOk n q) (queueOk q) h)
 
-info-capacity : (n w : ℕ) → infoWordOk n w ≡ true → fieldC w ≤ 8
-unfolding infoWordOk
-info-capacity n w h =
-    leb-true _ _ (and-right (eqb (kind w) 4 && eqb (upper w) 0 && ltb (fieldB w) n && leb 1 (fieldC w)) (leb (fieldC w) 8) h)
-
-pub capacity-most : (n : ℕ) (q : List ℕ) → endpointOk n q ≡ true → capacity q ≤ 8
-unfolding endpointOk identityOk capacity
-capacity-most n q h =
-    info-capacity n (getD q 1 0)
-    (and-right (nameWordOk (getD q 0 0)) (infoWordOk n (getD q 1 0)) (and-left (identityOk n q) (queueOk q) h))
-
 pub waiting-most : (n : ℕ) (q : List ℕ) → endpointOk n q ≡ true → waiting q ≤ 8
-waiting-most n q h = omega (arith, endpoint-sound n q h .fits, capacity-most n q h)
+waiting-most n q h = omega (arith, endpoint-sound n q h .fits, info-of n q h)
 
 -- a call's message fits a word
 pub message-small : (c : Call) → secondPayload c ≤ mostLost
@@ -380,7 +370,7 @@ endpoint-kept n p q same s h =
 pub sent-ok : (n : ℕ) (q : List ℕ) (m : ℕ) → length q ≡ 12 → m ≤ mostLost → endpointOk n q ≡ true → endpointOk n (sent q m) ≡ true
 sent-ok n q m twelve small h =
     endpoint-kept n (sent q m) q (sent-identity q twelve m)
-    (sent-sound q twelve m small (capacity-most n q h) (endpoint-sound n q h)) h
+    (sent-sound q twelve m small (info-of n q h .2) (endpoint-sound n q h)) h
 
 pub received-ok : (n : ℕ) (q : List ℕ) → length q ≡ 12 → waiting q ≢ 0 → endpointOk n q ≡ true → endpointOk n (received q) ≡ true
 received-ok n q twelve some h =
