@@ -1,2 +1,10 @@
 -- What is proved of the machine.
 pub mod Examples
+pub mod Bools
+pub mod Below
+pub mod Table
+pub mod Decide
+pub mod Accepted
+pub mod Frame
+pub mod Consistency
+pub mod Right
