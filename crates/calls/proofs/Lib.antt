@@ -1,3 +1,4 @@
 -- What is proved of taking a call apart.
 pub mod Apart
 pub mod Decide
+pub mod Counted
