@@ -29,11 +29,11 @@ use Rattle.machine.proofs.Queue as queue
 
 -- ---- what one call does to one endpoint's queue q, which it leaves as q′: whether it sends the message there, and whether
 -- it receives from there the message that its answer tells
-pub record Served (sends receives : Bool) (message told : ℕ) (q q′ : List ℕ) : Type 0 where
-  pub balance : cond sends 1 0 + waiting q ≡ cond receives 1 0 + cond (sends && not (hasSpace q)) 1 0 + waiting q′
-  pub raised : lost q′ ≡ min (lost q + cond (sends && not (hasSpace q)) 1 0) mostLost
+record Served (sends receives : Bool) (message told : ℕ) (q q′ : List ℕ) : Type 0 where
+  balance : cond sends 1 0 + waiting q ≡ cond receives 1 0 + cond (sends && not (hasSpace q)) 1 0 + waiting q′
+  raised : lost q′ ≡ min (lost q + cond (sends && not (hasSpace q)) 1 0) mostLost
   -- where what is received later, and then left, is what waits now and what comes later, so it was before this call
-  pub inTurn : (out left later : List ℕ) → out ++ left ≡ messages q′ ++ later → cond receives (told ∷ out) out ++ left ≡ messages q ++ cond (sends && hasSpace q) (message ∷ later) later
+  inTurn : (out left later : List ℕ) → out ++ left ≡ messages q′ ++ later → cond receives (told ∷ out) out ++ left ≡ messages q ++ cond (sends && hasSpace q) (message ∷ later) later
 
 untouched : {message told : ℕ} (q : List ℕ) → Served false false message told q q
 untouched q =
