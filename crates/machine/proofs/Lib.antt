@@ -16,3 +16,4 @@ pub mod Noninterference
 pub mod Trail
 pub mod Cut
 pub mod Counts
+pub mod Promise

@@ -15,6 +15,7 @@ pub mod Unwinding
 pub mod Counts
 pub mod Claims
 pub mod Trail
+pub mod Promise
 pub mod Everything
 pub mod Examples
 pub mod PurgeExamples

@@ -1,0 +1,3 @@
+-- What is proved of taking a call apart.
+pub mod Apart
+pub mod Decide
