@@ -27,12 +27,13 @@ use Rattle.machine.proofs.Decide.{Number, decide-elim}
 use Rattle.machine.proofs.Step.{stays-accepted}
 use Rattle.machine.proofs.Queue as queue
 
--- ---- what one call does to one endpoint's queue q, which it leaves as q′: whether it sends the message there, and whether
--- it receives from there the message that its answer tells
+-- ---- What one call does to one endpoint's queue q, which it leaves as q′. The two tests say whether it is a send to it or a
+-- receive from it, answered 0; told is the message in the answer.
 record Served (sends receives : Bool) (message told : ℕ) (q q′ : List ℕ) : Type 0 where
   balance : cond sends 1 0 + waiting q ≡ cond receives 1 0 + cond (sends && not (hasSpace q)) 1 0 + waiting q′
   raised : lost q′ ≡ min (lost q + cond (sends && not (hasSpace q)) 1 0) mostLost
-  -- where what is received later, and then left, is what waits now and what comes later, so it was before this call
+  -- in turn from after the call on (what is received later, then what is left, is what waits, then what comes later), hence
+  -- in turn from before it on
   inTurn : (out left later : List ℕ) → out ++ left ≡ messages q′ ++ later → cond receives (told ∷ out) out ++ left ≡ messages q ++ cond (sends && hasSpace q) (message ∷ later) later
 
 untouched : {message told : ℕ} (q : List ℕ) → Served false false message told q q
