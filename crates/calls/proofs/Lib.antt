@@ -2,3 +2,4 @@
 pub mod Apart
 pub mod Decide
 pub mod Counted
+pub mod CutAt

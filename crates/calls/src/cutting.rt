@@ -1,8 +1,10 @@
 // The cutting of a list into calls. It looks at kinds only, so it can't depend on a table: no function here is lent one.
+use crate::Second;
 ghost use mathlib.Core.Path.{_≡_};
 ghost use mathlib.Core.Bool.{cond};
 ghost use lib.ListN.{length};
 ghost use Rattle.machine.specs.Call.{wantsSecond, pairs, cut};
+ghost use Rattle.calls.specs.Cutting.{secondAt, widthOf};
 
 // Kinds 1 and 2 want a second word.
 fn wants_second(kind: u32) -> bool
@@ -44,4 +46,32 @@ pub fn count(list: &[u32]) -> usize
         i += 1;
     }
     calls
+}
+
+// The second word of the call that begins at place i of a list, if it has one; nothing behind the list's end.
+pub fn second_at(list: &[u32], i: usize) -> Second
+    ensures { λ r. ⌜ r ≡ secondAt (now (list .entry)) i ⌝ }
+{
+    if list.len() <= i {
+        return Second::Nothing;
+    }
+    if list.len() - i == 1 {
+        return Second::Nothing;
+    }
+    let next = list[i + 1];
+    if make_one_call(list[i], next) {
+        Second::Word(next)
+    } else {
+        Second::Nothing
+    }
+}
+
+// How many words a call is.
+pub fn width(second: Second) -> usize
+    ensures { λ r. ⌜ r ≡ widthOf second ⌝ }
+{
+    match second {
+        Second::Nothing => 1,
+        Second::Word(_) => 2,
+    }
 }
