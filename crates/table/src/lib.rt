@@ -15,7 +15,7 @@ ghost use Prim.Native.Nat.{_+_, _≤_};
 ghost use lib.ListN.{length, getD};
 ghost use Rattle.machine.specs.Below.{allBelow};
 ghost use Rattle.machine.specs.Check.{rightsWordOk, endpointsOk, tableCode};
-ghost use Rattle.table.specs.Checked.{checkedCode, Counted};
+ghost use Rattle.table.specs.Checked.{refusalCode, checkedCode, Counted};
 
 // What is wrong with a refused table: the place of document 01 that refuses it.
 pub enum TableRefusal {
@@ -29,9 +29,36 @@ pub enum TableRefusal {
     BadEndpoint,
 }
 
+impl TableRefusal {
+    // Document 01's number for it.
+    pub fn code(self) -> u32
+        ensures { λ r. ⌜ r ≡ refusalCode self ⌝ }
+    {
+        match self {
+            TableRefusal::BadHeader => 2,
+            TableRefusal::BadLength => 3,
+            TableRefusal::BadRights => 4,
+            TableRefusal::BadEndpoint => 5,
+        }
+    }
+}
+
+// What the check answers.
 pub enum Checked {
     Sound,
     Refused(TableRefusal),
+}
+
+impl Checked {
+    // Document 01's number for it: 0 where no place refuses.
+    pub fn code(self) -> u32
+        ensures { λ r. ⌜ r ≡ checkedCode self ⌝ }
+    {
+        match self {
+            Checked::Sound => 0,
+            Checked::Refused(refusal) => refusal.code(),
+        }
+    }
 }
 
 // The count rights words behind word 0.
