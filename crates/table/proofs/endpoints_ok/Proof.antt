@@ -7,7 +7,8 @@ use borrow.Author.Needs.{needs}
 use Rattle.machine.specs.Check.{endpointOk}
 use Rattle.machine.specs.Table.{endpoint}
 use Rattle.table.proofs.Scan.{Scanned, scan-start, scan-next, scan-end}
-use Rattle.table.proofs.Gather.{Gathered, gather-start, gather-next, part-endpoint, part-name, gathered}
+use Rattle.table.proofs.Fill.{fill-start, fill-next}
+use Rattle.table.proofs.Gather.{Gathered, part-endpoint, part-name, gathered}
 use Rattle.table.proofs.endpoints_ok.Statement.{statement}
 use Rattle.table.proofs.endpoints_ok.Tie as tie
 
@@ -19,13 +20,13 @@ abbrev μ-loop : tie.MeasureT-loop
 μ-loop table n from m names₀ all₀ e₀ names all e = m - e
 
 holds : tie.Need-loop-holds Inv-loop μ-loop
-holds c = (scan-start _ _, gather-start _ _ refl)
+holds c = (scan-start _ _, fill-start _ _ _ refl)
 
 again : tie.Need-loop-again Inv-loop μ-loop
 again c =
     let s = c .before .before .before .before .before .before in
     let l = c .before .before .before .before .loop in
-    (scan-next _ _ _ _ _ (l .inv .0) (omega arith) (c .before .endpoint-ok .ensures ∙ ap (endpointOk (s .args .n)) (part-endpoint _ _ _ _ (s .pre) (l .e))), gather-next _ _ _ _ (l .inv .1) (omega arith) (part-name _ _ _ _ (s .pre) (l .e)))
+    (scan-next _ _ _ _ _ (l .inv .0) (omega arith) (c .before .endpoint-ok .ensures ∙ ap (endpointOk (s .args .n)) (part-endpoint _ _ _ _ (s .pre) (l .e))), fill-next _ _ _ _ _ (l .inv .1) (omega arith) (part-name _ _ _ _ (s .pre) (l .e)))
 
 names-tested : tie.Need-returns Inv-loop μ-loop
 names-tested c =
