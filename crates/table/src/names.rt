@@ -23,12 +23,12 @@ fn is_new(names: &[u32], e: usize) -> bool
 pub fn all_different(names: &[u32]) -> bool
     ensures { λ b. ⌜ b ≡ allDifferent (now (names .entry)) ⌝ }
 {
-    let mut all = true;
     let mut e: usize = 0;
     while e < names.len() {
-        let new = is_new(names, e);
-        all = all & new;
+        if !is_new(names, e) {
+            return false;
+        }
         e += 1;
     }
-    all
+    true
 }
