@@ -17,10 +17,12 @@ use Rattle.machine.specs.Run.{run, answers}
 use Rattle.machine.specs.Entry.{Outcome, longestList, spaceCode, entryCode, Runs, refusal, ran, entry}
 use Rattle.machine.specs.Counts.{doneOn, countDone, messagesFrom}
 use Rattle.machine.specs.Claims.{Noninterference, CountsBorneOut, InTurn}
+use Rattle.machine.specs.Trail.{NoRightFromNowhere}
 use Rattle.machine.specs.Promise.{RunPromise}
 use Rattle.machine.proofs.Bools.{cond-elim}
 use Rattle.machine.proofs.Cut.{cut-few}
 use Rattle.machine.proofs.Counts.{counts-borne-out, in-turn, count-append}
+use Rattle.machine.proofs.Trail.{no-right-from-nowhere}
 use Rattle.machine.proofs.Noninterference.{noninterference}
 
 -- a list that runs has an accepted table
@@ -80,6 +82,10 @@ module _ (t ws space : List ℕ) (r : Runs t ws (length space)) where
   ran-in-turn e l =
       rw (messages-behind e t (cut ws) (drop (3 * length (cut ws)) space)) (in-turn t (cut ws) (runs-accepted t ws _ r) e l)
 
+  ran-rights : NoRightFromNowhere t (cut ws) (ran t ws space .table)
+  unfolding ran
+  ran-rights = no-right-from-nowhere t (cut ws) (runs-accepted t ws _ r)
+
   ran-noninterference : Noninterference t ws (ran t ws space .table) (ran t ws space .answers)
   unfolding ran
   ran-noninterference = noninterference t ws (drop (3 * length (cut ws)) space) (runs-accepted t ws _ r)
@@ -93,6 +99,8 @@ promise-kept t ws space =
       sameTable = refl;
       sameAnswers = refl;
       noninterference = λ z. from z (λ o. Noninterference t ws (o .table) (o .answers)) (ran-noninterference t ws space);
+      noRightFromNowhere =
+          λ z. from z (λ o. NoRightFromNowhere t (cut ws) (o .table)) (ran-rights t ws space);
       counts = λ z. from z (λ o. (e : ℕ) → e < endpoints t → CountsBorneOut e t (cut ws) (o .answers) (o .table)) (ran-counts t ws space);
       inTurn = λ z. from z (λ o. (e : ℕ) → e < endpoints t → InTurn e t (cut ws) (o .answers) (o .table)) (ran-in-turn t ws space);
     }
