@@ -1,0 +1,2 @@
+-- What is proved of the kernel besides its functions.
+pub mod Received

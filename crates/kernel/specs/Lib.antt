@@ -1,0 +1,2 @@
+-- What the kernel's contracts cite.
+pub mod Queue

@@ -1,0 +1,2 @@
+// The kernel: what a call and a list of calls do to a lent table, and what they answer.
+mod queue;
