@@ -1,2 +1,3 @@
 -- What is proved of the kernel besides its functions.
+pub mod Places
 pub mod Received

@@ -1,2 +1,3 @@
 -- What the kernel's contracts cite.
 pub mod Queue
+pub mod Ready

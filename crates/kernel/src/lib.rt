@@ -1,2 +1,3 @@
 // The kernel: what a call and a list of calls do to a lent table, and what they answer.
+mod layout;
 mod queue;
