@@ -9,8 +9,9 @@ use lib.ListN.{length, getD, take, drop, set}
 use Rattle.machine.specs.Word.{payload, word}
 use Rattle.machine.specs.Table as table
 use Rattle.machine.specs.Table.{rightsAt, endpointAt}
-use Rattle.machine.proofs.Table.{rights-below}
-use Rattle.machine.proofs.Accepted.{accepted-sized, accepted-counts}
+use Rattle.machine.specs.Queue.{owner}
+use Rattle.machine.proofs.Table.{rights-below, endpoint-length}
+use Rattle.machine.proofs.Accepted.{accepted-sized, accepted-counts, accepted-owner}
 use Rattle.kernel.specs.Ready.{Ready}
 
 -- among n domains, n at most 16
@@ -30,6 +31,12 @@ module _ (t : List ℕ) (n : ℕ) (r : Ready t n) where
 
   pub endpoint-few : (e : ℕ) → e < table.endpoints t → e < 32
   endpoint-few e p = omega (arith, accepted-counts t (r .accepted) .2)
+
+  pub twelve : (e : ℕ) → e < table.endpoints t → length (table.endpoint t e) ≡ 12
+  twelve = endpoint-length t (accepted-sized t (r .accepted))
+
+  pub owner-below : (e : ℕ) → e < table.endpoints t → owner (table.endpoint t e) < n
+  owner-below e p = omega (arith, accepted-owner t (r .accepted) e p, r .domains)
 
   pub endpoint-within : (e : ℕ) → e < table.endpoints t → endpointAt n e + 12 ≤ length t
   endpoint-within e p = omega (arith, sized)

@@ -1,3 +1,4 @@
 -- What the kernel's contracts cite.
 pub mod Queue
 pub mod Ready
+pub mod Decision

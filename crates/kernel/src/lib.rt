@@ -1,3 +1,4 @@
 // The kernel: what a call and a list of calls do to a lent table, and what they answer.
+mod decide;
 mod layout;
 mod queue;
