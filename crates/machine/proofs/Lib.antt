@@ -10,3 +10,10 @@ pub mod Consistency
 pub mod Right
 pub mod Step
 pub mod Queue
+pub mod Purge
+pub mod Unwinding
+pub mod Noninterference
+pub mod Trail
+pub mod Cut
+pub mod Counts
+pub mod Promise

@@ -1,5 +1,5 @@
 -- Laws of an endpoint's twelve words (specs/Queue): what a send and a receive leave of the words, the counts and the messages,
--- and that sound words (specs/Check) stay sound. Nothing here sees the rest of the table.
+-- and that sound words (specs/Check) stay sound. No law here sees the rest of the table.
 -- Assumes nothing.
 use mathlib.Core.Path.{_≡_, refl, sym, ap, subst, _∙_}
 use mathlib.Core.Logic.{_≢_, ⊎-elim}
@@ -11,16 +11,17 @@ use native.Mathlib.Numerals.{add-one}
 use native.Mathlib.Omega.{arith}
 use borrow.Author.Tests.{ltb-true, ltb-false, leb-true, eqb-true, le-leb, eq-eqb}
 use lib.Dec.{eqb, leb, ltb}
-use Rattle.machine.specs.Below.{allBelow}
 use lib.ListN.{length, getD, take, drop, set, length-set, length-take, length-drop, length-append, List·getD-append}
-use lib.Seq.{getD-set-same, getD-set-other, take-set-le, drop-set-lt, drop-set-add, take-suc-set, length-take-le, getD-take, getD-drop, take-append-le, take-take, take-at, drop-at, drop-cons, getD-append-add, getD-at}
-use Rattle.machine.specs.Word.{kind, payload, word, upper, fieldB, fieldC}
+use lib.Seq.{lt-length-set, getD-set-same, getD-set-other, take-set-le, drop-set-lt, drop-set-add, take-suc-set, length-take-le, getD-take, getD-drop, take-append-le, take-take, take-at, drop-at, drop-cons, getD-append-add, getD-at}
+use Rattle.machine.specs.Below.{allBelow}
+use Rattle.machine.specs.Word.{kind, payload, word}
 use Rattle.machine.specs.Queue.{name, owner, capacity, waiting, lost, oldest, emptySlot, mostLost, hasSpace, sendWithSpace, sendToFull, sent, movedUp, received}
-use Rattle.machine.specs.Check.{nameWordOk, infoWordOk, waitingWordOk, lostWordOk, slotWordOk, identityOk, queueOk, endpointOk}
+use Rattle.machine.specs.Check.{waitingWordOk, lostWordOk, slotWordOk, identityOk, queueOk, endpointOk}
 use Rattle.machine.specs.Call.{Call, secondPayload, Call.one, Call.two}
 use Rattle.machine.specs.Counts.{messages}
 use Rattle.machine.proofs.Bools.{and-left, and-right, and-intro, or-cases, cond-elim}
 use Rattle.machine.proofs.Below.{all-at, all-of}
+use Rattle.machine.proofs.Accepted.{info-of}
 
 -- a word gives back the kind and the payload that it was made of
 pub kind-word : (k p : ℕ) → p ≤ mostLost → kind (word k p) ≡ k
@@ -123,19 +124,8 @@ pub endpoint-sound : (n : ℕ) (q : List ℕ) → endpointOk n q ≡ true → So
 unfolding endpointOk
 endpoint-sound n q h = sound-of q (and-right (identityOk n q) (queueOk q) h)
 
-info-capacity : (n w : ℕ) → infoWordOk n w ≡ true → fieldC w ≤ 8
-unfolding infoWordOk
-info-capacity n w h =
-    leb-true _ _ (and-right (eqb (kind w) 4 && eqb (upper w) 0 && ltb (fieldB w) n && leb 1 (fieldC w)) (leb (fieldC w) 8) h)
-
-pub capacity-most : (n : ℕ) (q : List ℕ) → endpointOk n q ≡ true → capacity q ≤ 8
-unfolding endpointOk identityOk capacity
-capacity-most n q h =
-    info-capacity n (getD q 1 0)
-    (and-right (nameWordOk (getD q 0 0)) (infoWordOk n (getD q 1 0)) (and-left (identityOk n q) (queueOk q) h))
-
 pub waiting-most : (n : ℕ) (q : List ℕ) → endpointOk n q ≡ true → waiting q ≤ 8
-waiting-most n q h = omega (arith, endpoint-sound n q h .fits, capacity-most n q h)
+waiting-most n q h = omega (arith, endpoint-sound n q h .fits, info-of n q h)
 
 -- a call's message fits a word
 pub message-small : (c : Call) → secondPayload c ≤ mostLost
@@ -149,16 +139,10 @@ module _ (q : List ℕ) (twelve : length q ≡ 12) (m : ℕ) where
   unfolding sendWithSpace
   sendWithSpace-length = simp length-set twelve
 
-  pub sendWithSpace-identity : take 2 (sendWithSpace q m) ≡ take 2 q
-  unfolding sendWithSpace
-  sendWithSpace-identity =
-      take-set-le 2 (set q (4 + waiting q) (word 15 m)) 2 (word 5 (waiting q + 1)) (omega arith)
-      ∙ take-set-le 2 q (4 + waiting q) (word 15 m) (omega arith)
-
   -- its words: the waiting count, the slot at the old one, and every other
   sendWithSpace-count : getD (sendWithSpace q m) 2 0 ≡ word 5 (waiting q + 1)
   unfolding sendWithSpace
-  sendWithSpace-count = getD-set-same (set q (4 + waiting q) (word 15 m)) 2 _ 0 (simp length-set (omega arith))
+  sendWithSpace-count = let b : 2 < length q = omega arith in simp (getD-set-same, lt-length-set) (omega arith)
 
   sendWithSpace-other : (k : ℕ) → k ≢ 2 → k ≢ 4 + waiting q → getD (sendWithSpace q m) k 0 ≡ getD q k 0
   unfolding sendWithSpace
@@ -167,8 +151,16 @@ module _ (q : List ℕ) (twelve : length q ≡ 12) (m : ℕ) where
   sendWithSpace-slot : waiting q < 8 → getD (sendWithSpace q m) (4 + waiting q) 0 ≡ word 15 m
   unfolding sendWithSpace
   sendWithSpace-slot b =
-      getD-set-other (set q (4 + waiting q) (word 15 m)) 2 (4 + waiting q) _ 0 (omega arith)
-      ∙ getD-set-same q (4 + waiting q) (word 15 m) 0 (omega arith)
+      let apart : 4 + waiting q ≢ 2 = omega arith in
+      let inside : 4 + waiting q < length q = omega arith in
+      simp (getD-set-other, getD-set-same)
+
+  pub sendWithSpace-identity : take 2 (sendWithSpace q m) ≡ take 2 q
+  unfolding sendWithSpace
+  sendWithSpace-identity =
+      let a : 2 ≤ 2 = omega arith in
+      let b : 2 ≤ 4 + waiting q = omega arith in
+      simp take-set-le
 
   pub sendWithSpace-waiting : waiting q < 8 → waiting (sendWithSpace q m) ≡ waiting q + 1
   unfolding waiting
@@ -203,9 +195,7 @@ module _ (q : List ℕ) (twelve : length q ≡ 12) (m : ℕ) where
 
   sendWithSpace-drop : drop 4 (sendWithSpace q m) ≡ set (drop 4 q) (waiting q) (word 15 m)
   unfolding sendWithSpace
-  sendWithSpace-drop =
-      drop-set-lt 4 (set q (4 + waiting q) (word 15 m)) 2 (word 5 (waiting q + 1)) (omega arith)
-      ∙ drop-set-add 4 q (waiting q) (word 15 m)
+  sendWithSpace-drop = let b : 2 < 4 = omega arith in rw (drop-set-lt, drop-set-add)
 
   -- the message goes last
   pub sendWithSpace-messages : m ≤ mostLost → waiting q < 8 → messages (sendWithSpace q m) ≡ messages q ++ (m ∷ [])
@@ -224,12 +214,12 @@ module _ (q : List ℕ) (twelve : length q ≡ 12) (m : ℕ) where
 
   pub sendToFull-identity : take 2 (sendToFull q m) ≡ take 2 q
   unfolding sendToFull
-  sendToFull-identity = take-set-le 2 q 3 (word 6 (min (lost q + 1) mostLost)) (omega arith)
+  sendToFull-identity = take-set-le 2 q 3 _ (omega arith)
 
   -- its words: the lost count, and every other
   sendToFull-count : getD (sendToFull q m) 3 0 ≡ word 6 (min (lost q + 1) mostLost)
   unfolding sendToFull
-  sendToFull-count = getD-set-same q 3 _ 0 (omega arith)
+  sendToFull-count = getD-set-same q 3 _ 0 (omega arith) ∙ omega arith
 
   sendToFull-other : (k : ℕ) → k ≢ 3 → getD (sendToFull q m) k 0 ≡ getD q k 0
   unfolding sendToFull
@@ -283,7 +273,7 @@ module _ (q : List ℕ) (twelve : length q ≡ 12) (some : waiting q ≢ 0) (mos
   -- its words: the waiting count, the others before the slots, the slots that moved up, the one that came free, and those that stay
   received-count : getD (received q) 2 0 ≡ word 5 (waiting q - 1)
   unfolding received
-  received-count = getD-set-same (movedUp q (waiting q)) 2 _ 0 (omega (arith, movedUp-length))
+  received-count = getD-set-same (movedUp q (waiting q)) 2 _ 0 (omega (arith, movedUp-length)) ∙ omega arith
 
   pub received-before : (k : ℕ) → k ≢ 2 → k < 4 → getD (received q) k 0 ≡ getD q k 0
   unfolding received movedUp
@@ -380,7 +370,7 @@ endpoint-kept n p q same s h =
 pub sent-ok : (n : ℕ) (q : List ℕ) (m : ℕ) → length q ≡ 12 → m ≤ mostLost → endpointOk n q ≡ true → endpointOk n (sent q m) ≡ true
 sent-ok n q m twelve small h =
     endpoint-kept n (sent q m) q (sent-identity q twelve m)
-    (sent-sound q twelve m small (capacity-most n q h) (endpoint-sound n q h)) h
+    (sent-sound q twelve m small (info-of n q h .2) (endpoint-sound n q h)) h
 
 pub received-ok : (n : ℕ) (q : List ℕ) → length q ≡ 12 → waiting q ≢ 0 → endpointOk n q ≡ true → endpointOk n (received q) ≡ true
 received-ok n q twelve some h =

@@ -20,6 +20,7 @@ use Rattle.machine.specs.Check.{rightsWordOk, endpointOk, Accepted}
 use Rattle.machine.specs.Call.{Call, first, callerOf, secondPayload}
 use Rattle.machine.specs.Machine.{Decision, Effect, maySend, mayGive, decide, effect, after, step}
 use Rattle.machine.specs.Machine.{Decision.refused, Effect.nothing, Effect.newRights, Effect.newEndpoint}
+use Rattle.machine.specs.Run.{run}
 use Rattle.machine.specs.Influence.{reaches, influences}
 use Rattle.machine.specs.Purge.{rightsOf}
 use Rattle.machine.specs.Claims.{SameFrame, SamePart, Agree, StaysAccepted, callerInfluences, AltersOnly}
@@ -30,7 +31,7 @@ use Rattle.machine.proofs.Right.{adds-within, without-le, rights-word-o
 use Rattle.machine.proofs.Accepted.{accepted-sized, accepted-header, accepted-rights, accepted-endpoint, accepted-like, accepted-owner}
 use Rattle.machine.proofs.Queue.{name-kept, owner-kept, sent-length, sent-identity, sent-ok, received-length, received-identity, received-ok, waiting-most, message-small}
 use Rattle.machine.proofs.Consistency.{row-same, owned-same, decide-same}
-use Rattle.machine.proofs.Frame.{whole, frame-refl, rightsOf-ext}
+use Rattle.machine.proofs.Frame.{whole, frame-refl, frame-trans, rightsOf-ext}
 use Rattle.machine.proofs.Decide.{Known, Rows, decide-elim}
 
 -- what stands in a rights word is a set of rights
@@ -397,3 +398,12 @@ step-consistent s t c accS accT f mine v lv agree =
   where
     same : decide s c ≡ decide t c
     same = decide-same s t f accT c mine
+
+-- And so does a run leave an accepted table.
+pub run-accepted : (t : List ℕ) (cs : List Call) → Accepted t → StaysAccepted t (run t cs)
+unfolding run
+run-accepted t [] a = record { accepted = a; frame = frame-refl t }
+run-accepted t (c ∷ cs) a =
+    let one = stays-accepted t c a in
+    let rest = run-accepted (step t c) cs (one .accepted) in
+    record { accepted = rest .accepted; frame = frame-trans (rest .frame) (one .frame) }
