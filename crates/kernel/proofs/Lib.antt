@@ -1,5 +1,7 @@
 -- What is proved of the kernel besides its functions.
 pub mod Places
 pub mod Guards
-pub mod Received
 pub mod Scans
+pub mod Digits
+pub mod Answers
+pub mod Received

@@ -2,3 +2,4 @@
 pub mod Queue
 pub mod Ready
 pub mod Decision
+pub mod Answer

@@ -1,6 +1,7 @@
 // Where a table's words stand, by n, which is read once and handed on: reading and writing a holder's rights on a target,
 // and the twelve words of an endpoint as a part of the table.
 use table::rights::Rights;
+use table::words::KIND;
 ghost use mathlib.Core.Path.{_≡_};
 ghost use Prim.Native.Nat.{_<_, _≤_};
 ghost use lib.ListN.{length};
@@ -45,7 +46,7 @@ pub fn rights(table: &[u32], n: u32, holder: u32, target: u32) -> Rights
 {
     let at = rights_at(n, holder, target);
     Rights {
-        bits: table[at] % 268435456,
+        bits: table[at] % KIND,
     }
 }
 
@@ -55,7 +56,7 @@ pub fn set_rights(table: &mut [u32], n: u32, holder: u32, target: u32, rights: R
     ensures { λ _. ⌜ now (table .exit) ≡ setRights (now (table .entry)) holder target (rights .bits) ⌝ }
 {
     let at = rights_at(n, holder, target);
-    table[at] = 536870912 + rights.bits;
+    table[at] = 0x2000_0000 + rights.bits;
 }
 
 pub fn endpoint(table: &[u32], n: u32, e: u32) -> &[u32]

@@ -1,8 +1,7 @@
 -- `layout::endpoint` meets its contract: the twelve words lie within the table. Assumes nothing.
-use mathlib.Core.Path.{_≡_, ap, ap₂, _∙_}
-use Prim.Native.Nat.{ℕ, _+_, _-_, _≤_}
+use Prim.Native.Nat.{_+_, _≤_}
 use native.Mathlib.Omega.{arith}
-use lib.ListN.{length, take, drop}
+use lib.ListN.{length}
 use borrow.Author.Needs.{needs}
 use Rattle.kernel.proofs.Places.{few, endpoint-few, endpoint-within, endpoint-read}
 use Rattle.kernel.proofs.layout.endpoint.Statement.{statement}
@@ -32,12 +31,7 @@ part-result-end : tie.Need-part-result-end
 part-result-end c = within c
 
 returns : tie.Need-returns
-returns c =
-    let start = c .before .before .before in
-    let at = c .before .endpoint-at .result in
-    let size : at + 12 - at ≡ 12 = omega arith in
-    ap₂ (λ (k i : ℕ). take k (drop i (start .args .table .now))) size (c .before .endpoint-at .ensures)
-    ∙ endpoint-read _ _ (start .pre .0 .domains) _
+returns c = endpoint-read _ _ (c .before .before .before .pre .0 .domains) _ _ (c .before .endpoint-at .ensures)
 
 pub endpoint-spec : {M : Type 1} → statement M
 endpoint-spec =
