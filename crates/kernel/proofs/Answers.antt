@@ -4,6 +4,7 @@ use mathlib.Core.Bool.{Bool, true, false, cond}
 use mathlib.Core.List.{List}
 use Prim.Native.Nat.{ℕ, _+_, _*_, _-_, _/_, _%_, _^_, _<_, _≤_}
 use native.Mathlib.Nat.{div-add-mod', lt-of-lt-of-le, pow-le-pow-right}
+use native.Mathlib.Decide.{decLt}
 use native.Mathlib.Omega.{arith}
 use lib.Arith.{mod-mul}
 use lib.Dec.{eqb, ltb, lit<}
@@ -11,13 +12,17 @@ use borrow.Author.Tests.{ltb-true, lt-ltb, le-ltb, ne-eqb}
 use Rattle.machine.specs.Word.{kind, caller}
 use Rattle.machine.specs.Table.{domains, endpoints, rights, endpoint}
 use Rattle.machine.specs.Queue.{owner}
-use Rattle.machine.specs.Machine.{ownedBits, rightsBits}
+use Rattle.machine.specs.Call.{first}
+use Rattle.machine.specs.Machine.{Decision, ownedBits, rightsBits, shownCaller, answerWord, answerTo}
 use Rattle.machine.specs.Below.{sumBelow}
 use Rattle.machine.proofs.Bools.{cond-elim}
 use Rattle.machine.proofs.Below.{sum-same}
 use Rattle.machine.proofs.Step.{rights-held}
+use Rattle.calls.specs.Apart.{callOf}
+use Rattle.calls.specs.declared.Second.{Second}
+use Rattle.calls.specs.declared.Second.the-variants.{Nothing, Word}
 use Rattle.kernel.specs.Ready.{Ready}
-use Rattle.kernel.specs.Answer.{headOf, Eight}
+use Rattle.kernel.specs.Answer.{headOf, answerWith, Eight}
 use Rattle.kernel.proofs.Digits.{digitSum, digits-below, digits-end}
 
 pub head-stray : (w : ℕ) → w < 2 ^ 32 → 4026531840 ≤ w → 4026531840 ≡ headOf w
@@ -37,6 +42,20 @@ head-other w less =
     rw (ne-eqb (kind w) 15 other)
     (fields w (kind w) (w % 268435456) (caller w) (w % 4194304) (div-add-mod' w 268435456)
     (mod-mul w {m = 64} {c = 4194304} (lit< tt) (lit< tt)))
+
+-- there is room for a code behind it
+pub head-room : (w : ℕ) → w < 2 ^ 32 → headOf w + 23 < 2 ^ 32
+head-room w fits = go (decLt w 4026531840)
+  where
+    go : Dec (w < 4026531840) → headOf w + 23 < 2 ^ 32
+    go (yes less) = omega (arith, head-other w less)
+    go (no most) = omega (arith, head-stray w fits (omega arith))
+
+-- the machine's answer to the call of a first word and what comes second
+pub answer-with : (t : List ℕ) (w : ℕ) (s : Second) (d : Decision) → answerWith t (headOf w) d ≡ answerTo t (callOf w s) d
+unfolding answerWith headOf answerTo answerWord shownCaller first
+answer-with t w Nothing d = refl
+answer-with t w (Word v) d = refl
 
 -- bit e of the owned endpoints
 abbrev pub ownsAt : List ℕ → ℕ → ℕ → ℕ

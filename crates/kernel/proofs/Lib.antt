@@ -4,4 +4,5 @@ pub mod Guards
 pub mod Scans
 pub mod Digits
 pub mod Answers
+pub mod Decisions
 pub mod Received

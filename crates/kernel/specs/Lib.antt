@@ -3,3 +3,4 @@ pub mod Queue
 pub mod Ready
 pub mod Decision
 pub mod Answer
+pub mod Step

@@ -3,10 +3,14 @@ use crate::decide::Decision;
 use crate::layout::endpoint;
 use crate::layout::rights;
 use crate::queue;
+use calls::Refusal;
 ghost use mathlib.Core.Path.{_≡_};
-ghost use Prim.Native.Nat.{ℕ, _+_, _≤_, _<_};
-ghost use Rattle.machine.specs.Table.{endpoints};
+ghost use mathlib.Core.List.{[], _∷_};
+ghost use Prim.Native.Nat.{_+_, _^_, _<_};
+ghost use Rattle.machine.specs.Table.{endpoints, endpoint};
+ghost use Rattle.machine.specs.Queue.{oldest, lost};
 ghost use Rattle.machine.specs.Machine.{ownedBits, rightsBits};
+ghost use Rattle.calls.specs.Number.{numberOf};
 ghost use Rattle.kernel.specs.Ready.{Ready};
 ghost use Rattle.kernel.specs.Decision.{decisionOf, Doable};
 ghost use Rattle.kernel.specs.Answer.{wordsOf, headOf, answerWith, Eight};
@@ -61,4 +65,109 @@ fn rights_bits(table: &[u32], n: u32, caller: u32, low: u32, high: u32) -> u32
         bits = bits * 16 + held.bits;
     }
     bits
+}
+
+fn refused(head: u32, refusal: Refusal) -> Answer
+    requires { ⌜ head + 23 < 2 ^ 32 ⌝ }
+    ensures { λ a. ⌜ wordsOf a ≡ (head + numberOf refusal) ∷ 0 ∷ 0 ∷ [] ⌝ }
+{
+    let number = calls::number(refusal);
+    Answer {
+        head: head + number,
+        first: 0,
+        second: 0,
+    }
+}
+
+// The oldest message and the lost count of the endpoint.
+fn received(table: &[u32], n: u32, head: u32, e: u32) -> Answer
+    requires { ⌜ Ready (now table) n ⌝ }
+    requires { ⌜ e < endpoints (now table) ⌝ }
+    ensures { λ a. ⌜ wordsOf a ≡ head ∷ oldest (endpoint (now (table .entry)) e) ∷ lost (endpoint (now (table .entry)) e) ∷ [] ⌝ }
+{
+    let q = endpoint(table, n, e);
+    let message = queue::oldest(q);
+    let count = queue::lost(q);
+    Answer {
+        head,
+        first: message,
+        second: count,
+    }
+}
+
+// The caller's rights, eight targets to a word.
+fn rights_listed(table: &[u32], n: u32, head: u32, caller: u32) -> Answer
+    requires { ⌜ Ready (now table) n ⌝ }
+    requires { ⌜ caller < n ⌝ }
+    ensures { λ a. ⌜ wordsOf a ≡ head ∷ rightsBits (now (table .entry)) caller 0 ∷ rightsBits (now (table .entry)) caller 8 ∷ [] ⌝ }
+{
+    if n <= 8 {
+        let first = rights_bits(table, n, caller, 0, n);
+        return Answer {
+            head,
+            first,
+            second: 0,
+        };
+    }
+    let first = rights_bits(table, n, caller, 0, 8);
+    let second = rights_bits(table, n, caller, 8, n);
+    Answer {
+        head,
+        first,
+        second,
+    }
+}
+
+// The answer to a call on which the decision fell. Its first word without the code is `head`.
+pub fn answer_to(table: &[u32], n: u32, m: u32, head: u32, decision: Decision) -> Answer
+    requires { ⌜ Ready (now table) n ⌝ }
+    requires { ⌜ m ≡ endpoints (now table) ⌝ }
+    requires { ⌜ head + 23 < 2 ^ 32 ⌝ }
+    requires { ⌜ Doable (now table) (decisionOf decision) ⌝ }
+    ensures { λ a. ⌜ wordsOf a ≡ answerWith (now (table .entry)) head (decisionOf decision) ⌝ }
+{
+    match decision {
+        Decision::Refused(refusal) => refused(head, refusal),
+        Decision::LookedUp { endpoint } => Answer {
+            head,
+            first: endpoint,
+            second: 0,
+        },
+        Decision::Sends {
+            endpoint: _,
+            message: _,
+        } => Answer {
+            head,
+            first: 0,
+            second: 0,
+        },
+        Decision::Receives { endpoint } => received(table, n, head, endpoint),
+        Decision::ListsEndpoints { caller } => {
+            let first = owned_bits(table, n, m, caller);
+            Answer {
+                head,
+                first,
+                second: 0,
+            }
+        }
+        Decision::ListsRights { caller } => rights_listed(table, n, head, caller),
+        Decision::Grants {
+            target: _,
+            recipient: _,
+            rights: _,
+        } => Answer {
+            head,
+            first: 0,
+            second: 0,
+        },
+        Decision::Removes {
+            target: _,
+            caller: _,
+            rights: _,
+        } => Answer {
+            head,
+            first: 0,
+            second: 0,
+        },
+    }
 }

@@ -4,3 +4,4 @@ mod decide;
 mod layout;
 mod perform;
 mod queue;
+mod step;
