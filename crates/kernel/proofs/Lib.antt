@@ -3,6 +3,8 @@ pub mod Places
 pub mod Guards
 pub mod Scans
 pub mod Digits
-pub mod Answers
+pub mod AnswerWords
 pub mod Decisions
 pub mod Received
+pub mod Underway
+pub mod Entries

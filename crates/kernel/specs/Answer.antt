@@ -5,7 +5,7 @@ use mathlib.Core.List.{List, [], _∷_}
 use lib.Dec.{eqb}
 use Rattle.machine.specs.Word.{kind, caller}
 use Rattle.machine.specs.Machine.{Decision, code, firstData, secondData}
-use Rattle.kernel.specs.declared.answer.Answer.{Answer}
+use Rattle.kernel.specs.declared.Answer.{Answer}
 
 abbrev pub wordsOf : Answer → List ℕ
 wordsOf a = a .head ∷ a .first ∷ a .second ∷ []

@@ -4,3 +4,4 @@ pub mod Ready
 pub mod Decision
 pub mod Answer
 pub mod Step
+pub mod Run

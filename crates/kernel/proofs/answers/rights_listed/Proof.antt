@@ -1,13 +1,13 @@
--- `answer::rights_listed` meets its contract: among at most eight domains the second word is empty. Assumes nothing.
+-- `answers::rights_listed` meets its contract: among at most eight domains the second word is empty. Assumes nothing.
 use mathlib.Core.Path.{ap₂}
 use mathlib.Core.List.{[], _∷_}
 use Prim.Native.Nat.{ℕ}
 use native.Mathlib.Omega.{arith}
 use borrow.Author.Needs.{needs}
 use Rattle.kernel.proofs.Places.{few}
-use Rattle.kernel.proofs.Answers.{rights-none}
-use Rattle.kernel.proofs.answer.rights_listed.Statement.{statement}
-use Rattle.kernel.proofs.answer.rights_listed.Tie as tie
+use Rattle.kernel.proofs.AnswerWords.{rights-none}
+use Rattle.kernel.proofs.answers.rights_listed.Statement.{statement}
+use Rattle.kernel.proofs.answers.rights_listed.Tie as tie
 
 rights-bits-requires : tie.Need-rights-bits-requires
 rights-bits-requires c κs = search needs

@@ -1,12 +1,12 @@
--- `answer::answer_to` meets its contract: each arm is one case of the decision. Assumes nothing.
+-- `answers::answer_to` meets its contract: each arm is one case of the decision. Assumes nothing.
 use borrow.Author.Needs.{needs}
 use native.Mathlib.Nat.{add-zero}
 use native.Mathlib.Omega.{arith}
 use Rattle.machine.specs.Machine.{code, firstData, secondData}
 use Rattle.kernel.specs.Decision.{decisionOf}
 use Rattle.kernel.specs.Answer.{answerWith}
-use Rattle.kernel.proofs.answer.answer_to.Statement.{statement}
-use Rattle.kernel.proofs.answer.answer_to.Tie as tie
+use Rattle.kernel.proofs.answers.answer_to.Statement.{statement}
+use Rattle.kernel.proofs.answers.answer_to.Tie as tie
 
 enum-known-decision : tie.Need-enum-known-decision
 enum-known-decision c = search needs

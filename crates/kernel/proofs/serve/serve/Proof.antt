@@ -1,4 +1,4 @@
--- `step::step` meets its contract: what is decided is what the machine decides, and so are the answer and the table.
+-- `serve::serve` meets its contract: what is decided is what the machine decides, and so are the answer and the table.
 -- Assumes nothing.
 use mathlib.Core.Path.{_≡_, sym, ap, ap₂, subst, _∙_}
 use mathlib.Core.List.{List}
@@ -11,10 +11,10 @@ use Rattle.calls.specs.Decide.{decideCall}
 use Rattle.calls.proofs.Decide.{decided}
 use Rattle.kernel.specs.Decision.{decisionOf, Doable}
 use Rattle.kernel.specs.Answer.{answerWith}
-use Rattle.kernel.proofs.Answers.{head-room, answer-with}
+use Rattle.kernel.proofs.AnswerWords.{head-room, answer-with}
 use Rattle.kernel.proofs.Decisions.{doable}
-use Rattle.kernel.proofs.step.step.Statement.{statement}
-use Rattle.kernel.proofs.step.step.Tie as tie
+use Rattle.kernel.proofs.serve.serve.Statement.{statement}
+use Rattle.kernel.proofs.serve.serve.Tie as tie
 
 take-apart-requires : tie.Need-take-apart-requires
 take-apart-requires c κs = search needs
@@ -73,8 +73,8 @@ returns c =
       table = performed .perform .ensures ∙ ap (λ (d : machine.Decision). machine.after t (machine.effect t d)) (made decided);
     }
 
-pub step-spec : {M : Type 1} → statement M
-step-spec =
+pub serve-spec : {M : Type 1} → statement M
+serve-spec =
     tie.close
     (tie.spec
     take-apart-requires

@@ -1,4 +1,4 @@
--- `answer::rights_bits` meets its contract. The loop's invariant: the rights on the targets from the present one on are found,
+-- `answers::rights_bits` meets its contract. The loop's invariant: the rights on the targets from the present one on are found,
 -- those below still to be. Assumes nothing.
 use mathlib.Core.Path.{_≡_, sym, ap, _∙_}
 use Prim.Native.Nat.{ℕ, _+_, _*_, _-_, _^_, _<_, _≤_}
@@ -6,9 +6,9 @@ use native.Mathlib.Omega.{arith}
 use Rattle.machine.specs.Table.{rights}
 use Rattle.machine.specs.Machine.{rightsBits}
 use Rattle.kernel.proofs.Digits.{Found, none-found, one-found, all-found, found-within}
-use Rattle.kernel.proofs.Answers.{rightsOn, rights-fit, rights-start, rights-digit}
-use Rattle.kernel.proofs.answer.rights_bits.Statement.{statement}
-use Rattle.kernel.proofs.answer.rights_bits.Tie as tie
+use Rattle.kernel.proofs.AnswerWords.{rightsOn, rights-fit, rights-start, rights-digit}
+use Rattle.kernel.proofs.answers.rights_bits.Statement.{statement}
+use Rattle.kernel.proofs.answers.rights_bits.Tie as tie
 
 abbrev Inv-loop : tie.InvT-loop
 Inv-loop table n caller low high bits₀ target₀ bits target =

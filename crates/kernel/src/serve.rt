@@ -1,7 +1,7 @@
 // One call on an accepted table: it is taken apart, decided on, answered and done, in this order.
-use crate::answer::Answer;
-use crate::answer::answer_to;
-use crate::answer::head;
+use crate::Answer;
+use crate::answers::answer_to;
+use crate::answers::head;
 use crate::decide::decide;
 use crate::perform::perform;
 use calls::Second;
@@ -11,12 +11,12 @@ ghost use Rattle.machine.specs.Table.{endpoints};
 ghost use Rattle.calls.specs.Apart.{callOf};
 ghost use Rattle.kernel.specs.Ready.{Ready};
 ghost use Rattle.kernel.specs.Answer.{wordsOf};
-ghost use Rattle.kernel.specs.Step.{Stepped};
+ghost use Rattle.kernel.specs.Step.{Served};
 
-pub fn step(table: &mut [u32], n: u32, m: u32, first: u32, second: Second) -> Answer
+pub fn serve(table: &mut [u32], n: u32, m: u32, first: u32, second: Second) -> Answer
     requires { ⌜ Ready (now table) n ⌝ }
     requires { ⌜ m ≡ endpoints (now table) ⌝ }
-    ensures { λ a. ⌜ Stepped (now (table .entry)) (callOf first second) (wordsOf a) (now (table .exit)) ⌝ }
+    ensures { λ a. ⌜ Served (now (table .entry)) (callOf first second) (wordsOf a) (now (table .exit)) ⌝ }
 {
     let call = take_apart(first, second);
     let decision = decide(table, n, m, call);

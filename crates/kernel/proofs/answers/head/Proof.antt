@@ -1,8 +1,8 @@
--- `answer::head` meets its contract. Assumes nothing.
+-- `answers::head` meets its contract. Assumes nothing.
 use borrow.Author.Needs.{needs}
-use Rattle.kernel.proofs.Answers.{head-stray, head-other}
-use Rattle.kernel.proofs.answer.head.Statement.{statement}
-use Rattle.kernel.proofs.answer.head.Tie as tie
+use Rattle.kernel.proofs.AnswerWords.{head-stray, head-other}
+use Rattle.kernel.proofs.answers.head.Statement.{statement}
+use Rattle.kernel.proofs.answers.head.Tie as tie
 
 returns : tie.Need-returns
 returns c = head-stray (c .before .args .first) (c .before .fits .first .fits) (c .if1 .taken)

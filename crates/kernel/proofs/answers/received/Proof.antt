@@ -1,4 +1,4 @@
--- `answer::received` meets its contract. Assumes nothing.
+-- `answers::received` meets its contract. Assumes nothing.
 use mathlib.Core.Path.{_≡_, ap, ap₂, _∙_}
 use mathlib.Core.List.{[], _∷_}
 use Prim.Native.Nat.{ℕ}
@@ -7,8 +7,8 @@ use lib.ListN.{length}
 use borrow.Author.Needs.{needs}
 use Rattle.machine.specs.Queue.{oldest, lost}
 use Rattle.kernel.proofs.Places.{twelve}
-use Rattle.kernel.proofs.answer.received.Statement.{statement}
-use Rattle.kernel.proofs.answer.received.Tie as tie
+use Rattle.kernel.proofs.answers.received.Statement.{statement}
+use Rattle.kernel.proofs.answers.received.Tie as tie
 
 endpoint-requires : tie.Need-endpoint-requires
 endpoint-requires c κs = search needs

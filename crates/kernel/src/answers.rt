@@ -1,4 +1,5 @@
 // A call's three answer words, by the table as it stands before the call: nothing is written here.
+use crate::Answer;
 use crate::decide::Decision;
 use crate::layout::endpoint;
 use crate::layout::rights;
@@ -14,12 +15,6 @@ ghost use Rattle.calls.specs.Number.{numberOf};
 ghost use Rattle.kernel.specs.Ready.{Ready};
 ghost use Rattle.kernel.specs.Decision.{decisionOf, Doable};
 ghost use Rattle.kernel.specs.Answer.{wordsOf, headOf, answerWith, Eight};
-
-pub struct Answer {
-    pub head: u32,
-    pub first: u32,
-    pub second: u32,
-}
 
 // The first answer word of a call without its code: the kind and the caller of the call's first word, as found; a stray shows
 // no caller.

@@ -1,4 +1,4 @@
--- `answer::owned_bits` meets its contract. The loop's invariant: the bits from e on are found, those below e still to be.
+-- `answers::owned_bits` meets its contract. The loop's invariant: the bits from e on are found, those below e still to be.
 -- Assumes nothing.
 use mathlib.Core.Path.{_≡_, refl, sym, ap, _∙_}
 use Prim.Native.Nat.{ℕ, _+_, _*_, _-_, _^_, _<_, _≤_}
@@ -12,9 +12,9 @@ use Rattle.machine.specs.Machine.{ownedBits}
 use Rattle.machine.proofs.Accepted.{accepted-counts}
 use Rattle.kernel.proofs.Places.{twelve}
 use Rattle.kernel.proofs.Digits.{digitSum, Found, none-found, one-found, all-found, found-within}
-use Rattle.kernel.proofs.Answers.{ownsAt, owned-digits, owned-fit}
-use Rattle.kernel.proofs.answer.owned_bits.Statement.{statement}
-use Rattle.kernel.proofs.answer.owned_bits.Tie as tie
+use Rattle.kernel.proofs.AnswerWords.{ownsAt, owned-digits, owned-fit}
+use Rattle.kernel.proofs.answers.owned_bits.Statement.{statement}
+use Rattle.kernel.proofs.answers.owned_bits.Tie as tie
 
 abbrev Inv-loop : tie.InvT-loop
 Inv-loop table n m caller bits₀ e₀ bits e = (e ≤ m) × Found 2 (ownsAt table caller) e bits (ownedBits table caller)

@@ -1,12 +1,12 @@
--- `answer::refused` meets its contract: no number is above 23. Assumes nothing.
+-- `answers::refused` meets its contract: no number is above 23. Assumes nothing.
 use mathlib.Core.Path.{ap}
 use mathlib.Core.List.{[], _∷_}
 use Prim.Native.Nat.{ℕ, _+_}
 use native.Mathlib.Omega.{arith}
 use borrow.Author.Needs.{needs}
 use Rattle.calls.proofs.Numbers.{number-most}
-use Rattle.kernel.proofs.answer.refused.Statement.{statement}
-use Rattle.kernel.proofs.answer.refused.Tie as tie
+use Rattle.kernel.proofs.answers.refused.Statement.{statement}
+use Rattle.kernel.proofs.answers.refused.Tie as tie
 
 number-requires : tie.Need-number-requires
 number-requires c κs = search needs
