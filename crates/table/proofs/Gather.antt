@@ -59,8 +59,8 @@ module _ (t : List ℕ) where
       (sym (getD-take 12 (drop (endpointAt (domains t) e) t) 0 0 (omega arith) ∙ getD-drop (endpointAt (domains t) e) t 0 0 ∙ ap (λ (i : ℕ). getD t i 0) (add-zero _)))
 
   -- at the loop's end the flag, with the test of names[0..m], is the machine's test
-  pub gathered : (names : List ℕ) (flag : Bool) (e : ℕ) → endpoints t ≤ 32 → Gathered t (endpoints t) names flag e → endpoints t ≤ e → (flag && allDifferent (take (endpoints t - 0) (drop 0 names))) ≡ endpointsOk t
+  pub gathered : (m : ℕ) (names : List ℕ) (flag : Bool) (e : ℕ) → m ≡ endpoints t → m ≤ 32 → Gathered t m names flag e → m ≤ e → (flag && allDifferent (take (m - 0) (drop 0 names))) ≡ endpointsOk t
   unfolding endpointsOk
-  gathered names flag e b g l =
-      rw (scan-end _ _ flag e (g .tested) l, sub-zero (endpoints t), different t names (endpoints t) e (g .named) l b)
+  gathered m names flag e all b g l =
+      rw (scan-end _ m flag e (g .tested) l, sub-zero m, different t names m e (g .named) l b, all)
       (sym (all-both (endpoints t) (λ f. endpointOk (domains t) (endpoint t f)) (nameNew t)))

@@ -40,13 +40,13 @@ unfolding endpoints
 names-tested c =
     let b = c .before .before .before in
     let l = b .before .before .loop in
-    c .all-different .ensures ∙ rw (b .if1 .taken) at (gathered _ _ _ _ (l .inv .2) (l .inv .0) (b .before .loop-test .left))
+    c .all-different .ensures ∙ rw (b .if1 .taken) at (gathered _ _ _ _ _ refl (l .inv .2) (l .inv .0) (b .before .loop-test .left))
 
 words-fail : tie.Need-returns-2 Inv-loop μ-loop
 unfolding endpoints
 words-fail c =
     let l = c .before .before .loop in
-    rw (c .if1 .left) at (gathered _ _ _ _ (l .inv .2) (l .inv .0) (c .before .loop-test .left))
+    rw (c .if1 .left) at (gathered _ _ _ _ _ refl (l .inv .2) (l .inv .0) (c .before .loop-test .left))
 
 pub endpoints-ok-spec : {M : Type 1} → statement M
 endpoints-ok-spec =
