@@ -33,7 +33,7 @@ again c =
     let l = c .before .before .before .before .loop in
     let t = now (c .before .before .before .before .before .before .before .args .table) in
     let g = l .inv .0 in
-    (record { tested = scan-next _ _ _ _ _ (g .tested) (omega arith) (c .before .endpoint-ok .ensures ∙ ap (endpointOk (domains t)) (part t (l .e))); named = fill-next _ _ _ _ _ (g .named) (omega arith) (part-name t (l .e)) }, l .inv .1, l .inv .2)
+    (record { tested = scan-next _ _ _ _ _ (g .tested) (omega arith) (c .before .endpoint-ok .ensures ∙ ap (endpointOk (domains t)) (part t _)); named = fill-next _ _ _ _ _ (g .named) (omega arith) (part-name t _) }, l .inv .1, l .inv .2)
 
 names-tested : tie.Need-returns Inv-loop μ-loop
 unfolding endpoints
