@@ -9,14 +9,10 @@ use lib.ListN.{length}
 use borrow.Author.Needs.{needs}
 use borrow.Author.Tests.{le-ltb}
 use Rattle.machine.specs.Call.{cut}
-use Rattle.machine.proofs.Cut.{cut-length}
+use Rattle.machine.proofs.Cut.{cut-few}
 use Rattle.kernel.proofs.Entries.{at-most}
 use Rattle.kernel.proofs.list.has_space.Statement.{statement}
 use Rattle.kernel.proofs.list.has_space.Tie as tie
-
-few : (ws : List ℕ) → length (cut ws) ≤ length ws
-unfolding cut
-few ws = cut-length 0 ws
 
 mul-if1 : tie.Need-mul-if1
 mul-if1 c = search needs
@@ -24,13 +20,13 @@ mul-if1 c = search needs
 returns : tie.Need-returns
 returns c =
     let a = c .before .before .args in
-    sym (ap not (le-ltb (a .size) (3 * length (cut (a .list .now))) (omega (arith, few (a .list .now), c .if1 .taken))))
+    sym (ap not (le-ltb (a .size) (3 * length (cut (a .list .now))) (omega (arith, cut-few (a .list .now), c .if1 .taken))))
 
 count-requires : tie.Need-count-requires
 count-requires c κs = search needs
 
 mul-result : tie.Need-mul-result
-mul-result c = omega (arith, c .count .ensures, few (c .before .before .before .args .list .now), c .before .before .before .pre)
+mul-result c = omega (arith, c .count .ensures, cut-few (c .before .before .before .args .list .now), c .before .before .before .pre)
 
 returns-2 : tie.Need-returns-2
 returns-2 c =
