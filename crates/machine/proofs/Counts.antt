@@ -3,9 +3,9 @@
 -- Assumes nothing.
 use mathlib.Core.Path.{_≡_, refl, sym, ap, subst, _∙_}
 use mathlib.Core.Logic.{_≢_, ⊎-elim}
-use mathlib.Core.Bool.{Bool, true, false, cond, not, _&&_}
+use mathlib.Core.Bool.{Bool, true, false, cond, not, _&&_, and-false}
 use mathlib.Core.List.{List, [], _∷_, _++_, append-assoc, append-nil}
-use Prim.Native.Nat.{ℕ, _+_, _*_, _%_, _<_, _≤_, min}
+use Prim.Native.Nat.{ℕ, _+_, _%_, _<_, _≤_, min}
 use native.Mathlib.Omega.{arith}
 use borrow.Author.Tests.{ltb-true, eq-eqb, ne-eqb}
 use lib.Dec.{eqb}
@@ -27,13 +27,14 @@ use Rattle.machine.proofs.Decide.{Number, decide-elim}
 use Rattle.machine.proofs.Step.{stays-accepted}
 use Rattle.machine.proofs.Queue as queue
 
--- ---- what one call does to one endpoint's queue q, which it leaves as q′: whether it sends the message there, and whether
--- it receives from there the message that its answer tells
-pub record Served (sends receives : Bool) (message told : ℕ) (q q′ : List ℕ) : Type 0 where
-  pub balance : cond sends 1 0 + waiting q ≡ cond receives 1 0 + cond (sends && not (hasSpace q)) 1 0 + waiting q′
-  pub raised : lost q′ ≡ min (lost q + cond (sends && not (hasSpace q)) 1 0) mostLost
-  -- where what is received later, and then left, is what waits now and what comes later, so it was before this call
-  pub inTurn : (out left later : List ℕ) → out ++ left ≡ messages q′ ++ later → cond receives (told ∷ out) out ++ left ≡ messages q ++ cond (sends && hasSpace q) (message ∷ later) later
+-- ---- What one call does to one endpoint's queue q, which it leaves as q′. The two tests say whether it is a send to it or a
+-- receive from it, answered 0; told is the message in the answer.
+record Served (sends receives : Bool) (message told : ℕ) (q q′ : List ℕ) : Type 0 where
+  balance : cond sends 1 0 + waiting q ≡ cond receives 1 0 + cond (sends && not (hasSpace q)) 1 0 + waiting q′
+  raised : lost q′ ≡ min (lost q + cond (sends && not (hasSpace q)) 1 0) mostLost
+  -- in turn from after the call on (what is received later, then what is left, is what waits, then what comes later), hence
+  -- in turn from before it on
+  inTurn : (out left later : List ℕ) → out ++ left ≡ messages q′ ++ later → cond receives (told ∷ out) out ++ left ≡ messages q ++ cond (sends && hasSpace q) (message ∷ later) later
 
 untouched : {message told : ℕ} (q : List ℕ) → Served false false message told q q
 untouched q =
@@ -82,21 +83,17 @@ answer-code : (c : Call) (n : ℕ) → n < 65536 → answerWord c n % 65536 ≡ 
 unfolding answerWord
 answer-code c n h = omega arith
 
-and-none : (a : Bool) → (a && false) ≡ false
-and-none true = refl
-and-none false = refl
-
 module _ (t : List ℕ) (e : ℕ) (c : Call) where
   -- a call is done on e when its kind, its field B and its code say so
   done-by : (d : Decision) (k : ℕ) (here zero : Bool) → kind (first c) ≡ k → eqb (fieldB (first c)) e ≡ here → code d < 65536 → eqb (code d) 0 ≡ zero → (j : ℕ) → doneOn j e c (answerTo t c d) ≡ (eqb k j && here && zero)
   unfolding doneOn answerTo
-  done-by d k here zero p q l r j = rw (answer-code c (code d) l, p, q, r)
+  done-by d k here zero p q l r j = cc (answer-code c (code d) l)
 
   not-done : (n : ℕ) → Number n → (j : ℕ) → doneOn j e c (answerTo t c (refused n)) ≡ false
   unfolding code
   not-done n r j =
       done-by (refused n) _ _ false refl refl (omega arith) (ne-eqb n 0 (omega arith)) j
-      ∙ and-none (eqb (kind (first c)) j && eqb (fieldB (first c)) e)
+      ∙ and-false (eqb (kind (first c)) j && eqb (fieldB (first c)) e)
 
   -- what the call does to e's queue where it comes to d
   abbrev ServedBy : Decision → List ℕ → Type 0
@@ -129,7 +126,7 @@ module _ (t : List ℕ) (e : ℕ) (c : Call) where
         (rw (table.setEndpoint-same t sized f w l long) s)))
         (λ x.
         served-by d k false p (ne-eqb f e x) r
-        (rw (and-none (eqb k 2), and-none (eqb k 3), table.setEndpoint-other t sized f w l long e le (λ y. x (sym y))) (untouched (endpoint t e))))
+        (rw (and-false (eqb k 2), and-false (eqb k 3), table.setEndpoint-other t sized f w l long e le (λ y. x (sym y))) (untouched (endpoint t e))))
         (table.equal-either f e)
       where
         f : ℕ
@@ -179,11 +176,6 @@ in-turn t (c ∷ cs) a e l =
     served t e c a l .inTurn _ _ _ (in-turn (step t c) cs (stays-accepted t c a .accepted) e (still-below t c a e l))
 
 -- ---- lists run one after another
-pub answers-length : (t : List ℕ) (cs : List Call) → length (answers t cs) ≡ 3 * length cs
-unfolding answers answer answerTo
-answers-length t [] = refl
-answers-length t (c ∷ cs) = let rest = answers-length (step t c) cs in omega arith
-
 pub run-append : (t : List ℕ) (cs ds : List Call) → run t (cs ++ ds) ≡ run (run t cs) ds
 unfolding run
 run-append t [] ds = refl

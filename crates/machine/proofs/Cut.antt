@@ -39,7 +39,7 @@ cut-behind p (w ∷ ws) f =
     ap (λ (b : Bool). cond b (cutAfter w ws) (callAt w ws ∷ cutAfter w ws)) (f w ∙ sym (zero-pairs w))
 
 -- ---- at the front of the words that are left
-pub cut-last : (w : ℕ) → cut (w ∷ []) ≡ one w ∷ []
+pub cut-last : (w : ℕ) → cut (w ∷ []) ≡ one w ∷ cut []
 unfolding cut cutAfter callAt
 cut-last w = rw (zero-pairs w)
 

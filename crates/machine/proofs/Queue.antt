@@ -12,7 +12,7 @@ use native.Mathlib.Omega.{arith}
 use borrow.Author.Tests.{ltb-true, ltb-false, leb-true, eqb-true, le-leb, eq-eqb}
 use lib.Dec.{eqb, leb, ltb}
 use lib.ListN.{length, getD, take, drop, set, length-set, length-take, length-drop, length-append, List·getD-append}
-use lib.Seq.{getD-set-same, getD-set-other, take-set-le, drop-set-lt, drop-set-add, take-suc-set, length-take-le, getD-take, getD-drop, take-append-le, take-take, take-at, drop-at, drop-cons, getD-append-add, getD-at}
+use lib.Seq.{lt-length-set, getD-set-same, getD-set-other, take-set-le, drop-set-lt, drop-set-add, take-suc-set, length-take-le, getD-take, getD-drop, take-append-le, take-take, take-at, drop-at, drop-cons, getD-append-add, getD-at}
 use Rattle.machine.specs.Below.{allBelow}
 use Rattle.machine.specs.Word.{kind, payload, word}
 use Rattle.machine.specs.Queue.{name, owner, capacity, waiting, lost, oldest, emptySlot, mostLost, hasSpace, sendWithSpace, sendToFull, sent, movedUp, received}
@@ -139,16 +139,10 @@ module _ (q : List ℕ) (twelve : length q ≡ 12) (m : ℕ) where
   unfolding sendWithSpace
   sendWithSpace-length = simp length-set twelve
 
-  pub sendWithSpace-identity : take 2 (sendWithSpace q m) ≡ take 2 q
-  unfolding sendWithSpace
-  sendWithSpace-identity =
-      take-set-le 2 (set q (4 + waiting q) (word 15 m)) 2 (word 5 (waiting q + 1)) (omega arith)
-      ∙ take-set-le 2 q (4 + waiting q) (word 15 m) (omega arith)
-
   -- its words: the waiting count, the slot at the old one, and every other
   sendWithSpace-count : getD (sendWithSpace q m) 2 0 ≡ word 5 (waiting q + 1)
   unfolding sendWithSpace
-  sendWithSpace-count = getD-set-same (set q (4 + waiting q) (word 15 m)) 2 _ 0 (simp length-set (omega arith))
+  sendWithSpace-count = let b : 2 < length q = omega arith in simp (getD-set-same, lt-length-set) (omega arith)
 
   sendWithSpace-other : (k : ℕ) → k ≢ 2 → k ≢ 4 + waiting q → getD (sendWithSpace q m) k 0 ≡ getD q k 0
   unfolding sendWithSpace
@@ -157,8 +151,16 @@ module _ (q : List ℕ) (twelve : length q ≡ 12) (m : ℕ) where
   sendWithSpace-slot : waiting q < 8 → getD (sendWithSpace q m) (4 + waiting q) 0 ≡ word 15 m
   unfolding sendWithSpace
   sendWithSpace-slot b =
-      getD-set-other (set q (4 + waiting q) (word 15 m)) 2 (4 + waiting q) _ 0 (omega arith)
-      ∙ getD-set-same q (4 + waiting q) (word 15 m) 0 (omega arith)
+      let apart : 4 + waiting q ≢ 2 = omega arith in
+      let inside : 4 + waiting q < length q = omega arith in
+      simp (getD-set-other, getD-set-same)
+
+  pub sendWithSpace-identity : take 2 (sendWithSpace q m) ≡ take 2 q
+  unfolding sendWithSpace
+  sendWithSpace-identity =
+      let a : 2 ≤ 2 = omega arith in
+      let b : 2 ≤ 4 + waiting q = omega arith in
+      simp take-set-le
 
   pub sendWithSpace-waiting : waiting q < 8 → waiting (sendWithSpace q m) ≡ waiting q + 1
   unfolding waiting
@@ -193,9 +195,7 @@ module _ (q : List ℕ) (twelve : length q ≡ 12) (m : ℕ) where
 
   sendWithSpace-drop : drop 4 (sendWithSpace q m) ≡ set (drop 4 q) (waiting q) (word 15 m)
   unfolding sendWithSpace
-  sendWithSpace-drop =
-      drop-set-lt 4 (set q (4 + waiting q) (word 15 m)) 2 (word 5 (waiting q + 1)) (omega arith)
-      ∙ drop-set-add 4 q (waiting q) (word 15 m)
+  sendWithSpace-drop = let b : 2 < 4 = omega arith in rw (drop-set-lt, drop-set-add)
 
   -- the message goes last
   pub sendWithSpace-messages : m ≤ mostLost → waiting q < 8 → messages (sendWithSpace q m) ≡ messages q ++ (m ∷ [])
@@ -214,12 +214,12 @@ module _ (q : List ℕ) (twelve : length q ≡ 12) (m : ℕ) where
 
   pub sendToFull-identity : take 2 (sendToFull q m) ≡ take 2 q
   unfolding sendToFull
-  sendToFull-identity = take-set-le 2 q 3 (word 6 (min (lost q + 1) mostLost)) (omega arith)
+  sendToFull-identity = take-set-le 2 q 3 _ (omega arith)
 
   -- its words: the lost count, and every other
   sendToFull-count : getD (sendToFull q m) 3 0 ≡ word 6 (min (lost q + 1) mostLost)
   unfolding sendToFull
-  sendToFull-count = getD-set-same q 3 _ 0 (omega arith)
+  sendToFull-count = getD-set-same q 3 _ 0 (omega arith) ∙ omega arith
 
   sendToFull-other : (k : ℕ) → k ≢ 3 → getD (sendToFull q m) k 0 ≡ getD q k 0
   unfolding sendToFull
@@ -273,7 +273,7 @@ module _ (q : List ℕ) (twelve : length q ≡ 12) (some : waiting q ≢ 0) (mos
   -- its words: the waiting count, the others before the slots, the slots that moved up, the one that came free, and those that stay
   received-count : getD (received q) 2 0 ≡ word 5 (waiting q - 1)
   unfolding received
-  received-count = getD-set-same (movedUp q (waiting q)) 2 _ 0 (omega (arith, movedUp-length))
+  received-count = getD-set-same (movedUp q (waiting q)) 2 _ 0 (omega (arith, movedUp-length)) ∙ omega arith
 
   pub received-before : (k : ℕ) → k ≢ 2 → k < 4 → getD (received q) k 0 ≡ getD q k 0
   unfolding received movedUp

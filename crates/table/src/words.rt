@@ -1,7 +1,6 @@
 // The test of each kind of word of a table (document 01, 'The table'), one function a kind. Each is total, and equal to
 // the machine's definition of the same name. The tests join by `&`, which leaves no branch in the loops above them.
 use crate::rights::Rights;
-
 ghost use mathlib.Core.Path.{_≡_};
 ghost use Rattle.machine.specs.Check.{headerWordOk, rightsWordOk, nameWordOk, infoWordOk, waitingWordOk, lostWordOk, slotWordOk};
 
@@ -38,7 +37,11 @@ pub fn info_word_ok(n: u32, w: u32) -> bool
     ensures { λ b. ⌜ b ≡ infoWordOk n w ⌝ }
 {
     let capacity = w % 256;
-    (w / KIND == 4) & (w / 65536 % 4096 == 0) & (w / 256 % 256 < n) & (1 <= capacity) & (capacity <= 8)
+    (w / KIND == 4)
+        & (w / 65536 % 4096 == 0)
+        & (w / 256 % 256 < n)
+        & (1 <= capacity)
+        & (capacity <= 8)
 }
 
 // An endpoint's waiting count, at a capacity: kind 5, at most the capacity.
