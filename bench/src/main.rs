@@ -1,0 +1,73 @@
+//! `bench`: commissioning, differential runs and benchmarks of the proved kernel,
+//! and tools to write and look at its inputs.
+//!
+//! Exit status: 0 all is well; 1 something failed, was refused or differs; 2 bad
+//! usage, or a file that can't be read.
+
+mod args;
+mod boundary;
+mod cases;
+mod compare;
+mod counts;
+mod explain;
+#[cfg(test)]
+mod faulty;
+mod fuzz;
+mod input;
+mod panics;
+mod progress;
+mod shrink;
+mod tally;
+mod text;
+
+use std::process::ExitCode;
+
+const HELP: &str = "\
+bench: commissioning, differential runs and benchmarks of the proved kernel
+
+  bench commission FILE   the checklist on an input of linerun
+  bench fuzz              random runs beside the separate machine
+  bench speed             the proved kernel's speed beside plain C
+  bench show FILE         an input in words and as a picture
+  bench words FILE        hexadecimal words as text to an input, and back
+  bench COMMAND --help    what a command takes and what it answers
+
+FILE is an input of linerun: little-endian words, the table's length in words,
+the table, then the list to the end. `-` is standard input.
+
+Exit status: 0 all is well; 1 something failed, was refused or differs; 2 bad
+usage, or a file that can't be read.
+";
+
+fn main() -> ExitCode {
+    let line: Vec<String> = std::env::args().skip(1).collect();
+    let Some((command, rest)) = line.split_first() else {
+        eprint!("{HELP}");
+        return ExitCode::from(2);
+    };
+    match perform(command, rest) {
+        Ok(true) => ExitCode::SUCCESS,
+        Ok(false) => ExitCode::from(1),
+        Err(wrong) => {
+            eprintln!("bench {command}: {wrong}");
+            ExitCode::from(2)
+        }
+    }
+}
+
+/// Does a command: whether all is well, or why it couldn't be done.
+fn perform(command: &str, rest: &[String]) -> Result<bool, String> {
+    let (help, act): (&str, fn(&[String]) -> Result<bool, String>) = match command {
+        "fuzz" => (fuzz::HELP, fuzz::command),
+        "help" | "--help" | "-h" => {
+            print!("{HELP}");
+            return Ok(true);
+        }
+        _ => return Err("there is no such command; `bench --help` lists them".to_string()),
+    };
+    if rest.iter().any(|word| word == "--help" || word == "-h") {
+        print!("{help}");
+        return Ok(true);
+    }
+    act(rest)
+}
