@@ -37,12 +37,25 @@ fn build() -> Result<(), Box<dyn Error>> {
     let out = PathBuf::from(env::var("OUT_DIR")?);
     link_archive(&out)?;
     compile_plain("gcc", &out)?;
-    if Command::new("clang").arg("--version").output().is_ok() {
+    let mut compilers = vec![version("gcc").ok_or("no gcc")?];
+    if let Some(clang) = version("clang") {
         compile_plain("clang", &out)?;
         println!("cargo::rustc-cfg=clang");
+        compilers.push(clang);
     }
+    println!(
+        "cargo::rustc-env=PLAIN_COMPILERS={}",
+        compilers.join(" and ")
+    );
     println!("cargo::rustc-link-search=native={}", out.display());
     Ok(())
+}
+
+/// The first line that a compiler says of itself, where there is one.
+fn version(compiler: &str) -> Option<String> {
+    let told = Command::new(compiler).arg("--version").output().ok()?;
+    let text = String::from_utf8(told.stdout).ok()?;
+    text.lines().next().map(str::to_string)
 }
 
 /// Copies the archive beside the others, so that it has the name to link by

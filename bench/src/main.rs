@@ -7,6 +7,7 @@
 mod args;
 mod boundary;
 mod cases;
+mod commission;
 mod compare;
 mod counts;
 mod explain;
@@ -17,8 +18,12 @@ mod input;
 mod panics;
 mod progress;
 mod shrink;
+mod speed;
 mod tally;
 mod text;
+mod variants;
+mod words;
+mod workloads;
 
 use std::process::ExitCode;
 
@@ -58,7 +63,10 @@ fn main() -> ExitCode {
 /// Does a command: whether all is well, or why it couldn't be done.
 fn perform(command: &str, rest: &[String]) -> Result<bool, String> {
     let (help, act): (&str, fn(&[String]) -> Result<bool, String>) = match command {
+        "commission" => (commission::HELP, commission::command),
         "fuzz" => (fuzz::HELP, fuzz::command),
+        "speed" => (speed::HELP, speed::command),
+        "words" => (words::HELP, words::command),
         "help" | "--help" | "-h" => {
             print!("{HELP}");
             return Ok(true);
