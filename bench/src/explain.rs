@@ -51,7 +51,7 @@ pub fn letters(set: u32) -> String {
     held.map(|(_, letter)| letter).collect()
 }
 
-/// A set of rights in words, as `SEND and GRANT`.
+/// A set of rights in words, as `SEND, GRANT and REMOVE`.
 fn rights_in_words(set: u32) -> String {
     if set == 0 || set > right::ALL {
         return format!("the rights {set}");
@@ -66,7 +66,13 @@ fn rights_in_words(set: u32) -> String {
         .filter(|(bit, _)| set & bit != 0)
         .map(|(_, word)| *word)
         .collect();
-    held.join(" and ")
+    match held.as_slice() {
+        [first @ .., before, last] => {
+            let first: String = first.iter().map(|word| format!("{word}, ")).collect();
+            format!("{first}{before} and {last}")
+        }
+        _ => held.concat(),
+    }
 }
 
 /// What a call asks for.
@@ -212,6 +218,10 @@ mod tests {
         assert_eq!(
             told(0x7042_0003),
             "domain 1 gives up SEND and GRANT on domain 2"
+        );
+        assert_eq!(
+            told(0x6042_0007),
+            "domain 1 grants domain 0 SEND, GRANT and REMOVE on domain 2"
         );
         assert_eq!(
             told(0x7042_0009),

@@ -16,9 +16,12 @@ mod faulty;
 mod fuzz;
 mod input;
 mod panics;
+mod picture;
 mod progress;
+mod show;
 mod shrink;
 mod speed;
+mod svg;
 mod tally;
 mod text;
 mod variants;
@@ -65,6 +68,7 @@ fn perform(command: &str, rest: &[String]) -> Result<bool, String> {
     let (help, act): (&str, fn(&[String]) -> Result<bool, String>) = match command {
         "commission" => (commission::HELP, commission::command),
         "fuzz" => (fuzz::HELP, fuzz::command),
+        "show" => (show::HELP, show::command),
         "speed" => (speed::HELP, speed::command),
         "words" => (words::HELP, words::command),
         "help" | "--help" | "-h" => {
