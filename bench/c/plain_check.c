@@ -1,9 +1,8 @@
 /*
  * plain_check.c: the table's check, codes 2 to 5.
  *
- * Tests are gathered without branches where a whole row of words is looked at:
- * sound tables are the usual case, and the compiler can take several words at a
- * time.
+ * What is wrong is gathered without branches over all words of a kind: sound
+ * tables are the usual case, and the compiler can take several words at a time.
  */
 #include "plain.h"
 
@@ -34,57 +33,81 @@ static int rights_are_right(const uint8_t *image, size_t count)
 {
     uint32_t wrong = 0;
     for (size_t i = 0; i < count; i++)
-        wrong |= word_at(image, 1 + i) ^ 0x20000000u;
+        wrong |= word_at(image, i) ^ 0x20000000u;
     return (wrong & ~7u) == 0;
 }
 
-/* Name, info, waiting and lost of one endpoint. */
-static int identity_is_right(const uint8_t *image, size_t at, uint32_t n)
+/* Name, info, waiting and lost of one endpoint: 0 where they are right. */
+static inline uint32_t identity_wrong(const uint8_t *image, uint32_t n)
 {
-    uint32_t name = word_at(image, at), info = word_at(image, at + 1);
-    uint32_t waiting = word_at(image, at + 2), lost = word_at(image, at + 3);
+    uint32_t name = word_at(image, 0), info = word_at(image, 1);
+    uint32_t waiting = word_at(image, 2), lost = word_at(image, 3);
     uint32_t capacity = info & 255u;
-    return (name >> 28 == 3u) & ((name << 4) != 0) & (info >> 16 == 0x4000u) &
-           (((info >> 8) & 255u) < n) & (capacity - 1u < 8u) &
-           (waiting - 0x50000000u <= capacity) & (lost >> 28 == 6u);
+    return ((name >> 28) ^ 3u) | ((lost >> 28) ^ 6u) | ((info >> 16) ^ 0x4000u) |
+           ((name << 4) == 0) | (((info >> 8) & 255u) >= n) |
+           (capacity - 1u >= 8u) | (waiting - 0x50000000u > capacity);
 }
 
-/* Eight slots of kind 15, empty from the waiting count on. */
-static int slots_are_right(const uint8_t *image, size_t at, uint32_t waiting)
-{
-    uint32_t wrong = 0;
-    for (uint32_t i = 0; i < SLOTS; i++) {
-        uint32_t checked = i < waiting ? 0xF0000000u : 0xFFFFFFFFu;
-        wrong |= (word_at(image, at + i) ^ 0xF0000000u) & checked;
-    }
-    return wrong == 0;
-}
+/*
+ * The bits of each slot that must be those of F0000000, by the waiting count: all
+ * of them from that count on, the kind alone before it. Rows past 8 belong to
+ * waiting words that are wrong already.
+ */
+#define KIND 0xF0000000u
+#define WHOLE 0xFFFFFFFFu
+static const uint32_t slot_bits[16][SLOTS] = {
+    { WHOLE, WHOLE, WHOLE, WHOLE, WHOLE, WHOLE, WHOLE, WHOLE },
+    { KIND, WHOLE, WHOLE, WHOLE, WHOLE, WHOLE, WHOLE, WHOLE },
+    { KIND, KIND, WHOLE, WHOLE, WHOLE, WHOLE, WHOLE, WHOLE },
+    { KIND, KIND, KIND, WHOLE, WHOLE, WHOLE, WHOLE, WHOLE },
+    { KIND, KIND, KIND, KIND, WHOLE, WHOLE, WHOLE, WHOLE },
+    { KIND, KIND, KIND, KIND, KIND, WHOLE, WHOLE, WHOLE },
+    { KIND, KIND, KIND, KIND, KIND, KIND, WHOLE, WHOLE },
+    { KIND, KIND, KIND, KIND, KIND, KIND, KIND, WHOLE },
+    { KIND, KIND, KIND, KIND, KIND, KIND, KIND, KIND },
+};
 
-static int all_different(const uint32_t *names, size_t count)
+static int few_differ(const uint32_t *names, size_t count)
 {
-    uint32_t equal = 0;
     for (size_t i = 1; i < count; i++)
         for (size_t j = 0; j < i; j++)
-            equal |= names[j] == names[i];
-    return equal == 0;
+            if (names[j] == names[i])
+                return 0;
+    return 1;
 }
 
-static int endpoints_are_right(const uint8_t *image, size_t at, uint32_t n,
-                               size_t m)
+/* Names are never 0, so that 0 marks a free place of the set. */
+static int many_differ(const uint32_t *names, size_t count)
 {
-    uint32_t names[ENDPOINTS_MAX];
-    for (size_t e = 0; e < m; e++, at += ENDPOINT_WORDS) {
-        if (!identity_is_right(image, at, n) ||
-            !slots_are_right(image, at + 4, word_at(image, at + 2) & 15u))
-            return 0;
-        names[e] = word_at(image, at);
+    uint32_t seen[2 * ENDPOINTS_MAX];
+    memset(seen, 0, sizeof seen);
+    for (size_t i = 0; i < count; i++) {
+        uint32_t at = (names[i] * 0x9E3779B1u) >> 26;
+        while (seen[at] != 0) {
+            if (seen[at] == names[i])
+                return 0;
+            at = (at + 1) % (2 * ENDPOINTS_MAX);
+        }
+        seen[at] = names[i];
     }
-    return all_different(names, m);
+    return 1;
 }
 
-static size_t length_for(uint32_t n, uint32_t m)
+static int endpoints_are_right(const uint8_t *image, uint32_t n, size_t m)
 {
-    return 1 + (size_t)n * n + ENDPOINT_WORDS * (size_t)m;
+    uint32_t names[ENDPOINTS_MAX], slots[SLOTS] = { 0 }, wrong = 0;
+    for (size_t e = 0; e < m; e++, image += 4 * ENDPOINT_WORDS) {
+        const uint32_t *bits = slot_bits[word_at(image, 2) & 15u];
+        wrong |= identity_wrong(image, n);
+        for (size_t i = 0; i < SLOTS; i++)
+            slots[i] |= (word_at(image, 4 + i) ^ 0xF0000000u) & bits[i];
+        names[e] = word_at(image, 0);
+    }
+    for (size_t i = 0; i < SLOTS; i++)
+        wrong |= slots[i];
+    if (wrong != 0)
+        return 0;
+    return m <= 6 ? few_differ(names, m) : many_differ(names, m);
 }
 
 uint32_t plain_table_check(const uint8_t *bytes, size_t len)
@@ -92,12 +115,12 @@ uint32_t plain_table_check(const uint8_t *bytes, size_t len)
     uint32_t header;
     if (len < 4 || !header_is_right(header = word_at(bytes, 0)))
         return 2;
-    uint32_t n = (header >> 8) & 255u, m = header & 255u;
-    if (len != 4 * length_for(n, m))
+    size_t n = (header >> 8) & 255u, m = header & 255u;
+    if (len != 4 * (1 + n * n + ENDPOINT_WORDS * m))
         return 3;
-    if (!rights_are_right(bytes, (size_t)n * n))
+    if (!rights_are_right(bytes + 4, n * n))
         return 4;
-    if (!endpoints_are_right(bytes, 1 + (size_t)n * n, n, m))
+    if (!endpoints_are_right(bytes + 4 * (1 + n * n), (uint32_t)n, m))
         return 5;
     return 0;
 }

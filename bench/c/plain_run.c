@@ -4,7 +4,8 @@
  * Rights are taken in once for a run, one 64-bit row for each domain with four
  * bits for each target, so that a right is tested by a shift and `my rights` is
  * the row itself; a grant or a remove writes the row and the table's word. Names
- * stand side by side for look up. Queues are worked on in the table.
+ * stand side by side for look up, and so do the sets of endpoints owned. Queues
+ * are worked on in the table.
  */
 #include "plain.h"
 
@@ -26,7 +27,7 @@ struct line {
     uint32_t names[ENDPOINTS_MAX];
 };
 
-/* A call taken apart; second is 0 where there is no second word. */
+/* A call's words; second is 0 where there is no second word. */
 struct call {
     uint32_t first, second;
 };
@@ -43,9 +44,12 @@ static inline uint32_t rights_on(const struct line *line, uint32_t holder,
     return (uint32_t)(line->rights[holder] >> (4 * target)) & 7u;
 }
 
-static inline int pairs(uint32_t first, uint32_t next)
+/* 1 where two words make one call, otherwise 0. */
+static inline uint32_t pairs(uint32_t first, uint32_t next)
 {
-    return kind_of(first) - 1u < 2u && kind_of(next) == 15u;
+    uint32_t takes_two = kind_of(first) - 1u < 2u;
+    uint32_t is_second = next >= 0xF0000000u;
+    return takes_two & is_second;
 }
 
 /*
@@ -56,7 +60,7 @@ static size_t count_calls(const uint32_t *list, size_t len)
 {
     uint32_t seconds = 0;
     for (size_t i = 1; i < len; i++)
-        seconds += (uint32_t)pairs(list[i - 1], list[i]);
+        seconds += pairs(list[i - 1], list[i]);
     return len - seconds;
 }
 
@@ -79,6 +83,7 @@ static void take_in(struct line *line, uint32_t *table)
     line->endpoints = table + 1 + (size_t)line->n * line->n;
     take_in_rights(line);
     memset(line->owned, 0, sizeof line->owned);
+    memset(line->names, 0xFF, sizeof line->names); /* no name: above 28 bits */
     for (uint32_t e = 0; e < line->m; e++) {
         const uint32_t *words = line->endpoints + ENDPOINT_WORDS * (size_t)e;
         line->names[e] = words[NAME] & CONTENT;
@@ -86,15 +91,19 @@ static void take_in(struct line *line, uint32_t *table)
     }
 }
 
+/*
+ * All names at once, without a branch: no two are equal, so that the number of
+ * the one that is found, plus one, is what is gathered.
+ */
 static uint32_t look_up(const struct line *line, struct call call, uint32_t *data)
 {
-    uint32_t name = call.second & CONTENT;
-    for (uint32_t e = 0; e < line->m; e++)
-        if (line->names[e] == name) {
-            data[0] = e;
-            return 0;
-        }
-    return 15;
+    uint32_t name = call.second & CONTENT, found = 0;
+    for (uint32_t e = 0; e < ENDPOINTS_MAX; e++)
+        found |= line->names[e] == name ? e + 1 : 0;
+    if (found == 0)
+        return 15;
+    data[0] = found - 1;
+    return 0;
 }
 
 static uint32_t send(struct line *line, struct call call)
@@ -176,12 +185,13 @@ static uint32_t my_rights(const struct line *line, uint32_t caller, uint32_t *da
 }
 
 /* The bits of a first word that are unused, by kind. */
-static const uint32_t unused_bits[16] = {
-    0, 0x003FFFFFu, 0x003F00FFu, 0x003F00FFu, 0x003FFFFFu, 0x003FFFFFu, 0, 0x0000FF00u,
+static const uint32_t unused_bits[8] = {
+    0,           0x003FFFFFu, 0x003F00FFu, 0x003F00FFu,
+    0x003FFFFFu, 0x003FFFFFu, 0,           0x0000FF00u,
 };
 
 /* One call: its code, its data words in data, which are zero on entry. */
-static uint32_t serve(struct line *line, struct call call, uint32_t *data)
+static inline uint32_t serve(struct line *line, struct call call, uint32_t *data)
 {
     uint32_t kind = kind_of(call.first), caller = caller_of(call.first);
     if (kind - 1u >= 7u)
@@ -211,19 +221,23 @@ static uint32_t serve(struct line *line, struct call call, uint32_t *data)
     }
 }
 
-static void run_calls(struct line *line, const uint32_t *list, size_t len,
-                      uint32_t *answer)
+/*
+ * The second word is picked without a branch: which calls have one is as good as
+ * random to the processor.
+ */
+static void run_calls(struct line *restrict line, const uint32_t *restrict list,
+                      size_t len, uint32_t *restrict answer)
 {
     for (size_t i = 0; i < len; answer += 3) {
-        struct call call = { list[i++], 0 };
-        if (i < len && pairs(call.first, list[i]))
-            call.second = list[i++];
-        uint32_t data[2] = { 0, 0 };
-        uint32_t code = serve(line, call, data);
+        uint32_t first = list[i++], next = i < len ? list[i] : 0;
+        uint32_t two = pairs(first, next);
+        struct call call = { first, next & (0u - two) };
+        i += two;
+        answer[1] = 0;
+        answer[2] = 0;
+        uint32_t code = serve(line, call, answer + 1);
         uint32_t shown = code == 10 ? 0xF0000000u : call.first & 0xFFC00000u;
         answer[0] = shown | code;
-        answer[1] = data[0];
-        answer[2] = data[1];
     }
 }
 

@@ -110,7 +110,7 @@ fn near_name(rng: &mut Rng, table: &[u32]) -> u32 {
 
 /// Gives one endpoint of an accepted table a name that differs from another's in
 /// one bit, where that leaves the table accepted.
-fn bring_names_near(rng: &mut Rng, table: &mut Vec<u32>) {
+fn bring_names_near(rng: &mut Rng, table: &mut [u32]) {
     if endpoints(table) == 0 {
         return;
     }

@@ -11,6 +11,7 @@ use crate::compare::{difference, isolation, kept_calls, kernel_run, separate_run
 use crate::counts;
 use crate::explain::{call_in_words, meaning, table_fault};
 use crate::input::{read_bytes, Input};
+use crate::output::{self, say};
 use crate::variants::{case_of, damaged_tables, scrambled_lists, Variant};
 
 pub const HELP: &str = "\
@@ -59,7 +60,7 @@ pub fn command(options: &[String]) -> Result<bool, String> {
     let input = match commissionable(&read_bytes(file)?) {
         Ok(input) => input,
         Err((code, fault)) => {
-            println!("{file} cannot be commissioned: refused with {code}, {fault}");
+            say!("{file} cannot be commissioned: refused with {code}, {fault}");
             return Ok(false);
         }
     };
@@ -67,9 +68,9 @@ pub fn command(options: &[String]) -> Result<bool, String> {
     if let Some(domain) = struck.filter(|&domain| domain >= n as u64) {
         return Err(format!("no domain {domain}: the table has 0 to {}", n - 1));
     }
-    println!("commissioning {file} on {}: {}", kernel.title, size(&input));
+    say!("commissioning {file} on {}: {}", kernel.title, size(&input));
     if let Some(domain) = struck {
-        print!("{}", struck_calls(&case_of(&input), domain as usize));
+        output::write(struck_calls(&case_of(&input), domain as usize).as_bytes());
     }
     Ok(go_through(&Checklist::new(kernel, &input, seed)))
 }
@@ -125,9 +126,9 @@ fn go_through(list: &Checklist) -> bool {
             Err(told) => ("failed", told),
         };
         passed += usize::from(line.is_ok());
-        println!("line {} {verdict}  {name}: {told}", number + 1);
+        say!("line {} {verdict}  {name}: {told}", number + 1);
     }
-    println!("summary: {passed} passed, {} failed", lines.len() - passed);
+    say!("summary: {passed} passed, {} failed", lines.len() - passed);
     passed == lines.len()
 }
 

@@ -11,6 +11,7 @@ use crate::cases::{image, run_case};
 use crate::compare::{difference, isolation, kernel_run, separate_run};
 use crate::counts;
 use crate::input::Input;
+use crate::output::{self, say};
 use crate::progress::Progress;
 use crate::shrink::shrink;
 use crate::tally::{Tally, Tried};
@@ -72,28 +73,30 @@ pub fn command(line: &[String]) -> Result<bool, String> {
 fn fuzz(plan: &Plan) -> bool {
     let mut tally = Tally::default();
     let found = try_cases(plan, &mut tally).and_then(|()| try_images(plan, &mut tally));
-    print!("{}", tally.in_words());
+    output::write(tally.in_words().as_bytes());
     if let Err(told) = found {
-        println!("{told}");
-        println!(
+        say!("{told}");
+        say!(
             "fuzz of {} with seed {}: FAILED",
-            plan.kernel.name, plan.seed
+            plan.kernel.name,
+            plan.seed
         );
         return false;
     }
     let missing = tally.never_met(plan.cases > 0, plan.images > 0);
     if !missing.is_empty() {
-        println!("never met, so not compared: {}", missing.join(", "));
-        println!("give more to try: --cases 2000 --table-checks 2000 meets all of them");
+        say!("never met, so not compared: {}", missing.join(", "));
+        say!("give more to try: --cases 2000 --table-checks 2000 meets all of them");
     }
     let ended = if missing.is_empty() {
         "passed"
     } else {
         "FAILED"
     };
-    println!(
+    say!(
         "fuzz of {} with seed {}: {ended}",
-        plan.kernel.name, plan.seed
+        plan.kernel.name,
+        plan.seed
     );
     missing.is_empty()
 }

@@ -15,6 +15,7 @@ mod explain;
 mod faulty;
 mod fuzz;
 mod input;
+mod output;
 mod panics;
 mod picture;
 mod progress;
@@ -63,22 +64,24 @@ fn main() -> ExitCode {
     }
 }
 
-/// Does a command: whether all is well, or why it couldn't be done.
+/// A command: whether all is well, or why it couldn't be done.
+type Act = fn(&[String]) -> Result<bool, String>;
+
 fn perform(command: &str, rest: &[String]) -> Result<bool, String> {
-    let (help, act): (&str, fn(&[String]) -> Result<bool, String>) = match command {
+    let (help, act): (&str, Act) = match command {
         "commission" => (commission::HELP, commission::command),
         "fuzz" => (fuzz::HELP, fuzz::command),
         "show" => (show::HELP, show::command),
         "speed" => (speed::HELP, speed::command),
         "words" => (words::HELP, words::command),
         "help" | "--help" | "-h" => {
-            print!("{HELP}");
+            output::write(HELP.as_bytes());
             return Ok(true);
         }
         _ => return Err("there is no such command; `bench --help` lists them".to_string()),
     };
     if rest.iter().any(|word| word == "--help" || word == "-h") {
-        print!("{help}");
+        output::write(help.as_bytes());
         return Ok(true);
     }
     act(rest)

@@ -385,7 +385,7 @@ fn queue_row(drawing: &mut Drawing, table: &[u32], e: usize, y: f64) {
 fn queue_boxes(drawing: &mut Drawing, table: &[u32], e: usize, at: (f64, f64)) {
     let slots = &endpoint_words(table, e)[SLOTS_PLACE..];
     let places = capacity(table, e);
-    for place in 0..places {
+    for (place, &slot) in slots.iter().enumerate().take(places) {
         let left = at.0 + PLACE * (places - 1 - place) as f64;
         let waits = place < waiting(table, e);
         let (fill, edge) = if waits {
@@ -401,7 +401,7 @@ fn queue_boxes(drawing: &mut Drawing, table: &[u32], e: usize, at: (f64, f64)) {
             edge,
         );
         if waits {
-            let message = content(slots[place]).to_string();
+            let message = content(slot).to_string();
             let size = if message.len() > 7 { 8.8 } else { 10.5 };
             let style = Style::new(size, INK).middle().even();
             drawing.text(left + PLACE / 2.0, at.1, style, &message);

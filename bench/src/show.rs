@@ -10,6 +10,7 @@ use reference::words::content;
 use crate::args::Options;
 use crate::explain::{call_in_words, letters, meaning, table_fault};
 use crate::input::{read_bytes, Input};
+use crate::output::{self, say};
 use crate::picture;
 
 pub const HELP: &str = "\
@@ -36,20 +37,20 @@ pub fn command(line: &[String]) -> Result<bool, String> {
     let input = match Input::parse(&read_bytes(file)?) {
         Ok(input) => input,
         Err((code, why)) => {
-            println!("refused with {code} ({}): {why}", meaning(code));
+            say!("refused with {code} ({}): {why}", meaning(code));
             return Ok(false);
         }
     };
     if let Some((code, fault)) = table_fault(&input.table) {
-        println!("table refused with {code} ({}): {fault}", meaning(code));
-        print!("{}", crate::text::write(&input));
+        say!("table refused with {code} ({}): {fault}", meaning(code));
+        output::write(crate::text::write(&input).as_bytes());
         return Ok(false);
     }
-    print!("{}", in_words(&input, calls.unwrap_or(usize::MAX)));
+    output::write(in_words(&input, calls.unwrap_or(usize::MAX)).as_bytes());
     if let Some(out) = options.text("--svg") {
         let svg = picture::svg(&input, calls.unwrap_or(CALLS_IN_PICTURE));
         std::fs::write(out, svg).map_err(|why| format!("cannot write {out}: {why}"))?;
-        println!("picture written to {out}");
+        say!("picture written to {out}");
     }
     Ok(true)
 }

@@ -10,6 +10,7 @@ use reference::words::to_bytes;
 use crate::args::Options;
 use crate::boundary::{Kernel, KERNELS};
 use crate::compare::{difference, kernel_run, separate_run};
+use crate::output::{self, say};
 use crate::workloads::{largest_table, workloads, Workload};
 
 pub const HELP: &str = "\
@@ -28,13 +29,16 @@ Exit status: 0 measured; 1 a kernel's run differs; 2 bad usage.
 /// How long one kernel is timed in one round, about.
 const TURN: Duration = Duration::from_micros(300);
 
-/// Something to measure: how it is called, what it does `times` times for a
-/// kernel, and how many of its units one time has.
+/// Does something with a kernel so many times; gives how long that took.
+type Act<'a> = dyn Fn(&Kernel, usize) -> Duration + 'a;
+
+/// Something to measure: how it is called, what is done, and how many of its units
+/// one time has.
 struct Subject<'a> {
     name: String,
     unit: &'static str,
     units: usize,
-    act: Box<dyn Fn(&Kernel, usize) -> Duration + 'a>,
+    act: Box<Act<'a>>,
 }
 
 /// The command: whether every kernel's runs are right, so that its speed counts.
@@ -44,14 +48,14 @@ pub fn command(line: &[String]) -> Result<bool, String> {
     let rounds = options.number("--rounds")?.unwrap_or(301).clamp(1, 100_000) as usize;
     let workloads = workloads();
     if let Some(told) = workloads.iter().find_map(first_wrong) {
-        println!("{told}");
+        say!("{told}");
         return Ok(false);
     }
-    print!("{}", head(rounds));
+    output::write(head(rounds).as_bytes());
     for subject in subjects(&workloads) {
-        println!("{}", row(&subject, rounds));
+        say!("{}", row(&subject, rounds));
     }
-    print!("{}", foot(&workloads));
+    output::write(foot(&workloads).as_bytes());
     Ok(true)
 }
 

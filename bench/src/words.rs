@@ -1,9 +1,8 @@
 //! `bench words`: words as text into an input of linerun, and back.
 
-use std::io::{self, Write};
-
 use crate::args::Options;
 use crate::input::{read_bytes, Input};
+use crate::output;
 use crate::text;
 
 pub const HELP: &str = "\
@@ -40,7 +39,6 @@ pub fn command(line: &[String]) -> Result<bool, String> {
         let typed = String::from_utf8(bytes).map_err(|_| format!("{file} is no text"))?;
         text::read(&typed).map_err(|why| format!("{file}, {why}"))?
     };
-    let wrote = io::stdout().write_all(&written);
-    wrote.map_err(|why| format!("cannot write: {why}"))?;
+    output::write(&written);
     Ok(true)
 }
