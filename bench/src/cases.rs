@@ -252,7 +252,7 @@ mod tests {
         for number in 0..4000 {
             let bytes = image(1, number);
             met[reference::check_bytes(&bytes) as usize] += 1;
-            odd += usize::from(bytes.len() % 4 != 0);
+            odd += usize::from(!bytes.len().is_multiple_of(4));
         }
         assert!(met[0] > 500 && met[2..].iter().all(|&count| count > 200));
         assert!(odd > 400);

@@ -15,6 +15,7 @@ mod explain;
 mod faulty;
 mod fuzz;
 mod input;
+mod linerun;
 mod output;
 mod panics;
 mod picture;
@@ -36,6 +37,7 @@ bench: commissioning, differential runs and benchmarks of the proved kernel
 
   bench commission FILE   the checklist on an input of linerun
   bench fuzz              random runs beside the separate machine
+  bench linerun PROGRAM   the program linerun beside the separate one
   bench speed             the proved kernel's speed beside plain C
   bench show FILE         an input in words and as a picture
   bench words FILE        hexadecimal words as text to an input, and back
@@ -71,6 +73,7 @@ fn perform(command: &str, rest: &[String]) -> Result<bool, String> {
     let (help, act): (&str, Act) = match command {
         "commission" => (commission::HELP, commission::command),
         "fuzz" => (fuzz::HELP, fuzz::command),
+        "linerun" => (linerun::HELP, linerun::command),
         "show" => (show::HELP, show::command),
         "speed" => (speed::HELP, speed::command),
         "words" => (words::HELP, words::command),

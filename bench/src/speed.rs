@@ -236,8 +236,8 @@ fn foot(workloads: &[Workload]) -> String {
         .collect();
     format!(
         "\nLists of 4,096 words: {}. Before each run of a list the table and the answers are \
-         reset outside the timed part; checks and entries write nothing and are not reset. The \
-         entry is the length and table checks, once for each run.\n",
+         reset outside the timed part; checks and entries write nothing and are not reset. An \
+         entry alone is a run of the empty list.\n",
         sizes.join("; ")
     )
 }

@@ -40,7 +40,7 @@ fn example() -> Vec<u8> {
 #[test]
 fn help_is_given_for_every_command() {
     assert_eq!(status(&["--help"]), 0);
-    for command in ["commission", "fuzz", "speed", "show", "words"] {
+    for command in ["commission", "fuzz", "linerun", "speed", "show", "words"] {
         let help = printed(&[command, "--help"]);
         assert!(help.starts_with(&format!("bench {command}")), "{help}");
         assert!(help.contains("Exit status:"), "{help}");
@@ -59,6 +59,7 @@ fn bad_usage_ends_with_2_and_says_why() {
     assert_eq!(status(&["commission"]), 2);
     assert!(told(&["commission", "/no/such/file"]).contains("cannot read /no/such/file"));
     assert_eq!(status(&["speed", "more"]), 2);
+    assert_eq!(status(&["linerun", "/no/such/program"]), 2);
 }
 
 #[test]
@@ -138,6 +139,13 @@ fn fuzz_meets_every_code_and_shows_no_progress_in_a_pipe() {
     let few = ["fuzz", "--cases", "2", "--table-checks", "0"];
     assert_eq!(status(&few), 1);
     assert!(printed(&few).contains("never met"));
+}
+
+#[test]
+fn a_program_that_is_no_linerun_differs() {
+    let line = ["linerun", "/bin/cat", "--cases", "3"];
+    assert_eq!(status(&line), 1);
+    assert!(printed(&line).starts_with("DIFFERENCE in input 0 of seed 1"));
 }
 
 #[test]
