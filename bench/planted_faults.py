@@ -76,8 +76,9 @@ def copy_packages():
 def build():
     """The bench built against the copy, or None where that doesn't compile."""
     archive = ROOT / "target" / "staticlib" / "libbalkwizu.a"
-    environment = dict(os.environ, CARGO_TARGET_DIR=str(SCRATCH / "target"))
-    environment.setdefault("BALKWIZU_ARCHIVE", str(archive))
+    archive = Path(os.environ.get("BALKWIZU_ARCHIVE", archive)).absolute()
+    environment = dict(os.environ, BALKWIZU_ARCHIVE=str(archive))
+    environment["CARGO_TARGET_DIR"] = str(SCRATCH / "target")
     command = ["cargo", "build", "--offline", "--quiet", "--release"]
     command += ["-p", "balkwizu-bench"]
     built = subprocess.run(

@@ -6,6 +6,9 @@
  * `rt staticlib balkwizu` makes from proved code: it is for x86-64, allocates
  * nothing, and calls nothing of the C library but memcpy, memmove and memset.
  *
+ * Neither function keeps anything from one call to the next: they may be called
+ * at the same time on different words.
+ *
  * What is proved is proved of every table, every list and every answer space,
  * damaged ones too. What no proof covers are the caller's duties, written at
  * each function: the kernel believes the pointers and lengths that it is given.
