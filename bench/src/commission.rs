@@ -193,8 +193,8 @@ impl Checklist {
             struck.push(isolation(&self.case, &ran, domain)?.to_string());
         }
         Ok(format!(
-            "each of {n} domains sees the same without the calls struck for it; struck for \
-             domain 0 on: {}",
+            "each of {n} domains sees the same without the calls struck for it; calls struck, \
+             from domain 0 on: {}",
             struck.join(", ")
         ))
     }
