@@ -18,3 +18,7 @@ digits n = digitsWithin n n
 
 unfoldable pub decimal : ℕ → List ℕ
 decimal n = digits (n / 10) ++ (lastDigit n ∷ [])
+
+-- a label and a number in decimal right after it
+unfoldable pub labelled : List ℕ → ℕ → List ℕ
+labelled label n = label ++ decimal n

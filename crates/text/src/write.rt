@@ -3,7 +3,7 @@
 ghost use Prim.Native.Nat.{_+_, _≤_};
 ghost use mathlib.Core.Path.{_≡_};
 ghost use lib.ListN.{length, take, drop};
-ghost use Rattle.text.specs.Decimal.{decimal};
+ghost use Rattle.text.specs.Decimal.{decimal, labelled};
 ghost use Rattle.text.specs.Write.{overwrite, Writes};
 
 // The first n bytes of a text, which fit.
@@ -56,4 +56,12 @@ pub fn put_decimal(x: u64, out: &mut [u8], at: usize) -> usize
     let mut digits = [0u8; 20];
     let first = spell(x, &mut digits);
     put(&digits[first..20], out, at)
+}
+
+// A label, and a number in decimal right after it.
+pub fn put_labelled(label: &[u8], x: u64, out: &mut [u8], at: usize) -> usize
+    ensures { λ r. ⌜ Writes at (labelled (now (label .entry)) x) (now (out .entry)) r (now (out .exit)) ⌝ }
+{
+    let next = put(label, out, at);
+    put_decimal(x, out, next)
 }

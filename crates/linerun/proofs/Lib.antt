@@ -1,0 +1,2 @@
+-- What is proved of `linerun`'s input and output as definitions.
+pub mod Examples
