@@ -1,2 +1,3 @@
 -- What is proved of `linerun`'s input and output as definitions.
+pub mod LineLaws
 pub mod Examples

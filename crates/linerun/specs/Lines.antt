@@ -34,3 +34,7 @@ callLines answers (suc k) =
 -- all lines: an entry refusal has no calls, so its first line stands alone
 unfoldable pub allLines : ℕ → ℕ → List ℕ → List ℕ
 allLines calls code answers = firstLine calls code ++ callLines answers calls
+
+-- the most bytes that the lines of so many calls have, up to 10,000 of them: at most 28 in the first line, 66 in each other
+abbrev pub mostBytes : ℕ → ℕ
+mostBytes calls = 28 + 66 * calls

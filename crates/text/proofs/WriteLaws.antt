@@ -95,11 +95,15 @@ overwrite-capped at text buffer = go (decLe at (length buffer + 1))
     go (yes h) = ap (λ i. overwrite i text buffer) (omega arith)
     go (no h) = overwrite-past _ text buffer (omega arith) ∙ sym (overwrite-past at text buffer (omega arith))
 
+pub writes-length : {at : ℕ} {text buffer : List ℕ} {next : ℕ} {left : List ℕ}
+    → Writes at text buffer next left → length left ≡ length buffer
+writes-length {at} {text} {buffer} w = ap length (w .bytes) ∙ length-overwrite at text buffer
+
 -- two texts written one after the other are one text written at once
 pub then : {at : ℕ} {s t buffer : List ℕ} {next : ℕ} {left : List ℕ} {next′ : ℕ} {left′ : List ℕ}
     → Writes at s buffer next left → Writes next t left next′ left′ → Writes at (s ++ t) buffer next′ left′
 then {at} {s} {t} {buffer} {next} {left} {next′} {left′} w v =
-    let long : length left ≡ length buffer = ap length (w .bytes) ∙ length-overwrite at s buffer in
+    let long : length left ≡ length buffer = writes-length w in
     record {
       place = omega (arith, w .place, v .place, long, length-append s t);
       bytes =

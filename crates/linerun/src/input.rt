@@ -1,0 +1,1 @@
+// What linerun reads: the table, then the list's words.
