@@ -1,3 +1,4 @@
 -- What is proved of `linerun`'s input and output as definitions.
 pub mod LineLaws
+pub mod InputLaws
 pub mod Examples

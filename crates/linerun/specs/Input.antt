@@ -6,7 +6,7 @@ use lib.ListN.{length, take}
 use lib.Dec.{eqb, ltb}
 use Rattle.machine.specs.Entry.{longestList}
 use Rattle.text.specs.Bytes.{wordsOf}
-use Rattle.text.specs.TableInput.{noTable, afterTable, tableWanted}
+use Rattle.text.specs.TableInput.{longestTable, noTable, afterTable, tableWanted}
 
 -- the reading stops at the first list word that is one too many
 abbrev pub listWordsRead : ℕ
@@ -27,3 +27,7 @@ unreadable bytes = noTable bytes || leftOver (afterTable bytes)
 -- how many bytes more to read, where the input so far is these; 0 where no further byte can matter
 unfoldable pub wanted : List ℕ → ℕ
 wanted bytes = cond (noTable bytes) (tableWanted bytes) (4 * listWordsRead - length (afterTable bytes))
+
+-- the most bytes that are read: the length word, the longest table, and list words until the reading stops
+abbrev pub mostInput : ℕ
+mostInput = 4 + 4 * longestTable + 4 * listWordsRead

@@ -9,7 +9,7 @@ use Rattle.linerun.specs.Input.{listOf, unreadable}
 use Rattle.linerun.specs.Lines.{firstLine, allLines}
 
 -- an answer space that is never too small: three words for each call of the longest list
-abbrev pub answerSpace : List ℕ
+unfoldable pub answerSpace : List ℕ
 answerSpace = replicate (3 * longestList) 0
 
 unfoldable pub outcomeLines : Outcome → List ℕ

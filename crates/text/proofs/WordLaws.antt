@@ -4,8 +4,9 @@ use mathlib.Core.Path.{_≡_, refl, sym, ap, _∙_}
 use mathlib.Core.List.{List, [], _∷_, _++_}
 use native.Mathlib.Nat.{add-assoc}
 use native.Mathlib.Omega.{arith}
-use lib.ListN.{length, getD, take, drop, List·getD-eq-default}
-use lib.Seq.{getD-drop}
+use lib.Dec.{lit<}
+use lib.ListN.{length, getD, take, drop, List·getD-eq-default, List·getD-append}
+use lib.Seq.{getD-drop, take-append-le}
 use Rattle.text.specs.Bytes.{wordOf, wordAt, wordsOf}
 
 pub length-wordsOf : (bytes : List ℕ) → length (wordsOf bytes) ≡ length bytes / 4
@@ -61,3 +62,15 @@ getD-wordsOf (suc i) (a ∷ b ∷ c ∷ d ∷ bytes) h =
     getD-wordsOf i bytes (omega arith)
     ∙ wordAt-drop 4 (4 * i) (a ∷ b ∷ c ∷ d ∷ bytes)
     ∙ ap (wordAt (a ∷ b ∷ c ∷ d ∷ bytes)) next
+
+-- bytes that follow make no difference to a word that is whole, nor to the words before them
+pub wordAt-append : (bytes more : List ℕ) (at : ℕ) → at + 4 ≤ length bytes → wordAt (bytes ++ more) at ≡ wordAt bytes at
+wordAt-append bytes more at h =
+    let kept : (k : ℕ) → k < 4 → getD (bytes ++ more) (at + k) 0 ≡ getD bytes (at + k) 0 =
+    λ k l. List·getD-append bytes more 0 (at + k) (omega arith) in
+    simp (List·getD-append bytes more 0 at (omega arith), kept 1 (lit< tt), kept 2 (lit< tt), kept 3 (lit< tt))
+
+pub take-wordsOf-append : (k : ℕ) (bytes more : List ℕ) → 4 * k ≤ length bytes
+    → take k (wordsOf (bytes ++ more)) ≡ take k (wordsOf bytes)
+take-wordsOf-append k bytes more h =
+    sym (take-wordsOf k (bytes ++ more)) ∙ ap wordsOf (take-append-le (4 * k) bytes more h) ∙ take-wordsOf k bytes

@@ -7,9 +7,9 @@ use native.Mathlib.Nat.{suc-add, add-suc}
 use native.Mathlib.Decide.{decLe}
 use native.Mathlib.Numerals.{add-one}
 use native.Mathlib.Omega.{arith}
-use lib.ListN.{length, getD, take, drop, set, length-append}
-use lib.Seq.{length-take-le, take-suc}
-use Rattle.text.specs.Write.{overwrite, placeAfter, Writes}
+use lib.ListN.{length, getD, take, drop, set, length-append, length-take}
+use lib.Seq.{length-take-le, take-suc, take-append-seam}
+use Rattle.text.specs.Write.{overwrite, Writes, Fills}
 
 pub length-overwrite : (at : ℕ) (text buffer : List ℕ) → length (overwrite at text buffer) ≡ length buffer
 unfolding overwrite
@@ -117,3 +117,23 @@ then {at} {s} {t} {buffer} {next} {left} {next′} {left′} w v =
 -- nothing is written from a place within the buffer, or one past its length
 pub writes-nothing : (at : ℕ) (buffer : List ℕ) → at ≤ length buffer + 1 → Writes at [] buffer at buffer
 writes-nothing at buffer h = record { place = omega arith; bytes = sym (overwrite-none at buffer) }
+
+-- items past a buffer's length make no difference
+pub fills-cut : (n : ℕ) {items buffer : List ℕ} {count : ℕ} {left : List ℕ}
+    → length buffer ≤ n → Fills items buffer count left → Fills (take n items) buffer count left
+fills-cut n {items} {buffer} h f =
+    record {
+      count-is = omega (arith, f .count-is, length-take n items);
+      items-are = f .items-are ∙ sym (write-all 0 n items buffer (omega arith));
+    }
+
+-- items for which there is room stand at the front, as many as the count says
+pub fills-front : {items buffer : List ℕ} {count : ℕ} {left : List ℕ}
+    → length items ≤ length buffer → Fills items buffer count left → (count ≡ length items) × (take count left ≡ items)
+fills-front {items} {buffer} {count} {left} h f =
+    let all : count ≡ length items = omega (arith, f .count-is) in (
+      all,
+      ap (λ k. take k left) all
+          ∙ ap (take (length items)) (f .items-are ∙ overwrite-fits 0 items buffer (omega arith))
+          ∙ take-append-seam items (drop (0 + length items) buffer),
+    )
