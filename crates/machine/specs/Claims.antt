@@ -31,6 +31,11 @@ pub record SamePart (v : ℕ) (s t : List ℕ) : Type 0 where
   pub rights : rightsOf v s ≡ rightsOf v t
   pub queues : (e : ℕ) → e < endpoints t → owner (endpoint t e) ≡ v → drop 2 (endpoint s e) ≡ drop 2 (endpoint t e)
 
+-- Two tables agree on the domain v: on its part, and on the rights that every domain holds on it.
+pub record Agree (v : ℕ) (s t : List ℕ) : Type 0 where
+  pub part : SamePart v s t
+  pub onIt : (u : ℕ) → u < domains t → rightsWord s u v ≡ rightsWord t u v
+
 -- Tables stay accepted: a call on an accepted table leaves one, with the same unchanging parts.
 pub record StaysAccepted (t t′ : List ℕ) : Type 0 where
   pub accepted : Accepted t′

@@ -11,8 +11,11 @@ pub mod Run
 pub mod Entry
 pub mod Influence
 pub mod Purge
+pub mod Unwinding
 pub mod Counts
 pub mod Claims
+pub mod Trail
+pub mod Promise
 pub mod Everything
 pub mod Examples
 pub mod PurgeExamples

@@ -1,0 +1,151 @@
+-- What a call comes to, by cases: a refusal by a number from 10 to 23, or a row of the call table under all that its places
+-- have then shown (specs/Machine). Whatever is proved of every call is proved through this one law.
+-- Assumes nothing.
+use mathlib.Core.Path.{_≡_, refl, sym, ap, subst, _∙_}
+use mathlib.Core.Bool.{Bool, true, false, cond, not, _&&_, _||_}
+use mathlib.Core.List.{List}
+use mathlib.Core.Option.{Option, none, some}
+use Prim.Native.Nat.{ℕ, _+_, _*_, _<_, _≤_}
+use native.Mathlib.Omega.{arith}
+use borrow.Author.Tests.{ltb-true, leb-true, eqb-true, eqb-false, not-true, not-false}
+use lib.Dec.{eqb, leb, ltb}
+use Rattle.machine.specs.Word.{kind, caller, fieldA, fieldB, fieldC}
+use Rattle.machine.specs.Right.{SEND, GRANT, REMOVE, allRights, holds}
+use Rattle.machine.specs.Table.{domains, endpoints, rights, endpoint}
+use Rattle.machine.specs.Queue.{owner, waiting}
+use Rattle.machine.specs.Call.{Call, Kind, first, kindOf, callKind, callerOf, secondPayload, unusedFields, allZero, wantsSecond, hasSecond}
+use Rattle.machine.specs.Call.{Kind.lookUp, Kind.send, Kind.receive, Kind.myEndpoints, Kind.myRights, Kind.grant, Kind.remove, Kind.stray, Kind.unknown}
+use Rattle.machine.specs.Machine.{Decision, place, maySend, mayGive, named, lookUpPlaces, sendPlaces, receivePlaces, grantPlaces, removePlaces, framed, places, decide}
+use Rattle.machine.specs.Machine.{Decision.refused, Decision.lookedUp, Decision.sends, Decision.receives, Decision.listsEndpoints, Decision.listsRights, Decision.grants, Decision.removes}
+use Rattle.machine.proofs.Bools.{and-left, and-right, cond-elim, or-none-left, or-none-right}
+
+-- a number is the kind of one of the seven calls, of a stray, or unknown
+pub kind-elim : (k : ℕ) (P : Kind → Type 0) → (k ≡ 1 → P lookUp) → (k ≡ 2 → P send) → (k ≡ 3 → P receive) → (k ≡ 4 → P myEndpoints) → (k ≡ 5 → P myRights) → (k ≡ 6 → P grant) → (k ≡ 7 → P remove) → (k ≡ 15 → P stray) → P unknown → P (kindOf k)
+unfolding kindOf
+kind-elim k P f1 f2 f3 f4 f5 f6 f7 f15 f =
+    cond-elim P (eqb k 1) (λ e. f1 (eqb-true k 1 e))
+    (λ _. cond-elim P (eqb k 2) (λ e. f2 (eqb-true k 2 e))
+    (λ _. cond-elim P (eqb k 3) (λ e. f3 (eqb-true k 3 e))
+    (λ _. cond-elim P (eqb k 4) (λ e. f4 (eqb-true k 4 e))
+    (λ _. cond-elim P (eqb k 5) (λ e. f5 (eqb-true k 5 e))
+    (λ _. cond-elim P (eqb k 6) (λ e. f6 (eqb-true k 6 e))
+    (λ _. cond-elim P (eqb k 7) (λ e. f7 (eqb-true k 7 e))
+    (λ _. cond-elim P (eqb k 15) (λ e. f15 (eqb-true k 15 e)) (λ _. f))))))))
+
+-- a place refuses, or the next is looked at
+pub place-elim : (P : Decision → Type 0) (b : Bool) (n : ℕ) {next : Decision} → P (refused n) → (b ≡ false → P next) → P (place b n next)
+unfolding place
+place-elim P true n r f = r
+place-elim P false n r f = f refl
+
+-- a refusal's number is one of the paper's
+pub record Number (n : ℕ) : Type 0 where
+  pub least : 10 ≤ n
+  pub most : n ≤ 23
+
+-- the call has a caller, and that is a domain
+pub record Known (t : List ℕ) (c : Call) : Type 0 where
+  pub calledBy : callerOf c ≡ some (caller (first c))
+  pub below : caller (first c) < domains t
+
+-- what holds of a refusal, and of each row
+pub record Rows (t : List ℕ) (c : Call) (P : Decision → Type 0) : Type 0 where
+  pub refuses : (n : ℕ) → Number n → P (refused n)
+  pub looksUp : Known t c → kind (first c) ≡ 1 → (e : ℕ) → named t (secondPayload c) ≡ some e → P (lookedUp e)
+  pub sending : Known t c → kind (first c) ≡ 2 → fieldB (first c) < endpoints t → maySend t (caller (first c)) (fieldB (first c)) ≡ true → P (sends (fieldB (first c)) (secondPayload c))
+  pub receiving : Known t c → kind (first c) ≡ 3 → fieldB (first c) < endpoints t → owner (endpoint t (fieldB (first c))) ≡ caller (first c) → (waiting (endpoint t (fieldB (first c))) ≡ 0 → ⊥) → P (receives (fieldB (first c)))
+  pub endpointsListed : Known t c → kind (first c) ≡ 4 → P (listsEndpoints (caller (first c)))
+  pub rightsListed : Known t c → kind (first c) ≡ 5 → P (listsRights (caller (first c)))
+  pub granting : Known t c → kind (first c) ≡ 6 → fieldA (first c) < domains t → fieldB (first c) < domains t → fieldC (first c) ≤ allRights → holds (rights t (caller (first c)) (fieldA (first c))) GRANT ≡ true → holds (rights t (caller (first c)) (fieldA (first c))) (fieldC (first c)) ≡ true → mayGive t (caller (first c)) (fieldB (first c)) ≡ true → P (grants (fieldA (first c)) (fieldB (first c)) (fieldC (first c)))
+  pub removing : Known t c → kind (first c) ≡ 7 → fieldA (first c) < domains t → holds (rights t (caller (first c)) (fieldA (first c))) REMOVE ≡ true → holds (rights t (caller (first c)) (fieldA (first c))) (fieldC (first c)) ≡ true → P (removes (fieldA (first c)) (caller (first c)) (fieldC (first c)))
+
+number : (n : ℕ) → 10 ≤ n → n ≤ 23 → Number n
+number n l u = record { least = l; most = u }
+
+-- a known kind's call has a caller
+pub calls-back : (k : ℕ) (c : Call) → kind (first c) ≡ k → eqb k 15 ≡ false → callerOf c ≡ some (caller (first c))
+unfolding callerOf
+calls-back k c e f = rw (e, f)
+
+module _ (t : List ℕ) (c : Call) (P : Decision → Type 0) (rows : Rows t c P) where
+  refuse : (n : ℕ) → 10 ≤ n → n ≤ 23 → P (refused n)
+  refuse n l u = rows .refuses n (number n l u)
+
+  -- 12, 13 and 14, then the kind's own places
+  framed-elim : (k : Kind) (i : ℕ) {next : Decision} → kind (first c) ≡ i → eqb i 15 ≡ false → (Known t c → P next) → P (framed t c k next)
+  unfolding framed
+  framed-elim k i e f next =
+      place-elim P _ 12 (refuse 12 (omega arith) (omega arith))
+      (λ below. place-elim P _ 13 (refuse 13 (omega arith) (omega arith))
+      (λ _. place-elim P _ 14 (refuse 14 (omega arith) (omega arith))
+      (λ _. next (record { calledBy = calls-back i c e f; below = ltb-true _ _ (not-false _ below) }))))
+
+  lookUp-elim : Known t c → kind (first c) ≡ 1 → (o : Option ℕ) → named t (secondPayload c) ≡ o → P (lookUpPlaces o)
+  unfolding lookUpPlaces
+  lookUp-elim k e none q = refuse 15 (omega arith) (omega arith)
+  lookUp-elim k e (some x) q = rows .looksUp k e x q
+
+  send-elim : Known t c → kind (first c) ≡ 2 → P (sendPlaces t (caller (first c)) (fieldB (first c)) (secondPayload c))
+  unfolding sendPlaces
+  send-elim k e =
+      place-elim P _ 16 (refuse 16 (omega arith) (omega arith))
+      (λ b. place-elim P _ 17 (refuse 17 (omega arith) (omega arith))
+      (λ s. rows .sending k e (ltb-true _ _ (not-false _ b)) (not-false _ s)))
+
+  receive-elim : Known t c → kind (first c) ≡ 3 → P (receivePlaces t (caller (first c)) (fieldB (first c)))
+  unfolding receivePlaces
+  receive-elim k e =
+      place-elim P _ 16 (refuse 16 (omega arith) (omega arith))
+      (λ b. place-elim P _ 18 (refuse 18 (omega arith) (omega arith))
+      (λ o. place-elim P _ 19 (refuse 19 (omega arith) (omega arith))
+      (λ w. rows .receiving k e (ltb-true _ _ (not-false _ b)) (eqb-true _ _ (not-false _ o)) (eqb-false _ _ w))))
+
+  grant-elim : Known t c → kind (first c) ≡ 6 → P (grantPlaces t (caller (first c)) (fieldA (first c)) (fieldB (first c)) (fieldC (first c)))
+  unfolding grantPlaces
+  grant-elim k e =
+      place-elim P _ 20 (refuse 20 (omega arith) (omega arith))
+      (λ b. place-elim P _ 21 (refuse 21 (omega arith) (omega arith))
+      (λ r. place-elim P _ 22 (refuse 22 (omega arith) (omega arith))
+      (λ h. place-elim P _ 23 (refuse 23 (omega arith) (omega arith))
+      (λ g.
+      let b′ = not-false (ltb (fieldA (first c)) (domains t) && ltb (fieldB (first c)) (domains t)) b in
+      let h′ = not-false (holds mine GRANT && holds mine (fieldC (first c))) h in
+      rows .granting k e
+      (ltb-true _ _ (and-left (ltb (fieldA (first c)) (domains t)) (ltb (fieldB (first c)) (domains t)) b′))
+      (ltb-true _ _ (and-right (ltb (fieldA (first c)) (domains t)) (ltb (fieldB (first c)) (domains t)) b′))
+      (leb-true _ _ (not-false _ (or-none-right (eqb (fieldC (first c)) 0) _ r)))
+      (and-left (holds mine GRANT) (holds mine (fieldC (first c))) h′)
+      (and-right (holds mine GRANT) (holds mine (fieldC (first c))) h′)
+      (not-false _ g)))))
+    where
+      mine : ℕ
+      mine = rights t (caller (first c)) (fieldA (first c))
+
+  remove-elim : Known t c → kind (first c) ≡ 7 → P (removePlaces t (caller (first c)) (fieldA (first c)) (fieldC (first c)))
+  unfolding removePlaces
+  remove-elim k e =
+      place-elim P _ 20 (refuse 20 (omega arith) (omega arith))
+      (λ b. place-elim P _ 21 (refuse 21 (omega arith) (omega arith))
+      (λ _. place-elim P _ 22 (refuse 22 (omega arith) (omega arith))
+      (λ h.
+      let h′ = not-false (holds mine REMOVE && holds mine (fieldC (first c))) h in
+      rows .removing k e (ltb-true _ _ (not-false _ b))
+      (and-left (holds mine REMOVE) (holds mine (fieldC (first c))) h′)
+      (and-right (holds mine REMOVE) (holds mine (fieldC (first c))) h′))))
+    where
+      mine : ℕ
+      mine = rights t (caller (first c)) (fieldA (first c))
+
+  pub decide-elim : P (decide t c)
+  unfolding decide places callKind
+  decide-elim =
+      kind-elim (kind (first c)) (λ k. P (places t c k))
+      (λ e. framed-elim lookUp 1 e refl (λ k. lookUp-elim k e (named t (secondPayload c)) refl))
+      (λ e. framed-elim send 2 e refl (λ k. send-elim k e))
+      (λ e. framed-elim receive 3 e refl (λ k. receive-elim k e))
+      (λ e. framed-elim myEndpoints 4 e refl (λ k. rows .endpointsListed k e))
+      (λ e. framed-elim myRights 5 e refl (λ k. rows .rightsListed k e))
+      (λ e. framed-elim grant 6 e refl (λ k. grant-elim k e))
+      (λ e. framed-elim remove 7 e refl (λ k. remove-elim k e))
+      (λ _. refuse 10 (omega arith) (omega arith))
+      (refuse 11 (omega arith) (omega arith))

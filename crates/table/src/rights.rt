@@ -1,0 +1,50 @@
+// The rights that one domain holds on another: a set by value, with a bit for each right (document 01, 'The table').
+// Each method is the machine's definition of the same name. A further right is one more constant and a larger ALL.
+ghost use mathlib.Core.Path.{_≡_};
+ghost use Rattle.machine.specs.Right.{holds, adds, without, hasAny};
+
+pub struct Rights {
+    pub bits: u32,
+}
+
+impl Rights {
+    pub const SEND: Rights = Rights { bits: 1 };
+
+    pub const GRANT: Rights = Rights { bits: 2 };
+
+    pub const REMOVE: Rights = Rights { bits: 4 };
+
+    // the largest set: every right there is
+    pub const ALL: Rights = Rights { bits: 7 };
+
+    // Whether every right of r is in the set.
+    pub fn holds(self, r: Rights) -> bool
+        ensures { λ b. ⌜ b ≡ holds (self .bits) (r .bits) ⌝ }
+    {
+        (self.bits & r.bits) == r.bits
+    }
+
+    // The set with the rights of r added.
+    pub fn adds(self, r: Rights) -> Rights
+        ensures { λ s. ⌜ s .bits ≡ adds (self .bits) (r .bits) ⌝ }
+    {
+        Rights {
+            bits: self.bits | r.bits,
+        }
+    }
+
+    // The set without the rights of r.
+    pub fn without(self, r: Rights) -> Rights
+        ensures { λ s. ⌜ s .bits ≡ without (self .bits) (r .bits) ⌝ }
+    {
+        let rest = self.bits - (self.bits & r.bits);
+        Rights { bits: rest }
+    }
+
+    // Whether some right is in the set.
+    pub fn has_any(self) -> bool
+        ensures { λ b. ⌜ b ≡ hasAny (self .bits) ⌝ }
+    {
+        self.bits != 0
+    }
+}
