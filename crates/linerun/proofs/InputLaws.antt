@@ -7,7 +7,8 @@ use mathlib.Core.List.{List, _++_}
 use borrow.Author.Tests.{le-ltb}
 use native.Mathlib.Omega.{arith}
 use lib.Dec.{lit≤}
-use lib.ListN.{length, take, length-append, length-drop}
+use lib.ListN.{length, take, length-append, length-take, length-drop}
+use Rattle.machine.proofs.Bools.{or-none-left}
 use Rattle.text.specs.Bytes.{wordsOf}
 use Rattle.text.specs.TableInput.{tableEnd, noTable, tableOf, afterTable, tableWanted}
 use Rattle.text.proofs.WordLaws.{take-wordsOf-append}
@@ -26,6 +27,16 @@ wanted-within bytes h = go (noTable bytes) refl
     go false e =
         let w : Whole bytes = whole bytes e in
         simp e (omega (arith, w .short, w .all, length-drop (tableEnd bytes) bytes))
+
+-- no more list words are read than that
+pub length-listOf : (bytes : List ℕ) → length (listOf bytes) ≤ listWordsRead
+unfolding listOf
+length-listOf bytes = omega (arith, length-take listWordsRead (wordsOf (afterTable bytes)))
+
+-- an input that 7 does not refuse has a whole table
+pub readable-whole : (bytes : List ℕ) → unreadable bytes ≡ false → noTable bytes ≡ false
+unfolding unreadable
+readable-whole bytes e = or-none-left (noTable bytes) (leftOver (afterTable bytes)) e
 
 -- a list that is one word too long has no bytes left over
 no-left-over : (rest : List ℕ) → 4 * listWordsRead ≤ length rest → leftOver rest ≡ false

@@ -9,8 +9,9 @@ use native.Mathlib.Decide.{decLe}
 use native.Mathlib.Nat.{lt-of-not-le}
 use native.Mathlib.Omega.{arith}
 use lib.Dec.{ltb}
-use lib.ListN.{length, take, drop, length-append, length-drop, drop-of-length-le}
+use lib.ListN.{length, take, drop, length-append, length-take, length-drop, drop-of-length-le}
 use lib.Seq.{take-all, take-nil, drop-append-le}
+use Rattle.machine.proofs.Bools.{or-none-left, or-none-right}
 use Rattle.text.specs.Bytes.{wordsOf}
 use Rattle.text.specs.TableInput.{longestTable, tableLength, tableEnd, noTable, tableOf, afterTable, tableWanted}
 use Rattle.text.specs.Write.{Fills}
@@ -64,24 +65,26 @@ pub record Whole (bytes : List ℕ) : Type 0 where
   pub short : tableLength bytes ≤ longestTable
   pub all : tableEnd bytes ≤ length bytes
 
-or-false : (a b : Bool) → (a || b) ≡ false → (a ≡ false) × (b ≡ false)
-or-false true b e = (e, cc)
-or-false false b e = (refl, e)
-
 pub whole : (bytes : List ℕ) → noTable bytes ≡ false → Whole bytes
 unfolding noTable
 whole bytes e =
-    let two = or-false (ltb (length bytes) 4 || ltb longestTable (tableLength bytes)) (ltb (length bytes) (tableEnd bytes)) e in
-    let one = or-false (ltb (length bytes) 4) (ltb longestTable (tableLength bytes)) (two .0) in
+    let a = ltb (length bytes) 4 in
+    let b = ltb longestTable (tableLength bytes) in
+    let d = ltb (length bytes) (tableEnd bytes) in
+    let neither = or-none-left (a || b) d e in
     record {
-      word = ltb-false (length bytes) 4 (one .0);
-      short = ltb-false longestTable (tableLength bytes) (one .1);
-      all = ltb-false (length bytes) (tableEnd bytes) (two .1);
+      word = ltb-false (length bytes) 4 (or-none-left a b neither);
+      short = ltb-false longestTable (tableLength bytes) (or-none-right a b neither);
+      all = ltb-false (length bytes) (tableEnd bytes) (or-none-right (a || b) d e);
     }
 
 pub whole-table : (bytes : List ℕ) → Whole bytes → noTable bytes ≡ false
 unfolding noTable
 whole-table bytes w = simp (le-ltb _ _ (w .word), le-ltb _ _ (w .short), le-ltb _ _ (w .all))
+
+pub length-tableOf : (bytes : List ℕ) → Whole bytes → length (tableOf bytes) ≤ longestTable
+unfolding tableOf
+length-tableOf bytes w = omega (arith, w .short, length-take (tableLength bytes) (wordsOf (drop 4 bytes)))
 
 -- the three ways of asking for more: the length word, nothing after one that says too much, and the table
 data Asks (bytes : List ℕ) : Type 0 where

@@ -3,7 +3,7 @@
 use Prim.Native.Nat.{ℕ, zero, suc, _+_, _-_, _≤_, _<_, min}
 use mathlib.Core.Path.{_≡_, refl, sym, ap, _∙_}
 use mathlib.Core.List.{List, [], _∷_, _++_}
-use native.Mathlib.Nat.{suc-add, add-suc}
+use native.Mathlib.Nat.{suc-add, add-suc, sub-zero}
 use native.Mathlib.Decide.{decLe}
 use native.Mathlib.Numerals.{add-one}
 use native.Mathlib.Omega.{arith}
@@ -137,3 +137,8 @@ fills-front {items} {buffer} {count} {left} h f =
           ∙ ap (take (length items)) (f .items-are ∙ overwrite-fits 0 items buffer (omega arith))
           ∙ take-append-seam items (drop (0 + length items) buffer),
     )
+
+-- the same as a part that is lent from the front on
+pub fills-part : {items buffer : List ℕ} {count : ℕ} {left : List ℕ}
+    → length items ≤ length buffer → Fills items buffer count left → take (count - 0) (drop 0 left) ≡ items
+fills-part {items} {buffer} {count} {left} h f = ap (λ k. take k left) (sub-zero count) ∙ fills-front h f .1
