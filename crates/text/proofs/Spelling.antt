@@ -24,10 +24,12 @@ stored at b array h =
     ap (drop at) (set-split array at b h)
     ∙ drop-at (take at array) (b ∷ drop (suc at) array) at (length-take-le at array (omega arith))
 
-pub start : (x : ℕ) (array : List ℕ) → x < 10 ^ 20 → length array ≡ 20 → Spelled x (x / 10) 19 (set array 19 (lastDigit x))
+pub start : (x : ℕ) (array : List ℕ) {b : ℕ} → x < 10 ^ 20 → length array ≡ 20 → b ≡ lastDigit x
+    → Spelled x (x / 10) 19 (set array 19 b)
 unfolding decimal
-start x array h long =
-    record {
+start x array h long e =
+    rw e
+    (record {
       spells =
           ap (λ l. digits (x / 10) ++ l)
           (stored 19 (lastDigit x) array (omega arith)
@@ -35,13 +37,13 @@ start x array h long =
       room = tenth-lt x 19 h;
       within = lit≤ tt;
       long = simp length-set long;
-    }
+    })
 
-pub next : (x rest at : ℕ) (array : List ℕ) → 0 < rest → Spelled x rest at array
-    → Spelled x (rest / 10) (at - 1) (set array (at - 1) (lastDigit rest))
-next x rest zero array h s = absurd (omega (arith, s .room))
-next x rest (suc at) array h s =
-    rw sub-one
+pub next : (x rest at : ℕ) (array : List ℕ) {b : ℕ} → 0 < rest → Spelled x rest at array → b ≡ lastDigit rest
+    → Spelled x (rest / 10) (at - 1) (set array (at - 1) b)
+next x rest zero array h s e = absurd (omega (arith, s .room))
+next x rest (suc at) array h s e =
+    rw (sub-one, e)
     (record {
       spells =
           ap (λ l. digits (rest / 10) ++ l) (stored at (lastDigit rest) array (omega (arith, s .within, s .long)))

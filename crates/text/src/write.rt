@@ -1,6 +1,6 @@
 // Text and numbers into a lent buffer from a place on. Each writer answers the place after what it wrote; where that does not
 // fit, it writes what fits and answers one past the buffer's length, from which later writers write nothing.
-ghost use Prim.Native.Nat.{_+_, _≤_};
+ghost use Prim.Native.Nat.{_+_, _≤_, _<_};
 ghost use mathlib.Core.Path.{_≡_};
 ghost use lib.ListN.{length, take, drop};
 ghost use Rattle.text.specs.Decimal.{decimal, labelled};
@@ -36,7 +36,7 @@ pub fn put(text: &[u8], out: &mut [u8], at: usize) -> usize
 // The digits of a number at the end of twenty bytes, the most that it can have; answers where they begin.
 fn spell(x: u64, digits: &mut [u8]) -> usize
     requires { ⌜ length (now digits) ≡ 20 ⌝ }
-    ensures { λ r. ⌜ (r ≤ 20) × (drop r (now (digits .exit)) ≡ decimal x) ⌝ }
+    ensures { λ r. ⌜ (r < 20) × (drop r (now (digits .exit)) ≡ decimal x) ⌝ }
 {
     digits[19] = 48 + (x % 10) as u8;
     let mut rest = x / 10;

@@ -22,7 +22,7 @@ slice-write-digits : tie.Need-slice-write-digits Inv-loop μ-loop
 slice-write-digits c = omega (arith, c .pre)
 
 loop-holds : tie.Need-loop-holds Inv-loop μ-loop
-loop-holds c = start (c .args .x) (c .args .digits .now) (omega arith) (c .pre)
+loop-holds c = start (c .args .x) (c .args .digits .now) (omega arith) (c .pre) (omega arith)
 
 sub-at : tie.Need-sub-at Inv-loop μ-loop
 sub-at c = place-before _ _ _ _ (c .loop-test .taken) (c .before .loop .inv)
@@ -40,7 +40,7 @@ loop-less : tie.Need-loop-less Inv-loop μ-loop
 loop-less c = omega arith
 
 loop-again : tie.Need-loop-again Inv-loop μ-loop
-loop-again c = next (c .before .before .args .x) (c .before .loop .rest) (c .before .loop .at) (c .before .loop .digits) (c .loop-test .taken) (c .before .loop .inv)
+loop-again c = next (c .before .before .args .x) (c .before .loop .rest) (c .before .loop .at) (c .before .loop .digits) (c .loop-test .taken) (c .before .loop .inv) (omega arith)
 
 same-length : tie.Need-same-length Inv-loop μ-loop
 same-length c = c .before .loop .inv .long ∙ sym (c .before .before .pre)
