@@ -55,7 +55,7 @@ unfolding cut cutAfter callAt
 cut-one w v ws h = rw (zero-pairs w, zero-pairs v, h)
 
 -- a call for every word at most, and one more word is one more call or none
-pub cut-length : (p : ℕ) (ws : List ℕ) → length (cutAfter p ws) ≤ length ws
+cut-length : (p : ℕ) (ws : List ℕ) → length (cutAfter p ws) ≤ length ws
 unfolding cutAfter
 cut-length p [] = zero-le
 cut-length p (w ∷ ws) = go (pairs p w) (cut-length w ws)
@@ -63,6 +63,10 @@ cut-length p (w ∷ ws) = go (pairs p w) (cut-length w ws)
     go : (b : Bool) → length (cutAfter w ws) ≤ length ws → length (cond b (cutAfter w ws) (callAt w ws ∷ cutAfter w ws)) ≤ suc (length ws)
     go true h = omega arith
     go false h = omega arith
+
+pub cut-few : (ws : List ℕ) → length (cut ws) ≤ length ws
+unfolding cut
+cut-few ws = cut-length 0 ws
 
 pub cut-count : (p w : ℕ) (ws : List ℕ) → length (cutAfter p (w ∷ ws)) ≡ cond (pairs p w) 0 1 + length (cutAfter w ws)
 unfolding cutAfter

@@ -142,7 +142,7 @@ unfolding run
 later-gave t c cs h g r x =
     record { before = c ∷ x .before; call = x .call; later = x .later; among = ap (_∷_ c) (x .among); given = x .given }
 
-pub no-right-from-nowhere : (t : List ℕ) (cs : List Call) → Accepted t → NoRightFromNowhere t cs
+pub no-right-from-nowhere : (t : List ℕ) (cs : List Call) → Accepted t → NoRightFromNowhere t cs (run t cs)
 unfolding run
 no-right-from-nowhere t [] a h g k ph pg held = inl held
 no-right-from-nowhere t (c ∷ cs) a h g k ph pg held =

@@ -18,4 +18,6 @@ pub mod Trail
 pub mod Promise
 pub mod Everything
 pub mod Examples
+pub mod CodeExamples
 pub mod PurgeExamples
+pub mod CountExamples

@@ -7,6 +7,7 @@ use Rattle.machine.specs.Table.{endpoints}
 use Rattle.machine.specs.Call.{cut}
 use Rattle.machine.specs.Entry.{entry}
 use Rattle.machine.specs.Claims.{Noninterference, CountsBorneOut, InTurn}
+use Rattle.machine.specs.Trail.{NoRightFromNowhere}
 
 pub record RunPromise (t ws space : List ℕ) (code calls : ℕ) (end after : List ℕ) : Type 0 where
   -- demands 1 and 2: the code, the number of calls, every table word and every answer word are those of the machine of
@@ -18,6 +19,8 @@ pub record RunPromise (t ws space : List ℕ) (code calls : ℕ) (end after : Li
   -- demand 3, of the words that were left: where the list ran, what each domain sees of them is what it sees of the machine
   -- fed the kept calls alone
   pub noninterference : code ≡ 0 → Noninterference t ws end after
-  -- line 4 of the checklist, of the words that were left: the counts are borne out by the queues, and messages go in turn
+  -- lines 2 and 4 of the checklist, of the words that were left: no right comes from nowhere, messages go in turn, and the
+  -- counts are borne out by the queues
+  pub noRightFromNowhere : code ≡ 0 → NoRightFromNowhere t (cut ws) end
   pub counts : code ≡ 0 → (e : ℕ) → e < endpoints t → CountsBorneOut e t (cut ws) after end
   pub inTurn : code ≡ 0 → (e : ℕ) → e < endpoints t → InTurn e t (cut ws) after end

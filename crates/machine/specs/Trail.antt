@@ -1,5 +1,5 @@
 -- No right from nowhere, and none lost but by its holder: what a domain is allowed goes back to the start or to a grant
--- (the second line of the checklist), and goes away only by the domain's own remove.
+-- (the second line of the checklist); and, call by call, it goes away only by the domain's own remove.
 -- A right is one bit of a set: 2 ^ k, SEND at k 0, GRANT at 1, REMOVE at 2.
 use Prim.Native.Nat.{ℕ, _<_, _^_}
 use mathlib.Core.Path.{_≡_}
@@ -22,13 +22,14 @@ pub record GivenAlong (t : List ℕ) (cs : List Call) (h g r : ℕ) : Type 0 whe
   pub among : cs ≡ before ++ (call ∷ later)
   pub given : GivenBy (run t before) call h g r
 
--- Along calls: a right that h has on g at the end it had at the start, or one of the calls gave it.
-abbrev pub NoRightFromNowhere : List ℕ → List Call → Type 0
-NoRightFromNowhere t cs =
+-- Along calls run from t that left the table end: a right that h has on g at the end it had at the start, or one of the
+-- calls gave it.
+abbrev pub NoRightFromNowhere : List ℕ → List Call → List ℕ → Type 0
+NoRightFromNowhere t cs end =
     (h g k : ℕ)
     → h < domains t
     → g < domains t
-    → holds (rights (run t cs) h g) (2 ^ k) ≡ true
+    → holds (rights end h g) (2 ^ k) ≡ true
     → (holds (rights t h g) (2 ^ k) ≡ true) ⊎ GivenAlong t cs h g (2 ^ k)
 
 -- The call c, on the table t, is an unrefused remove by h of its own rights on g with r among them, and h held REMOVE on g

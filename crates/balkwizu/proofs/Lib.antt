@@ -1,0 +1,4 @@
+-- Laws of a table in bytes.
+pub mod Words
+pub mod Places
+pub mod Laws

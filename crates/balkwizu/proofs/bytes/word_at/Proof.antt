@@ -1,0 +1,24 @@
+-- `word_at` is a word of the bytes. Assumes nothing.
+use mathlib.Core.Path.{_∙_}
+use borrow.Author.Needs.{needs}
+use Rattle.balkwizu.proofs.Words.{word-at}
+use Rattle.balkwizu.proofs.bytes.word_at.Statement.{statement}
+use Rattle.balkwizu.proofs.bytes.word_at.Tie as tie
+
+returns : tie.Need-returns
+returns c = c .word .ensures ∙ word-at _ _ (c .before .before .before .before .before .before .pre)
+
+pub word-at-spec : {M : Type 1} → statement M
+word-at-spec =
+    tie.close
+    (tie.spec
+    (λ c. search needs)
+    (λ c. search needs)
+    (λ c. search needs)
+    (λ c. search needs)
+    (λ c. search needs)
+    (λ c. search needs)
+    (λ c. search needs)
+    (λ c. search needs)
+    (λ c κs. search needs)
+    returns)

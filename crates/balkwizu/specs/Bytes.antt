@@ -1,0 +1,37 @@
+-- A table as little-endian bytes, and the code of its check (document 01, 'Into firmware and onto the bench').
+use Prim.Native.Nat.{ℕ, _+_, _*_, _/_, _%_}
+use mathlib.Core.Bool.{cond, not, _||_}
+use mathlib.Core.List.{List, [], _∷_}
+use lib.ListN.{length}
+use lib.Dec.{eqb, ltb}
+use Rattle.machine.specs.Table.{domains, endpoints, lengthFor}
+use Rattle.machine.specs.Check.{headerOk, tableCode}
+
+-- the word of four bytes, the lowest first
+abbrev pub wordOf : ℕ → ℕ → ℕ → ℕ → ℕ
+wordOf a b c d = a + b * 256 + c * 65536 + d * 16777216
+
+-- the words of bytes; up to three bytes behind the last whole word make none
+unfoldable pub wordsOf : List ℕ → List ℕ
+wordsOf [] = []
+wordsOf (a ∷ []) = []
+wordsOf (a ∷ b ∷ []) = []
+wordsOf (a ∷ b ∷ c ∷ []) = []
+wordsOf (a ∷ b ∷ c ∷ d ∷ rest) = wordOf a b c d ∷ wordsOf rest
+
+-- the bytes of words of 32 bits
+unfoldable pub bytesOf : List ℕ → List ℕ
+bytesOf [] = []
+bytesOf (w ∷ ws) = (w % 256) ∷ (w / 256 % 256) ∷ (w / 65536 % 256) ∷ (w / 16777216 % 256) ∷ bytesOf ws
+
+-- four times the length that the first word asks for
+unfoldable pub bytesFor : List ℕ → ℕ
+bytesFor t = 4 * lengthFor (domains t) (endpoints t)
+
+-- the check's code: under four bytes is 2, as is a broken first word; a length that isn't four times the right one is 3;
+-- then the words decide
+unfoldable pub bytesCode : List ℕ → ℕ
+bytesCode bytes =
+    let t = wordsOf bytes in
+    cond (ltb (length bytes) 4 || not (headerOk t)) 2
+    (cond (not (eqb (length bytes) (bytesFor t))) 3 (tableCode t))

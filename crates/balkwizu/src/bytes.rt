@@ -1,0 +1,110 @@
+// A table's check over its little-endian bytes. The words are taken out of the bytes where they stand: only the loops are
+// here, and every test of a word is crate table's.
+use table::Checked;
+use table::TableRefusal;
+use table::endpoint::endpoint_ok;
+use table::names::all_different;
+use table::words::KIND;
+use table::words::header_word_ok;
+use table::words::rights_word_ok;
+ghost use mathlib.Core.Path.{_≡_};
+ghost use Prim.Native.Nat.{_+_, _*_, _≤_};
+ghost use lib.ListN.{length, getD, take, drop};
+ghost use Rattle.machine.specs.Below.{allBelow};
+ghost use Rattle.machine.specs.Check.{rightsWordOk, endpointsOk};
+ghost use Rattle.table.specs.Checked.{checkedCode, Counted};
+ghost use Rattle.balkwizu.specs.Bytes.{wordOf, wordsOf, bytesCode};
+
+// The word of four bytes, the lowest first.
+fn word(a: u8, b: u8, c: u8, d: u8) -> u32
+    ensures { λ r. ⌜ r ≡ wordOf a b c d ⌝ }
+{
+    a as u32 + b as u32 * 256 + c as u32 * 65536 + d as u32 * 16777216
+}
+
+// Word i of the bytes.
+fn word_at(bytes: &[u8], i: usize) -> u32
+    requires { ⌜ 4 * i + 4 ≤ length (now bytes) ⌝ }
+    ensures { λ r. ⌜ r ≡ getD (wordsOf (now (bytes .entry))) i 0 ⌝ }
+{
+    let at = 4 * i;
+    word(bytes[at], bytes[at + 1], bytes[at + 2], bytes[at + 3])
+}
+
+// The count rights words behind word 0.
+fn rights_ok(bytes: &[u8], count: usize) -> bool
+    requires { ⌜ 4 * (1 + count) ≤ length (now bytes) ⌝ }
+    ensures { λ b. ⌜ b ≡ allBelow count (λ i. rightsWordOk (getD (wordsOf (now (bytes .entry))) (1 + i) 0)) ⌝ }
+{
+    let mut all = true;
+    let mut i: usize = 0;
+    while i < count {
+        let ok = rights_word_ok(word_at(bytes, 1 + i));
+        all = all & ok;
+        i += 1;
+    }
+    all
+}
+
+// The twelve words from word start on.
+fn twelve_at(bytes: &[u8], start: usize) -> [u32; 12]
+    requires { ⌜ 4 * start + 48 ≤ length (now bytes) ⌝ }
+    ensures { λ r. ⌜ r ≡ take 12 (drop start (wordsOf (now (bytes .entry)))) ⌝ }
+{
+    let mut words = [0u32; 12];
+    let mut i: usize = 0;
+    while i < 12 {
+        words[i] = word_at(bytes, start + i);
+        i += 1;
+    }
+    words
+}
+
+// The m endpoints from word `from` on, among n domains. Their names are gathered, and compared where every word is right.
+fn endpoints_ok(bytes: &[u8], n: u32, from: usize, m: usize) -> bool
+    requires { ⌜ Counted (wordsOf (now bytes)) n from m ⌝ }
+    ensures { λ b. ⌜ b ≡ endpointsOk (wordsOf (now (bytes .entry))) ⌝ }
+{
+    let mut names = [0u32; 32];
+    let mut all = true;
+    let mut e: usize = 0;
+    while e < m {
+        let words = twelve_at(bytes, from + 12 * e);
+        let ok = endpoint_ok(n, &words);
+        names[e] = words[0] % KIND;
+        all = all & ok;
+        e += 1;
+    }
+    if all {
+        all_different(&names[0..m])
+    } else {
+        false
+    }
+}
+
+// The places 2 to 5 of document 01 for a table in bytes; the first that fails decides.
+pub fn check(bytes: &[u8]) -> Checked
+    ensures { λ r. ⌜ checkedCode r ≡ bytesCode (now (bytes .entry)) ⌝ }
+{
+    if bytes.len() < 4 {
+        return Checked::Refused(TableRefusal::BadHeader);
+    }
+    let header = word_at(bytes, 0);
+    if !header_word_ok(header) {
+        return Checked::Refused(TableRefusal::BadHeader);
+    }
+    let n = header / 256 % 256;
+    let m = (header % 256) as usize;
+    let count = n as usize * n as usize;
+    let from = 1 + count;
+    if bytes.len() != 4 * (from + 12 * m) {
+        return Checked::Refused(TableRefusal::BadLength);
+    }
+    if !rights_ok(bytes, count) {
+        return Checked::Refused(TableRefusal::BadRights);
+    }
+    if !endpoints_ok(bytes, n, from, m) {
+        return Checked::Refused(TableRefusal::BadEndpoint);
+    }
+    Checked::Sound
+}

@@ -1,0 +1,6 @@
+-- Laws that the proofs of several functions cite.
+pub mod Scan
+pub mod Fill
+pub mod Short
+pub mod Gather
+pub mod Places

@@ -1,0 +1,20 @@
+-- `identity_ok` is the machine's `identityOk`. Assumes nothing.
+use mathlib.Core.Path.{sym, ap₂}
+use mathlib.Core.Bool.{_&&_}
+use borrow.Author.Needs.{needs}
+use Rattle.machine.specs.Check.{identityOk}
+use Rattle.table.proofs.Short.{short-identity}
+use Rattle.table.proofs.endpoint.identity_ok.Statement.{statement}
+use Rattle.table.proofs.endpoint.identity_ok.Tie as tie
+
+too-short : tie.Need-returns
+too-short c = sym (short-identity _ _ (c .if1 .taken))
+
+both : tie.Need-returns-2
+unfolding identityOk
+both c = ap₂ _&&_ (c .before .before .name-word-ok .ensures) (c .info-word-ok .ensures)
+
+pub identity-ok-spec : {M : Type 1} → statement M
+identity-ok-spec =
+    tie.close
+    (tie.spec too-short (λ c. search needs) (λ c κs. search needs) (λ c. search needs) (λ c κs. search needs) both)

@@ -1,0 +1,3 @@
+-- What the contracts of this crate cite besides the machine.
+pub mod Names
+pub mod Checked

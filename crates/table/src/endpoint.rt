@@ -1,0 +1,62 @@
+// An endpoint's twelve words: its identity (name, info) and its queue (waiting, lost, slots), which a repair treats apart.
+// The words are lent as a part of the table. A part that is too short reads as zeros past its end, and no such word is right.
+use crate::words::KIND;
+use crate::words::info_word_ok;
+use crate::words::lost_word_ok;
+use crate::words::name_word_ok;
+use crate::words::slot_word_ok;
+use crate::words::waiting_word_ok;
+ghost use mathlib.Core.Path.{_≡_};
+ghost use Prim.Native.Nat.{_+_, _≤_};
+ghost use lib.ListN.{length, getD};
+ghost use Rattle.machine.specs.Below.{allBelow};
+ghost use Rattle.machine.specs.Check.{identityOk, queueOk, endpointOk, slotWordOk};
+
+// The name and the info, among n domains.
+pub fn identity_ok(n: u32, q: &[u32]) -> bool
+    ensures { λ b. ⌜ b ≡ identityOk n (now (q .entry)) ⌝ }
+{
+    if q.len() < 2 {
+        return false;
+    }
+    let name = name_word_ok(q[0]);
+    let info = info_word_ok(n, q[1]);
+    name & info
+}
+
+// The eight slots while count messages wait.
+fn slots_ok(count: u32, q: &[u32]) -> bool
+    requires { ⌜ 12 ≤ length (now q) ⌝ }
+    ensures { λ b. ⌜ b ≡ allBelow 8 (λ i. slotWordOk count i (getD (now (q .entry)) (4 + i) 0)) ⌝ }
+{
+    let mut all = true;
+    let mut i: u32 = 0;
+    while i < 8 {
+        let slot = slot_word_ok(count, i, q[4 + i as usize]);
+        all = all & slot;
+        i += 1;
+    }
+    all
+}
+
+// The waiting count, the lost count and the slots.
+pub fn queue_ok(q: &[u32]) -> bool
+    ensures { λ b. ⌜ b ≡ queueOk (now (q .entry)) ⌝ }
+{
+    if q.len() < 12 {
+        return false;
+    }
+    let waiting = waiting_word_ok(q[1] % 256, q[2]);
+    let lost = lost_word_ok(q[3]);
+    let slots = slots_ok(q[2] % KIND, q);
+    waiting & lost & slots
+}
+
+// All twelve words, among n domains.
+pub fn endpoint_ok(n: u32, q: &[u32]) -> bool
+    ensures { λ b. ⌜ b ≡ endpointOk n (now (q .entry)) ⌝ }
+{
+    let identity = identity_ok(n, q);
+    let queue = queue_ok(q);
+    identity & queue
+}
