@@ -39,7 +39,7 @@ unfolding unreadable
 readable-whole bytes e = or-none-left (noTable bytes) (leftOver (afterTable bytes)) e
 
 -- a list that is one word too long has no bytes left over
-no-left-over : (rest : List ℕ) → 4 * listWordsRead ≤ length rest → leftOver rest ≡ false
+pub no-left-over : (rest : List ℕ) → 4 * listWordsRead ≤ length rest → leftOver rest ≡ false
 unfolding leftOver
 no-left-over rest h = simp (le-ltb _ _ h)
 

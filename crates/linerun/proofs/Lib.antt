@@ -2,4 +2,5 @@
 pub mod LineLaws
 pub mod InputLaws
 pub mod ReportLaws
+pub mod Refusals
 pub mod Examples
