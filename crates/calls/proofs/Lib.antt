@@ -3,3 +3,4 @@ pub mod Apart
 pub mod Decide
 pub mod Counted
 pub mod CutAt
+pub mod Numbers

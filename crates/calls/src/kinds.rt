@@ -25,7 +25,7 @@ pub fn look_up(first: u32, second: Second) -> Call
     match second {
         Second::Word(word) => Call::LookUp {
             caller,
-            name: word % 268435456,
+            name: word % 0x1000_0000,
         },
         Second::Nothing => Call::Refused {
             kind: 1,
@@ -54,7 +54,7 @@ pub fn send(first: u32, second: Second) -> Call
         Second::Word(word) => Call::Send {
             caller,
             endpoint,
-            message: word % 268435456,
+            message: word % 0x1000_0000,
         },
         Second::Nothing => Call::Refused {
             kind: 2,

@@ -104,7 +104,7 @@ pub fn number(refusal: Refusal) -> u32
 pub fn take_apart(first: u32, second: Second) -> Call
     ensures { λ r. ⌜ r ≡ apart first second ⌝ }
 {
-    let kind = first / 268435456;
+    let kind = first / 0x1000_0000;
     let caller = first / 4194304 % 64;
     match kind {
         15 => Call::Refused {
