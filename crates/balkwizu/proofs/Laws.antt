@@ -6,18 +6,17 @@ use mathlib.Core.Path.{_≡_, refl, sym, ap, ap₂, subst, _∙_}
 use mathlib.Core.Bool.{Bool, true, false, not}
 use mathlib.Core.List.{List, [], _∷_}
 use Prim.Native.Nat.{ℕ, suc, _+_, _*_, _/_, _%_, _^_, _<_, _≤_}
-use native.Mathlib.Nat.{pos-of-ne-zero, mod-eq-of-lt, div-add-mod', div-div-eq-div-mul}
+use native.Mathlib.Nat.{mod-eq-of-lt, div-add-mod', div-div-eq-div-mul}
 use native.Mathlib.Omega.{arith}
-use borrow.Author.Tests.{eqb-true, eqb-false, not-true}
+use borrow.Author.Tests.{eqb-true, eqb-false, eq-eqb, ne-eqb}
 use lib.Dec.{eqb}
 use lib.ListN.{length, getD}
 use Rattle.machine.specs.Table.{domains, endpoints, lengthFor}
 use Rattle.machine.specs.Check.{headerOk, lengthOk, tableCode}
-use Rattle.machine.proofs.Bools.{and-left}
 use Rattle.table.proofs.Places.{code-2, code-3}
 use Rattle.balkwizu.specs.Bytes.{wordOf, wordsOf, bytesOf, bytesFor, bytesCode}
 use Rattle.balkwizu.proofs.Words.{words-length}
-use Rattle.balkwizu.proofs.Places.{bad-header, bad-length, right-length}
+use Rattle.balkwizu.proofs.Places.{bytes-2, bytes-3, bytes-words}
 
 -- a word of 32 bits is made of its four bytes
 joined : (w a b c p q r : ℕ) → a * 256 + p ≡ w → b * 256 + q ≡ a → c * 256 + r ≡ b → wordOf p q r c ≡ w
@@ -41,40 +40,32 @@ unfolding bytesOf
 bytes-length [] = refl
 bytes-length (w ∷ ws) = let ih = bytes-length ws in omega arith
 
--- a first word that is right is there
-header-four : (b : List ℕ) → headerOk (wordsOf b) ≡ true → 4 ≤ length b
-unfolding headerOk
-header-four b h =
-    let some = eqb-false (length (wordsOf b)) 0 (not-true _ (and-left (not (eqb (length (wordsOf b)) 0)) _ h)) in
-    let n = pos-of-ne-zero some in
-    omega (arith, words-length b)
-
 pub left-over : (b : List ℕ) → headerOk (wordsOf b) ≡ true → (length b % 4 ≡ 0 → ⊥) → bytesCode b ≡ 3
 unfolding bytesFor
-left-over b h odd = sym (bad-length b (header-four b h) h (λ e. odd (omega arith)))
+left-over b h odd = sym (bytes-3 b h (ne-eqb (length b) (bytesFor (wordsOf b)) (λ e. odd (omega arith))))
+
+times-four : (a k : ℕ) → eqb (4 * a) (4 * k) ≡ eqb a k
+times-four a k = go (eqb a k) refl
+  where
+    go : (r : Bool) → eqb a k ≡ r → eqb (4 * a) (4 * k) ≡ r
+    go true e = eq-eqb (4 * a) (4 * k) (let q = eqb-true a k e in omega arith)
+    go false e = ne-eqb (4 * a) (4 * k) (λ q. eqb-false a k e (omega arith))
 
 module _ (ws : List ℕ) (words : (i : ℕ) → getD ws i 0 < 2 ^ 32) where
   back : wordsOf (bytesOf ws) ≡ ws
   back = words-of-bytes ws words
 
   -- the length of the bytes is right where that of the words is
-  sized : lengthOk ws ≡ true → length (bytesOf ws) ≡ bytesFor (wordsOf (bytesOf ws))
+  sizes : eqb (length (bytesOf ws)) (bytesFor ws) ≡ lengthOk ws
   unfolding lengthOk bytesFor
-  sized e = rw back (omega (arith, bytes-length ws, eqb-true (length ws) (lengthFor (domains ws) (endpoints ws)) e))
-
-  unsized : lengthOk ws ≡ false → length (bytesOf ws) ≡ bytesFor (wordsOf (bytesOf ws)) → ⊥
-  unfolding lengthOk bytesFor
-  unsized e q =
-      eqb-false (length ws) (lengthFor (domains ws) (endpoints ws)) e (omega (arith, bytes-length ws, rw back at q))
+  sizes = rw (bytes-length ws) (times-four (length ws) (lengthFor (domains ws) (endpoints ws)))
 
   pub same-code : bytesCode (bytesOf ws) ≡ tableCode ws
   same-code = go (headerOk ws) refl (lengthOk ws) refl
     where
       go : (h : Bool) → headerOk ws ≡ h → (l : Bool) → lengthOk ws ≡ l → bytesCode (bytesOf ws) ≡ tableCode ws
-      go false h l e = sym (bad-header (bytesOf ws) (ap headerOk back ∙ h)) ∙ code-2 ws h
-      go true h false e =
-          let h′ = ap headerOk back ∙ h in
-          sym (bad-length (bytesOf ws) (header-four (bytesOf ws) h′) h′ (unsized e)) ∙ code-3 ws h e
+      go false h l e = sym (bytes-2 (bytesOf ws) (ap headerOk back ∙ h)) ∙ code-2 ws h
+      go true h false e = sym (bytes-3 (bytesOf ws) (ap headerOk back ∙ h) (rw back (sizes ∙ e))) ∙ code-3 ws h e
       go true h true e =
-          let h′ = ap headerOk back ∙ h in
-          sym (right-length (bytesOf ws) (header-four (bytesOf ws) h′) h′ (sized e)) ∙ ap tableCode back
+          sym (bytes-words (bytesOf ws) (record { header = ap headerOk back ∙ h; size = eqb-true _ _ (rw back (sizes ∙ e)) }))
+          ∙ ap tableCode back

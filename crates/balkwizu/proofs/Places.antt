@@ -1,59 +1,82 @@
--- The code of a table in bytes, place by place (specs/Bytes). Assumes nothing.
-use mathlib.Core.Path.{_≡_}
-use mathlib.Core.Bool.{true, false, or-true}
+-- The places 2 to 5 for bytes: what each test says of their code (specs/Bytes), and what the first two say of the counts in
+-- word 0. Assumes nothing.
+use mathlib.Core.Path.{_≡_, refl, _∙_}
+use mathlib.Core.Bool.{true, false, not, or-true}
 use mathlib.Core.List.{List}
 use Prim.Native.Nat.{ℕ, _+_, _*_, _/_, _%_, _<_, _≤_}
+use native.Mathlib.Nat.{pos-of-ne-zero}
 use native.Mathlib.Omega.{arith}
-use borrow.Author.Tests.{lt-ltb, le-ltb, eq-eqb, ne-eqb}
-use lib.Dec.{ltb}
-use lib.ListN.{length, getD}
-use Rattle.machine.specs.Below.{allBelow}
-use Rattle.machine.specs.Table.{domains, endpoints, lengthFor}
-use Rattle.machine.specs.Check.{headerWordOk, rightsWordOk, headerOk, lengthOk, rightsOk, tableCode}
-use Rattle.table.proofs.Places.{word-header}
-use Rattle.balkwizu.specs.Bytes.{wordsOf, bytesFor, bytesCode}
+use borrow.Author.Tests.{lt-ltb, le-ltb, eq-eqb, eqb-false, ne-eqb, not-true}
+use lib.Dec.{eqb, ltb}
+use lib.ListN.{length, getD, take, drop}
+use Rattle.machine.specs.Table as table
+use Rattle.machine.specs.Table.{lengthFor, endpoint}
+use Rattle.machine.specs.Check.{headerWordOk, headerOk, lengthOk, tableCode}
+use Rattle.machine.proofs.Bools.{and-left}
+use Rattle.table.specs.Checked.{Headed}
+use Rattle.table.proofs.Places.{empty-header, word-header, headed-most, headed-size}
+use Rattle.balkwizu.specs.Bytes.{wordsOf, bytesFor, bytesCode, Fitting}
 use Rattle.balkwizu.proofs.Words.{words-length}
 
+-- What a first word x of a table says of it: its n domains and m endpoints, the first endpoint at `from`, and that the bytes
+-- hold them all.
+pub record Counted (b : List ℕ) (n from m : ℕ) : Type 0 where
+  pub domains : n ≡ table.domains (wordsOf b)
+  pub endpoints : m ≡ table.endpoints (wordsOf b)
+  pub start : from ≡ 1 + n * n
+  pub room : 4 * (from + 12 * m) ≤ length b
+  pub most : m ≤ 32
+
+-- the words of endpoint e by their place
+pub counted-endpoint : (b : List ℕ) (n from m : ℕ) → Counted b n from m → (e : ℕ) → take 12 (drop (from + 12 * e) (wordsOf b)) ≡ endpoint (wordsOf b) e
+unfolding endpoint
+counted-endpoint b n from m c e = rw (c .start, c .domains)
+
 module _ (b : List ℕ) where
-  pub under-four : length b < 4 → 2 ≡ bytesCode b
-  unfolding bytesCode
-  under-four h = rw (lt-ltb (length b) 4 h)
-
-  pub bad-header : headerOk (wordsOf b) ≡ false → 2 ≡ bytesCode b
-  unfolding bytesCode
-  bad-header h = rw (h, or-true (ltb (length b) 4))
-
-  pub bad-length : 4 ≤ length b → headerOk (wordsOf b) ≡ true → (length b ≡ bytesFor (wordsOf b) → ⊥) → 3 ≡ bytesCode b
-  unfolding bytesCode
-  bad-length f h n = rw (le-ltb (length b) 4 f, h, ne-eqb (length b) (bytesFor (wordsOf b)) n)
-
-  -- of the right length: the words decide
-  pub right-length : 4 ≤ length b → headerOk (wordsOf b) ≡ true → length b ≡ bytesFor (wordsOf b) → tableCode (wordsOf b) ≡ bytesCode b
-  unfolding bytesCode
-  right-length f h e = rw (le-ltb (length b) 4 f, h, eq-eqb (length b) (bytesFor (wordsOf b)) e)
+  pub under-four : length b < 4 → headerOk (wordsOf b) ≡ false
+  under-four h = empty-header (wordsOf b) (let n = words-length b in omega arith)
 
   pub first-word : 4 ≤ length b → headerOk (wordsOf b) ≡ headerWordOk (getD (wordsOf b) 0 0)
   first-word f = word-header (wordsOf b) (λ e. omega (arith, words-length b))
 
-  pub words-sized : length b ≡ bytesFor (wordsOf b) → lengthOk (wordsOf b) ≡ true
+  -- a first word that is right is there
+  pub header-four : headerOk (wordsOf b) ≡ true → 4 ≤ length b
+  unfolding headerOk
+  header-four h =
+      let some = eqb-false (length (wordsOf b)) 0 (not-true _ (and-left (not (eqb (length (wordsOf b)) 0)) _ h)) in
+      let n = pos-of-ne-zero some in
+      omega (arith, words-length b)
+
+  pub fitting-headed : Fitting b → Headed (wordsOf b)
   unfolding bytesFor lengthOk
-  words-sized e =
-      eq-eqb (length (wordsOf b)) (lengthFor (domains (wordsOf b)) (endpoints (wordsOf b))) (omega (arith, words-length b))
+  fitting-headed f =
+      record {
+        header = f .header;
+        size = eq-eqb (length (wordsOf b)) (lengthFor (table.domains (wordsOf b)) (table.endpoints (wordsOf b))) (omega (arith, words-length b, f .size));
+      }
 
--- What the first word x of a table says of it.
-module _ (t : List ℕ) (x : ℕ) (first : x ≡ getD t 0 0) where
-  pub domains-in : x / 256 % 256 ≡ domains t
-  unfolding domains
-  domains-in = rw first
+  pub fitting-counted : Fitting b → (x : ℕ) → x ≡ getD (wordsOf b) 0 0 → Counted b (x / 256 % 256) (1 + (x / 256 % 256) * (x / 256 % 256)) (x % 256)
+  unfolding table.domains table.endpoints
+  fitting-counted f x e =
+      let h = fitting-headed f in
+      record {
+        domains = rw e;
+        endpoints = rw e;
+        start = refl;
+        room = rw e (omega (arith, words-length b, headed-size (wordsOf b) h));
+        most = rw e (headed-most (wordsOf b) h);
+      }
 
-  pub endpoints-in : x % 256 ≡ endpoints t
-  unfolding endpoints
-  endpoints-in = rw first
+  pub bytes-2 : headerOk (wordsOf b) ≡ false → 2 ≡ bytesCode b
+  unfolding bytesCode
+  bytes-2 h = rw (h, or-true (ltb (length b) 4))
 
-  pub bytes-in : 4 * (1 + (x / 256 % 256) * (x / 256 % 256) + 12 * (x % 256)) ≡ bytesFor t
-  unfolding bytesFor
-  bytes-in = rw (domains-in, endpoints-in)
+  pub bytes-3 : headerOk (wordsOf b) ≡ true → eqb (length b) (bytesFor (wordsOf b)) ≡ false → 3 ≡ bytesCode b
+  unfolding bytesCode
+  bytes-3 h n = rw (le-ltb (length b) 4 (header-four h), h, n)
 
-  pub rights-in : allBelow ((x / 256 % 256) * (x / 256 % 256)) (λ i. rightsWordOk (getD t (1 + i) 0)) ≡ rightsOk t
-  unfolding rightsOk
-  rights-in = rw domains-in
+  -- of the right length: the words decide
+  pub bytes-words : Fitting b → tableCode (wordsOf b) ≡ bytesCode b
+  unfolding bytesCode
+  bytes-words f =
+      rw (le-ltb (length b) 4 (header-four (f .header)), f .header, eq-eqb (length b) (bytesFor (wordsOf b)) (f .size))

@@ -1,6 +1,7 @@
 -- A table as little-endian bytes, and the code of its check (document 01, 'Into firmware and onto the bench').
 use Prim.Native.Nat.{ℕ, _+_, _*_, _/_, _%_}
-use mathlib.Core.Bool.{cond, not, _||_}
+use mathlib.Core.Path.{_≡_}
+use mathlib.Core.Bool.{true, cond, not, _||_}
 use mathlib.Core.List.{List, [], _∷_}
 use lib.ListN.{length}
 use lib.Dec.{eqb, ltb}
@@ -35,3 +36,8 @@ bytesCode bytes =
     let t = wordsOf bytes in
     cond (ltb (length bytes) 4 || not (headerOk t)) 2
     (cond (not (eqb (length bytes) (bytesFor t))) 3 (tableCode t))
+
+-- what the tests behind the first two places are told: the places 2 and 3 don't refuse the bytes
+pub record Fitting (bytes : List ℕ) : Type 0 where
+  pub header : headerOk (wordsOf bytes) ≡ true
+  pub size : length bytes ≡ bytesFor (wordsOf bytes)

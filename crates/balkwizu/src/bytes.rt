@@ -8,12 +8,13 @@ use table::words::KIND;
 use table::words::header_word_ok;
 use table::words::rights_word_ok;
 ghost use mathlib.Core.Path.{_≡_};
+ghost use mathlib.Core.Bool.{true};
 ghost use Prim.Native.Nat.{_+_, _*_, _≤_};
+ghost use lib.Dec.{eqb};
 ghost use lib.ListN.{length, getD, take, drop};
-ghost use Rattle.machine.specs.Below.{allBelow};
-ghost use Rattle.machine.specs.Check.{rightsWordOk, endpointsOk};
-ghost use Rattle.table.specs.Checked.{checkedCode, Counted};
-ghost use Rattle.balkwizu.specs.Bytes.{wordOf, wordsOf, bytesCode};
+ghost use Rattle.machine.specs.Check.{headerOk, rightsOk, endpointsOk};
+ghost use Rattle.table.specs.Checked.{checkedCode};
+ghost use Rattle.balkwizu.specs.Bytes.{wordOf, wordsOf, bytesFor, bytesCode, Fitting};
 
 // The word of four bytes, the lowest first.
 fn word(a: u8, b: u8, c: u8, d: u8) -> u32
@@ -31,11 +32,35 @@ fn word_at(bytes: &[u8], i: usize) -> u32
     word(bytes[at], bytes[at + 1], bytes[at + 2], bytes[at + 3])
 }
 
-// The count rights words behind word 0.
-fn rights_ok(bytes: &[u8], count: usize) -> bool
-    requires { ⌜ 4 * (1 + count) ≤ length (now bytes) ⌝ }
-    ensures { λ b. ⌜ b ≡ allBelow count (λ i. rightsWordOk (getD (wordsOf (now (bytes .entry))) (1 + i) 0)) ⌝ }
+// Place 2: four bytes are there, and they make a right word 0.
+fn header_ok(bytes: &[u8]) -> bool
+    ensures { λ b. ⌜ b ≡ headerOk (wordsOf (now (bytes .entry))) ⌝ }
 {
+    if bytes.len() < 4 {
+        return false;
+    }
+    header_word_ok(word_at(bytes, 0))
+}
+
+// Place 3: the length is four times the one that the n domains and m endpoints of word 0 ask for.
+fn length_ok(bytes: &[u8]) -> bool
+    requires { ⌜ headerOk (wordsOf (now bytes)) ≡ true ⌝ }
+    ensures { λ b. ⌜ b ≡ eqb (length (now (bytes .entry))) (bytesFor (wordsOf (now (bytes .entry)))) ⌝ }
+{
+    let header = word_at(bytes, 0);
+    let n = (header / 256 % 256) as usize;
+    let m = (header % 256) as usize;
+    bytes.len() == 4 * (1 + n * n + 12 * m)
+}
+
+// Place 4: every rights word is right. One pass without a way out, so that it takes several words at a time.
+fn rights_ok(bytes: &[u8]) -> bool
+    requires { ⌜ Fitting (now bytes) ⌝ }
+    ensures { λ b. ⌜ b ≡ rightsOk (wordsOf (now (bytes .entry))) ⌝ }
+{
+    let header = word_at(bytes, 0);
+    let n = (header / 256 % 256) as usize;
+    let count = n * n;
     let mut all = true;
     let mut i: usize = 0;
     while i < count {
@@ -60,11 +85,15 @@ fn twelve_at(bytes: &[u8], start: usize) -> [u32; 12]
     words
 }
 
-// The m endpoints from word `from` on, among n domains. Their names are gathered, and compared where every word is right.
-fn endpoints_ok(bytes: &[u8], n: u32, from: usize, m: usize) -> bool
-    requires { ⌜ Counted (wordsOf (now bytes)) n from m ⌝ }
+// Place 5: every endpoint word is right and no name repeats. The names are gathered on the way, and compared at the end.
+fn endpoints_ok(bytes: &[u8]) -> bool
+    requires { ⌜ Fitting (now bytes) ⌝ }
     ensures { λ b. ⌜ b ≡ endpointsOk (wordsOf (now (bytes .entry))) ⌝ }
 {
+    let header = word_at(bytes, 0);
+    let n = header / 256 % 256;
+    let m = (header % 256) as usize;
+    let from = 1 + n as usize * n as usize;
     let mut names = [0u32; 32];
     let mut all = true;
     let mut e: usize = 0;
@@ -86,24 +115,16 @@ fn endpoints_ok(bytes: &[u8], n: u32, from: usize, m: usize) -> bool
 pub fn check(bytes: &[u8]) -> Checked
     ensures { λ r. ⌜ checkedCode r ≡ bytesCode (now (bytes .entry)) ⌝ }
 {
-    if bytes.len() < 4 {
+    if !header_ok(bytes) {
         return Checked::Refused(TableRefusal::BadHeader);
     }
-    let header = word_at(bytes, 0);
-    if !header_word_ok(header) {
-        return Checked::Refused(TableRefusal::BadHeader);
-    }
-    let n = header / 256 % 256;
-    let m = (header % 256) as usize;
-    let count = n as usize * n as usize;
-    let from = 1 + count;
-    if bytes.len() != 4 * (from + 12 * m) {
+    if !length_ok(bytes) {
         return Checked::Refused(TableRefusal::BadLength);
     }
-    if !rights_ok(bytes, count) {
+    if !rights_ok(bytes) {
         return Checked::Refused(TableRefusal::BadRights);
     }
-    if !endpoints_ok(bytes, n, from, m) {
+    if !endpoints_ok(bytes) {
         return Checked::Refused(TableRefusal::BadEndpoint);
     }
     Checked::Sound

@@ -2,5 +2,5 @@
 pub mod Scan
 pub mod Fill
 pub mod Short
-pub mod Gather
 pub mod Places
+pub mod Gather

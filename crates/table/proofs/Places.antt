@@ -1,23 +1,19 @@
 -- The places 2 to 5 in the order of document 01: what each test says of a table's code (specs/Check of the machine), and what
--- the first word's test says of the counts in it. Assumes nothing.
-use mathlib.Core.Path.{_≡_}
-use mathlib.Core.Bool.{true, false, _&&_}
+-- the first two say of the counts in word 0. Assumes nothing.
+use mathlib.Core.Path.{_≡_, sym, _∙_}
+use mathlib.Core.Bool.{true, false, _&&_, not}
 use mathlib.Core.List.{List}
-use Prim.Native.Nat.{ℕ, _*_, _%_, _≤_}
+use Prim.Native.Nat.{ℕ, _+_, _*_, _/_, _%_, _≤_}
 use native.Mathlib.Nat.{mul-le-mul}
 use native.Mathlib.Omega.{arith}
-use borrow.Author.Tests.{leb-true, ne-eqb}
+use borrow.Author.Tests.{leb-true, eqb-true, ne-eqb}
 use lib.Dec.{eqb, leb}
 use lib.ListN.{length, getD}
 use Rattle.machine.specs.Word.{kind, upper, fieldB, fieldC}
+use Rattle.machine.specs.Table.{domains, endpoints, lengthFor}
 use Rattle.machine.specs.Check.{headerWordOk, headerOk, lengthOk, rightsOk, endpointsOk, tableCode}
 use Rattle.machine.proofs.Bools.{and-right}
-
--- at most 32 endpoints
-pub header-most : (w : ℕ) → headerWordOk w ≡ true → fieldC w ≤ 32
-unfolding headerWordOk
-header-most w h =
-    leb-true _ _ (and-right (eqb (kind w) 1 && eqb (upper w) 0 && leb 1 (fieldB w) && leb (fieldB w) 16) (leb (fieldC w) 32) h)
+use Rattle.table.specs.Checked.{Headed}
 
 -- a field of eight bits times itself is small
 pub square-small : (x : ℕ) → (x % 256) * (x % 256) ≤ 65025
@@ -32,6 +28,22 @@ module _ (t : List ℕ) where
   unfolding headerOk
   word-header ne = rw (ne-eqb (length t) 0 ne)
 
+  pub empty-length : length t ≡ 0 → lengthOk t ≡ false
+  unfolding lengthOk
+  empty-length e = ne-eqb (length t) (lengthFor (domains t) (endpoints t)) (λ q. omega arith)
+
+  -- at most 32 endpoints
+  pub headed-most : Headed t → getD t 0 0 % 256 ≤ 32
+  unfolding headerOk headerWordOk
+  headed-most h =
+      let w = getD t 0 0 in
+      leb-true _ _
+      (and-right (eqb (kind w) 1 && eqb (upper w) 0 && leb 1 (fieldB w) && leb (fieldB w) 16) (leb (fieldC w) 32) (and-right (not (eqb (length t) 0)) _ (h .header)))
+
+  pub headed-size : Headed t → length t ≡ 1 + (getD t 0 0 / 256 % 256) * (getD t 0 0 / 256 % 256) + 12 * (getD t 0 0 % 256)
+  unfolding lengthOk domains endpoints
+  headed-size h = eqb-true _ _ (h .size)
+
   pub code-2 : headerOk t ≡ false → 2 ≡ tableCode t
   unfolding tableCode
   code-2 h = rw h
@@ -40,14 +52,14 @@ module _ (t : List ℕ) where
   unfolding tableCode
   code-3 h l = rw (h, l)
 
-  pub code-4 : headerOk t ≡ true → lengthOk t ≡ true → rightsOk t ≡ false → 4 ≡ tableCode t
+  pub code-4 : Headed t → rightsOk t ≡ false → 4 ≡ tableCode t
   unfolding tableCode
-  code-4 h l r = rw (h, l, r)
+  code-4 h r = rw (h .header, h .size, r)
 
-  pub code-5 : headerOk t ≡ true → lengthOk t ≡ true → rightsOk t ≡ true → endpointsOk t ≡ false → 5 ≡ tableCode t
+  pub code-5 : Headed t → rightsOk t ≡ true → endpointsOk t ≡ false → 5 ≡ tableCode t
   unfolding tableCode
-  code-5 h l r e = rw (h, l, r, e)
+  code-5 h r e = rw (h .header, h .size, r, e)
 
-  pub code-0 : headerOk t ≡ true → lengthOk t ≡ true → rightsOk t ≡ true → endpointsOk t ≡ true → 0 ≡ tableCode t
+  pub code-0 : Headed t → rightsOk t ≡ true → endpointsOk t ≡ true → 0 ≡ tableCode t
   unfolding tableCode
-  code-0 h l r e = rw (h, l, r, e)
+  code-0 h r e = rw (h .header, h .size, r, e)

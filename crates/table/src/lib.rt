@@ -11,11 +11,8 @@ pub mod rights;
 pub mod words;
 
 ghost use mathlib.Core.Path.{_≡_};
-ghost use Prim.Native.Nat.{_+_, _≤_};
-ghost use lib.ListN.{length, getD};
-ghost use Rattle.machine.specs.Below.{allBelow};
-ghost use Rattle.machine.specs.Check.{rightsWordOk, endpointsOk, tableCode};
-ghost use Rattle.table.specs.Checked.{refusalCode, checkedCode, Counted};
+ghost use Rattle.machine.specs.Check.{headerOk, lengthOk, rightsOk, endpointsOk, tableCode};
+ghost use Rattle.table.specs.Checked.{refusalCode, checkedCode, Headed};
 
 // What is wrong with a refused table: the place of document 01 that refuses it.
 pub enum TableRefusal {
@@ -61,11 +58,37 @@ impl Checked {
     }
 }
 
-// The count rights words behind word 0.
-fn rights_ok(table: &[u32], count: usize) -> bool
-    requires { ⌜ 1 + count ≤ length (now table) ⌝ }
-    ensures { λ b. ⌜ b ≡ allBelow count (λ i. rightsWordOk (getD (now (table .entry)) (1 + i) 0)) ⌝ }
+// Place 2: word 0 is there and right.
+pub fn header_ok(table: &[u32]) -> bool
+    ensures { λ b. ⌜ b ≡ headerOk (now (table .entry)) ⌝ }
 {
+    if table.len() == 0 {
+        return false;
+    }
+    header_word_ok(table[0])
+}
+
+// Place 3: the length is the one that the n domains and m endpoints of word 0 ask for.
+pub fn length_ok(table: &[u32]) -> bool
+    ensures { λ b. ⌜ b ≡ lengthOk (now (table .entry)) ⌝ }
+{
+    if table.len() == 0 {
+        return false;
+    }
+    let header = table[0];
+    let n = (header / 256 % 256) as usize;
+    let m = (header % 256) as usize;
+    table.len() == 1 + n * n + 12 * m
+}
+
+// Place 4: every rights word is right. One pass without a way out, so that it takes several words at a time.
+fn rights_ok(table: &[u32]) -> bool
+    requires { ⌜ Headed (now table) ⌝ }
+    ensures { λ b. ⌜ b ≡ rightsOk (now (table .entry)) ⌝ }
+{
+    let header = table[0];
+    let n = (header / 256 % 256) as usize;
+    let count = n * n;
     let mut all = true;
     let mut i: usize = 0;
     while i < count {
@@ -76,11 +99,15 @@ fn rights_ok(table: &[u32], count: usize) -> bool
     all
 }
 
-// The m endpoints from the word at `from` on, among n domains. Their names are gathered, and compared where every word is right.
-fn endpoints_ok(table: &[u32], n: u32, from: usize, m: usize) -> bool
-    requires { ⌜ Counted (now table) n from m ⌝ }
+// Place 5: every endpoint word is right and no name repeats. The names are gathered on the way, and compared at the end.
+fn endpoints_ok(table: &[u32]) -> bool
+    requires { ⌜ Headed (now table) ⌝ }
     ensures { λ b. ⌜ b ≡ endpointsOk (now (table .entry)) ⌝ }
 {
+    let header = table[0];
+    let n = header / 256 % 256;
+    let m = (header % 256) as usize;
+    let from = 1 + n as usize * n as usize;
     let mut names = [0u32; 32];
     let mut all = true;
     let mut e: usize = 0;
@@ -103,24 +130,16 @@ fn endpoints_ok(table: &[u32], n: u32, from: usize, m: usize) -> bool
 pub fn check(table: &[u32]) -> Checked
     ensures { λ r. ⌜ checkedCode r ≡ tableCode (now (table .entry)) ⌝ }
 {
-    if table.len() == 0 {
+    if !header_ok(table) {
         return Checked::Refused(TableRefusal::BadHeader);
     }
-    let header = table[0];
-    if !header_word_ok(header) {
-        return Checked::Refused(TableRefusal::BadHeader);
-    }
-    let n = header / 256 % 256;
-    let m = (header % 256) as usize;
-    let count = n as usize * n as usize;
-    let from = 1 + count;
-    if table.len() != from + 12 * m {
+    if !length_ok(table) {
         return Checked::Refused(TableRefusal::BadLength);
     }
-    if !rights_ok(table, count) {
+    if !rights_ok(table) {
         return Checked::Refused(TableRefusal::BadRights);
     }
-    if !endpoints_ok(table, n, from, m) {
+    if !endpoints_ok(table) {
         return Checked::Refused(TableRefusal::BadEndpoint);
     }
     Checked::Sound

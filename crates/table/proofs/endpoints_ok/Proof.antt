@@ -1,44 +1,52 @@
 -- `endpoints_ok` is the machine's `endpointsOk`: the flag is the test of the endpoints passed, and their names are gathered.
 -- Assumes nothing.
-use Prim.Native.Nat.{_-_}
-use mathlib.Core.Path.{refl, sym, ap, _∙_}
+use Prim.Native.Nat.{_+_, _-_, _*_, _/_, _≤_}
+use mathlib.Core.Path.{_≡_, refl, ap, _∙_}
 use native.Mathlib.Omega.{arith}
 use borrow.Author.Needs.{needs}
+use denote.Ref.{now}
+use lib.ListN.{getD, length}
+use Rattle.machine.specs.Table.{domains, endpoints}
 use Rattle.machine.specs.Check.{endpointOk}
-use Rattle.machine.specs.Table.{endpoint}
-use Rattle.table.proofs.Scan.{Scanned, scan-start, scan-next, scan-end}
+use Rattle.table.proofs.Places.{square-small, headed-most, headed-size}
+use Rattle.table.proofs.Scan.{scan-start, scan-next}
 use Rattle.table.proofs.Fill.{fill-start, fill-next}
-use Rattle.table.proofs.Gather.{Gathered, part-endpoint, part-name, gathered}
+use Rattle.table.proofs.Gather.{Gathered, part, part-name, gathered}
 use Rattle.table.proofs.endpoints_ok.Statement.{statement}
 use Rattle.table.proofs.endpoints_ok.Tie as tie
 
 abbrev Inv-loop : tie.InvT-loop
-Inv-loop table n from m names₀ all₀ e₀ names all e =
-    Scanned (λ f. endpointOk n (endpoint table f)) m all e × Gathered table names e
+Inv-loop table header n m from names₀ all₀ e₀ names all e =
+    Gathered table m names all e × (length table ≡ from + 12 * m) × (m ≤ 32)
 
 abbrev μ-loop : tie.MeasureT-loop
-μ-loop table n from m names₀ all₀ e₀ names all e = m - e
+μ-loop table header n m from names₀ all₀ e₀ names all e = m - e
 
 holds : tie.Need-loop-holds Inv-loop μ-loop
-holds c = (scan-start _ _, fill-start _ _ _ refl)
+holds c =
+    let h = c .before .before .pre in
+    (record { tested = scan-start _ _; named = fill-start _ _ _ refl }, headed-size _ h, headed-most _ h)
 
 again : tie.Need-loop-again Inv-loop μ-loop
+unfolding domains
 again c =
-    let s = c .before .before .before .before .before .before in
     let l = c .before .before .before .before .loop in
-    (scan-next _ _ _ _ _ (l .inv .0) (omega arith) (c .before .endpoint-ok .ensures ∙ ap (endpointOk (s .args .n)) (part-endpoint _ _ _ _ (s .pre) (l .e))), fill-next _ _ _ _ _ (l .inv .1) (omega arith) (part-name _ _ _ _ (s .pre) (l .e)))
+    let t = now (c .before .before .before .before .before .before .before .args .table) in
+    let g = l .inv .0 in
+    (record { tested = scan-next _ _ _ _ _ (g .tested) (omega arith) (c .before .endpoint-ok .ensures ∙ ap (endpointOk (domains t)) (part t _)); named = fill-next _ _ _ _ _ (g .named) (omega arith) (part-name t _) }, l .inv .1, l .inv .2)
 
 names-tested : tie.Need-returns Inv-loop μ-loop
+unfolding endpoints
 names-tested c =
     let b = c .before .before .before in
     let l = b .before .before .loop in
-    c .all-different .ensures
-    ∙ rw (b .if1 .taken) at (sym (gathered _ _ _ _ (b .before .before .before .before .pre) _ _ _ (l .inv .0) (l .inv .1) (b .before .loop-test .left)))
+    c .all-different .ensures ∙ rw (b .if1 .taken) at (gathered _ _ _ _ _ refl (l .inv .2) (l .inv .0) (b .before .loop-test .left))
 
 words-fail : tie.Need-returns-2 Inv-loop μ-loop
+unfolding endpoints
 words-fail c =
     let l = c .before .before .loop in
-    rw (c .if1 .left) at (sym (gathered _ _ _ _ (c .before .before .before .before .pre) _ _ _ (l .inv .0) (l .inv .1) (c .before .loop-test .left)))
+    rw (c .if1 .left) at (gathered _ _ _ _ _ refl (l .inv .2) (l .inv .0) (c .before .loop-test .left))
 
 pub endpoints-ok-spec : {M : Type 1} → statement M
 endpoints-ok-spec =
@@ -46,6 +54,12 @@ endpoints-ok-spec =
     (tie.spec
     Inv-loop
     μ-loop
+    (λ c. omega (arith, headed-size _ (c .before .before .pre)))
+    (λ c. search needs)
+    (λ c. search needs)
+    (λ c. search needs)
+    (λ c. omega (arith, square-small (getD (now (c .before .before .args .table)) 0 0 / 256)))
+    (λ c. omega (arith, square-small (getD (now (c .before .before .args .table)) 0 0 / 256)))
     holds
     (λ c. omega arith)
     (λ c. omega arith)

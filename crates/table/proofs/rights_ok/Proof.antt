@@ -1,24 +1,35 @@
--- `rights_ok`: the flag is the test of the rights words passed. Assumes nothing.
-use Prim.Native.Nat.{_+_, _-_}
+-- `rights_ok` is the machine's `rightsOk`: the flag is the test of the rights words passed. Assumes nothing.
+use Prim.Native.Nat.{ℕ, _+_, _-_, _/_, _≤_}
 use native.Mathlib.Omega.{arith}
 use borrow.Author.Needs.{needs}
-use lib.ListN.{getD}
-use Rattle.machine.specs.Check.{rightsWordOk}
+use denote.Ref.{now}
+use lib.ListN.{getD, length}
+use Rattle.machine.specs.Table.{domains}
+use Rattle.machine.specs.Check.{rightsWordOk, rightsOk}
+use Rattle.table.proofs.Places.{square-small, headed-size}
 use Rattle.table.proofs.Scan.{Scanned, scan-start, scan-next, scan-end}
 use Rattle.table.proofs.rights_ok.Statement.{statement}
 use Rattle.table.proofs.rights_ok.Tie as tie
 
 abbrev Inv-loop : tie.InvT-loop
-Inv-loop table count all₀ i₀ all i = Scanned (λ j. rightsWordOk (getD table (1 + j) 0)) count all i
+Inv-loop table header n count all₀ i₀ all i =
+    Scanned (λ j. rightsWordOk (getD table (1 + j) 0)) count all i × (1 + count ≤ length table)
 
 abbrev μ-loop : tie.MeasureT-loop
-μ-loop table count all₀ i₀ all i = count - i
+μ-loop table header n count all₀ i₀ all i = count - i
+
+holds : tie.Need-loop-holds Inv-loop μ-loop
+holds c = (scan-start _ _, omega (arith, headed-size _ (c .before .before .pre)))
 
 again : tie.Need-loop-again Inv-loop μ-loop
-again c = scan-next _ _ _ _ _ (c .before .before .before .loop .inv) (c .before .before .loop-test .taken) (c .rights-word-ok .ensures)
+again c =
+    let t = c .before .before in
+    let l = t .before .loop in
+    (scan-next _ _ _ _ _ (l .inv .0) (t .loop-test .taken) (c .rights-word-ok .ensures), l .inv .1)
 
 returns : tie.Need-returns Inv-loop μ-loop
-returns c = scan-end _ _ _ _ (c .before .loop .inv) (c .loop-test .left)
+unfolding rightsOk domains
+returns c = scan-end _ _ _ _ (c .before .loop .inv .0) (c .loop-test .left)
 
 pub rights-ok-spec : {M : Type 1} → statement M
 rights-ok-spec =
@@ -26,7 +37,10 @@ rights-ok-spec =
     (tie.spec
     Inv-loop
     μ-loop
-    (λ c. scan-start _ _)
+    (λ c. omega (arith, headed-size _ (c .before .before .pre)))
+    (λ c. search needs)
+    (λ c. omega (arith, square-small (getD (now (c .before .before .args .table)) 0 0 / 256)))
+    holds
     (λ c. omega arith)
     (λ c. omega arith)
     (λ c. omega arith)

@@ -1,29 +1,37 @@
--- `rights_ok`: the flag is the test of the rights words passed. Assumes nothing.
-use Prim.Native.Nat.{_+_, _-_}
-use mathlib.Core.Path.{ap, _∙_}
+-- `rights_ok` is the machine's `rightsOk` of the words: the flag is the test of the rights words passed. Assumes nothing.
+use Prim.Native.Nat.{_+_, _-_, _*_, _/_, _≤_}
+use mathlib.Core.Path.{_≡_, ap, _∙_}
 use native.Mathlib.Omega.{arith}
 use borrow.Author.Needs.{needs}
-use lib.ListN.{getD}
-use Rattle.machine.specs.Check.{rightsWordOk}
+use lib.ListN.{getD, length}
+use Rattle.machine.specs.Table.{domains}
+use Rattle.machine.specs.Check.{rightsWordOk, rightsOk}
+use Rattle.table.proofs.Places.{square-small}
 use Rattle.table.proofs.Scan.{Scanned, scan-start, scan-next, scan-end}
 use Rattle.balkwizu.specs.Bytes.{wordsOf}
+use Rattle.balkwizu.proofs.Places.{header-four, fitting-counted}
 use Rattle.balkwizu.proofs.bytes.rights_ok.Statement.{statement}
 use Rattle.balkwizu.proofs.bytes.rights_ok.Tie as tie
 
 abbrev Inv-loop : tie.InvT-loop
-Inv-loop bytes count all₀ i₀ all i = Scanned (λ j. rightsWordOk (getD (wordsOf bytes) (1 + j) 0)) count all i
+Inv-loop bytes header n count all₀ i₀ all i =
+    Scanned (λ j. rightsWordOk (getD (wordsOf bytes) (1 + j) 0)) count all i × (4 * (1 + count) ≤ length bytes)
 
 abbrev μ-loop : tie.MeasureT-loop
-μ-loop bytes count all₀ i₀ all i = count - i
+μ-loop bytes header n count all₀ i₀ all i = count - i
+
+holds : tie.Need-loop-holds Inv-loop μ-loop
+holds c = (scan-start _ _, omega (arith, fitting-counted _ (c .before .before .pre) _ (c .word-at .ensures)))
 
 again : tie.Need-loop-again Inv-loop μ-loop
 again c =
-    let l = c .before .before in
-    scan-next _ _ _ _ _ (l .before .loop .inv) (l .loop-test .taken)
-    (c .rights-word-ok .ensures ∙ ap rightsWordOk (c .before .word-at .ensures))
+    let t = c .before .before in
+    let l = t .before .loop in
+    (scan-next _ _ _ _ _ (l .inv .0) (t .loop-test .taken) (c .rights-word-ok .ensures ∙ ap rightsWordOk (c .before .word-at2 .ensures)), l .inv .1)
 
 returns : tie.Need-returns Inv-loop μ-loop
-returns c = scan-end _ _ _ _ (c .before .loop .inv) (c .loop-test .left)
+unfolding rightsOk domains
+returns c = rw (c .before .before .word-at .ensures) at (scan-end _ _ _ _ (c .before .loop .inv .0) (c .loop-test .left))
 
 pub rights-ok-spec : {M : Type 1} → statement M
 rights-ok-spec =
@@ -31,7 +39,10 @@ rights-ok-spec =
     (tie.spec
     Inv-loop
     μ-loop
-    (λ c. scan-start _ _)
+    (λ c κs. omega (arith, header-four _ (c .before .pre .header)))
+    (λ c. search needs)
+    (λ c. omega (arith, square-small (c .word-at .result / 256)))
+    holds
     (λ c. omega arith)
     (λ c κs. omega arith)
     (λ c κs. search needs)

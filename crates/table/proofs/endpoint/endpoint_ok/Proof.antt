@@ -1,6 +1,4 @@
 -- `endpoint_ok` is the machine's `endpointOk`. Assumes nothing.
-use mathlib.Core.Path.{ap₂}
-use mathlib.Core.Bool.{_&&_}
 use borrow.Author.Needs.{needs}
 use Rattle.machine.specs.Check.{endpointOk}
 use Rattle.table.proofs.endpoint.endpoint_ok.Statement.{statement}
@@ -8,7 +6,7 @@ use Rattle.table.proofs.endpoint.endpoint_ok.Tie as tie
 
 both : tie.Need-returns
 unfolding endpointOk
-both c = ap₂ _&&_ (c .before .identity-ok .ensures) (c .queue-ok .ensures)
+both c = cc
 
 pub endpoint-ok-spec : {M : Type 1} → statement M
 endpoint-ok-spec = tie.close (tie.spec (λ c κs. search needs) (λ c κs. search needs) both)

@@ -1,6 +1,5 @@
 -- `identity_ok` is the machine's `identityOk`. Assumes nothing.
-use mathlib.Core.Path.{sym, ap₂}
-use mathlib.Core.Bool.{_&&_}
+use mathlib.Core.Path.{sym}
 use borrow.Author.Needs.{needs}
 use Rattle.machine.specs.Check.{identityOk}
 use Rattle.table.proofs.Short.{short-identity}
@@ -12,7 +11,7 @@ too-short c = sym (short-identity _ _ (c .if1 .taken))
 
 both : tie.Need-returns-2
 unfolding identityOk
-both c = ap₂ _&&_ (c .before .before .name-word-ok .ensures) (c .info-word-ok .ensures)
+both c = cc
 
 pub identity-ok-spec : {M : Type 1} → statement M
 identity-ok-spec =

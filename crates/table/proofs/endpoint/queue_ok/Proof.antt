@@ -1,6 +1,5 @@
 -- `queue_ok` is the machine's `queueOk`. Assumes nothing.
-use mathlib.Core.Path.{sym, ap₂}
-use mathlib.Core.Bool.{_&&_}
+use mathlib.Core.Path.{sym}
 use borrow.Author.Needs.{needs}
 use Rattle.machine.specs.Check.{queueOk}
 use Rattle.machine.specs.Queue.{capacity, waiting}
@@ -13,9 +12,7 @@ too-short c = sym (short-queue _ (c .if1 .taken))
 
 all-three : tie.Need-returns-2
 unfolding queueOk capacity waiting
-all-three c =
-    ap₂ _&&_ (ap₂ _&&_ (c .before .before .before .before .waiting-word-ok .ensures) (c .before .before .lost-word-ok .ensures))
-    (c .slots-ok .ensures)
+all-three c = cc
 
 pub queue-ok-spec : {M : Type 1} → statement M
 queue-ok-spec =
