@@ -1,9 +1,9 @@
 // The program `linerun`: a table and a list of calls from standard input, the calls' answers as lines on standard output
 // (document 01, 'Into firmware and onto the bench'). What is printed for what was read is the function report; here is only the
 // reading and the writing.
+use input::wanted;
 use libc::STDIN_FILENO;
 use libc::STDOUT_FILENO;
-use input::wanted;
 use report::report;
 
 mod input;

@@ -1,11 +1,11 @@
 // The whole program on bytes: from what was read to what is printed.
-use kernel::Ran;
-use kernel::run;
-use text::table_input::read_table;
 use crate::input::read_list;
 use crate::input::unreadable;
 use crate::lines::all_lines;
 use crate::lines::first_line;
+use kernel::Ran;
+use kernel::run;
+use text::table_input::read_table;
 ghost use mathlib.Core.Path.{_≡_};
 ghost use mathlib.Core.Bool.{false};
 ghost use Prim.Native.Nat.{_≤_};

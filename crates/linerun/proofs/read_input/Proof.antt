@@ -7,10 +7,6 @@ use lib.ListN.{length}
 use Rattle.linerun.specs.Input.{mostInput}
 use Rattle.linerun.proofs.read_input.Statement.{statement}
 use Rattle.linerun.proofs.read_input.Tie as tie
-use Rattle.linerun.proofs.read_input.Reads as reads
-use Rattle.linerun.proofs.read_input.Lts as lts
-use Rattle.linerun.proofs.read_after.Reads as read-after-reads
-use Rattle.linerun.proofs.wanted_after.Reads as wanted-after-reads
 
 abbrev Inv-loop : tie.InvT-loop
 Inv-loop input₀ have₀ want₀ input have want = (have + want ≤ mostInput) × (length input ≡ mostInput)
@@ -18,47 +14,36 @@ Inv-loop input₀ have₀ want₀ input have want = (have + want ≤ mostInput) 
 abbrev μ-loop : tie.MeasureT-loop
 μ-loop input₀ have₀ want₀ input have want = mostInput - have
 
--- src/main.rt:43:9
 wanted-after-requires : tie.Need-wanted-after-requires Inv-loop μ-loop
 wanted-after-requires c κs = omega arith
 
--- src/main.rt:44:5
 loop-holds : tie.Need-loop-holds Inv-loop μ-loop
 loop-holds c = omega arith
 
--- src/main.rt:45:13
 read-after-requires : tie.Need-read-after-requires Inv-loop μ-loop
 read-after-requires c κs = omega arith
 
--- src/main.rt:46:9
 add-have : tie.Need-add-have Inv-loop μ-loop
 add-have c = omega arith
 
--- src/main.rt:48:13
 same-length : tie.Need-same-length Inv-loop μ-loop
 same-length c = c .before .before .before .read-after .kept .0 ∙ omega arith
 
--- src/main.rt:48:13
 returns : tie.Need-returns Inv-loop μ-loop
 returns c = omega arith
 
--- src/main.rt:50:9
 wanted-after-requires-2 : tie.Need-wanted-after-requires-2 Inv-loop μ-loop
 wanted-after-requires-2 c κs = omega arith
 
--- src/main.rt:44:5
 loop-less : tie.Need-loop-less Inv-loop μ-loop
 loop-less c = omega arith
 
--- src/main.rt:44:5
 loop-again : tie.Need-loop-again Inv-loop μ-loop
 loop-again c = omega arith
 
--- src/main.rt:38:1
 same-length-2 : tie.Need-same-length-2 Inv-loop μ-loop
 same-length-2 c = omega arith
 
--- src/main.rt:38:1
 returns-2 : tie.Need-returns-2 Inv-loop μ-loop
 returns-2 c = omega arith
 

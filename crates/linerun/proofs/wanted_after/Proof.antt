@@ -10,34 +10,26 @@ use Rattle.linerun.proofs.InputLaws.{wanted-within}
 use borrow.Author.Needs.{needs}
 use Rattle.linerun.proofs.wanted_after.Statement.{statement}
 use Rattle.linerun.proofs.wanted_after.Tie as tie
-use Rattle.linerun.proofs.wanted_after.Reads as reads
-use Rattle.linerun.proofs.wanted_after.Lts as lts
-use Rattle.linerun.proofs.input.wanted.Reads as wanted-reads
 
--- src/main.rt:24:12
 sub-wanted : tie.Need-sub-wanted
 sub-wanted c = search needs
 
--- src/main.rt:24:12
 part-wanted-start : tie.Need-part-wanted-start
 part-wanted-start c = search needs
 
--- src/main.rt:24:12
 part-wanted-end : tie.Need-part-wanted-end
 part-wanted-end c = search needs
 
--- src/main.rt:24:5
 wanted-requires : tie.Need-wanted-requires
 wanted-requires c κs = search needs
 
--- src/main.rt:19:1
 returns : tie.Need-returns
-returns c = 
+returns c =
     let start = c .before .before .before in
     let input = start .args .input .now in
     let have = start .args .have in
     let asked : c .wanted .result ≡ wanted (take have input) =
-      c .wanted .ensures ∙ ap (λ k. wanted (take k input)) (sub-zero have) in
+    c .wanted .ensures ∙ ap (λ k. wanted (take k input)) (sub-zero have) in
     let long : length (take have input) ≡ have = length-take-le have input (omega (arith, start .pre)) in
     (asked, omega (arith, start .pre, asked, long, wanted-within (take have input) (omega (arith, start .pre, long))))
 

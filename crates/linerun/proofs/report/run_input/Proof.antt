@@ -6,63 +6,45 @@ use Rattle.linerun.proofs.ReportLaws.{ran-input}
 use borrow.Author.Needs.{needs}
 use Rattle.linerun.proofs.report.run_input.Statement.{statement}
 use Rattle.linerun.proofs.report.run_input.Tie as tie
-use Rattle.linerun.proofs.report.run_input.Reads as reads
-use Rattle.linerun.proofs.report.run_input.Lts as lts
-use Rattle.kernel.proofs.run.Reads as run-reads
-use Rattle.linerun.proofs.input.read_list.Reads as read-list-reads
-use Rattle.text.proofs.table_input.read_table.Reads as read-table-reads
 
--- src/report.rt:54:35
 slice-aggregate-read-table : tie.Need-slice-aggregate-read-table
 slice-aggregate-read-table c = search needs
 
--- src/report.rt:54:9
 read-table-requires : tie.Need-read-table-requires
 read-table-requires c κs = search needs
 
--- src/report.rt:56:35
 slice-aggregate-read-list : tie.Need-slice-aggregate-read-list
 slice-aggregate-read-list c = search needs
 
--- src/report.rt:56:9
 read-list-requires : tie.Need-read-list-requires
 read-list-requires c κs = search needs
 
--- src/report.rt:57:9
 sub-run : tie.Need-sub-run
 sub-run c = search needs
 
--- src/report.rt:57:9
 part-table-start : tie.Need-part-table-start
 part-table-start c = search needs
 
--- src/report.rt:57:9
 part-table-end : tie.Need-part-table-end
 part-table-end c = search needs
 
--- src/report.rt:57:31
 sub-run-2 : tie.Need-sub-run-2
 sub-run-2 c = search needs
 
--- src/report.rt:57:31
 part-run-start : tie.Need-part-run-start
 part-run-start c = search needs
 
--- src/report.rt:57:31
 part-run-end : tie.Need-part-run-end
 part-run-end c = search needs
 
--- src/report.rt:57:5
 run-requires : tie.Need-run-requires
 run-requires c κs = search needs
 
--- src/report.rt:49:1
 same-length : tie.Need-same-length
 same-length c = search needs
 
--- src/report.rt:49:1
 returns : tie.Need-returns
-returns c = 
+returns c =
     let ran = c .before .before .before in
     let listed = ran .before .before .before .before .before .before in
     let filled = listed .before .before .before in
