@@ -35,8 +35,7 @@ same-length c = search needs
 returns : tie.Need-returns
 unfolding effect after
 returns c =
-    let call = c .before .before in
-    call .set-rights .ensures ∙ ap (setRights _ _ _) (changed (call .before .before))
+    c .before .before .set-rights .ensures ∙ ap (setRights _ _ _) (changed (c .before .before .before .before))
 
 pub grant-spec : {M : Type 1} → statement M
 grant-spec = tie.close (tie.spec rights-requires adds-requires set-rights-requires same-length returns)
