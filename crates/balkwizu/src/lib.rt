@@ -3,6 +3,8 @@
 pub mod bytes;
 
 ghost use mathlib.Core.Path.{_≡_};
+ghost use Prim.Native.Nat.{_/_, _%_};
+ghost use Rattle.machine.specs.Promise.{RunPromise};
 ghost use Rattle.balkwizu.specs.Bytes.{bytesCode};
 
 // The check of a table before the kernel runs on it. C: uint32_t balkwizu_table_check(const uint8_t *bytes, size_t length).
@@ -22,4 +24,21 @@ pub extern "C" fn balkwizu_table_check(bytes: &[u8]) -> u32
 {
     let checked = bytes::check(bytes);
     checked.code()
+}
+
+// The run of a list of calls on a table.
+// C: uint32_t balkwizu_run(uint32_t *table, size_t table_len, const uint32_t *list, size_t list_len, uint32_t *answers, size_t answers_len)
+//
+// The entry's code, 0 to 6, stands in the low 16 bits of the answer, and the number of calls in the high 16 bits. Where the
+// code is not 0 the number is 0 and no word of the table or of the answers is changed. Where it is 0 every call of the list
+// was run, the table is rewritten, and each call has three answer words; words behind them are left as they were.
+// It is defined for any words in slices of any length. Table, list and answers may not overlap.
+#[no_mangle]
+pub extern "C" fn balkwizu_run(table: &mut [u32], list: &[u32], answers: &mut [u32]) -> u32
+    ensures { λ r. ⌜ RunPromise (now (table .entry)) (now (list .entry)) (now (answers .entry)) (r % 65536) (r / 65536) (now (table .exit)) (now (answers .exit)) ⌝ }
+{
+    let ran = kernel::run(table, list, answers);
+    let code = ran.code();
+    let calls = ran.calls();
+    code + 65536 * calls as u32
 }

@@ -24,7 +24,8 @@ use Rattle.machine.specs.Claims.{SameFrame, SamePart, AnswerDepends}
 use Rattle.machine.proofs.Bools.{cond-same, and-left, and-right}
 use Rattle.machine.proofs.Below.{first-same, sum-same}
 use Rattle.machine.proofs.Accepted.{accepted-owner}
-use Rattle.machine.proofs.Frame.{same-name, same-owner, whole, rightsOf-word}
+use Rattle.machine.proofs.Queue.{name-kept, owner-kept}
+use Rattle.machine.proofs.Frame.{whole, rightsOf-word}
 use Rattle.machine.proofs.Decide.{Known, Rows, kind-elim, calls-back, decide-elim}
 
 -- equal tests and, where they pass, equal rests make equal places
@@ -38,10 +39,10 @@ place-same {b} {b′} n {x} {y} e f = ap (λ (z : Bool). place z n x) e ∙ go b
 
 module _ (s t : List ℕ) (f : SameFrame s t) where
   pub owner-same : (e : ℕ) → e < endpoints t → owner (endpoint s e) ≡ owner (endpoint t e)
-  owner-same e l = same-owner (endpoint s e) (endpoint t e) (f .identity e l)
+  owner-same e l = owner-kept (endpoint s e) (endpoint t e) (f .identity e l)
 
   pub name-same : (e : ℕ) → e < endpoints t → name (endpoint s e) ≡ name (endpoint t e)
-  name-same e l = same-name (endpoint s e) (endpoint t e) (f .identity e l)
+  name-same e l = name-kept (endpoint s e) (endpoint t e) (f .identity e l)
 
   -- the same part of v: the rights it holds, and the endpoints it owns
   module _ (v : ℕ) (p : SamePart v s t) where

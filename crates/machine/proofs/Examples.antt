@@ -1,8 +1,10 @@
--- The rows hold, each by computation: L and P1 to P12, and those that pin sources, purge and view.
+-- The rows hold, each by computation: L and P1 to P12, every code, those that pin sources, purge and view, and the counts.
 -- Assumes nothing.
 use mathlib.Core.Path.{refl}
 use Rattle.machine.specs.Everything.{everything}
 use Rattle.machine.specs.Examples.{EveryRow, rows}
+use Rattle.machine.specs.CodeExamples.{codeRows}
+use Rattle.machine.specs.CountExamples.{CountRowHolds, counted}
 use Rattle.machine.specs.PurgeExamples.{EveryPurgeRow, purgeRows, bitsOf, setsAt, purged}
 
 pub every-row : EveryRow rows
@@ -12,4 +14,12 @@ every-row =
 
 pub every-purge-row : EveryPurgeRow purgeRows
 unfolding everything bitsOf setsAt purged
-every-purge-row = (refl, (refl, (refl, (refl, (refl, (refl, (refl, (refl, (refl, (refl, tt))))))))))
+every-purge-row = (refl, (refl, (refl, (refl, (refl, (refl, (refl, (refl, (refl, (refl, (refl, tt)))))))))))
+
+pub every-code-row : EveryRow codeRows
+unfolding everything
+every-code-row = (refl, (refl, (refl, (refl, (refl, (refl, tt))))))
+
+pub count-row : CountRowHolds
+unfolding everything counted
+count-row = refl

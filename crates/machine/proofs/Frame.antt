@@ -7,29 +7,10 @@ use native.Mathlib.Nat.{mul-le-mul-right, suc-mul}
 use native.Mathlib.Omega.{arith}
 use lib.ListN.{length, getD, take, drop, length-take, length-drop, take-append-drop}
 use lib.Seq.{getD-take, getD-drop, ext-getD, length-take-le}
-use Rattle.machine.specs.Word.{payload, fieldB, fieldC}
 use Rattle.machine.specs.Table.{domains, endpoints, lengthFor, rightsAt, rightsWord, rights, endpoint}
-use Rattle.machine.specs.Queue.{name, owner, capacity}
 use Rattle.machine.specs.Purge.{rightsOf}
 use Rattle.machine.specs.Claims.{SameFrame, SamePart}
 use Rattle.machine.proofs.Table.{Sized}
-
--- what stands in an endpoint's first two words
-module _ (p q : List ℕ) (same : take 2 p ≡ take 2 q) where
-  first-two : (k : ℕ) → k < 2 → getD p k 0 ≡ getD q k 0
-  first-two k l = sym (getD-take 2 p k 0 l) ∙ ap (λ (x : List ℕ). getD x k 0) same ∙ getD-take 2 q k 0 l
-
-  pub same-name : name p ≡ name q
-  unfolding name
-  same-name = ap payload (first-two 0 (omega arith))
-
-  pub same-owner : owner p ≡ owner q
-  unfolding owner
-  same-owner = ap fieldB (first-two 1 (omega arith))
-
-  pub same-capacity : capacity p ≡ capacity q
-  unfolding capacity
-  same-capacity = ap fieldC (first-two 1 (omega arith))
 
 -- the two halves of an endpoint make it whole
 pub whole : (p q : List ℕ) → take 2 p ≡ take 2 q → drop 2 p ≡ drop 2 q → p ≡ q

@@ -8,3 +8,12 @@ pub mod Accepted
 pub mod Frame
 pub mod Consistency
 pub mod Right
+pub mod Step
+pub mod Queue
+pub mod Purge
+pub mod Unwinding
+pub mod Noninterference
+pub mod Trail
+pub mod Cut
+pub mod Counts
+pub mod Promise

@@ -10,7 +10,7 @@ use borrow.Author.Tests.{leb-true, eqb-true, eqb-false, le-leb, eq-eqb, ne-eqb, 
 use lib.Arith.{bin-ind, digits-mod}
 use lib.Pow.{pow-pos, pow-add}
 use lib.Dec.{eqb, leb}
-use lib.Bits.{bitAnd, bitOr, bitXor, and-step, and-self, and-le-l, and-le-r, and-shr, and-mod, and-high, or-add-and, or-shr, or-mod, xor-add-and, xor-shr, xor-mod}
+use lib.Bits.{bitAnd, bitOr, bitXor, and-step, and-self, and-le-l, and-le-r, and-shr, and-mod, and-high, or-add-and, or-lt, or-shr, or-mod, xor-add-and, xor-shr, xor-mod}
 use Rattle.machine.specs.Below.{allBelow}
 use Rattle.machine.specs.Word.{kind, payload, word}
 use Rattle.machine.specs.Right.{allRights, holds, adds, without, hasAny}
@@ -186,3 +186,19 @@ module _ (w : ℕ) (ok : rightsWordOk w ≡ true) where
   pub rights-within : payload w ≤ allRights
   unfolding rightsWordOk
   rights-within = leb-true _ _ (and-right (eqb (kind w) 2) (leb (payload w) allRights) ok)
+
+-- ---- in a machine word: nothing wraps, whatever the words hold
+
+pub adds-below : (k a b : ℕ) → a < 2 ^ k → b < 2 ^ k → adds a b < 2 ^ k
+unfolding adds
+adds-below = or-lt
+
+pub rights-word-fits : (s : ℕ) → s < 2 ^ 28 → word 2 s < 2 ^ 32
+rights-word-fits s l = omega arith
+
+-- a rights word with rights added, or taken away
+pub added-fits : (w r : ℕ) → r < 2 ^ 28 → word 2 (adds (payload w) r) < 2 ^ 32
+added-fits w r l = rights-word-fits _ (adds-below 28 (payload w) r (omega arith) l)
+
+pub cut-fits : (w r : ℕ) → word 2 (without (payload w) r) < 2 ^ 32
+cut-fits w r = rights-word-fits _ (omega (arith, without-le (payload w) r))

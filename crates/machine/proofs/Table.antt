@@ -2,7 +2,7 @@
 -- Everything above cites these and never an index. Assumes nothing.
 use mathlib.Core.Path.{_≡_, refl, sym, ap, ap₂, subst, _∙_}
 use mathlib.Core.Logic.{_⊎_, _⊎_.inl, _⊎_.inr, ⊎-elim}
-use native.Mathlib.Decide.{decLt}
+use native.Mathlib.Decide.{decLt, ℕ-discrete}
 use borrow.Rule.Slice.PartMut.{same-len-mid}
 use mathlib.Core.List.{List, [], _∷_, _++_, append-assoc}
 use Prim.Native.Nat.{ℕ, zero, suc, _+_, _*_, _-_, _/_, _%_, _<_, _≤_}
@@ -36,6 +36,18 @@ apart f e ne = go (decLt f e)
     go : Dec (f < e) → (f < e) ⊎ (e < f)
     go (yes l) = inl l
     go (no n) = inr (omega arith)
+
+-- two numbers, and two pairs of numbers, are equal or not
+pub equal-either : (f e : ℕ) → (f ≡ e) ⊎ (f ≡ e → ⊥)
+equal-either f e = go (ℕ-discrete f e)
+  where
+    go : Dec (f ≡ e) → (f ≡ e) ⊎ (f ≡ e → ⊥)
+    go (yes x) = inl x
+    go (no n) = inr n
+
+pub pair-either : (x y h g : ℕ) → ((x ≡ h) × (y ≡ g)) ⊎ (x ≡ h → y ≡ g → ⊥)
+pair-either x y h g =
+    ⊎-elim (λ p. ⊎-elim (λ q. inl (p, q)) (λ n. inr (λ _ q. n q)) (equal-either y g)) (λ n. inr (λ p _. n p)) (equal-either x h)
 
 -- n and m stand in word 0
 pub domains-header : (s t : List ℕ) → getD s 0 0 ≡ getD t 0 0 → domains s ≡ domains t
@@ -111,6 +123,10 @@ module _ (t : List ℕ) (sized : Sized t) (h g s : ℕ) (ph : h < domains t) (pg
       (setRights-elsewhere (rightsAt (domains t) h′ g′)
       (λ e. let x = rights-apart (domains t) h′ g′ h g q pg e in ne (x .0) (x .1)))
 
+  -- a rights word is the one written or is as it was
+  pub setRights-either : (h′ g′ : ℕ) → g′ < domains t → ((h′ ≡ h) × (g′ ≡ g)) ⊎ (rightsWord (setRights t h g s) h′ g′ ≡ rightsWord t h′ g′)
+  setRights-either h′ g′ q = ⊎-elim (λ x. inl x) (λ n. inr (setRights-other h′ g′ q n)) (pair-either h′ g′ h g)
+
   pub setRights-endpoint : (e : ℕ) → e < endpoints t → endpoint (setRights t h g s) e ≡ endpoint t e
   setRights-endpoint e l =
       endpoint-ext (setRights t h g s) t setRights-sized sized setRights-domains setRights-endpoints e l
@@ -185,3 +201,7 @@ module _ (t : List ℕ) (sized : Sized t) (e : ℕ) (q : List ℕ) (pe : e < end
       endpoint-ext (setEndpoint t e q) t setEndpoint-sized sized setEndpoint-domains setEndpoint-endpoints f l
       (λ k b.
       ⊎-elim (λ x. setEndpoint-before _ (omega arith)) (λ x. setEndpoint-from _ (omega arith)) (apart f e ne))
+
+  -- an endpoint is the one written or is as it was
+  pub setEndpoint-either : (f : ℕ) → f < endpoints t → (f ≡ e) ⊎ (endpoint (setEndpoint t e q) f ≡ endpoint t f)
+  setEndpoint-either f l = ⊎-elim (λ x. inl x) (λ n. inr (setEndpoint-other f l n)) (equal-either f e)

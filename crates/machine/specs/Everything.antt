@@ -1,4 +1,4 @@
--- One name for all definitions of the machine, for a proof that computes with them: `unfolding everything`.
+-- One name for the definitions of the machine and its counts, for a proof that computes with them: `unfolding everything`.
 use Rattle.machine.specs.Below.{allBelow, firstBelow, sumBelow}
 use Rattle.machine.specs.Right.{holds, adds, without, hasAny}
 use Rattle.machine.specs.Table.{domains, endpoints, rightsWord, rights, endpoint, setRights, setEndpoint}
@@ -10,6 +10,7 @@ use Rattle.machine.specs.Run.{run, answers}
 use Rattle.machine.specs.Entry as «entry»
 use Rattle.machine.specs.Influence.{reaches, influences}
 use Rattle.machine.specs.Purge as purge
+use Rattle.machine.specs.Counts as counts
 
 unfoldable pub everything : Unit {0}
 unfolding allBelow firstBelow sumBelow
@@ -31,4 +32,5 @@ unfolding allBelow firstBelow sumBelow
     reaches influences
     purge.member purge.reachesAny purge.joinedBy purge.sources purge.callerIn purge.purge purge.calledBy
     purge.answersOf purge.rightsOf purge.ofOwned purge.queuesOf purge.lostOf purge.view
+    counts.doneOn counts.countDone counts.messagesFrom counts.sendsTo counts.fullSends counts.messagesTo counts.messages
 everything = tt

@@ -11,8 +11,13 @@ pub mod Run
 pub mod Entry
 pub mod Influence
 pub mod Purge
+pub mod Unwinding
 pub mod Counts
 pub mod Claims
+pub mod Trail
+pub mod Promise
 pub mod Everything
 pub mod Examples
+pub mod CodeExamples
 pub mod PurgeExamples
+pub mod CountExamples

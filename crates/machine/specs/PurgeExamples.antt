@@ -12,6 +12,7 @@ use Rattle.machine.specs.Machine.{step}
 use Rattle.machine.specs.Run.{run, answers}
 use Rattle.machine.specs.Purge.{member, sources, purge, View, view}
 use Rattle.machine.specs.Examples.{emptySlots}
+use Rattle.machine.specs.CodeExamples.{fourDomains}
 
 -- a set of domains as a number: bit u is set for each member u
 unfoldable pub bitsOf : ℕ → List ℕ → ℕ
@@ -172,6 +173,20 @@ purgeRows =
             rights = 0x2000_0000 ∷ 0x2000_0000 ∷ 0x2000_0001 ∷ [];
             queues = gotSeven [] .queues;
             lost = 0x6000_0001 ∷ [];
+          };
+    })
+    -- endpoints that don't bear their owner's number, two of them d's; a call refused by 13 and a kind 0 join; GRANT alone counts;
+    -- answers of d that are refused or of an unknown kind are in its view
+    ∷ pins fourDomains (0x0081_0101 ∷ 0xE0C0_0000 ∷ 0x5041_0000 ∷ 0x9000_0001 ∷ 0x3000_0000 ∷ 0x3000_0200 ∷ []) 0
+    (record {
+      sets = 0b0111 ∷ 0b0011 ∷ 0b0011 ∷ 0b0001 ∷ 0b0001 ∷ 0b0001 ∷ 0b0001 ∷ [];
+      kept = one 0x0081_0101 ∷ one 0x5041_0000 ∷ one 0x9000_0001 ∷ one 0x3000_0000 ∷ one 0x3000_0200 ∷ [];
+      seen =
+          record {
+            answers = 0x9000_000B ∷ 0 ∷ 0 ∷ 0x3000_0012 ∷ 0 ∷ 0 ∷ 0x3000_0000 ∷ 1 ∷ 0 ∷ [];
+            rights = 0x2000_0000 ∷ 0x2000_0003 ∷ 0x2000_0001 ∷ 0x2000_0000 ∷ [];
+            queues = (0x5000_0000 ∷ emptySlots) ++ (0x5000_0001 ∷ 0xF000_0002 ∷ 0xF000_0000 ∷ 0xF000_0000 ∷ 0xF000_0000 ∷ 0xF000_0000 ∷ 0xF000_0000 ∷ 0xF000_0000 ∷ 0xF000_0000 ∷ []);
+            lost = 0x6000_0000 ∷ 0x6000_0000 ∷ [];
           };
     })
     ∷ []

@@ -1,0 +1,124 @@
+//! Links the proved archive, and compiles the plain C kernel to measure it
+//! against: by gcc, and by clang where there is one.
+//!
+//! The archive is target/staticlib/libbalkwizu.a of the repository, or the file
+//! that BALKWIZU_ARCHIVE names. Each compiler's functions get a prefix of their
+//! own, so that all of them stand in one program.
+
+use std::env;
+use std::error::Error;
+use std::fs;
+use std::path::{Path, PathBuf};
+use std::process::Command;
+
+const ARCHIVE: &str = "target/staticlib/libbalkwizu.a";
+const EXPORTS: [&str; 2] = ["balkwizu_table_check", "balkwizu_run"];
+const PLAIN_SOURCES: [&str; 2] = ["plain_check", "plain_run"];
+const FLAGS: [&str; 6] = [
+    "-std=c11",
+    "-O3",
+    "-Wall",
+    "-Wextra",
+    "-Werror",
+    "-pedantic",
+];
+
+fn main() {
+    println!("cargo::rerun-if-env-changed=BALKWIZU_ARCHIVE");
+    println!("cargo::rerun-if-changed=build.rs");
+    println!("cargo::rerun-if-changed=c");
+    println!("cargo::rustc-check-cfg=cfg(clang)");
+    if let Err(wrong) = build() {
+        println!("cargo::error={wrong}");
+    }
+}
+
+fn build() -> Result<(), Box<dyn Error>> {
+    let out = PathBuf::from(env::var("OUT_DIR")?);
+    link_archive(&out)?;
+    compile_plain("gcc", &out)?;
+    let mut compilers = vec![version("gcc").ok_or("no gcc")?];
+    if let Some(clang) = version("clang") {
+        compile_plain("clang", &out)?;
+        println!("cargo::rustc-cfg=clang");
+        compilers.push(clang);
+    }
+    println!(
+        "cargo::rustc-env=PLAIN_COMPILERS={}",
+        compilers.join(" and ")
+    );
+    println!("cargo::rustc-link-search=native={}", out.display());
+    Ok(())
+}
+
+/// The first line that a compiler says of itself, where there is one.
+fn version(compiler: &str) -> Option<String> {
+    let told = Command::new(compiler).arg("--version").output().ok()?;
+    let text = String::from_utf8(told.stdout).ok()?;
+    text.lines().next().map(str::to_string)
+}
+
+/// Copies the archive beside the others, so that it has the name to link by
+/// wherever it came from.
+fn link_archive(out: &Path) -> Result<(), Box<dyn Error>> {
+    let archive = archive_path()?;
+    println!("cargo::rerun-if-changed={}", archive.display());
+    let shown = archive.display();
+    let bytes = fs::read(&archive).map_err(|_| {
+        format!("no proved archive at {shown}: make it with `rt staticlib balkwizu`")
+    })?;
+    for name in EXPORTS {
+        if !bytes
+            .windows(name.len())
+            .any(|part| part == name.as_bytes())
+        {
+            return Err(format!("{shown} has no function {name}").into());
+        }
+    }
+    fs::write(out.join("libbalkwizu.a"), bytes)?;
+    println!("cargo::rustc-link-lib=static=balkwizu");
+    Ok(())
+}
+
+fn archive_path() -> Result<PathBuf, Box<dyn Error>> {
+    if let Some(named) = env::var_os("BALKWIZU_ARCHIVE") {
+        return Ok(PathBuf::from(named));
+    }
+    let package = PathBuf::from(env::var("CARGO_MANIFEST_DIR")?);
+    let repository = package.parent().ok_or("the package stands nowhere")?;
+    Ok(repository.join(ARCHIVE))
+}
+
+/// Compiles bench/c with one compiler into libplain_COMPILER.a, each function
+/// `plain_NAME` called `plain_COMPILER_NAME` in it.
+fn compile_plain(compiler: &str, out: &Path) -> Result<(), Box<dyn Error>> {
+    let library = format!("plain_{compiler}");
+    let archive = out.join(format!("lib{library}.a"));
+    let mut objects = Vec::new();
+    for source in PLAIN_SOURCES {
+        let object = out.join(format!("{compiler}_{source}.o"));
+        let mut command = Command::new(compiler);
+        command.args(FLAGS).arg("-c");
+        command.arg(format!("-Dplain_table_check={library}_table_check"));
+        command.arg(format!("-Dplain_run={library}_run"));
+        command.arg(format!("c/{source}.c")).arg("-o").arg(&object);
+        finish(&mut command)?;
+        objects.push(object);
+    }
+    let _ = fs::remove_file(&archive);
+    finish(Command::new("ar").arg("crs").arg(&archive).args(&objects))?;
+    println!("cargo::rustc-link-lib=static={library}");
+    Ok(())
+}
+
+/// Runs a command to its end; its own messages go to cargo's.
+fn finish(command: &mut Command) -> Result<(), Box<dyn Error>> {
+    let name = command.get_program().to_string_lossy().into_owned();
+    let status = command
+        .status()
+        .map_err(|wrong| format!("cannot start {name}: {wrong}"))?;
+    if !status.success() {
+        return Err(format!("{name} failed: {command:?}").into());
+    }
+    Ok(())
+}

@@ -1,0 +1,179 @@
+//! The C boundary: the kernel's exported functions as include/balkwizu.h
+//! declares them, those of the plain C kernel, and safe wrappers over both.
+//!
+//! The caller's duties of the header are what Rust's references say of
+//! themselves: a slice is valid for its length, aligned and never null, two
+//! lent parts of which one is written never overlap, and nobody else writes
+//! them. So every wrapper is safe, and there is no other `unsafe` in the bench.
+
+/// uint32_t balkwizu_table_check(const uint8_t *bytes, size_t len);
+type TableCheck = unsafe extern "C" fn(bytes: *const u8, len: usize) -> u32;
+
+/// uint32_t balkwizu_run(uint32_t *table, size_t table_len,
+///                       const uint32_t *list, size_t list_len,
+///                       uint32_t *answers, size_t answers_len);
+type Run = unsafe extern "C" fn(
+    table: *mut u32,
+    table_len: usize,
+    list: *const u32,
+    list_len: usize,
+    answers: *mut u32,
+    answers_len: usize,
+) -> u32;
+
+macro_rules! declare {
+    ($check:ident, $run:ident) => {
+        extern "C" {
+            fn $check(bytes: *const u8, len: usize) -> u32;
+            fn $run(
+                table: *mut u32,
+                table_len: usize,
+                list: *const u32,
+                list_len: usize,
+                answers: *mut u32,
+                answers_len: usize,
+            ) -> u32;
+        }
+    };
+}
+
+declare!(balkwizu_table_check, balkwizu_run);
+declare!(plain_gcc_table_check, plain_gcc_run);
+#[cfg(clang)]
+declare!(plain_clang_table_check, plain_clang_run);
+
+/// A kernel behind the C boundary.
+#[derive(Clone, Copy)]
+pub struct Kernel {
+    /// What `--kernel` calls it.
+    pub name: &'static str,
+    /// What it is, for the head of a table.
+    pub title: &'static str,
+    table_check: TableCheck,
+    run: Run,
+}
+
+/// What a run returns, taken apart.
+#[derive(Debug, Clone, Copy, PartialEq, Eq)]
+pub struct Outcome {
+    /// 0, or the entry's refusal 1 to 6.
+    pub code: u32,
+    pub calls: u32,
+}
+
+impl Kernel {
+    /// The check of a table image: 0, or 2 to 5.
+    pub fn table_check(&self, bytes: &[u8]) -> u32 {
+        // SAFETY: a slice is valid for reads of its length, and nobody writes it.
+        unsafe { (self.table_check)(bytes.as_ptr(), bytes.len()) }
+    }
+
+    /// Runs a list on a table and writes the answers.
+    pub fn run(&self, table: &mut [u32], list: &[u32], answers: &mut [u32]) -> Outcome {
+        // SAFETY: three slices, each valid for its length and aligned; the two
+        // that are written are borrowed alone, so that none overlaps another.
+        let result = unsafe {
+            (self.run)(
+                table.as_mut_ptr(),
+                table.len(),
+                list.as_ptr(),
+                list.len(),
+                answers.as_mut_ptr(),
+                answers.len(),
+            )
+        };
+        Outcome {
+            code: result & 0xFFFF,
+            calls: result >> 16,
+        }
+    }
+
+    /// A kernel of other functions, for tests of the bench itself.
+    #[cfg(test)]
+    pub const fn of(name: &'static str, table_check: TableCheck, run: Run) -> Kernel {
+        Kernel {
+            name,
+            title: name,
+            table_check,
+            run,
+        }
+    }
+}
+
+/// The proved kernel.
+pub const PROVED: Kernel = Kernel {
+    name: "balkwizu",
+    title: "proved archive",
+    table_check: balkwizu_table_check,
+    run: balkwizu_run,
+};
+
+/// The plain C kernel as gcc -O3 makes it.
+pub const PLAIN_GCC: Kernel = Kernel {
+    name: "plain-gcc",
+    title: "plain C, gcc -O3",
+    table_check: plain_gcc_table_check,
+    run: plain_gcc_run,
+};
+
+/// The plain C kernel as clang -O3 makes it.
+#[cfg(clang)]
+pub const PLAIN_CLANG: Kernel = Kernel {
+    name: "plain-clang",
+    title: "plain C, clang -O3",
+    table_check: plain_clang_table_check,
+    run: plain_clang_run,
+};
+
+/// Every kernel of this program, the proved one first.
+pub const KERNELS: &[Kernel] = &[
+    PROVED,
+    PLAIN_GCC,
+    #[cfg(clang)]
+    PLAIN_CLANG,
+];
+
+/// The kernel that has the name.
+pub fn kernel(name: &str) -> Result<Kernel, String> {
+    let found = KERNELS.iter().find(|kernel| kernel.name == name);
+    found.copied().ok_or_else(|| {
+        let names: Vec<&str> = KERNELS.iter().map(|kernel| kernel.name).collect();
+        format!("no kernel `{name}`: there are {}", names.join(", "))
+    })
+}
+
+#[cfg(test)]
+mod tests {
+    use super::*;
+    use reference::example::{LIST_L, TABLE_T};
+
+    #[test]
+    fn every_kernel_runs_the_worked_example() {
+        for kernel in KERNELS {
+            let mut table = TABLE_T;
+            let mut answers = [7; 28];
+            let outcome = kernel.run(&mut table, &LIST_L, &mut answers);
+            assert_eq!(outcome, Outcome { code: 0, calls: 9 }, "{}", kernel.name);
+            assert_eq!(answers[12..15], [0x3080_0000, 5, 1], "{}", kernel.name);
+            assert_eq!(answers[27], 7, "{}", kernel.name);
+        }
+    }
+
+    #[test]
+    fn every_kernel_checks_bytes() {
+        for kernel in KERNELS {
+            let bytes = reference::words::to_bytes(&TABLE_T);
+            assert_eq!(kernel.table_check(&bytes), 0, "{}", kernel.name);
+            assert_eq!(kernel.table_check(&bytes[1..]), 2, "{}", kernel.name);
+            assert_eq!(kernel.table_check(&bytes[..135]), 3, "{}", kernel.name);
+            assert_eq!(kernel.table_check(&[]), 2, "{}", kernel.name);
+        }
+    }
+
+    #[test]
+    fn a_kernel_is_found_by_its_name() {
+        assert_eq!(kernel("plain-gcc").unwrap().title, "plain C, gcc -O3");
+        let wrong = kernel("fast").err().unwrap();
+        assert!(wrong.contains("balkwizu, plain-gcc"), "{wrong}");
+    }
+}

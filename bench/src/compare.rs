@@ -1,0 +1,347 @@
+//! A kernel's run beside that of the separate machine, and the first difference
+//! between them in words.
+
+use reference::calls::{cut, Call};
+use reference::entry::ANSWER_WORDS;
+use reference::generate::Case;
+use reference::influence::{QueueView, View};
+use reference::table::rights_place;
+use reference::words::bits;
+use reference::{purge, step, view};
+
+use crate::boundary::{Kernel, Outcome};
+use crate::explain::{call_in_words, meaning, place_in_words};
+use crate::panics::or_panic;
+
+/// What a run returned and left.
+#[derive(Debug, Clone, PartialEq, Eq)]
+pub struct Ran {
+    pub outcome: Outcome,
+    pub table: Vec<u32>,
+    pub answers: Vec<u32>,
+}
+
+/// Words lent from the middle of a larger space, with words around them that
+/// nobody was lent.
+struct Fenced {
+    words: Vec<u32>,
+    end: usize,
+}
+
+const FENCE: [u32; 4] = [0xA5A5_5A5A; 4];
+
+impl Fenced {
+    fn new(lent: &[u32]) -> Fenced {
+        Fenced {
+            words: [&FENCE, lent, &FENCE].concat(),
+            end: FENCE.len() + lent.len(),
+        }
+    }
+
+    fn lent(&mut self) -> &mut [u32] {
+        &mut self.words[FENCE.len()..self.end]
+    }
+
+    /// The lent words, unless a word around them was written.
+    fn back(self, what: &str) -> Result<Vec<u32>, String> {
+        if self.words[..FENCE.len()] != FENCE || self.words[self.end..] != FENCE {
+            return Err(format!("the kernel wrote outside the {what} it was lent"));
+        }
+        Ok(self.words[FENCE.len()..self.end].to_vec())
+    }
+}
+
+/// A kernel's run of a case; an error where it wrote what it wasn't lent to be
+/// written.
+pub fn kernel_run(kernel: &Kernel, case: &Case) -> Result<Ran, String> {
+    let mut table = Fenced::new(&case.table);
+    let mut list = Fenced::new(&case.list);
+    let mut answers = Fenced::new(&case.answers);
+    let outcome = kernel.run(table.lent(), list.lent(), answers.lent());
+    if list.back("list")? != case.list {
+        return Err("the kernel wrote the list".to_string());
+    }
+    Ok(Ran {
+        outcome,
+        table: table.back("table")?,
+        answers: answers.back("answer space")?,
+    })
+}
+
+/// The separate machine's run of a case; an error where it panics, which is a
+/// difference from a kernel that answers.
+pub fn separate_run(case: &Case) -> Result<Ran, String> {
+    or_panic(|| {
+        let (mut table, mut answers) = (case.table.clone(), case.answers.clone());
+        let (code, calls) = reference::run(&mut table, &case.list, &mut answers);
+        Ran {
+            outcome: Outcome { code, calls },
+            table,
+            answers,
+        }
+    })
+}
+
+/// The first difference between the kernel's run and the separate machine's.
+pub fn difference(case: &Case, kernel: &Ran, separate: &Ran) -> Option<String> {
+    outcome_difference(kernel.outcome, separate.outcome)
+        .or_else(|| answers_difference(case, kernel, separate))
+        .or_else(|| table_difference(case, kernel, separate))
+}
+
+fn outcome_difference(kernel: Outcome, separate: Outcome) -> Option<String> {
+    if kernel.code != separate.code {
+        return Some(format!(
+            "the kernel ends with code {} ({}), the separate machine with {} ({})",
+            kernel.code,
+            meaning(kernel.code),
+            separate.code,
+            meaning(separate.code)
+        ));
+    }
+    (kernel.calls != separate.calls).then(|| {
+        format!(
+            "the kernel counts {} calls, the separate machine {}",
+            kernel.calls, separate.calls
+        )
+    })
+}
+
+fn first_unequal(a: &[u32], b: &[u32]) -> Option<usize> {
+    (0..a.len().max(b.len())).find(|&place| a.get(place) != b.get(place))
+}
+
+fn answers_difference(case: &Case, kernel: &Ran, separate: &Ran) -> Option<String> {
+    let place = first_unequal(&kernel.answers, &separate.answers)?;
+    let number = place / ANSWER_WORDS;
+    if number >= separate.outcome.calls as usize {
+        return Some(format!(
+            "answer word {place} belongs to no call and was {:08X}: the kernel leaves {:08X}",
+            case.answers[place], kernel.answers[place]
+        ));
+    }
+    Some(format!(
+        "call {number} ({}): the kernel answers {}, the separate machine {}",
+        call_in_words(&cut(&case.list)[number]),
+        answer_in_words(&kernel.answers[number * ANSWER_WORDS..]),
+        answer_in_words(&separate.answers[number * ANSWER_WORDS..])
+    ))
+}
+
+/// An answer's three words, as `linerun` prints them.
+pub fn answer_in_words(answer: &[u32]) -> String {
+    let (kind, caller) = (bits(answer[0], 31, 28), bits(answer[0], 27, 22));
+    let code = bits(answer[0], 15, 0);
+    let rest = match bits(answer[0], 21, 16) {
+        0 => String::new(),
+        bits => format!(" (bits 21 to 16 are {bits})"),
+    };
+    let (x, y) = (answer[1], answer[2]);
+    format!("caller {caller} kind {kind} code {code} data {x} {y}{rest}")
+}
+
+fn table_difference(case: &Case, kernel: &Ran, separate: &Ran) -> Option<String> {
+    let place = first_unequal(&kernel.table, &separate.table)?;
+    let told = match separate.outcome.code {
+        0 => place_in_words(&case.table, place),
+        code => format!("word {place} of a table refused with {code}"),
+    };
+    Some(format!(
+        "{told}, was {:08X}: the kernel leaves {:08X}, the separate machine {:08X}",
+        case.table[place], kernel.table[place], separate.table[place]
+    ))
+}
+
+/// The calls that are kept for a domain (document 01: the striking rule), each
+/// with whether it is.
+pub fn kept_calls(case: &Case, domain: usize) -> Vec<(Call, bool)> {
+    let calls = cut(&case.list);
+    let kept = purge(&case.table, &calls, domain);
+    calls.into_iter().zip(kept).collect()
+}
+
+/// Compares what a domain sees of the kernel's run of the whole list and of the
+/// separate machine's run of the calls kept for it: the number of calls struck,
+/// or the first difference.
+pub fn isolation(case: &Case, kernel: &Ran, domain: usize) -> Result<usize, String> {
+    let calls = kept_calls(case, domain);
+    let kept: Vec<Call> = calls.iter().filter(|(_, k)| *k).map(|(c, _)| *c).collect();
+    let mut table = case.table.clone();
+    let answers: Vec<u32> = kept
+        .iter()
+        .flat_map(|call| step(&mut table, call))
+        .collect();
+    let again = view(&table, &kept, &answers, domain);
+    let all: Vec<Call> = calls.iter().map(|(call, _)| *call).collect();
+    let whole = view(&kernel.table, &all, &kernel.answers, domain);
+    let struck = all.len() - kept.len();
+    match view_difference(case, &all, &whole, &again, domain) {
+        None => Ok(struck),
+        Some(told) => Err(format!(
+            "domain {domain}, with {struck} of {} calls struck: {told}",
+            all.len()
+        )),
+    }
+}
+
+fn view_difference(
+    case: &Case,
+    calls: &[Call],
+    whole: &View,
+    again: &View,
+    domain: usize,
+) -> Option<String> {
+    own_answer_difference(calls, whole, again, domain)
+        .or_else(|| own_rights_difference(case, whole, again, domain))
+        .or_else(|| own_queue_difference(whole, again))
+}
+
+fn own_answer_difference(
+    calls: &[Call],
+    whole: &View,
+    again: &View,
+    domain: usize,
+) -> Option<String> {
+    if whole.answers.len() != again.answers.len() {
+        return Some("one of its own calls was struck".to_string());
+    }
+    let place = (0..whole.answers.len()).find(|&i| whole.answers[i] != again.answers[i])?;
+    let own = |(_, call): &(usize, &Call)| call.caller() == Some(domain as u32);
+    let (number, call) = calls.iter().enumerate().filter(own).nth(place)?;
+    Some(format!(
+        "its call {number} ({}) is answered {} in the whole list, {} without the struck calls",
+        call_in_words(call),
+        answer_in_words(&whole.answers[place]),
+        answer_in_words(&again.answers[place])
+    ))
+}
+
+fn own_rights_difference(case: &Case, whole: &View, again: &View, domain: usize) -> Option<String> {
+    let target = first_unequal(&whole.rights, &again.rights)?;
+    let place = rights_place(&case.table, domain, target);
+    Some(format!(
+        "{} is {:08X} after the whole list, {:08X} without the struck calls",
+        place_in_words(&case.table, place),
+        whole.rights[target],
+        again.rights[target]
+    ))
+}
+
+fn own_queue_difference(whole: &View, again: &View) -> Option<String> {
+    let pairs = whole.queues.iter().zip(&again.queues);
+    let (with, without) = pairs.into_iter().find(|(a, b)| a != b)?;
+    Some(format!(
+        "its endpoint {} has {} after the whole list, {} without the struck calls",
+        with.endpoint,
+        queue_words(with),
+        queue_words(without)
+    ))
+}
+
+fn queue_words(queue: &QueueView) -> String {
+    format!(
+        "{:08X} {:08X} {}",
+        queue.waiting,
+        queue.lost,
+        reference::words::hex(&queue.messages)
+    )
+}
+
+#[cfg(test)]
+mod tests {
+    use super::*;
+    use crate::boundary::PROVED;
+    use crate::faulty;
+    use reference::example::{LIST_L, TABLE_T};
+
+    fn example() -> Case {
+        Case {
+            table: TABLE_T.to_vec(),
+            list: LIST_L.to_vec(),
+            answers: vec![0xDEAD_BEEF; 29],
+        }
+    }
+
+    fn told(kernel: &Kernel) -> Option<String> {
+        let case = example();
+        match kernel_run(kernel, &case) {
+            Err(wrong) => Some(wrong),
+            Ok(ran) => difference(&case, &ran, &separate_run(&case).unwrap()),
+        }
+    }
+
+    #[test]
+    fn the_proved_kernel_does_not_differ() {
+        assert_eq!(told(&PROVED), None);
+        let case = example();
+        let ran = kernel_run(&PROVED, &case).unwrap();
+        let struck: Vec<usize> = (0..3)
+            .map(|domain| isolation(&case, &ran, domain).unwrap())
+            .collect();
+        assert_eq!(struck, [4, 4, 1]);
+    }
+
+    #[test]
+    fn struck_calls_are_those_of_p12() {
+        let calls = kept_calls(&example(), 1);
+        let struck: Vec<usize> = (0..9).filter(|&i| !calls[i].1).collect();
+        assert_eq!(struck, [4, 5, 6, 8]);
+    }
+
+    #[test]
+    fn a_wrong_answer_is_told() {
+        let told = told(&faulty::WRONG_ANSWER).unwrap();
+        assert!(told.starts_with("call 8 (domain 2 asks for its endpoints)"));
+        assert!(told.contains("the kernel answers caller 2 kind 4 code 0 data 3 0"));
+    }
+
+    #[test]
+    fn a_wrong_table_is_told() {
+        let told = told(&faulty::WRONG_TABLE).unwrap();
+        assert!(told.starts_with("word 33, endpoint 1's message slot 7, was F0000000"));
+    }
+
+    #[test]
+    fn a_wrong_code_and_a_wrong_count_are_told() {
+        let code = told(&faulty::WRONG_CODE).unwrap();
+        assert!(code.starts_with("the kernel ends with code 6"), "{code}");
+        let count = told(&faulty::WRONG_COUNT).unwrap();
+        assert_eq!(count, "the kernel counts 10 calls, the separate machine 9");
+    }
+
+    #[test]
+    fn words_beyond_the_answers_and_beyond_the_space_are_watched() {
+        let beyond = told(&faulty::WRITES_BEYOND_ANSWERS).unwrap();
+        assert!(beyond.starts_with("answer word 27 belongs to no call"));
+        let outside = told(&faulty::WRITES_OUTSIDE).unwrap();
+        assert_eq!(
+            outside,
+            "the kernel wrote outside the answer space it was lent"
+        );
+        let list = told(&faulty::WRITES_LIST).unwrap();
+        assert_eq!(list, "the kernel wrote the list");
+    }
+
+    #[test]
+    fn a_view_that_differs_is_told() {
+        let case = example();
+        let mut ran = separate_run(&case).unwrap();
+        ran.answers[3 * 5 + 1] = 1;
+        let told = isolation(&case, &ran, 2).unwrap_err();
+        assert!(told.contains("its call 5 (domain 2 receives from endpoint 1)"));
+        ran = separate_run(&case).unwrap();
+        ran.table[3] = 0x2000_0000;
+        let told = isolation(&case, &ran, 0).unwrap_err();
+        assert!(
+            told.contains("the rights of domain 0 on domain 2"),
+            "{told}"
+        );
+        ran = separate_run(&case).unwrap();
+        ran.table[25] = 0x6000_0000;
+        let told = isolation(&case, &ran, 2).unwrap_err();
+        assert!(
+            told.contains("its endpoint 1 has 50000000 60000000"),
+            "{told}"
+        );
+    }
+}

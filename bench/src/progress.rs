@@ -1,0 +1,42 @@
+//! One line of progress, on a terminal only: in a pipe or a log nothing is shown.
+
+use std::io::{self, IsTerminal, Write};
+use std::time::{Duration, Instant};
+
+pub struct Progress {
+    what: &'static str,
+    done: u64,
+    of: u64,
+    shown: Option<Instant>,
+}
+
+const EVERY: Duration = Duration::from_millis(200);
+
+impl Progress {
+    pub fn new(what: &'static str, of: u64) -> Progress {
+        let shown = io::stderr().is_terminal().then(Instant::now);
+        Progress {
+            what,
+            done: 0,
+            of,
+            shown,
+        }
+    }
+
+    /// One more is done.
+    pub fn step(&mut self) {
+        self.done += 1;
+        if self.shown.is_some_and(|shown| shown.elapsed() >= EVERY) {
+            eprint!("\r{} of {} {} ", self.done, self.of, self.what);
+            let _ = io::stderr().flush();
+            self.shown = Some(Instant::now());
+        }
+    }
+
+    /// Takes the line away.
+    pub fn clear(&mut self) {
+        if self.shown.is_some() {
+            eprint!("\r{:60}\r", "");
+        }
+    }
+}

@@ -1,0 +1,181 @@
+//! `bench show`: a table and a list in words, as a small diagram, and as a
+//! picture.
+
+use reference::cut;
+use reference::table::{
+    capacity, domains, endpoint_words, endpoints, lost, name, owner, rights, waiting, SLOTS_PLACE,
+};
+use reference::words::content;
+
+use crate::args::Options;
+use crate::explain::{call_in_words, letters, meaning, table_fault};
+use crate::input::{read_bytes, Input};
+use crate::output::{self, say};
+use crate::picture;
+
+pub const HELP: &str = "\
+bench show FILE [--svg OUT] [--calls N]
+
+Shows an input of linerun in words: who has which right on whom, the queues with
+what waits in them, and the calls of the list.
+
+  --svg OUT   write the same as a picture to OUT
+  --calls N   show the first N calls only (default: all; in a picture 24)
+
+Exit status: 0 shown; 1 the input or its table is refused, with what is wrong; 2
+bad usage, or a file that can't be read or written.
+";
+
+/// How many calls a picture shows where nothing else is asked for.
+const CALLS_IN_PICTURE: usize = 24;
+
+/// The command: whether the input is one that runs.
+pub fn command(line: &[String]) -> Result<bool, String> {
+    let options = Options::parse(line, &["--svg", "--calls"], &[])?;
+    let file = options.file()?;
+    let calls = options.number("--calls")?.map(|calls| calls as usize);
+    let input = match Input::parse(&read_bytes(file)?) {
+        Ok(input) => input,
+        Err((code, why)) => {
+            say!("refused with {code} ({}): {why}", meaning(code));
+            return Ok(false);
+        }
+    };
+    if let Some((code, fault)) = table_fault(&input.table) {
+        say!("table refused with {code} ({}): {fault}", meaning(code));
+        output::write(crate::text::write(&input).as_bytes());
+        return Ok(false);
+    }
+    output::write(in_words(&input, calls.unwrap_or(usize::MAX)).as_bytes());
+    if let Some(out) = options.text("--svg") {
+        let svg = picture::svg(&input, calls.unwrap_or(CALLS_IN_PICTURE));
+        std::fs::write(out, svg).map_err(|why| format!("cannot write {out}: {why}"))?;
+        say!("picture written to {out}");
+    }
+    Ok(true)
+}
+
+/// An accepted table and a list in words.
+fn in_words(input: &Input, calls: usize) -> String {
+    let table = &input.table;
+    format!(
+        "Table: {} domains, {} endpoints, {} words\n\n{}\n{}\n{}",
+        domains(table),
+        endpoints(table),
+        table.len(),
+        rights_in_words(table),
+        queues_in_words(table),
+        calls_in_words(&input.list, calls)
+    )
+}
+
+/// The rights as a grid: a row for each holder, a column for each target.
+fn rights_in_words(table: &[u32]) -> String {
+    let n = domains(table);
+    let mut text = String::from("Rights (S send, G grant, R remove): who has them, on whom\n");
+    let heads: Vec<String> = (0..n).map(|target| format!("{target:>4}")).collect();
+    text += &format!("  {:>9} {}\n", "", heads.concat());
+    for holder in 0..n {
+        let cells: Vec<String> = (0..n)
+            .map(|target| match rights(table, holder, target) {
+                0 => format!("{:>4}", "."),
+                set => format!("{:>4}", letters(set)),
+            })
+            .collect();
+        text += &format!("  domain {holder:>2} {}\n", cells.concat());
+    }
+    text
+}
+
+/// Each endpoint with its queue: who owns it, who may send, what waits.
+fn queues_in_words(table: &[u32]) -> String {
+    let mut text = String::from("Queues\n");
+    if endpoints(table) == 0 {
+        text += "  none\n";
+    }
+    for e in 0..endpoints(table) {
+        text += &format!(
+            "  {} ==> endpoint {e} (name {}) [{}] ==> domain {}; {} of {} wait, {} lost\n",
+            senders_in_words(table, e),
+            name(table, e),
+            slots_in_words(table, e),
+            owner(table, e),
+            waiting(table, e),
+            capacity(table, e),
+            lost(table, e)
+        );
+    }
+    text
+}
+
+/// The domains that may send to an endpoint: its owner, and who has SEND on it.
+fn senders_in_words(table: &[u32], endpoint: usize) -> String {
+    let to = owner(table, endpoint);
+    let may = |&from: &usize| from == to || rights(table, from, to) & 1 != 0;
+    let senders: Vec<String> = (0..domains(table))
+        .filter(may)
+        .map(|d| d.to_string())
+        .collect();
+    format!("from {}", senders.join(" "))
+}
+
+/// The messages that wait, oldest first, and a dash for each free place.
+fn slots_in_words(table: &[u32], endpoint: usize) -> String {
+    let slots = &endpoint_words(table, endpoint)[SLOTS_PLACE..];
+    let waits = waiting(table, endpoint);
+    let places: Vec<String> = (0..capacity(table, endpoint))
+        .map(|place| match place {
+            place if place < waits => content(slots[place]).to_string(),
+            _ => "-".to_string(),
+        })
+        .collect();
+    places.join(" ")
+}
+
+fn calls_in_words(list: &[u32], most: usize) -> String {
+    let calls = cut(list);
+    let mut text = format!("List: {} calls in {} words\n", calls.len(), list.len());
+    for (number, call) in calls.iter().enumerate().take(most) {
+        let words = reference::words::hex(&call.words());
+        text += &format!("  {number:>4}  {words:<17}  {}\n", call_in_words(call));
+    }
+    if calls.len() > most {
+        text += &format!("  and {} more\n", calls.len() - most);
+    }
+    text
+}
+
+#[cfg(test)]
+mod tests {
+    use super::*;
+    use reference::example::{LIST_L, TABLE_T};
+
+    fn example() -> Input {
+        Input {
+            table: TABLE_T.to_vec(),
+            list: LIST_L.to_vec(),
+        }
+    }
+
+    #[test]
+    fn the_worked_example_in_words() {
+        let told = in_words(&example(), 2);
+        assert!(told.starts_with("Table: 3 domains, 2 endpoints, 34 words\n"));
+        assert!(told.contains("domain  1    S   . SGR\n"), "{told}");
+        assert!(told.contains("from 0 1 ==> endpoint 0 (name 17) [- -] ==> domain 1; 0 of 2 wait"));
+        assert!(told.contains("   0  20000100 F0000005  domain 0 sends 5 to endpoint 1\n"));
+        assert!(told.ends_with("  and 7 more\n"), "{told}");
+    }
+
+    #[test]
+    fn what_waits_is_shown_oldest_first() {
+        let mut table = TABLE_T;
+        table[12] = 0x5000_0001;
+        table[14] = 0xF000_0007;
+        let told = queues_in_words(&table);
+        assert!(
+            told.contains("[7 -] ==> domain 1; 1 of 2 wait, 0 lost"),
+            "{told}"
+        );
+    }
+}

@@ -1,0 +1,77 @@
+//! A run that differs, cut down: as few calls as still show it.
+
+use std::time::{Duration, Instant};
+
+use reference::calls::{cut, Call};
+use reference::generate::Case;
+
+/// How long shorter runs are tried.
+const TIME: Duration = Duration::from_secs(2);
+
+/// Leaves out calls, many at a time and then one by one, as long as the rest still
+/// differs. A run that doesn't differ as it stands is given back as it is.
+pub fn shrink(case: &Case, differs: impl Fn(&Case) -> bool) -> Case {
+    let mut calls = cut(&case.list);
+    let began = Instant::now();
+    let mut at_a_time = calls.len().div_ceil(2).max(1);
+    loop {
+        let mut start = 0;
+        while start < calls.len() && began.elapsed() < TIME {
+            let end = (start + at_a_time).min(calls.len());
+            let rest = [&calls[..start], &calls[end..]].concat();
+            if differs(&with_calls(case, &rest)) {
+                calls = rest;
+            } else {
+                start = end;
+            }
+        }
+        if at_a_time == 1 || began.elapsed() >= TIME {
+            return with_calls(case, &calls);
+        }
+        at_a_time = at_a_time.div_ceil(2);
+    }
+}
+
+/// The same run with other calls, the answer space as it was.
+fn with_calls(case: &Case, calls: &[Call]) -> Case {
+    Case {
+        list: calls.iter().flat_map(Call::words).collect(),
+        ..case.clone()
+    }
+}
+
+#[cfg(test)]
+mod tests {
+    use super::*;
+    use reference::example::{LIST_L, TABLE_T};
+
+    fn example() -> Case {
+        Case {
+            table: TABLE_T.to_vec(),
+            list: LIST_L.to_vec(),
+            answers: vec![0; 30],
+        }
+    }
+
+    #[test]
+    fn what_is_needed_stays() {
+        let needs_two = |case: &Case| {
+            let calls = cut(&case.list);
+            let has = |kind| calls.iter().any(|call| call.kind() == kind);
+            has(6) && has(3)
+        };
+        let smaller = shrink(&example(), needs_two);
+        assert_eq!(smaller.list, [0x6042_0001, 0x3080_0100]);
+        assert_eq!(smaller.table, TABLE_T);
+    }
+
+    #[test]
+    fn what_does_not_differ_stays_whole() {
+        assert_eq!(shrink(&example(), |_| false), example());
+    }
+
+    #[test]
+    fn what_always_differs_gets_empty() {
+        assert_eq!(shrink(&example(), |_| true).list, []);
+    }
+}

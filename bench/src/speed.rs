@@ -1,0 +1,272 @@
+//! `bench speed`: the proved kernel's speed beside the plain C kernel's, in one
+//! run, as ratios.
+
+use std::time::{Duration, Instant};
+
+use reference::example::TABLE_T;
+use reference::generate::Case;
+use reference::words::to_bytes;
+
+use crate::args::Options;
+use crate::boundary::{Kernel, KERNELS};
+use crate::compare::{difference, kernel_run, separate_run};
+use crate::output::{self, say};
+use crate::workloads::{largest_table, workloads, Workload};
+
+pub const HELP: &str = "\
+bench speed [--rounds N]
+
+Measures the proved kernel beside the plain C kernel of bench/c as gcc -O3 and,
+where there is one, clang -O3 make it, and prints a Markdown table: table checks,
+and calls on four lists of 4,096 words. All kernels take turns in each of N
+rounds (default 301); a figure is the median of the rounds, a ratio the median of
+the rounds' ratios, the proved kernel's time over the other's: above 1 the proved
+kernel is slower. Every kernel's run is first compared with the separate machine.
+
+Exit status: 0 measured; 1 a kernel's run differs; 2 bad usage.
+";
+
+/// How long one kernel is timed in one round, about.
+const TURN: Duration = Duration::from_micros(300);
+
+/// Does something with a kernel so many times; gives how long that took.
+type Act<'a> = dyn Fn(&Kernel, usize) -> Duration + 'a;
+
+/// Something to measure: how it is called, what is done, and how many of its units
+/// one time has.
+struct Subject<'a> {
+    name: String,
+    unit: &'static str,
+    units: usize,
+    act: Box<Act<'a>>,
+}
+
+/// The command: whether every kernel's runs are right, so that its speed counts.
+pub fn command(line: &[String]) -> Result<bool, String> {
+    let options = Options::parse(line, &["--rounds"], &[])?;
+    options.no_file()?;
+    let rounds = options.number("--rounds")?.unwrap_or(301).clamp(1, 100_000) as usize;
+    let workloads = workloads();
+    if let Some(told) = workloads.iter().find_map(first_wrong) {
+        say!("{told}");
+        return Ok(false);
+    }
+    output::write(head(rounds).as_bytes());
+    for subject in subjects(&workloads) {
+        say!("{}", row(&subject, rounds));
+    }
+    output::write(foot(&workloads).as_bytes());
+    Ok(true)
+}
+
+/// What differs between a kernel's run of a workload and the separate machine's.
+fn first_wrong(workload: &Workload) -> Option<String> {
+    let case = Case {
+        table: workload.table.clone(),
+        list: workload.list.clone(),
+        answers: vec![0; 3 * workload.list.len()],
+    };
+    KERNELS.iter().find_map(|kernel| {
+        let compared = kernel_run(kernel, &case).and_then(|ran| {
+            let separate = separate_run(&case)?;
+            difference(&case, &ran, &separate).map_or(Ok(()), Err)
+        });
+        let told = compared.err()?;
+        Some(format!("{} on {}: {told}", kernel.name, workload.name))
+    })
+}
+
+fn subjects(workloads: &[Workload]) -> Vec<Subject<'_>> {
+    let mut subjects = vec![
+        checks("table check, table T", to_bytes(&TABLE_T)),
+        checks("table check, n 16, m 32", to_bytes(&largest_table())),
+    ];
+    for workload in workloads {
+        subjects.push(runs(workload));
+        subjects.push(entries(workload));
+    }
+    subjects
+}
+
+/// The check of a table image. Nothing is written, so nothing is reset.
+fn checks(name: &str, bytes: Vec<u8>) -> Subject<'static> {
+    Subject {
+        name: format!("{name} ({} bytes)", bytes.len()),
+        unit: "checks",
+        units: 1,
+        act: Box::new(move |kernel, times| {
+            let start = Instant::now();
+            for _ in 0..times {
+                assert_eq!(kernel.table_check(std::hint::black_box(&bytes)), 0);
+            }
+            start.elapsed()
+        }),
+    }
+}
+
+/// Whole runs of a workload. The table and the answers are reset before each run,
+/// outside the timed part.
+fn runs(workload: &Workload) -> Subject<'_> {
+    Subject {
+        name: format!("{}, entry included", workload.name),
+        unit: "calls",
+        units: reference::cut(&workload.list).len(),
+        act: Box::new(move |kernel, times| {
+            let mut table = workload.table.clone();
+            let mut answers = vec![0; 3 * workload.list.len()];
+            let mut timed = Duration::ZERO;
+            for _ in 0..times {
+                table.copy_from_slice(&workload.table);
+                answers.fill(0);
+                let start = Instant::now();
+                let outcome = kernel.run(&mut table, &workload.list, &mut answers);
+                timed += start.elapsed();
+                assert_eq!(outcome.code, 0);
+            }
+            timed
+        }),
+    }
+}
+
+/// The entry alone: runs of an empty list on the workload's table. Nothing is
+/// written, so nothing is reset.
+fn entries(workload: &Workload) -> Subject<'_> {
+    Subject {
+        name: format!("its entry alone ({} table words)", workload.table.len()),
+        unit: "entries",
+        units: 1,
+        act: Box::new(move |kernel, times| {
+            let mut table = workload.table.clone();
+            let mut answers = [0; 3];
+            let start = Instant::now();
+            for _ in 0..times {
+                assert_eq!(kernel.run(&mut table, &[], &mut answers).code, 0);
+            }
+            start.elapsed()
+        }),
+    }
+}
+
+/// How often a turn repeats the subject, so that it lasts about as long as it
+/// should with the slowest kernel.
+fn times_for(subject: &Subject) -> usize {
+    let one = |kernel: &Kernel| {
+        (subject.act)(kernel, 20);
+        (subject.act)(kernel, 20)
+    };
+    let slowest = KERNELS.iter().map(one).max().unwrap_or(TURN);
+    let each = slowest.as_nanos().max(20) / 20;
+    (TURN.as_nanos() / each).max(1) as usize
+}
+
+/// Seconds for one unit, for each kernel in each round.
+fn measured(subject: &Subject, rounds: usize) -> Vec<Vec<f64>> {
+    let times = times_for(subject);
+    let mut seconds = vec![Vec::with_capacity(rounds); KERNELS.len()];
+    for round in 0..rounds {
+        for turn in 0..KERNELS.len() {
+            // Who begins goes round, so that nobody always follows the same one.
+            let which = (turn + round) % KERNELS.len();
+            let timed = (subject.act)(&KERNELS[which], times).as_secs_f64();
+            seconds[which].push(timed / (times * subject.units) as f64);
+        }
+    }
+    seconds
+}
+
+fn median(figures: impl Iterator<Item = f64>) -> f64 {
+    let mut figures: Vec<f64> = figures.collect();
+    figures.sort_by(f64::total_cmp);
+    figures[figures.len() / 2]
+}
+
+/// One line of the table.
+fn row(subject: &Subject, rounds: usize) -> String {
+    let seconds = measured(subject, rounds);
+    let mut cells = vec![subject.name.clone()];
+    for figures in &seconds {
+        cells.push(rate(median(figures.iter().copied()), subject.unit));
+    }
+    for other in &seconds[1..] {
+        let ratios = seconds[0]
+            .iter()
+            .zip(other)
+            .map(|(proved, other)| proved / other);
+        cells.push(format!("{:.2}", median(ratios)));
+    }
+    format!("| {} |", cells.join(" | "))
+}
+
+/// A rate with its unit, and the time for one.
+fn rate(seconds: f64, unit: &str) -> String {
+    let nanoseconds = seconds * 1e9;
+    let millions = 1e-6 / seconds;
+    format!("{millions:.2} M {unit}/s ({nanoseconds:.1} ns)")
+}
+
+fn head(rounds: usize) -> String {
+    let mut titles = vec!["What".to_string()];
+    titles.extend(KERNELS.iter().map(|kernel| kernel.title.to_string()));
+    let others = KERNELS[1..].iter();
+    titles.extend(others.map(|other| format!("time, proved over {}", other.name)));
+    format!(
+        "Processor: {}. Plain C by {}. Medians of {rounds} interleaved rounds.\n\n| {} |\n|---|{}\n",
+        processor(),
+        env!("PLAIN_COMPILERS"),
+        titles.join(" | "),
+        "---:|".repeat(titles.len() - 1)
+    )
+}
+
+/// The processor's name, where the system tells it.
+fn processor() -> String {
+    let info = std::fs::read_to_string("/proc/cpuinfo").unwrap_or_default();
+    let line = info.lines().find(|line| line.starts_with("model name"));
+    let name = line.and_then(|line| line.split_once(": "));
+    name.map_or("unknown".to_string(), |(_, name)| name.to_string())
+}
+
+fn foot(workloads: &[Workload]) -> String {
+    let sizes: Vec<String> = workloads
+        .iter()
+        .map(|workload| {
+            let calls = reference::cut(&workload.list).len();
+            format!("{} ({calls} calls)", workload.name)
+        })
+        .collect();
+    format!(
+        "\nLists of 4,096 words: {}. Before each run of a list the table and the answers are \
+         reset outside the timed part; checks and entries write nothing and are not reset. An \
+         entry alone is a run of the empty list.\n",
+        sizes.join("; ")
+    )
+}
+
+#[cfg(test)]
+mod tests {
+    use super::*;
+
+    #[test]
+    fn the_median_is_the_one_in_the_middle() {
+        assert_eq!(median([5.0, 1.0, 3.0].into_iter()), 3.0);
+        assert_eq!(median([2.0].into_iter()), 2.0);
+    }
+
+    #[test]
+    fn every_kernel_is_right_on_every_workload() {
+        assert_eq!(workloads().iter().find_map(first_wrong), None);
+    }
+
+    #[test]
+    fn the_table_has_a_row_for_each_subject_and_a_cell_for_each_title() {
+        let workloads = workloads();
+        let subjects = subjects(&workloads);
+        assert_eq!(subjects.len(), 10);
+        let columns = head(1).lines().nth(2).unwrap().matches('|').count();
+        assert_eq!(row(&subjects[0], 1).matches('|').count(), columns);
+        assert_eq!(
+            head(1).lines().nth(3).unwrap().matches('|').count(),
+            columns
+        );
+    }
+}

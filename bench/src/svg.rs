@@ -1,0 +1,131 @@
+//! A few shapes of SVG, as text: what `picture` draws with.
+
+/// The text colour, the quiet one, and that of lines.
+pub const INK: &str = "#1f2933";
+pub const QUIET: &str = "#66727f";
+pub const LINE: &str = "#c5ccd4";
+pub const ARROW: &str = "#5b6774";
+
+/// Where a text's given point is.
+#[derive(Clone, Copy)]
+pub enum Anchor {
+    Start,
+    Middle,
+    End,
+}
+
+/// How a text looks.
+#[derive(Clone, Copy)]
+pub struct Style {
+    pub size: f64,
+    pub colour: &'static str,
+    pub anchor: Anchor,
+    pub bold: bool,
+    /// Digits and letters of one width, for words and messages.
+    pub even: bool,
+}
+
+impl Style {
+    pub const fn new(size: f64, colour: &'static str) -> Style {
+        Style {
+            size,
+            colour,
+            anchor: Anchor::Start,
+            bold: false,
+            even: false,
+        }
+    }
+
+    pub const fn middle(self) -> Style {
+        Style {
+            anchor: Anchor::Middle,
+            ..self
+        }
+    }
+
+    pub const fn end(self) -> Style {
+        Style {
+            anchor: Anchor::End,
+            ..self
+        }
+    }
+
+    pub const fn bold(self) -> Style {
+        Style { bold: true, ..self }
+    }
+
+    pub const fn even(self) -> Style {
+        Style { even: true, ..self }
+    }
+}
+
+/// A drawing that grows by one shape after another.
+#[derive(Default)]
+pub struct Drawing {
+    body: String,
+}
+
+impl Drawing {
+    /// A text with its middle line at y.
+    pub fn text(&mut self, x: f64, y: f64, style: Style, text: &str) {
+        let anchor = match style.anchor {
+            Anchor::Start => "start",
+            Anchor::Middle => "middle",
+            Anchor::End => "end",
+        };
+        let weight = if style.bold {
+            " font-weight=\"600\""
+        } else {
+            ""
+        };
+        let family = if style.even {
+            " font-family=\"DejaVu Sans Mono, Menlo, Consolas, monospace\""
+        } else {
+            ""
+        };
+        self.body += &format!(
+            "<text x=\"{x:.1}\" y=\"{:.1}\" font-size=\"{}\" fill=\"{}\" \
+             text-anchor=\"{anchor}\"{weight}{family}>{text}</text>\n",
+            y + style.size * 0.35,
+            style.size,
+            style.colour
+        );
+    }
+
+    /// A box with round corners; `edge` is its line's colour, or `none`.
+    pub fn rect(&mut self, at: (f64, f64), size: (f64, f64), round: f64, fill: &str, edge: &str) {
+        self.body += &format!(
+            "<rect x=\"{:.1}\" y=\"{:.1}\" width=\"{:.1}\" height=\"{:.1}\" rx=\"{round}\" \
+             fill=\"{fill}\" stroke=\"{edge}\"/>\n",
+            at.0, at.1, size.0, size.1
+        );
+    }
+
+    pub fn circle(&mut self, x: f64, y: f64, radius: f64, fill: &str) {
+        self.body +=
+            &format!("<circle cx=\"{x:.1}\" cy=\"{y:.1}\" r=\"{radius}\" fill=\"{fill}\"/>\n");
+    }
+
+    /// An arrow along a path, which is given as SVG writes it.
+    pub fn arrow(&mut self, path: &str) {
+        self.body += &format!(
+            "<path d=\"{path}\" fill=\"none\" stroke=\"{ARROW}\" stroke-width=\"1.6\" \
+             marker-end=\"url(#head)\"/>\n"
+        );
+    }
+
+    /// The whole picture: its size, its name, and what was drawn.
+    pub fn finish(self, width: f64, height: f64, title: &str) -> String {
+        format!(
+            "<svg xmlns=\"http://www.w3.org/2000/svg\" width=\"{width:.0}\" height=\"{height:.0}\" \
+             viewBox=\"0 0 {width:.0} {height:.0}\" role=\"img\" \
+             font-family=\"DejaVu Sans, Helvetica, Arial, sans-serif\">\n\
+             <title>{title}</title>\n\
+             <defs><marker id=\"head\" viewBox=\"0 0 10 10\" refX=\"9\" refY=\"5\" \
+             markerWidth=\"8\" markerHeight=\"8\" markerUnits=\"userSpaceOnUse\" orient=\"auto\">\
+             <path d=\"M0 0.8 L10 5 L0 9.2 z\" fill=\"{ARROW}\"/></marker></defs>\n\
+             <rect width=\"100%\" height=\"100%\" fill=\"#ffffff\"/>\n{}</svg>\n",
+            self.body
+        )
+    }
+}

@@ -1,0 +1,160 @@
+//! What a fuzz has met: how often each code, and how often each thing that runs
+//! must be driven to. What was never met was never compared.
+
+use reference::entry::ANSWER_WORDS;
+use reference::generate::Case;
+use reference::table::{domains, endpoints};
+use reference::words::bits;
+
+use crate::compare::Ran;
+use crate::counts::Counts;
+use crate::explain::meaning;
+
+/// The codes that a run ends with, and those that a call is answered with.
+const ENTRY_CODES: std::ops::RangeInclusive<u32> = 0..=6;
+const CALL_CODES: std::ops::RangeInclusive<u32> = 10..=23;
+
+/// What one run that doesn't differ came to.
+pub struct Tried {
+    pub ran: Ran,
+    pub counts: Counts,
+    /// How many domains' views were compared, and how many calls were struck in
+    /// all for them.
+    pub views: u64,
+    pub struck: u64,
+}
+
+impl Tried {
+    /// A run that the entry refuses: there is nothing more to compare.
+    pub fn refused(ran: Ran) -> Tried {
+        Tried {
+            ran,
+            counts: Counts::default(),
+            views: 0,
+            struck: 0,
+        }
+    }
+}
+
+#[derive(Debug, Clone, Default)]
+pub struct Tally {
+    runs: u64,
+    images: u64,
+    calls: u64,
+    /// By code: runs that ended with it, calls answered with it, images too.
+    entry: [u64; 24],
+    call: [u64; 24],
+    image: [u64; 24],
+    domains_met: u64,
+    endpoints_met: u64,
+    longest: usize,
+    full: u64,
+    at_top: u64,
+    emptied: u64,
+    views: u64,
+    struck: u64,
+}
+
+impl Tally {
+    /// A run that doesn't differ.
+    pub fn add_run(&mut self, case: &Case, tried: &Tried) {
+        let outcome = tried.ran.outcome;
+        self.runs += 1;
+        self.entry[outcome.code as usize] += 1;
+        self.longest = self.longest.max(case.list.len());
+        self.full += tried.counts.full;
+        self.at_top += tried.counts.at_top;
+        self.emptied += tried.counts.emptied;
+        self.views += tried.views;
+        self.struck += tried.struck;
+        if outcome.code == 0 {
+            self.domains_met |= 1 << domains(&case.table);
+            self.endpoints_met |= 1 << endpoints(&case.table);
+        }
+        self.calls += u64::from(outcome.calls);
+        let answers = tried.ran.answers.chunks_exact(ANSWER_WORDS);
+        for answer in answers.take(outcome.calls as usize) {
+            self.call[bits(answer[0], 15, 0) as usize] += 1;
+        }
+    }
+
+    pub fn add_image(&mut self, code: u32) {
+        self.images += 1;
+        self.image[code as usize] += 1;
+    }
+
+    /// What was met, one line for each code.
+    pub fn in_words(&self) -> String {
+        let mut text = format!("{} runs, {} calls", self.runs, self.calls);
+        text += &format!(", {} table images\n", self.images);
+        text += &row("run", 0, self.entry[0], "run to the end");
+        for code in ENTRY_CODES.skip(1) {
+            text += &row("run", code, self.entry[code as usize], meaning(code));
+        }
+        text += &row("call", 0, self.call[0], meaning(0));
+        for code in CALL_CODES {
+            text += &row("call", code, self.call[code as usize], meaning(code));
+        }
+        text += &row("image", 0, self.image[0], "accepted");
+        for code in image_codes().skip(1) {
+            text += &row("image", code, self.image[code as usize], meaning(code));
+        }
+        text + &self.facts_in_words()
+    }
+
+    fn facts_in_words(&self) -> String {
+        format!(
+            "  {} views of domains compared, {} calls struck for them\n  \
+             {} sends found the queue full, {} with the lost count at its top; {} receives left \
+             the queue empty\n  \
+             lists of up to {} words, {} numbers of domains, {} numbers of endpoints\n",
+            self.views,
+            self.struck,
+            self.full,
+            self.at_top,
+            self.emptied,
+            self.longest,
+            self.domains_met.count_ones(),
+            self.endpoints_met.count_ones()
+        )
+    }
+
+    /// What was never met though it was tried for.
+    pub fn never_met(&self, runs: bool, images: bool) -> Vec<String> {
+        let mut missing = Vec::new();
+        if runs {
+            let entry = ENTRY_CODES.map(|code| (format!("run code {code}"), code, &self.entry));
+            let call = CALL_CODES.map(|code| (format!("call code {code}"), code, &self.call));
+            let unmet = entry
+                .chain(call)
+                .filter(|(_, code, met)| met[*code as usize] == 0);
+            missing.extend(unmet.map(|(name, ..)| name));
+            missing.extend(self.facts_never_met());
+        }
+        if images {
+            let unmet = image_codes().filter(|&code| self.image[code as usize] == 0);
+            missing.extend(unmet.map(|code| format!("image code {code}")));
+        }
+        missing
+    }
+
+    fn facts_never_met(&self) -> Vec<String> {
+        let facts = [
+            (self.call[0], "a call that is done"),
+            (self.full, "a full queue"),
+            (self.at_top, "a lost count at its top"),
+            (self.emptied, "a queue left empty"),
+            (self.struck, "a struck call"),
+        ];
+        let unmet = facts.iter().filter(|(count, _)| *count == 0);
+        unmet.map(|(_, name)| name.to_string()).collect()
+    }
+}
+
+fn image_codes() -> impl Iterator<Item = u32> {
+    ENTRY_CODES.filter(|&code| code != 1 && code != 6)
+}
+
+fn row(what: &str, code: u32, count: u64, meaning: &str) -> String {
+    format!("  {what:5} code {code:2} {count:>12}  {meaning}\n")
+}

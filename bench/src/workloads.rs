@@ -1,0 +1,202 @@
+//! What the speed is measured on: tables, and lists of 4,096 words.
+//!
+//! Every list is drawn from a fixed seed, and leaves every queue and every right
+//! as it was after each few calls, so that its calls come to the same wherever
+//! they stand in it.
+
+use reference::calls::{
+    GRANT, LIST_WORDS_MAX, LOOK_UP, MY_ENDPOINTS, MY_RIGHTS, RECEIVE, REMOVE, SEND,
+};
+use reference::generate::{call_word, table_of, Rng};
+use reference::table::name;
+
+/// A table and a list to run on it.
+pub struct Workload {
+    pub name: &'static str,
+    pub table: Vec<u32>,
+    pub list: Vec<u32>,
+}
+
+/// All workloads, each with a list of 4,096 words.
+pub fn workloads() -> Vec<Workload> {
+    vec![send_and_receive(), all_seven(), refusals(), largest()]
+}
+
+/// A table with the given rights, row by row, and endpoints of capacity 8, empty,
+/// named from 101 on.
+fn table_with(rights: &[u32], n: usize, owners: &[usize]) -> Vec<u32> {
+    let mut table = vec![0x1000_0000 | (n << 8 | owners.len()) as u32];
+    table.extend(rights.iter().map(|set| 0x2000_0000 | set));
+    for (endpoint, owner) in owners.iter().enumerate() {
+        table.push(0x3000_0000 | (101 + endpoint) as u32);
+        table.push(0x4000_0008 | (owner << 8) as u32);
+        table.extend([0x5000_0000, 0x6000_0000]);
+        table.extend([0xF000_0000; 8]);
+    }
+    table
+}
+
+fn second(content: u32) -> u32 {
+    0xF000_0000 | content
+}
+
+/// Repeats what `more` draws until the list has 4,096 words; where the last of it
+/// doesn't fit, `filler` fills up.
+fn filled(filler: u32, mut more: impl FnMut() -> Vec<u32>) -> Vec<u32> {
+    let mut list = Vec::new();
+    loop {
+        let words = more();
+        if list.len() + words.len() > LIST_WORDS_MAX {
+            list.resize(LIST_WORDS_MAX, filler);
+            return list;
+        }
+        list.extend(words);
+    }
+}
+
+/// (i) Domain 0 sends, domain 1 receives.
+fn send_and_receive() -> Workload {
+    let mut message = 0;
+    let list = filled(call_word(MY_RIGHTS, 0, 0, 0, 0), || {
+        message += 1;
+        vec![
+            call_word(SEND, 0, 0, 0, 0),
+            second(message),
+            call_word(RECEIVE, 1, 0, 0, 0),
+        ]
+    });
+    Workload {
+        name: "send and receive between two domains",
+        table: table_with(&[0, 1, 0, 0], 2, &[1]),
+        list,
+    }
+}
+
+/// (ii) All seven kinds, in an order drawn anew each time round; none is refused.
+fn all_seven() -> Workload {
+    // Domain 0 may do everything to all, domain 1 may remove on domain 2.
+    let rights = [7, 7, 7, 7, 0, 0, 4, 0, 0, 0, 0, 0, 0, 0, 0, 0];
+    let mut rng = Rng::new(2);
+    let list = filled(call_word(MY_ENDPOINTS, 0, 0, 0, 0), || {
+        let e = rng.below(4);
+        let mut groups = [
+            vec![call_word(LOOK_UP, e, 0, 0, 0), second(101 + e as u32)],
+            vec![
+                call_word(SEND, 0, 0, e, 0),
+                second(rng.below(1000) as u32),
+                call_word(RECEIVE, e, 0, e, 0),
+            ],
+            vec![call_word(MY_ENDPOINTS, e, 0, 0, 0)],
+            vec![call_word(MY_RIGHTS, e, 0, 0, 0)],
+            vec![call_word(GRANT, 0, 2, 1, 1), call_word(REMOVE, 1, 2, 0, 1)],
+        ];
+        for last in (1..groups.len()).rev() {
+            groups.swap(last, rng.between(0, last));
+        }
+        groups.concat()
+    });
+    Workload {
+        name: "mixed list of all seven kinds",
+        table: table_with(&rights, 4, &[0, 1, 2, 3]),
+        list,
+    }
+}
+
+/// (iii) Every call is refused, each code 10 to 23 as often as another.
+fn refusals() -> Workload {
+    let grant =
+        |caller, target, recipient, set| vec![call_word(GRANT, caller, target, recipient, set)];
+    // Domain 0 has GRANT and SEND on domain 1 and nothing on domain 2.
+    let refused = [
+        vec![call_word(MY_RIGHTS, 0, 0, 0, 0), second(9)],
+        vec![call_word(9, 0, 0, 0, 0)],
+        vec![call_word(MY_RIGHTS, 3, 0, 0, 0)],
+        vec![call_word(RECEIVE, 0, 0, 0, 1)],
+        vec![call_word(SEND, 0, 0, 0, 0)],
+        vec![call_word(LOOK_UP, 0, 0, 0, 0), second(99)],
+        vec![call_word(RECEIVE, 0, 0, 9, 0)],
+        vec![call_word(SEND, 2, 0, 0, 0), second(1)],
+        vec![call_word(RECEIVE, 2, 0, 0, 0)],
+        vec![call_word(RECEIVE, 1, 0, 0, 0)],
+        grant(0, 1, 5, 1),
+        vec![call_word(REMOVE, 0, 1, 0, 3)],
+        vec![call_word(REMOVE, 0, 1, 0, 1)],
+        grant(0, 1, 2, 1),
+    ];
+    let mut rng = Rng::new(3);
+    Workload {
+        name: "list full of refusals",
+        table: table_with(&[0, 3, 0, 0, 0, 0, 0, 0, 0], 3, &[1]),
+        list: filled(call_word(9, 0, 0, 0, 0), || {
+            refused[rng.below(refused.len())].clone()
+        }),
+    }
+}
+
+/// (iv) The largest table, with my rights and look up by each domain in turn.
+fn largest() -> Workload {
+    let mut rng = Rng::new(4);
+    let table = largest_table();
+    let list = filled(call_word(MY_RIGHTS, 0, 0, 0, 0), || {
+        let caller = rng.below(16);
+        let name = name(&table, rng.below(32));
+        vec![
+            call_word(MY_RIGHTS, caller, 0, 0, 0),
+            call_word(LOOK_UP, caller, 0, 0, 0),
+            second(name),
+        ]
+    });
+    Workload {
+        name: "n 16, m 32, my rights and look up",
+        list,
+        table,
+    }
+}
+
+/// A sound table of 16 domains and 32 endpoints, 641 words.
+pub fn largest_table() -> Vec<u32> {
+    table_of(&mut Rng::new(5), 16, 32)
+}
+
+#[cfg(test)]
+mod tests {
+    use super::*;
+    use reference::cut;
+    use reference::words::bits;
+
+    /// How often each code is answered, each kind is called.
+    fn counted(workload: &Workload) -> ([usize; 24], [usize; 16]) {
+        let calls = cut(&workload.list);
+        let (mut table, mut answers) = (workload.table.clone(), vec![0; 3 * calls.len()]);
+        let outcome = reference::run(&mut table, &workload.list, &mut answers);
+        assert_eq!(outcome, (0, calls.len() as u32), "{}", workload.name);
+        assert_eq!(table, workload.table, "{} comes back", workload.name);
+        let (mut codes, mut kinds) = ([0; 24], [0; 16]);
+        for answer in answers.chunks(3) {
+            codes[bits(answer[0], 15, 0) as usize] += 1;
+            kinds[bits(answer[0], 31, 28) as usize] += 1;
+        }
+        (codes, kinds)
+    }
+
+    #[test]
+    fn lists_have_4096_words_and_come_to_what_their_name_says() {
+        let all = workloads();
+        assert!(all.iter().all(|workload| workload.list.len() == 4096));
+        let (codes, _) = counted(&all[0]);
+        assert_eq!(codes[0], 2731);
+        let (codes, kinds) = counted(&all[1]);
+        assert!(codes[1..].iter().all(|&count| count == 0), "{codes:?}");
+        assert!(kinds[1..=7].iter().all(|&count| count > 400), "{kinds:?}");
+        let (codes, kinds) = counted(&all[3]);
+        assert_eq!(codes[0], kinds[1] + kinds[5]);
+    }
+
+    #[test]
+    fn refusals_are_of_every_code() {
+        let (codes, _) = counted(&refusals());
+        assert!(codes[10..].iter().all(|&count| count > 100), "{codes:?}");
+        let done = codes[0];
+        assert!(done < 300, "only the call before a stray is done: {done}");
+    }
+}

@@ -1,0 +1,157 @@
+//! The program as it is used: its commands, what they print and their exit status.
+
+use std::fs;
+use std::path::PathBuf;
+use std::process::{Command, Output};
+
+use reference::example::{LIST_L, PRINTED, TABLE_T};
+use reference::words::{hex, to_bytes};
+
+fn bench(line: &[&str]) -> Output {
+    Command::new(env!("CARGO_BIN_EXE_bench"))
+        .args(line)
+        .output()
+        .expect("the program starts")
+}
+
+fn status(line: &[&str]) -> i32 {
+    bench(line).status.code().expect("it ends by itself")
+}
+
+fn printed(line: &[&str]) -> String {
+    String::from_utf8(bench(line).stdout).expect("text")
+}
+
+fn told(line: &[&str]) -> String {
+    String::from_utf8(bench(line).stderr).expect("text")
+}
+
+/// A file of its own for each test.
+fn file(name: &str, bytes: &[u8]) -> String {
+    let path = PathBuf::from(env!("CARGO_TARGET_TMPDIR")).join(name);
+    fs::write(&path, bytes).expect("a file can be written");
+    path.to_str().expect("a plain path").to_string()
+}
+
+fn example() -> Vec<u8> {
+    to_bytes(&[&[34], &TABLE_T[..], &LIST_L[..]].concat())
+}
+
+#[test]
+fn help_is_given_for_every_command() {
+    assert_eq!(status(&["--help"]), 0);
+    for command in ["commission", "fuzz", "linerun", "speed", "show", "words"] {
+        let help = printed(&[command, "--help"]);
+        assert!(help.starts_with(&format!("bench {command}")), "{help}");
+        assert!(help.contains("Exit status:"), "{help}");
+        assert!(printed(&["--help"]).contains(&format!("bench {command}")));
+    }
+}
+
+#[test]
+fn bad_usage_ends_with_2_and_says_why() {
+    assert_eq!(status(&[]), 2);
+    assert_eq!(status(&["frobnicate"]), 2);
+    assert!(told(&["frobnicate"]).contains("there is no such command"));
+    assert_eq!(status(&["fuzz", "--case", "3"]), 2);
+    assert!(told(&["fuzz", "--case", "3"]).contains("there is no option --case"));
+    assert_eq!(status(&["fuzz", "--kernel", "other"]), 2);
+    assert_eq!(status(&["commission"]), 2);
+    assert!(told(&["commission", "/no/such/file"]).contains("cannot read /no/such/file"));
+    assert_eq!(status(&["speed", "more"]), 2);
+    assert_eq!(status(&["linerun", "/no/such/program"]), 2);
+}
+
+#[test]
+fn the_worked_example_is_typed_in_and_run() {
+    let text = format!("table {}\nlist {}\n", hex(&TABLE_T), hex(&LIST_L));
+    let typed = file("typed.txt", text.as_bytes());
+    let written = bench(&["words", &typed]);
+    assert_eq!(written.status.code(), Some(0));
+    assert_eq!(written.stdout, example());
+    assert_eq!(reference::linerun(&written.stdout), PRINTED.as_bytes());
+    let input = file("typed.bin", &written.stdout);
+    let back = file("back.txt", printed(&["words", "--back", &input]).as_bytes());
+    assert_eq!(bench(&["words", &back]).stdout, example());
+    let wrong = file("wrong.txt", b"table\n1000030");
+    assert_eq!(status(&["words", &wrong]), 2);
+    assert!(told(&["words", &wrong]).contains("line 2: `1000030` is no word"));
+}
+
+#[test]
+fn the_worked_example_is_commissioned() {
+    let input = file("commission.bin", &example());
+    let list = printed(&["commission", &input, "--struck", "1"]);
+    assert!(list.contains("struck for domain 1: 4 of 9 calls"), "{list}");
+    for line in 1..=4 {
+        assert!(list.contains(&format!("line {line} passed")), "{list}");
+    }
+    assert!(list.ends_with("summary: 4 passed, 0 failed\n"), "{list}");
+    assert_eq!(status(&["commission", &input]), 0);
+    assert_eq!(status(&["commission", &input, "--struck", "3"]), 2);
+}
+
+#[test]
+fn what_is_refused_is_not_commissioned_nor_shown() {
+    let mut table = TABLE_T;
+    table[9] = 0x2000_0008;
+    let input = file("refused.bin", &to_bytes(&[&[34], &table[..]].concat()));
+    let word = "refused with 4, word 9, the rights of domain 2 on domain 2 is 20000008";
+    assert!(printed(&["commission", &input]).contains(word));
+    assert_eq!(status(&["commission", &input]), 1);
+    assert_eq!(status(&["show", &input]), 1);
+    assert!(printed(&["show", &input]).starts_with("table refused with 4"));
+    let short = file("short.bin", &example()[..50]);
+    assert!(printed(&["commission", &short]).contains("refused with 7, its table should have 34"));
+    assert_eq!(status(&["show", &short]), 1);
+}
+
+#[test]
+fn an_input_is_shown_in_words_and_as_a_picture() {
+    let input = file("show.bin", &example());
+    let out = file("show.svg", b"");
+    let shown = printed(&["show", &input, "--svg", &out]);
+    assert!(shown.contains("domain 1 grants domain 0 SEND on domain 2"));
+    let picture = fs::read_to_string(&out).expect("the picture is there");
+    assert!(picture.starts_with("<svg ") && picture.ends_with("</svg>\n"));
+    assert_eq!(status(&["show", &input, "--svg", "/no/such/place.svg"]), 2);
+}
+
+#[test]
+fn fuzz_meets_every_code_and_shows_no_progress_in_a_pipe() {
+    let line = [
+        "fuzz",
+        "--cases",
+        "1000",
+        "--table-checks",
+        "1000",
+        "--seed",
+        "3",
+    ];
+    let ran = bench(&line);
+    assert_eq!(ran.status.code(), Some(0));
+    assert!(ran.stderr.is_empty());
+    let text = String::from_utf8(ran.stdout).expect("text");
+    assert!(
+        text.ends_with("fuzz of balkwizu with seed 3: passed\n"),
+        "{text}"
+    );
+    let few = ["fuzz", "--cases", "2", "--table-checks", "0"];
+    assert_eq!(status(&few), 1);
+    assert!(printed(&few).contains("never met"));
+}
+
+#[test]
+fn a_program_that_is_no_linerun_differs() {
+    let line = ["linerun", "/bin/cat", "--cases", "3"];
+    assert_eq!(status(&line), 1);
+    assert!(printed(&line).starts_with("DIFFERENCE in input 0 of seed 1"));
+}
+
+#[test]
+fn speed_prints_a_table() {
+    let table = printed(&["speed", "--rounds", "1"]);
+    let rows = table.lines().filter(|line| line.starts_with("| ")).count();
+    assert_eq!(rows, 11, "{table}");
+    assert!(table.contains("reset outside the timed part"), "{table}");
+}

@@ -1,0 +1,128 @@
+// The calls of document 01, taken apart without a table: what a call asks for, as one choice among its kinds, or the refusal
+// by a place that needs no table (10, 11, 13 and 14). The kernel puts 12, which needs one, between 11 and 13.
+pub mod cutting;
+mod kinds;
+
+use kinds::grant;
+use kinds::look_up;
+use kinds::my_endpoints;
+use kinds::my_rights;
+use kinds::receive;
+use kinds::remove;
+use kinds::send;
+ghost use mathlib.Core.Path.{_≡_};
+ghost use Rattle.calls.specs.Number.{numberOf};
+ghost use Rattle.calls.specs.Apart.{apart};
+
+// Why a call is refused, named by what is wrong.
+pub enum Refusal {
+    Stray, // 10
+    UnknownKind, // 11
+    UnknownCaller, // 12
+    UnusedField, // 13
+    NoSecondWord, // 14
+    NoSuchName, // 15
+    NoSuchEndpoint, // 16
+    MayNotSend, // 17
+    NotOwner, // 18
+    NothingWaiting, // 19
+    NoSuchDomain, // 20
+    BadRights, // 21
+    LacksRight, // 22
+    MayNotGive, // 23
+}
+
+// A call's second word, if it has one.
+pub enum Second {
+    Nothing,
+    Word(u32),
+}
+
+// A call taken apart: its caller and the fields that its kind uses, as found. A refused one has the kind and the caller that
+// its answer shows.
+pub enum Call {
+    LookUp {
+        caller: u32,
+        name: u32,
+    },
+    Send {
+        caller: u32,
+        endpoint: u32,
+        message: u32,
+    },
+    Receive {
+        caller: u32,
+        endpoint: u32,
+    },
+    MyEndpoints {
+        caller: u32,
+    },
+    MyRights {
+        caller: u32,
+    },
+    Grant {
+        caller: u32,
+        target: u32,
+        recipient: u32,
+        rights: u32,
+    },
+    Remove {
+        caller: u32,
+        target: u32,
+        rights: u32,
+    },
+    Refused {
+        kind: u32,
+        caller: u32,
+        refusal: Refusal,
+    },
+}
+
+// The paper's number of a refusal.
+pub fn number(refusal: Refusal) -> u32
+    ensures { λ r. ⌜ r ≡ numberOf refusal ⌝ }
+{
+    match refusal {
+        Refusal::Stray => 10,
+        Refusal::UnknownKind => 11,
+        Refusal::UnknownCaller => 12,
+        Refusal::UnusedField => 13,
+        Refusal::NoSecondWord => 14,
+        Refusal::NoSuchName => 15,
+        Refusal::NoSuchEndpoint => 16,
+        Refusal::MayNotSend => 17,
+        Refusal::NotOwner => 18,
+        Refusal::NothingWaiting => 19,
+        Refusal::NoSuchDomain => 20,
+        Refusal::BadRights => 21,
+        Refusal::LacksRight => 22,
+        Refusal::MayNotGive => 23,
+    }
+}
+
+// A call of one or two words taken apart. Any words will do: what the cutting of a list gives is a special case.
+pub fn take_apart(first: u32, second: Second) -> Call
+    ensures { λ r. ⌜ r ≡ apart first second ⌝ }
+{
+    let kind = first / 0x1000_0000;
+    let caller = first / 4194304 % 64;
+    match kind {
+        15 => Call::Refused {
+            kind,
+            caller: 0,
+            refusal: Refusal::Stray,
+        },
+        0 | 8..=14 => Call::Refused {
+            kind,
+            caller,
+            refusal: Refusal::UnknownKind,
+        },
+        1 => look_up(first, second),
+        2 => send(first, second),
+        3 => receive(first),
+        4 => my_endpoints(first),
+        5 => my_rights(first),
+        6 => grant(first),
+        _ => remove(first),
+    }
+}

@@ -1,0 +1,21 @@
+-- `answers::refused` meets its contract: no number is above 23. Assumes nothing.
+use mathlib.Core.Path.{ap}
+use mathlib.Core.List.{[], _∷_}
+use Prim.Native.Nat.{ℕ, _+_}
+use native.Mathlib.Omega.{arith}
+use borrow.Author.Needs.{needs}
+use Rattle.calls.proofs.Numbers.{number-most}
+use Rattle.kernel.proofs.answers.refused.Statement.{statement}
+use Rattle.kernel.proofs.answers.refused.Tie as tie
+
+number-requires : tie.Need-number-requires
+number-requires c κs = search needs
+
+add-t4 : tie.Need-add-t4
+add-t4 c = omega (arith, c .number .ensures, number-most (c .before .args .refusal))
+
+returns : tie.Need-returns
+returns c = ap (λ (k : ℕ). (c .before .args .head + k) ∷ 0 ∷ 0 ∷ []) (c .number .ensures)
+
+pub refused-spec : {M : Type 1} → statement M
+refused-spec = tie.close (tie.spec number-requires add-t4 returns)

@@ -1,0 +1,41 @@
+-- `decide::send` meets its contract, place by place. Assumes nothing.
+use mathlib.Core.Path.{_≡_, refl, sym, ap, _∙_}
+use mathlib.Core.Bool.{not}
+use borrow.Author.Needs.{needs}
+use Rattle.machine.specs.Machine.{Decision, sendPlaces}
+use Rattle.kernel.specs.Decision.{decisionOf}
+use Rattle.kernel.proofs.Guards.{stop, by-test, pass, unknown-caller, no-endpoint, past-endpoint}
+use Rattle.kernel.proofs.decide.send.Statement.{statement}
+use Rattle.kernel.proofs.decide.send.Tie as tie
+
+returns : tie.Need-returns
+unfolding decisionOf
+returns c = unknown-caller _ _ _ (c .before .before .pre .0 .domains) _ (c .if1 .taken)
+
+returns-2 : tie.Need-returns-2
+unfolding decisionOf sendPlaces
+returns-2 c =
+    let pre = c .before .before .before .pre in
+    no-endpoint _ _ _ _ _ (pre .0 .domains) (pre .1) (c .before .if1 .left) _ (c .if2 .taken)
+
+may-send-requires : tie.Need-may-send-requires
+may-send-requires c κs = search needs
+
+returns-3 : tie.Need-returns-3
+unfolding decisionOf sendPlaces
+returns-3 c =
+    let at2 = c .before .before in
+    let pre = at2 .before .before .before .pre in
+    past-endpoint _ _ _ _ _ (pre .0 .domains) (pre .1) (at2 .before .if1 .left) _ _ (at2 .if2 .left)
+    (pass _ 17 _ _ (by-test (c .before .may-send .ensures) (c .if3 .taken)) refl)
+
+returns-4 : tie.Need-returns-4
+unfolding decisionOf sendPlaces
+returns-4 c =
+    let at2 = c .before .before in
+    let pre = at2 .before .before .before .pre in
+    past-endpoint _ _ _ _ _ (pre .0 .domains) (pre .1) (at2 .before .if1 .left) _ _ (at2 .if2 .left)
+    (stop _ 17 _ (by-test (c .before .may-send .ensures) (c .if3 .left)))
+
+pub send-spec : {M : Type 1} → statement M
+send-spec = tie.close (tie.spec returns returns-2 may-send-requires returns-3 returns-4)

@@ -1,0 +1,107 @@
+-- `run` meets its contract: the entry's places one after the other, and then the calls. Assumes nothing.
+use mathlib.Core.Path.{_≡_, sym, ap, _∙_}
+use mathlib.Core.Bool.{not}
+use Prim.Native.Nat.{_*_, _<_, _≤_}
+use native.Mathlib.Omega.{arith}
+use lib.ListN.{length}
+use borrow.Author.Needs.{needs}
+use borrow.Author.Tests.{ltb-true, ltb-false, not-true, not-false}
+use Rattle.machine.specs.Check.{tableCode}
+use Rattle.machine.specs.Call.{cut}
+use Rattle.table.specs.Checked.{checkedCode}
+use Rattle.kernel.proofs.Entries.{refusal-code, not-empty, list-too-long, table-refused, space-too-small, list-runs, refused-promise, ran-promise}
+use Rattle.kernel.proofs.run.Statement.{statement}
+use Rattle.kernel.proofs.run.Tie as tie
+
+accepted : (c : tie.After-enum-told) → tableCode (c .before .before .before .before .before .before .before .before .args .table .now) ≡ 0
+accepted c = sym (sym (ap checkedCode (c .enum-told .given .1)) ∙ c .before .before .check .ensures)
+
+-- there is space for every answer
+enough : (c : tie.Else2)
+    → let a = c .before .before .before .before .before .before .before .before .before .before .args in
+    3 * length (cut (a .list .now)) ≤ length (a .answers .now)
+enough c =
+    ltb-false _ _ (not-true _ (sym (c .before .has-space .ensures) ∙ not-false _ (c .if2 .left)))
+
+returns : tie.Need-returns
+returns c =
+    refused-promise _ _ _ 1 (list-too-long _ _ _ (c .if1 .taken)) (λ e. omega arith)
+
+check-requires : tie.Need-check-requires
+check-requires c κs = search needs
+
+enum-known-checked : tie.Need-enum-known-checked
+enum-known-checked c = search needs
+
+same-length : tie.Need-same-length
+same-length c = search needs
+
+returns-2 : tie.Need-returns-2
+returns-2 c =
+    let check = c .before .before .before in
+    let code = sym (ap checkedCode (c .before .checked .given .1)) ∙ check .check .ensures in
+    let some = refusal-code (c .before .checked .given .0 .0) in
+    refused-promise _ _ _ _ (table-refused _ _ _ (check .before .before .if1 .left) _ code some) some
+
+enum-told : tie.Need-enum-told
+enum-told c = search needs
+
+has-space-requires : tie.Need-has-space-requires
+has-space-requires c κs = search needs
+
+same-length-2 : tie.Need-same-length-2
+same-length-2 c = search needs
+
+returns-3 : tie.Need-returns-3
+returns-3 c =
+    let told = c .before .before in
+    refused-promise _ _ _ 6 (space-too-small _ _ _ (told .before .before .before .before .if1 .left) (accepted told)
+    (ltb-true _ _ (not-false _ (sym (c .before .has-space .ensures) ∙ not-true _ (c .if2 .taken))))) (λ e. omega arith)
+
+domains-requires : tie.Need-domains-requires
+domains-requires c κs = not-empty _ (accepted (c .before .before .before))
+
+endpoints-requires : tie.Need-endpoints-requires
+endpoints-requires c κs = not-empty _ (accepted (c .before .before .before .before .before))
+
+run-calls-requires : tie.Need-run-calls-requires
+run-calls-requires c κs =
+    let read = c .before .before in
+    let space = read .before .before .before .before in
+    let told = space .before .before in (
+      record { accepted = accepted told; domains = read .before .before .domains .ensures },
+      (read .endpoints .ensures, (told .before .before .before .before .if1 .left, enough space)),
+    )
+
+same-length-3 : tie.Need-same-length-3
+same-length-3 c = search needs
+
+same-length-4 : tie.Need-same-length-4
+same-length-4 c = search needs
+
+returns-4 : tie.Need-returns-4
+returns-4 c =
+    let call = c .before .before .before .before in
+    let space = call .before .before .before .before .before .before .before in
+    let told = space .before .before in
+    ran-promise _ _ _ _ _ _ (list-runs _ _ _ (told .before .before .before .before .if1 .left) (accepted told) (enough space)) (call .run-calls .ensures)
+
+pub run-spec : {M : Type 1} → statement M
+run-spec =
+    tie.close
+    (tie.spec
+    returns
+    check-requires
+    enum-known-checked
+    same-length
+    returns-2
+    enum-told
+    has-space-requires
+    same-length-2
+    returns-3
+    domains-requires
+    endpoints-requires
+    run-calls-requires
+    same-length-3
+    same-length-4
+    returns-4)

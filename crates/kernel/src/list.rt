@@ -1,0 +1,58 @@
+// The calls of a list one after the other, and the answer space that they need.
+use crate::Answer;
+use crate::serve::serve;
+use calls::cutting::count;
+use calls::cutting::second_at;
+use calls::cutting::width;
+ghost use mathlib.Core.Path.{_≡_};
+ghost use mathlib.Core.Bool.{not};
+ghost use mathlib.Core.List.{_++_};
+ghost use Prim.Native.Nat.{_+_, _*_, _≤_};
+ghost use lib.ListN.{length, take, drop};
+ghost use lib.Dec.{ltb};
+ghost use Rattle.machine.specs.Table.{endpoints};
+ghost use Rattle.machine.specs.Call.{cut};
+ghost use Rattle.kernel.specs.Ready.{Ready};
+ghost use Rattle.kernel.specs.Answer.{wordsOf};
+ghost use Rattle.kernel.specs.Run.{AllRun};
+
+// Three words a call. A list has no more calls than words, so a large enough space needs no count.
+pub fn has_space(list: &[u32], size: usize) -> bool
+    requires { ⌜ length (now list) ≤ 4096 ⌝ }
+    ensures { λ b. ⌜ b ≡ not (ltb size (3 * length (cut (now (list .entry))))) ⌝ }
+{
+    if 3 * list.len() <= size {
+        return true;
+    }
+    let calls = count(list);
+    3 * calls <= size
+}
+
+// An answer's three words, from a place of the answer space on.
+fn put(answers: &mut [u32], at: usize, words: Answer)
+    requires { ⌜ at + 3 ≤ length (now answers) ⌝ }
+    ensures { λ _. ⌜ now (answers .exit) ≡ take at (now (answers .entry)) ++ (wordsOf words ++ drop (at + 3) (now (answers .entry))) ⌝ }
+{
+    answers[at] = words.head;
+    answers[at + 1] = words.first;
+    answers[at + 2] = words.second;
+}
+
+pub fn run_calls(table: &mut [u32], n: u32, m: u32, list: &[u32], answers: &mut [u32]) -> usize
+    requires { ⌜ Ready (now table) n ⌝ }
+    requires { ⌜ m ≡ endpoints (now table) ⌝ }
+    requires { ⌜ length (now list) ≤ 4096 ⌝ }
+    requires { ⌜ 3 * length (cut (now list)) ≤ length (now answers) ⌝ }
+    ensures { λ k. ⌜ AllRun (now (table .entry)) (now (list .entry)) (now (answers .entry)) k (now (table .exit)) (now (answers .exit)) ⌝ }
+{
+    let mut calls: usize = 0;
+    let mut i: usize = 0;
+    while i < list.len() {
+        let second = second_at(list, i);
+        let words = serve(table, n, m, list[i], second);
+        put(answers, 3 * calls, words);
+        calls += 1;
+        i += width(second);
+    }
+    calls
+}

@@ -1,0 +1,102 @@
+// An endpoint's twelve words, lent as a part of the table: what they hold, and what a send and a receive make of them.
+// Nothing here sees the rest of the table. A word of kind k that holds p is k × KIND + p.
+use table::words::KIND;
+ghost use mathlib.Core.Path.{_≡_};
+ghost use Prim.Native.Nat.{ℕ};
+ghost use lib.ListN.{length};
+ghost use Rattle.machine.specs.Queue.{name, owner, waiting, lost, oldest, sendWithSpace, sendToFull, sent, received};
+ghost use Rattle.kernel.specs.Queue.{HasRoom, MaySend, MayReceive};
+
+// The largest lost count.
+const MOST_LOST: u32 = 268435455;
+
+pub fn name(q: &[u32]) -> u32
+    requires { ⌜ length (now q) ≡ 12 ⌝ }
+    ensures { λ r. ⌜ r ≡ name (now (q .entry)) ⌝ }
+{
+    q[0] % KIND
+}
+
+pub fn owner(q: &[u32]) -> u32
+    requires { ⌜ length (now q) ≡ 12 ⌝ }
+    ensures { λ r. ⌜ r ≡ owner (now (q .entry)) ⌝ }
+{
+    q[1] / 256 % 256
+}
+
+pub fn waiting(q: &[u32]) -> u32
+    requires { ⌜ length (now q) ≡ 12 ⌝ }
+    ensures { λ r. ⌜ r ≡ waiting (now (q .entry)) ⌝ }
+{
+    q[2] % KIND
+}
+
+pub fn lost(q: &[u32]) -> u32
+    requires { ⌜ length (now q) ≡ 12 ⌝ }
+    ensures { λ r. ⌜ r ≡ lost (now (q .entry)) ⌝ }
+{
+    q[3] % KIND
+}
+
+// The oldest message.
+pub fn oldest(q: &[u32]) -> u32
+    requires { ⌜ length (now q) ≡ 12 ⌝ }
+    ensures { λ r. ⌜ r ≡ oldest (now (q .entry)) ⌝ }
+{
+    q[4] % KIND
+}
+
+// The message fills the slot at the waiting count, and waiting rises by 1.
+fn send_with_space(q: &mut [u32], message: u32)
+    requires { ⌜ HasRoom (now q) message ⌝ }
+    ensures { λ _. ⌜ now (q .exit) ≡ sendWithSpace (now (q .entry)) message ⌝ }
+{
+    let count = q[2] % KIND;
+    let slot = 4 + count as usize;
+    q[slot] = 0xF000_0000 + message;
+    q[2] = 0x5000_0000 + (count + 1);
+}
+
+// The message is dropped, and lost rises by 1, staying at its largest.
+fn send_to_full(q: &mut [u32])
+    requires { ⌜ length (now q) ≡ 12 ⌝ }
+    ensures { λ _. ⌜ ((message : ℕ) → now (q .exit) ≡ sendToFull (now (q .entry)) message) ⌝ }
+{
+    let count = q[3] % KIND;
+    if count < MOST_LOST {
+        q[3] = 0x6000_0000 + (count + 1);
+    } else {
+        q[3] = 0x6000_0000 + count;
+    }
+}
+
+// A send: the waiting count and the capacity say whether there is space.
+pub fn send(q: &mut [u32], message: u32)
+    requires { ⌜ MaySend (now q) message ⌝ }
+    ensures { λ _. ⌜ now (q .exit) ≡ sent (now (q .entry)) message ⌝ }
+{
+    let count = q[2] % KIND;
+    let most = q[1] % 256;
+    if count < most {
+        send_with_space(q, message);
+    } else {
+        send_to_full(q);
+    }
+}
+
+// The oldest message goes out: the others move up, the slot that comes free is cleared, and waiting falls by 1. Slots from
+// the waiting count on aren't touched, whatever they hold.
+pub fn receive(q: &mut [u32])
+    requires { ⌜ MayReceive (now q) ⌝ }
+    ensures { λ _. ⌜ now (q .exit) ≡ received (now (q .entry)) ⌝ }
+{
+    let left = q[2] % KIND - 1;
+    let last = left as usize;
+    let mut i: usize = 0;
+    while i < last {
+        q[4 + i] = q[5 + i];
+        i += 1;
+    }
+    q[4 + last] = 0xF000_0000;
+    q[2] = 0x5000_0000 + left;
+}

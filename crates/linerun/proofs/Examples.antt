@@ -1,0 +1,15 @@
+-- The rows hold, each by computation. Assumes nothing.
+use mathlib.Core.Path.{refl}
+use Rattle.machine.specs.Everything.{everything}
+use Rattle.text.specs.Bytes.{ascii, wordsOf}
+use Rattle.text.specs.Decimal.{digitsWithin, decimal, labelled}
+use Rattle.text.specs.TableInput.{noTable, tableOf, afterTable}
+use Rattle.linerun.specs.Input.{listOf, leftOver, unreadable}
+use Rattle.linerun.specs.Lines.{firstLine, callLine, callLines, allLines}
+use Rattle.linerun.specs.Report.{answerSpace, outcomeLines, report}
+use Rattle.linerun.specs.Examples.{EveryRow, rows}
+
+pub every-row : EveryRow rows
+unfolding everything ascii wordsOf digitsWithin decimal labelled noTable tableOf afterTable listOf leftOver unreadable firstLine
+    callLine callLines allLines answerSpace outcomeLines report
+every-row = (refl, (refl, (refl, (refl, (refl, (refl, (refl, (refl, (refl, (refl, (refl, (refl, tt))))))))))))

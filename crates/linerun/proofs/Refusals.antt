@@ -1,0 +1,68 @@
+-- Two refusals of `linerun` for every input: a list one word too long gives 1, whatever is wrong with the table and whatever
+-- follows; and 6 never comes, since there is space for every list that is short enough. Assumes nothing.
+use Prim.Native.Nat.{ℕ, _*_, _≤_, _<_}
+use mathlib.Core.Path.{_≡_, sym, _∙_}
+use mathlib.Core.Bool.{not}
+use mathlib.Core.List.{List, append-nil}
+use borrow.Author.Tests.{ltb-true, ltb-false}
+use native.Mathlib.Omega.{arith}
+use lib.Dec.{eqb, ltb}
+use lib.ListN.{length, length-take}
+use Rattle.machine.specs.Call.{cut}
+use Rattle.machine.specs.Check.{headerOk, lengthOk, rightsOk, endpointsOk, tableCode}
+use Rattle.machine.specs.Entry.{longestList, spaceCode, entryCode, refusal, entry}
+use Rattle.machine.proofs.Bools.{cond-elim}
+use Rattle.machine.proofs.Cut.{cut-few}
+use Rattle.machine.proofs.Promise.{entry-code, entry-refused, code-long}
+use Rattle.text.specs.Bytes.{wordsOf}
+use Rattle.text.specs.TableInput.{tableOf, afterTable}
+use Rattle.text.proofs.WordLaws.{length-wordsOf}
+use Rattle.text.proofs.TableLaws.{Whole, whole-table}
+use Rattle.linerun.specs.Input.{listWordsRead, listOf, unreadable}
+use Rattle.linerun.specs.Lines.{firstLine, callLines, allLines}
+use Rattle.linerun.specs.Report.{answerSpace, outcomeLines, report}
+use Rattle.linerun.proofs.InputLaws.{no-left-over}
+
+-- where there are as many list words as are read, the list is one word too long
+long : (bytes : List ℕ) → 4 * listWordsRead ≤ length (afterTable bytes) → longestList < length (listOf bytes)
+unfolding listOf
+long bytes h =
+    omega (
+      arith,
+      length-take listWordsRead (wordsOf (afterTable bytes)),
+      length-wordsOf (afterTable bytes),
+    )
+
+pub one-word-too-many : (bytes : List ℕ) → Whole bytes → 4 * listWordsRead ≤ length (afterTable bytes)
+    → report bytes ≡ firstLine 0 1
+unfolding report unreadable outcomeLines allLines callLines refusal
+one-word-too-many bytes w h =
+    let t = tableOf bytes in
+    let ws = listOf bytes in
+    let one : entryCode t ws (length answerSpace) ≡ 1 = code-long t ws (length answerSpace) (long bytes h) in
+    let refused = entry-refused t ws answerSpace (λ z. omega arith) in
+    simp (whole-table bytes w, no-left-over (afterTable bytes) h, refused, one, append-nil)
+
+-- 6 comes from an answer space that is too small alone, and one with three words for each word of the longest list never is
+no-table-six : (t : List ℕ) → tableCode t ≡ 6 → ⊥
+unfolding tableCode
+no-table-six t =
+    cond-elim (λ (code : ℕ). code ≡ 6 → ⊥) (not (headerOk t)) (λ _ e. omega arith)
+    (λ _.
+    cond-elim (λ (code : ℕ). code ≡ 6 → ⊥) (not (lengthOk t)) (λ _ e. omega arith)
+    (λ _.
+    cond-elim (λ (code : ℕ). code ≡ 6 → ⊥) (not (rightsOk t)) (λ _ e. omega arith)
+    (λ _. cond-elim (λ (code : ℕ). code ≡ 6 → ⊥) (not (endpointsOk t)) (λ _ e. omega arith) (λ _ e. omega arith))))
+
+pub never-six : (t ws : List ℕ) → entry t ws answerSpace .code ≡ 6 → ⊥
+unfolding entryCode spaceCode answerSpace
+never-six t ws e =
+    cond-elim (λ (code : ℕ). code ≡ 6 → ⊥) (ltb longestList (length ws)) (λ _ e. omega arith)
+    (λ short.
+    cond-elim (λ (code : ℕ). code ≡ 6 → ⊥) (eqb (tableCode t) 0)
+    (λ _.
+    cond-elim (λ (code : ℕ). code ≡ 6 → ⊥) (ltb (length answerSpace) (3 * length (cut ws)))
+    (λ more _. omega (arith, ltb-true (length answerSpace) (3 * length (cut ws)) more, ltb-false longestList (length ws) short, cut-few ws))
+    (λ _ e. omega arith))
+    (λ _. no-table-six t))
+    (sym (entry-code t ws answerSpace) ∙ e)

@@ -1,0 +1,33 @@
+-- What `linerun` reads (document 01, 'Into firmware and onto the bench'): the table, then the list's words up to word 4,097.
+use Prim.Native.Nat.{ℕ, _+_, _-_, _*_, _%_}
+use mathlib.Core.Bool.{Bool, cond, not, _&&_, _||_}
+use mathlib.Core.List.{List}
+use lib.ListN.{length, take}
+use lib.Dec.{eqb, ltb}
+use Rattle.machine.specs.Entry.{longestList}
+use Rattle.text.specs.Bytes.{wordsOf}
+use Rattle.text.specs.TableInput.{longestTable, noTable, afterTable, tableWanted}
+
+-- the reading stops at the first list word that is one too many
+abbrev pub listWordsRead : ℕ
+listWordsRead = longestList + 1
+
+-- the list's words
+unfoldable pub listOf : List ℕ → List ℕ
+listOf bytes = take listWordsRead (wordsOf (afterTable bytes))
+
+-- the bytes after the table end, before the reading stops, with bytes that make no whole word
+unfoldable pub leftOver : List ℕ → Bool
+leftOver rest = ltb (length rest) (4 * listWordsRead) && not (eqb (length rest % 4) 0)
+
+-- the conditions of the program's own code, 7
+unfoldable pub unreadable : List ℕ → Bool
+unreadable bytes = noTable bytes || leftOver (afterTable bytes)
+
+-- how many bytes more to read, where the input so far is these; 0 where no further byte can matter
+unfoldable pub wanted : List ℕ → ℕ
+wanted bytes = cond (noTable bytes) (tableWanted bytes) (4 * listWordsRead - length (afterTable bytes))
+
+-- the most bytes that are read: the length word, the longest table, and list words until the reading stops
+abbrev pub mostInput : ℕ
+mostInput = 4 + 4 * longestTable + 4 * listWordsRead

@@ -1,0 +1,26 @@
+-- `linerun` as one definition: from the bytes read to the bytes written (document 01, 'Into firmware and onto the bench').
+use Prim.Native.Nat.{ℕ, _*_}
+use mathlib.Core.Path.{_≡_}
+use mathlib.Core.Bool.{cond}
+use mathlib.Core.List.{List}
+use lib.ListN.{replicate}
+use Rattle.machine.specs.Entry.{Outcome, entry, longestList}
+use Rattle.text.specs.TableInput.{tableOf}
+use Rattle.linerun.specs.Input.{listOf, unreadable}
+use Rattle.linerun.specs.Lines.{firstLine, allLines}
+
+-- an answer space that is never too small: three words for each call of the longest list
+unfoldable pub answerSpace : List ℕ
+answerSpace = replicate (3 * longestList) 0
+
+unfoldable pub outcomeLines : Outcome → List ℕ
+outcomeLines o = allLines (o .calls) (o .code) (o .answers)
+
+unfoldable pub report : List ℕ → List ℕ
+report bytes = cond (unreadable bytes) (firstLine 0 7) (outcomeLines (entry (tableOf bytes) (listOf bytes) answerSpace))
+
+-- what running the list of an input answers and leaves of an answer space
+pub record RanInput (bytes space : List ℕ) (code calls : ℕ) (after : List ℕ) : Type 0 where
+  pub sameCode : code ≡ entry (tableOf bytes) (listOf bytes) space .code
+  pub sameCalls : calls ≡ entry (tableOf bytes) (listOf bytes) space .calls
+  pub sameAnswers : after ≡ entry (tableOf bytes) (listOf bytes) space .answers

@@ -1,0 +1,48 @@
+// What linerun reads: the table, then the list's words up to word 4,097.
+use text::table_input::after_table;
+use text::table_input::no_table;
+use text::table_input::table_wanted;
+use text::words::fill;
+ghost use mathlib.Core.Path.{_≡_};
+ghost use lib.ListN.{length};
+ghost use Rattle.text.specs.Write.{Fills};
+ghost use Rattle.linerun.specs.Input.{listOf, listWordsRead, unreadable, wanted};
+
+// The bytes of 4,097 list words: where the reading stops.
+const LIST_BYTES: usize = 16388;
+
+// Whether the input is one of those that code 7 refuses.
+pub fn unreadable(bytes: &[u8]) -> bool
+    ensures { λ r. ⌜ r ≡ unreadable (now (bytes .entry)) ⌝ }
+{
+    if no_table(bytes) {
+        return true;
+    }
+    let rest = after_table(bytes).len();
+    if rest < LIST_BYTES {
+        return rest % 4 != 0;
+    }
+    false
+}
+
+// How many bytes more to read, where the input so far is bytes; 0 where no further byte can matter.
+pub fn wanted(bytes: &[u8]) -> usize
+    ensures { λ r. ⌜ r ≡ wanted (now (bytes .entry)) ⌝ }
+{
+    if no_table(bytes) {
+        return table_wanted(bytes);
+    }
+    let rest = after_table(bytes).len();
+    if rest < LIST_BYTES {
+        return LIST_BYTES - rest;
+    }
+    0
+}
+
+// Fills list, which has room for all words that are read, with the list's words, and answers how many.
+pub fn read_list(bytes: &[u8], list: &mut [u32]) -> usize
+    requires { ⌜ length (now list) ≡ listWordsRead ⌝ }
+    ensures { λ r. ⌜ Fills (listOf (now (bytes .entry))) (now (list .entry)) r (now (list .exit)) ⌝ }
+{
+    fill(after_table(bytes), list)
+}

@@ -1,0 +1,41 @@
+// The whole program on bytes: from what was read to what is printed.
+use crate::input::read_list;
+use crate::input::unreadable;
+use crate::lines::all_lines;
+use crate::lines::first_line;
+use kernel::Ran;
+use kernel::run;
+use text::table_input::read_table;
+ghost use mathlib.Core.Path.{_≡_};
+ghost use mathlib.Core.Bool.{false};
+ghost use Prim.Native.Nat.{_≤_};
+ghost use Rattle.kernel.specs.Run.{ranCode, ranCalls};
+ghost use Rattle.text.specs.TableInput.{noTable};
+ghost use Rattle.text.specs.Write.{Writes};
+ghost use Rattle.linerun.specs.Lines.{mostBytes};
+ghost use Rattle.linerun.specs.Report.{RanInput, report};
+
+// Runs the list of an input that has a whole table.
+fn run_input(bytes: &[u8], answers: &mut [u32]) -> Ran
+    requires { ⌜ noTable (now bytes) ≡ false ⌝ }
+    ensures { λ r. ⌜ RanInput (now (bytes .entry)) (now (answers .entry)) (ranCode r) (ranCalls r) (now (answers .exit)) ⌝ }
+{
+    let mut table = [0u32; 641];
+    let words = read_table(bytes, &mut table);
+    let mut list = [0u32; 4097];
+    let listed = read_list(bytes, &mut list);
+    run(&mut table[0..words], &list[0..listed], answers)
+}
+
+// What is printed for the bytes read, from the buffer's front on; answers how many bytes that is.
+pub fn report(bytes: &[u8], out: &mut [u8]) -> usize
+    ensures { λ r. ⌜ Writes 0 (report (now (bytes .entry))) (now (out .entry)) r (now (out .exit)) ⌝ }
+    ensures { λ r. ⌜ r ≤ mostBytes 4096 ⌝ }
+{
+    if unreadable(bytes) {
+        return first_line(0, 7, out, 0);
+    }
+    let mut answers = [0u32; 12288];
+    let ran = run_input(bytes, &mut answers);
+    all_lines(ran.calls(), ran.code(), &answers, out)
+}

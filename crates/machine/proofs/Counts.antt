@@ -1,0 +1,199 @@
+-- The counts of an endpoint are borne out by a run, and its messages are received in turn (specs/Claims: CountsBorneOut,
+-- InTurn); counts add up over lists that are run one after another.
+-- Assumes nothing.
+use mathlib.Core.Path.{_≡_, refl, sym, ap, subst, _∙_}
+use mathlib.Core.Logic.{_≢_, ⊎-elim}
+use mathlib.Core.Bool.{Bool, true, false, cond, not, _&&_, and-false}
+use mathlib.Core.List.{List, [], _∷_, _++_, append-assoc, append-nil}
+use Prim.Native.Nat.{ℕ, _+_, _%_, _<_, _≤_, min}
+use native.Mathlib.Omega.{arith}
+use borrow.Author.Tests.{ltb-true, eq-eqb, ne-eqb}
+use lib.Dec.{eqb}
+use lib.ListN.{length}
+use Rattle.machine.specs.Word.{kind, fieldB}
+use Rattle.machine.specs.Table.{domains, endpoints, endpoint, setEndpoint}
+use Rattle.machine.specs.Queue.{capacity, waiting, lost, oldest, mostLost, hasSpace, sent, received}
+use Rattle.machine.specs.Check.{endpointOk, Accepted}
+use Rattle.machine.specs.Call.{Call, first, secondPayload}
+use Rattle.machine.specs.Machine.{Decision, decide, effect, after, step, code, firstData, answerWord, answerTo, answer}
+use Rattle.machine.specs.Machine.{Decision.refused}
+use Rattle.machine.specs.Run.{run, answers}
+use Rattle.machine.specs.Counts.{doneOn, countDone, messagesFrom, sendsTo, fullSends, messagesTo, messages}
+use Rattle.machine.specs.Claims.{CountsBorneOut, InTurn}
+use Rattle.machine.proofs.Table as table
+use Rattle.machine.proofs.Table.{Sized}
+use Rattle.machine.proofs.Accepted.{accepted-sized, accepted-endpoint, info-of}
+use Rattle.machine.proofs.Decide.{Number, decide-elim}
+use Rattle.machine.proofs.Step.{stays-accepted}
+use Rattle.machine.proofs.Queue as queue
+
+-- ---- What one call does to one endpoint's queue q, which it leaves as q′. The two tests say whether it is a send to it or a
+-- receive from it, answered 0; told is the message in the answer.
+record Served (sends receives : Bool) (message told : ℕ) (q q′ : List ℕ) : Type 0 where
+  balance : cond sends 1 0 + waiting q ≡ cond receives 1 0 + cond (sends && not (hasSpace q)) 1 0 + waiting q′
+  raised : lost q′ ≡ min (lost q + cond (sends && not (hasSpace q)) 1 0) mostLost
+  -- in turn from after the call on (what is received later, then what is left, is what waits, then what comes later), hence
+  -- in turn from before it on
+  inTurn : (out left later : List ℕ) → out ++ left ≡ messages q′ ++ later → cond receives (told ∷ out) out ++ left ≡ messages q ++ cond (sends && hasSpace q) (message ∷ later) later
+
+untouched : {message told : ℕ} (q : List ℕ) → Served false false message told q q
+untouched q =
+    record { balance = omega arith; raised = omega (arith, queue.lost-small q); inTurn = λ _ _ _ p. p }
+
+module _ (n : ℕ) (q : List ℕ) (twelve : length q ≡ 12) (ok : endpointOk n q ≡ true) where
+  served-send : {told : ℕ} (m : ℕ) → m ≤ mostLost → Served true false m told q (sent q m)
+  unfolding hasSpace
+  served-send {told} m small =
+      queue.sent-elim q twelve m (Served true false m told q)
+      (λ b.
+      let w : waiting q < 8 = omega (arith, ltb-true (waiting q) (capacity q) b, info-of n q ok) in
+      record {
+        balance = rw (b, queue.sendWithSpace-waiting q twelve m w) (omega arith);
+        raised = rw (b, queue.sendWithSpace-lost q twelve m) (omega (arith, queue.lost-small q));
+        inTurn =
+            λ _ _ later p.
+            rw b
+            (p
+            ∙ ap (λ (x : List ℕ). x ++ later) (queue.sendWithSpace-messages q twelve m small w)
+            ∙ append-assoc (messages q) (m ∷ []) later);
+      })
+      (λ b.
+      record {
+        balance = rw (b, queue.sendToFull-waiting q twelve m) (omega arith);
+        raised = rw b (queue.sendToFull-lost q twelve m);
+        inTurn = λ _ _ later p. rw b (p ∙ ap (λ (x : List ℕ). x ++ later) (queue.sendToFull-messages q twelve m));
+      })
+
+  served-receive : {m : ℕ} → waiting q ≢ 0 → Served false true m (oldest q) q (received q)
+  served-receive some =
+      let most = queue.waiting-most n q ok in
+      record {
+        balance = rw (queue.received-waiting q twelve some most) (omega arith);
+        raised = rw (queue.received-lost q twelve some most) (omega (arith, queue.lost-small q));
+        inTurn =
+            λ _ _ later p.
+            ap (λ (x : List ℕ). oldest q ∷ x) p
+            ∙ ap (λ (x : List ℕ). x ++ later) (queue.received-messages q twelve some most);
+      }
+
+-- ---- which calls are done on the endpoint e, by their answers
+
+-- an answer's code can be read back
+answer-code : (c : Call) (n : ℕ) → n < 65536 → answerWord c n % 65536 ≡ n
+unfolding answerWord
+answer-code c n h = omega arith
+
+module _ (t : List ℕ) (e : ℕ) (c : Call) where
+  -- a call is done on e when its kind, its field B and its code say so
+  done-by : (d : Decision) (k : ℕ) (here zero : Bool) → kind (first c) ≡ k → eqb (fieldB (first c)) e ≡ here → code d < 65536 → eqb (code d) 0 ≡ zero → (j : ℕ) → doneOn j e c (answerTo t c d) ≡ (eqb k j && here && zero)
+  unfolding doneOn answerTo
+  done-by d k here zero p q l r j = cc (answer-code c (code d) l)
+
+  not-done : (n : ℕ) → Number n → (j : ℕ) → doneOn j e c (answerTo t c (refused n)) ≡ false
+  unfolding code
+  not-done n r j =
+      done-by (refused n) _ _ false refl refl (omega arith) (ne-eqb n 0 (omega arith)) j
+      ∙ and-false (eqb (kind (first c)) j && eqb (fieldB (first c)) e)
+
+  -- what the call does to e's queue where it comes to d
+  abbrev ServedBy : Decision → List ℕ → Type 0
+  ServedBy d q′ =
+      Served (doneOn 2 e c (answerTo t c d)) (doneOn 3 e c (answerTo t c d)) (secondPayload c) (firstData t d) (endpoint t e) q′
+
+  served-by : (d : Decision) (k : ℕ) (here : Bool) {q′ : List ℕ} → kind (first c) ≡ k → eqb (fieldB (first c)) e ≡ here → code d ≡ 0 → Served (eqb k 2 && here && true) (eqb k 3 && here && true) (secondPayload c) (firstData t d) (endpoint t e) q′ → ServedBy d q′
+  served-by d k here p q r s =
+      let l : code d < 65536 = omega arith in
+      rw (done-by d k here true p q l (eq-eqb _ _ r) 2, done-by d k here true p q l (eq-eqb _ _ r) 3) s
+
+  -- a call that is neither a send nor a receive, and leaves e's queue
+  idle : (d : Decision) (k : ℕ) {q′ : List ℕ} → kind (first c) ≡ k → eqb k 2 ≡ false → eqb k 3 ≡ false → code d ≡ 0 → q′ ≡ endpoint t e → ServedBy d q′
+  idle d k p n2 n3 r same = served-by d k _ p refl r (rw (n2, n3, same) (untouched (endpoint t e)))
+
+  module _ (a : Accepted t) (le : e < endpoints t) where
+    sized : Sized t
+    sized = accepted-sized t a
+
+    twelve : (f : ℕ) → f < endpoints t → length (endpoint t f) ≡ 12
+    twelve f l = table.endpoint-length t sized f l
+
+    -- twelve words are written to the endpoint of field B: e is served if it is that one
+    served-at : (d : Decision) (k : ℕ) (w : List ℕ) → kind (first c) ≡ k → code d ≡ 0 → fieldB (first c) < endpoints t → length w ≡ 12 → Served (eqb k 2 && true && true) (eqb k 3 && true && true) (secondPayload c) (firstData t d) (endpoint t (fieldB (first c))) w → ServedBy d (endpoint (setEndpoint t (fieldB (first c)) w) e)
+    served-at d k w p r l long s =
+        ⊎-elim
+        (λ x.
+        served-by d k true p (eq-eqb f e x) r
+        (subst (λ (i : ℕ). Served (eqb k 2 && true && true) (eqb k 3 && true && true) (secondPayload c) (firstData t d) (endpoint t i) (endpoint (setEndpoint t f w) i)) x
+        (rw (table.setEndpoint-same t sized f w l long) s)))
+        (λ x.
+        served-by d k false p (ne-eqb f e x) r
+        (rw (and-false (eqb k 2), and-false (eqb k 3), table.setEndpoint-other t sized f w l long e le (λ y. x (sym y))) (untouched (endpoint t e))))
+        (table.equal-either f e)
+      where
+        f : ℕ
+        f = fieldB (first c)
+
+    served : ServedBy (decide t c) (endpoint (step t c) e)
+    unfolding step effect after code firstData
+    served =
+        decide-elim t c (λ d. ServedBy d (endpoint (after t (effect t d)) e))
+        (record {
+          refuses = λ n r. rw (not-done n r 2, not-done n r 3) (untouched (endpoint t e));
+          looksUp = λ _ k _ _. idle _ 1 k refl refl refl refl;
+          sending =
+              λ _ k l _.
+              served-at _ 2 _ k refl l (queue.sent-length _ (twelve _ l) _)
+              (served-send (domains t) _ (twelve _ l) (accepted-endpoint t a _ l) (secondPayload c) (queue.message-small c));
+          receiving =
+              λ _ k l _ some.
+              let ok = accepted-endpoint t a (fieldB (first c)) l in
+              served-at _ 3 _ k refl l (queue.received-length _ (twelve _ l) some (queue.waiting-most (domains t) _ ok))
+              (served-receive (domains t) _ (twelve _ l) ok some);
+          endpointsListed = λ _ k. idle _ 4 k refl refl refl refl;
+          rightsListed = λ _ k. idle _ 5 k refl refl refl refl;
+          granting = λ _ k g h _ _ _ _. idle _ 6 k refl refl refl (table.setRights-endpoint t sized _ _ _ h g e le);
+          removing = λ u k g _ _. idle _ 7 k refl refl refl (table.setRights-endpoint t sized _ _ _ (u .below) g e le);
+        })
+
+-- ---- the run of a list, call by call
+still-below : (t : List ℕ) (c : Call) → Accepted t → (e : ℕ) → e < endpoints t → e < endpoints (step t c)
+still-below t c a e l = rw (stays-accepted t c a .frame .sameEndpoints) l
+
+pub counts-borne-out : (t : List ℕ) (cs : List Call) → Accepted t → (e : ℕ) → e < endpoints t → CountsBorneOut e t cs (answers t cs) (run t cs)
+unfolding run countDone fullSends sendsTo doneOn answers answer answerTo
+counts-borne-out t [] a e l = record { balance = omega arith; raised = omega (arith, queue.lost-small (endpoint t e)) }
+counts-borne-out t (c ∷ cs) a e l =
+    let s = served t e c a l in
+    let rest = counts-borne-out (step t c) cs (stays-accepted t c a .accepted) e (still-below t c a e l) in
+    record {
+      balance = omega (arith, s .balance, rest .balance);
+      raised = omega (arith, s .raised, rest .raised);
+    }
+
+pub in-turn : (t : List ℕ) (cs : List Call) → Accepted t → (e : ℕ) → e < endpoints t → InTurn e t cs (answers t cs) (run t cs)
+unfolding run messagesFrom messagesTo sendsTo doneOn answers answer answerTo
+in-turn t [] a e l = sym (append-nil (messages (endpoint t e)))
+in-turn t (c ∷ cs) a e l =
+    served t e c a l .inTurn _ _ _ (in-turn (step t c) cs (stays-accepted t c a .accepted) e (still-below t c a e l))
+
+-- ---- lists run one after another
+pub run-append : (t : List ℕ) (cs ds : List Call) → run t (cs ++ ds) ≡ run (run t cs) ds
+unfolding run
+run-append t [] ds = refl
+run-append t (c ∷ cs) ds = run-append (step t c) cs ds
+
+pub answers-append : (t : List ℕ) (cs ds : List Call) → answers t (cs ++ ds) ≡ answers t cs ++ answers (run t cs) ds
+unfolding run answers
+answers-append t [] ds = refl
+answers-append t (c ∷ cs) ds =
+    ap (λ (x : List ℕ). answer t c ++ x) (answers-append (step t c) cs ds)
+    ∙ sym (append-assoc (answer t c) (answers (step t c) cs) (answers (run (step t c) cs) ds))
+
+pub count-append : (k e : ℕ) (t : List ℕ) (cs ds : List Call) (ws : List ℕ) → countDone k e (cs ++ ds) (answers t cs ++ ws) ≡ countDone k e cs (answers t cs) + countDone k e ds ws
+unfolding countDone doneOn answers answer answerTo
+count-append k e t [] ds ws = omega arith
+count-append k e t (c ∷ cs) ds ws = let rest = count-append k e (step t c) cs ds ws in omega arith
+
+pub full-append : (e : ℕ) (t : List ℕ) (cs ds : List Call) → fullSends e t (cs ++ ds) ≡ fullSends e t cs + fullSends e (run t cs) ds
+unfolding fullSends run
+full-append e t [] ds = omega arith
+full-append e t (c ∷ cs) ds = let rest = full-append e (step t c) cs ds in omega arith

@@ -1,0 +1,144 @@
+-- Laws of the cutting and of the run, for a loop over the words of a list (specs/Call, specs/Run): what stands at the front
+-- of the words that are left, and what remains behind it.
+-- Assumes nothing.
+use mathlib.Core.Path.{_≡_, refl, sym, ap, ap₂, subst, _∙_}
+use mathlib.Core.Bool.{Bool, true, false, cond, _&&_, _||_}
+use mathlib.Core.List.{List, [], _∷_, _++_, append-assoc, append-nil}
+use Prim.Native.Nat.{ℕ, zero, suc, _+_, _*_, _<_, _≤_, zero-le}
+use native.Mathlib.Numerals.{add-one, add-two}
+use native.Mathlib.Omega.{arith}
+use borrow.Author.Tests.{eqb-true, eq-eqb}
+use lib.Dec.{eqb}
+use lib.ListN.{length, getD, take, drop, set, length-append, length-set, length-take, length-drop}
+use lib.Seq.{drop-cons, set-split, take-at, drop-at, drop-drop, sets-eq}
+use Rattle.machine.specs.Word.{kind}
+use Rattle.machine.specs.Call.{Call, wantsSecond, pairs, callAt, cutAfter, cut, Call.one, Call.two}
+use Rattle.machine.specs.Machine.{step, answer, answerTo}
+use Rattle.machine.specs.Run.{run, answers}
+use Rattle.machine.proofs.Bools.{and-right}
+
+-- a word of kind 15 makes no call with the word after it
+pub stray-pairs : (v w : ℕ) → eqb (kind v) 15 ≡ true → pairs v w ≡ false
+unfolding pairs wantsSecond
+stray-pairs v w h = let k : kind v ≡ 15 = eqb-true _ _ h in rw k
+
+second-kind : (w v : ℕ) → pairs w v ≡ true → eqb (kind v) 15 ≡ true
+unfolding pairs
+second-kind w v h = and-right (wantsSecond (kind w)) (eqb (kind v) 15) h
+
+-- nothing stands before the first word
+pub zero-pairs : (w : ℕ) → pairs 0 w ≡ false
+unfolding pairs wantsSecond
+zero-pairs w = refl
+
+-- the words behind one that makes no call with the next are cut as a list of their own
+pub cut-behind : (p : ℕ) (ws : List ℕ) → ((w : ℕ) → pairs p w ≡ false) → cutAfter p ws ≡ cut ws
+unfolding cut cutAfter
+cut-behind p [] f = refl
+cut-behind p (w ∷ ws) f =
+    ap (λ (b : Bool). cond b (cutAfter w ws) (callAt w ws ∷ cutAfter w ws)) (f w ∙ sym (zero-pairs w))
+
+-- ---- at the front of the words that are left
+pub cut-last : (w : ℕ) → cut (w ∷ []) ≡ one w ∷ cut []
+unfolding cut cutAfter callAt
+cut-last w = rw (zero-pairs w)
+
+-- two words that make one call
+pub cut-two : (w v : ℕ) (ws : List ℕ) → pairs w v ≡ true → cut (w ∷ (v ∷ ws)) ≡ two w v ∷ cut ws
+unfolding cut cutAfter callAt
+cut-two w v ws h =
+    rw (zero-pairs w, h) (ap (λ (r : List Call). two w v ∷ r) (cut-behind v ws (λ x. stray-pairs v x (second-kind w v h))))
+
+-- a word that makes no call with the next
+pub cut-one : (w v : ℕ) (ws : List ℕ) → pairs w v ≡ false → cut (w ∷ (v ∷ ws)) ≡ one w ∷ cut (v ∷ ws)
+unfolding cut cutAfter callAt
+cut-one w v ws h = rw (zero-pairs w, zero-pairs v, h)
+
+-- a call for every word at most, and one more word is one more call or none
+cut-length : (p : ℕ) (ws : List ℕ) → length (cutAfter p ws) ≤ length ws
+unfolding cutAfter
+cut-length p [] = zero-le
+cut-length p (w ∷ ws) = go (pairs p w) (cut-length w ws)
+  where
+    go : (b : Bool) → length (cutAfter w ws) ≤ length ws → length (cond b (cutAfter w ws) (callAt w ws ∷ cutAfter w ws)) ≤ suc (length ws)
+    go true h = omega arith
+    go false h = omega arith
+
+pub cut-few : (ws : List ℕ) → length (cut ws) ≤ length ws
+unfolding cut
+cut-few ws = cut-length 0 ws
+
+pub cut-count : (p w : ℕ) (ws : List ℕ) → length (cutAfter p (w ∷ ws)) ≡ cond (pairs p w) 0 1 + length (cutAfter w ws)
+unfolding cutAfter
+cut-count p w ws = go (pairs p w)
+  where
+    go : (b : Bool) → length (cond b (cutAfter w ws) (callAt w ws ∷ cutAfter w ws)) ≡ cond b 0 1 + length (cutAfter w ws)
+    go true = omega arith
+    go false = omega arith
+
+-- ---- a run call by call
+pub answer-length : (t : List ℕ) (c : Call) → length (answer t c) ≡ 3
+unfolding answer answerTo
+answer-length t c = refl
+
+pub answers-length : (t : List ℕ) (cs : List Call) → length (answers t cs) ≡ 3 * length cs
+unfolding answers
+answers-length t [] = refl
+answers-length t (c ∷ cs) =
+    length-append (answer t c) (answers (step t c) cs)
+    ∙ ap₂ _+_ (answer-length t c) (answers-length (step t c) cs)
+    ∙ omega arith
+
+-- three words written one after the other
+pub three-sets : (xs : List ℕ) (at a b d : ℕ) → at + 3 ≤ length xs → set (set (set xs at a) (at + 1) b) (at + 2) d ≡ take at xs ++ (a ∷ (b ∷ (d ∷ drop (at + 3) xs)))
+three-sets xs at a b d h =
+    rw (add-one at, add-two at) (sets-eq (a ∷ (b ∷ (d ∷ []))) xs at h ∙ append-assoc (take at xs) _ _)
+
+-- A run on its way: k calls of the list ws are done, the words left are still to be cut, t is the table now, and the space
+-- holds the answers so far, its words behind them untouched.
+pub record Running (t₀ ws space₀ t left : List ℕ) (k : ℕ) (space : List ℕ) : Type 0 where
+  pub done : List ℕ
+  pub long : length done ≡ 3 * k
+  pub filled : space ≡ done ++ drop (3 * k) space₀
+  pub table : run t (cut left) ≡ run t₀ (cut ws)
+  pub answered : done ++ answers t (cut left) ≡ answers t₀ (cut ws)
+  pub count : k + length (cut left) ≡ length (cut ws)
+
+pub running-start : (t ws space : List ℕ) → Running t ws space t ws 0 space
+running-start t ws space =
+    record { done = []; long = refl; filled = refl; table = refl; answered = refl; count = omega arith }
+
+-- one call more, whose three answer words are written behind the others
+pub running-next : {t₀ ws space₀ t left : List ℕ} {k : ℕ} {space : List ℕ} (left′ : List ℕ) (c : Call) (space′ : List ℕ) → Running t₀ ws space₀ t left k space → cut left ≡ c ∷ cut left′ → space′ ≡ take (3 * k) space ++ (answer t c ++ drop (3 * k + 3) space) → Running t₀ ws space₀ (step t c) left′ (k + 1) space′
+unfolding run answers
+running-next {t₀} {ws} {space₀} {t} {left} {k} {space} left′ c space′ r e w =
+    record {
+      done = r .done ++ answer t c;
+      long = length-append (r .done) (answer t c) ∙ ap₂ _+_ (r .long) (answer-length t c) ∙ omega arith;
+      filled =
+          w
+          ∙ ap₂ (λ (x y : List ℕ). x ++ (answer t c ++ y)) before behind
+          ∙ sym (append-assoc (r .done) (answer t c) (drop (3 * (k + 1)) space₀));
+      table = sym (ap (run t) e) ∙ r .table;
+      answered = append-assoc (r .done) (answer t c) (answers (step t c) (cut left′)) ∙ ap (λ (cs : List Call). r .done ++ answers t cs) (sym e) ∙ r .answered;
+      count = let z : length (cut left) ≡ suc (length (cut left′)) = ap length e in omega (arith, r .count);
+    }
+  where
+    before : take (3 * k) space ≡ r .done
+    before = ap (take (3 * k)) (r .filled) ∙ take-at (r .done) (drop (3 * k) space₀) (3 * k) (r .long)
+
+    behind : drop (3 * k + 3) space ≡ drop (3 * (k + 1)) space₀
+    behind =
+        let next : 3 * k + 3 ≡ 3 * (k + 1) = omega arith in
+        sym (drop-drop 3 (3 * k) space)
+        ∙ ap (λ (x : List ℕ). drop 3 (drop (3 * k) x)) (r .filled)
+        ∙ ap (drop 3) (drop-at (r .done) (drop (3 * k) space₀) (3 * k) (r .long))
+        ∙ drop-drop 3 (3 * k) space₀
+        ∙ ap (λ (i : ℕ). drop i space₀) next
+
+-- no word left: the run is done
+pub running-end : {t₀ ws space₀ t : List ℕ} {k : ℕ} {space : List ℕ} → Running t₀ ws space₀ t [] k space → (t ≡ run t₀ (cut ws)) × (space ≡ answers t₀ (cut ws) ++ drop (3 * length (cut ws)) space₀) × (k ≡ length (cut ws))
+unfolding run answers cut cutAfter
+running-end {t₀} {ws} {space₀} {t} {k} {space} r =
+    let n : k ≡ length (cut ws) = omega (arith, r .count) in
+    (r .table, r .filled ∙ ap₂ (λ (d : List ℕ) (i : ℕ). d ++ drop (3 * i) space₀) (sym (append-nil (r .done)) ∙ r .answered) n, n)

@@ -1,0 +1,156 @@
+-- The striking rule (noninterference): accepted tables meet the unwinding conditions, so for every domain d the view of a
+-- whole list is the view of the machine fed the kept calls alone (specs/Claims: Noninterference).
+-- Assumes nothing.
+use mathlib.Core.Path.{_≡_, refl, sym, ap, ap₂, subst, _∙_}
+use mathlib.Core.Bool.{Bool, true, false, cond, _&&_, true≢false}
+use mathlib.Core.List.{List, [], _∷_, _++_, append-nil}
+use mathlib.Core.Option.{Option, none, some}
+use Prim.Native.Nat.{ℕ, zero, suc, _<_, _≤_}
+use native.Mathlib.Nat.{le-refl}
+use native.Mathlib.Omega.{arith}
+use borrow.Author.Tests.{ltb-true, eqb-true, leb-true}
+use lib.Dec.{eqb, ltb}
+use lib.ListN.{getD, drop}
+use Rattle.machine.specs.Word.{payload, caller}
+use Rattle.machine.specs.Right.{hasAny}
+use Rattle.machine.specs.Table.{domains, endpoints, rightsWord, rights, endpoint}
+use Rattle.machine.specs.Queue.{owner}
+use Rattle.machine.specs.Check.{tableCode, Accepted}
+use Rattle.machine.specs.Call.{Call, first, callerOf, cut}
+use Rattle.machine.specs.Machine.{step, answer}
+use Rattle.machine.specs.Run.{run, answers}
+use Rattle.machine.specs.Influence.{reaches}
+use Rattle.machine.specs.Purge.{purge, answersOf, rightsOf, ofOwned, queuesOf, lostOf, View, view}
+use Rattle.machine.specs.Claims.{SameFrame, SamePart, Agree, Noninterference}
+use Rattle.machine.specs.Unwinding.{Unwinding}
+use Rattle.machine.proofs.Bools.{and-left, cond-same}
+use Rattle.machine.proofs.Frame.{frame-refl, frame-sym, frame-trans}
+use Rattle.machine.proofs.Consistency.{owner-same, owned-same, answer-depends}
+use Rattle.machine.proofs.Step.{stays-accepted, local-respect, step-consistent}
+use Rattle.machine.proofs.Purge.{tables, influences-is, Observed, observes-purge}
+
+-- Two accepted tables of n domains with the same unchanging parts.
+pub record Alike (n : ℕ) (s t : List ℕ) : Type 0 where
+  pub first : Accepted s
+  pub second : Accepted t
+  pub frame : SameFrame s t
+  pub count : domains t ≡ n
+
+alike-sym : {n : ℕ} {s t : List ℕ} → Alike n s t → Alike n t s
+alike-sym o =
+    record { first = o .second; second = o .first; frame = frame-sym (o .frame); count = o .frame .sameDomains ∙ o .count }
+
+alike-trans : {n : ℕ} {s t r : List ℕ} → Alike n s t → Alike n t r → Alike n s r
+alike-trans o p =
+    record { first = o .first; second = p .second; frame = frame-trans (o .frame) (p .frame); count = p .count }
+
+alike-step : {n : ℕ} {t : List ℕ} (c : Call) → Alike n t t → Alike n t (step t c)
+alike-step {n} {t} c o =
+    let kept = stays-accepted t c (o .first) in
+    record { first = o .first; second = kept .accepted; frame = frame-sym (kept .frame); count = kept .frame .sameDomains ∙ o .count }
+
+agree-refl : {v : ℕ} {t : List ℕ} → Agree v t t
+agree-refl = record { part = record { rights = refl; queues = λ e l o. refl }; onIt = λ u l. refl }
+
+agree-sym : {n v : ℕ} {s t : List ℕ} → Alike n s t → Agree v s t → Agree v t s
+agree-sym {n} {v} {s} {t} o a =
+    let f = o .frame in
+    record {
+      part =
+          record {
+            rights = sym (a .part .rights);
+            queues =
+                λ e l w.
+                let l′ : e < endpoints t = subst (λ (m : ℕ). e < m) (f .sameEndpoints) l in
+                sym (a .part .queues e l′ (sym (owner-same s t f e l′) ∙ w));
+          };
+      onIt = λ u l. sym (a .onIt u (subst (λ (k : ℕ). u < k) (f .sameDomains) l));
+    }
+
+agree-trans : {n v : ℕ} {s t r : List ℕ} → Alike n s t → Alike n t r → Agree v s t → Agree v t r → Agree v s r
+agree-trans {n} {v} {s} {t} {r} o p a b =
+    let f = p .frame in
+    record {
+      part =
+          record {
+            rights = a .part .rights ∙ b .part .rights;
+            queues =
+                λ e l w.
+                a .part .queues e (subst (λ (m : ℕ). e < m) (sym (f .sameEndpoints)) l) (owner-same t r f e l ∙ w)
+                ∙ b .part .queues e l w;
+          };
+      onIt = λ u l. a .onIt u (subst (λ (k : ℕ). u < k) (sym (f .sameDomains)) l) ∙ b .onIt u l;
+    }
+
+-- two tables that agree on v agree on who reaches it
+policy-respect : {n v : ℕ} {s t : List ℕ} (u : ℕ) → Alike n s t → Agree v s t → (ltb u (domains s) && reaches s u v) ≡ (ltb u (domains t) && reaches t u v)
+unfolding reaches rights
+policy-respect {n} {v} {s} {t} u o a =
+    ap (λ (k : ℕ). ltb u k && reaches s u v) (o .frame .sameDomains) ∙ go (ltb u (domains t)) refl
+  where
+    go : (b : Bool) → ltb u (domains t) ≡ b → (b && reaches s u v) ≡ (b && reaches t u v)
+    go true e = ap (λ (w : ℕ). hasAny (payload w)) (a .onIt u (ltb-true _ _ e))
+    go false e = refl
+
+some-is : {x y : ℕ} → _≡_ {A = Option ℕ} (some x) (some y) → x ≡ y
+some-is p = cc
+
+-- whoever calls is the caller that is known
+same-caller : {u : ℕ} {s t : List ℕ} (c : Call) → callerOf c ≡ some u → Agree u s t → callerOf c ≡ some (caller (first c)) → SamePart (caller (first c)) s t
+same-caller {u} {s} {t} c e a k =
+    subst (λ (w : ℕ). SamePart w s t) (some-is (sym e ∙ k)) (a .part)
+
+-- Accepted tables of n domains meet the unwinding conditions.
+pub conditions : (n : ℕ) → Unwinding (tables n) (Alike n) Agree
+conditions n =
+    record {
+      okSym = alike-sym;
+      okTrans = alike-trans;
+      okStep = alike-step;
+      sameRefl = λ _. agree-refl;
+      sameSym = agree-sym;
+      sameTrans = agree-trans;
+      reachesDomain = λ {s} {u} {v} o h. subst (λ (k : ℕ). u < k) (o .count) (ltb-true _ _ (and-left (ltb u (domains s)) (reaches s u v) h));
+      policyRespect = λ u o _ a. policy-respect u o a;
+      localRespect =
+          λ {s} {v} c o l h.
+          let here : v < domains s = subst (λ (k : ℕ). v < k) (sym (o .count)) l in
+          agree-sym (alike-sym (alike-step c o)) (local-respect s c (o .first) v here (sym (influences-is n s (callerOf c) v here) ∙ h));
+      weaklyStepConsistent =
+          λ {s} {t} {u} {v} c o lu lv e _ a b.
+          step-consistent s t c (o .first) (o .second) (o .frame) (λ k. same-caller c e a (k .calledBy)) v
+          (subst (λ (k : ℕ). v < k) (sym (o .count)) lv)
+          b;
+      outputConsistent =
+          λ {s} {t} {u} c o lu e a.
+          answer-depends s t c (o .second) (o .frame) (λ w k _. subst (λ (x : ℕ). SamePart x s t) (some-is (sym e ∙ k)) (a .part));
+    }
+
+-- words of the endpoints that d owns, in two tables that agree on d
+owned-words : {n d : ℕ} {s t : List ℕ} → Alike n s t → Agree d s t → (part : List ℕ → List ℕ) (k : ℕ) → k ≤ endpoints t → ofOwned d s part k ≡ ofOwned d t part k
+unfolding ofOwned
+owned-words o a part zero l = refl
+owned-words {n} {d} {s} {t} o a part (suc e) l =
+    ap (λ (r : List ℕ). cond (eqb (owner (endpoint s e)) d) (r ++ part (endpoint s e)) r) (owned-words o a part e (omega arith))
+    ∙ cond-same (ofOwned d t part e) (ap (λ (x : ℕ). eqb x d) (owner-same s t (o .frame) e l))
+    (λ h. ap (λ (q : List ℕ). ofOwned d t part e ++ part q) (owned-same s t (o .frame) d (a .part) e l (eqb-true _ _ h)))
+
+-- what d sees of the tables
+pub same-view : {n d : ℕ} {s t : List ℕ} → Alike n s t → Agree d s t → (cs ks : List Call) (ws vs : List ℕ) → answersOf d cs ws ≡ answersOf d ks vs → view d cs ws s ≡ view d ks vs t
+unfolding view queuesOf lostOf
+same-view {n} {d} {s} {t} o a cs ks ws vs e =
+    λ i. record { answers = e i; rights = a .part .rights i; queues = all (λ q. getD q 2 0 ∷ drop 4 q) i; lost = all (λ q. getD q 3 0 ∷ []) i }
+  where
+    all : (part : List ℕ → List ℕ) → ofOwned d s part (endpoints s) ≡ ofOwned d t part (endpoints t)
+    all part = ap (ofOwned d s part) (o .frame .sameEndpoints) ∙ owned-words o a part (endpoints t) (le-refl _)
+
+-- The striking rule, for calls of any number run from an accepted table; further words may follow the answers.
+pub struck : (t : List ℕ) (cs : List Call) (d : ℕ) (rest : List ℕ) → Accepted t → d < domains t → view d cs (answers t cs ++ rest) (run t cs) ≡ view d (purge t cs d) (answers t (purge t cs d)) (run t (purge t cs d))
+struck t cs d rest a l =
+    let self : Alike (domains t) t t = record { first = a; second = a; frame = frame-refl t; count = refl } in
+    let seen = observes-purge (conditions (domains t)) d t cs l self in
+    same-view (seen .proper) (seen .state) cs (purge t cs d) (answers t cs ++ rest) (answers t (purge t cs d)) (seen .answered rest)
+
+-- The striking rule, for the words of a list.
+pub noninterference : (t ws rest : List ℕ) → Accepted t → Noninterference t ws (run t (cut ws)) (answers t (cut ws) ++ rest)
+noninterference t ws rest a d l = struck t (cut ws) d rest a l

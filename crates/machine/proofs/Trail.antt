@@ -1,0 +1,180 @@
+-- No right from nowhere, and none lost but by its holder (specs/Trail): call by call, and from there along every list of calls.
+-- Assumes nothing.
+use mathlib.Core.Path.{_≡_, refl, sym, ap, ap₂, subst, _∙_}
+use mathlib.Core.Bool.{true, false, not, _&&_, or-true, and-false}
+use mathlib.Core.Logic.{_⊎_, _⊎_.inl, _⊎_.inr, ⊎-elim}
+use mathlib.Core.List.{List, [], _∷_}
+use mathlib.Core.Option.{some}
+use Prim.Native.Nat.{ℕ, _^_, _<_}
+use native.Mathlib.Omega.{arith}
+use lib.ListN.{drop}
+use Rattle.machine.specs.Word.{payload}
+use Rattle.machine.specs.Right.{SEND, GRANT, REMOVE, holds, adds, without}
+use Rattle.machine.specs.Table.{domains, rights, setRights, setEndpoint}
+use Rattle.machine.specs.Check.{Accepted}
+use Rattle.machine.specs.Call.{Call, Call.one, Call.two, callerOf, cut}
+use Rattle.machine.specs.Machine.{Decision, decide, effect, after, step, mayGive}
+use Rattle.machine.specs.Machine.{Decision.grants, Decision.removes, Effect.newRights, Effect.newEndpoint}
+use Rattle.machine.specs.Run.{run}
+use Rattle.machine.specs.Claims.{GivenBy, StaysAccepted}
+use Rattle.machine.specs.Everything.{everything}
+use Rattle.machine.specs.Examples.{T, L}
+use Rattle.machine.specs.Trail.{GivenAlong, NoRightFromNowhere, RemovedBy, EachRight}
+use Rattle.machine.proofs.Bools.{and-left, or-cases, either}
+use Rattle.machine.proofs.Table as table
+use Rattle.machine.proofs.Right.{holds-adds, holds-without, holds-trans, rights-payload}
+use Rattle.machine.proofs.Accepted.{accepted-sized}
+use Rattle.machine.proofs.Step.{InOrder, call-in-order, stays-accepted}
+use Rattle.machine.proofs.Decide.{Rows, decide-elim}
+
+-- ---- a set of rights after one call
+
+-- what was written is read back
+written : (t : List ℕ) → Accepted t → (h g s : ℕ) → InOrder t (newRights h g s) → rights (setRights t h g s) h g ≡ s
+unfolding rights
+written t a h g s o =
+    ap payload (table.setRights-same t (accepted-sized t a) h g s (o .0) (o .1)) ∙ rights-payload s (o .2)
+
+-- What h holds on g is as it was, or was added to by a grant under all that its places have shown, or was cut by h's own remove.
+module _ (t : List ℕ) (c : Call) (a : Accepted t) (h g : ℕ) (ph : h < domains t) (pg : g < domains t)
+    (P : ℕ → Type 0)
+    (kept : P (rights t h g))
+    (granted : (u r : ℕ) → callerOf c ≡ some u → decide t c ≡ grants g h r → holds (rights t u g) GRANT ≡ true → holds (rights t u g) r ≡ true → mayGive t u h ≡ true → P (adds (rights t h g) r))
+    (removed : (r : ℕ) → callerOf c ≡ some h → decide t c ≡ removes g h r → holds (rights t h g) REMOVE ≡ true → P (without (rights t h g) r)) where
+  -- of a decision that the call came to
+  Left : Decision → Type 0
+  Left d = decide t c ≡ d → InOrder t (effect t d) → P (rights (after t (effect t d)) h g)
+
+  write-left : (h′ g′ s : ℕ) → InOrder t (newRights h′ g′ s) → (h ≡ h′ → g ≡ g′ → P s) → P (rights (setRights t h′ g′ s) h g)
+  unfolding rights
+  write-left h′ g′ s o here =
+      ⊎-elim (λ x. rw (x .0, x .1, written t a h′ g′ s o) (here (x .0) (x .1))) (λ x. rw x kept)
+      (table.setRights-either t (accepted-sized t a) h′ g′ s (o .0) (o .1) h g pg)
+
+  endpoint-left : (e : ℕ) (q : List ℕ) → InOrder t (newEndpoint e q) → P (rights (setEndpoint t e q) h g)
+  unfolding rights
+  endpoint-left e q o = rw (table.setEndpoint-rights t (accepted-sized t a) e q (o .0) (o .1) h g ph pg) kept
+
+  rows : Rows t c Left
+  unfolding Left after effect
+  rows =
+      record {
+        refuses = λ _ _ _ _. kept;
+        looksUp = λ _ _ _ _ _ _. kept;
+        sending = λ _ _ _ _ _ o. endpoint-left _ _ o;
+        receiving = λ _ _ _ _ _ _ o. endpoint-left _ _ o;
+        endpointsListed = λ _ _ _ _. kept;
+        rightsListed = λ _ _ _ _. kept;
+        granting =
+            λ k _ _ _ _ may had toward comes o.
+            write-left _ _ _ o
+            (λ p q. rw (← p, ← q) (granted _ _ (k .calledBy) (rw (p, q) comes) (rw q may) (rw q had) (rw p toward)));
+        removing =
+            λ k _ _ may _ comes o.
+            write-left _ _ _ o
+            (λ p q. rw (← p, ← q) (removed _ (rw p (k .calledBy)) (rw (p, q) comes) (rw (p, q) may)));
+      }
+
+  pub rights-elim : P (rights (step t c) h g)
+  unfolding Left step
+  rights-elim = decide-elim t c Left rows refl (call-in-order t c a)
+
+-- ---- a single right after one call
+
+module _ (t : List ℕ) (c : Call) (a : Accepted t) (h g k : ℕ) (ph : h < domains t) (pg : g < domains t) where
+  pub had-or-given : holds (rights (step t c) h g) (2 ^ k) ≡ true → (holds (rights t h g) (2 ^ k) ≡ true) ⊎ GivenBy t c h g (2 ^ k)
+  had-or-given =
+      rights-elim t c a h g ph pg
+      (λ s. holds s (2 ^ k) ≡ true → (holds (rights t h g) (2 ^ k) ≡ true) ⊎ GivenBy t c h g (2 ^ k)) inl
+      (λ u r by comes may had toward now.
+      ⊎-elim inl
+      (λ x.
+      inr
+      (record {
+        given = r;
+        caller = u;
+        grant = comes;
+        among = x;
+        calledBy = by;
+        held = holds-trans (rights t u g) r (2 ^ k) had x;
+        mayGrant = may;
+        toward = toward;
+      }))
+      (or-cases (holds (rights t h g) (2 ^ k)) (holds r (2 ^ k)) (sym (holds-adds (rights t h g) r k) ∙ now)))
+      (λ r _ _ _ now. inl (and-left (holds (rights t h g) (2 ^ k)) _ (sym (holds-without (rights t h g) r k) ∙ now)))
+
+  kept-or-removed : holds (rights t h g) (2 ^ k) ≡ true → (holds (rights (step t c) h g) (2 ^ k) ≡ true) ⊎ RemovedBy t c h g (2 ^ k)
+  kept-or-removed had =
+      rights-elim t c a h g ph pg
+      (λ s. (holds s (2 ^ k) ≡ true) ⊎ RemovedBy t c h g (2 ^ k)) (inl had)
+      (λ u r _ _ _ _ _. inl (rw (holds-adds, had)))
+      (λ r by comes may.
+      ⊎-elim (λ x. inr (record { removed = r; remove = comes; among = x; calledBy = by; mayRemove = may }))
+      (λ x. inl (holds-without (rights t h g) r k ∙ ap₂ (λ b d. b && not d) had x))
+      (either (holds r (2 ^ k))))
+
+  -- the set after a call that writes it
+  now : (s : ℕ) → effect t (decide t c) ≡ newRights h g s → rights (step t c) h g ≡ s
+  unfolding step after
+  now s e = ap (λ x. rights (after t x) h g) e ∙ written t a h g s (subst (InOrder t) e (call-in-order t c a))
+
+  given-now : GivenBy t c h g (2 ^ k) → holds (rights (step t c) h g) (2 ^ k) ≡ true
+  unfolding effect
+  given-now x = rw (now (adds (rights t h g) (x .given)) (ap (effect t) (x .grant)), holds-adds, x .among, or-true)
+
+  removed-now : RemovedBy t c h g (2 ^ k) → holds (rights (step t c) h g) (2 ^ k) ≡ false
+  unfolding effect
+  removed-now x =
+      rw (now (without (rights t h g) (x .removed)) (ap (effect t) (x .remove)), holds-without, x .among, and-false)
+
+  pub each-right : EachRight t c h g (2 ^ k)
+  each-right =
+      record { hadOrGiven = had-or-given; keptOrRemoved = kept-or-removed; given = given-now; removed = removed-now }
+
+-- ---- along calls
+
+first-gave : (t : List ℕ) (c : Call) (cs : List Call) (h g r : ℕ) → GivenBy t c h g r → GivenAlong t (c ∷ cs) h g r
+unfolding run
+first-gave t c cs h g r by = record { before = []; call = c; later = cs; among = refl; given = by }
+
+later-gave : (t : List ℕ) (c : Call) (cs : List Call) (h g r : ℕ) → GivenAlong (step t c) cs h g r → GivenAlong t (c ∷ cs) h g r
+unfolding run
+later-gave t c cs h g r x =
+    record { before = c ∷ x .before; call = x .call; later = x .later; among = ap (_∷_ c) (x .among); given = x .given }
+
+pub no-right-from-nowhere : (t : List ℕ) (cs : List Call) → Accepted t → NoRightFromNowhere t cs (run t cs)
+unfolding run
+no-right-from-nowhere t [] a h g k ph pg held = inl held
+no-right-from-nowhere t (c ∷ cs) a h g k ph pg held =
+    let stays : StaysAccepted t (step t c) = stays-accepted t c a in
+    let n : domains (step t c) ≡ domains t = stays .frame .sameDomains in
+    ⊎-elim (λ x. ⊎-elim inl (λ y. inr (first-gave t c cs h g (2 ^ k) y)) (had-or-given t c a h g k ph pg x))
+    (λ x. inr (later-gave t c cs h g (2 ^ k) x))
+    (no-right-from-nowhere (step t c) cs (stays .accepted) h g k (omega arith) (omega arith) held)
+
+-- ---- both come about: in L the second call gives domain 0 SEND on domain 2, and in P11 domain 1 gives up REMOVE on it
+
+pub given-in-L : GivenAlong T (cut L) 0 2 SEND
+unfolding everything
+given-in-L =
+    record {
+      before = two 0x2000_0100 0xF000_0005 ∷ [];
+      call = one 0x6042_0001;
+      later = cut (drop 3 L);
+      among = refl;
+      given =
+          record {
+            given = SEND;
+            caller = 1;
+            grant = refl;
+            among = refl;
+            calledBy = refl;
+            held = refl;
+            mayGrant = refl;
+            toward = refl;
+          };
+    }
+
+pub removed-in-P11 : RemovedBy T (one 0x7042_0004) 1 2 REMOVE
+unfolding everything
+removed-in-P11 = record { removed = REMOVE; remove = refl; among = refl; calledBy = refl; mayRemove = refl }

@@ -1,0 +1,173 @@
+-- Noninterference by unwinding, for any machine whose calls have callers; nothing here knows a table. The theory and its
+-- names are CapFlow's (SM, sources, ipurge, the unwinding conditions), with two additions: a call's answer is seen by its
+-- caller, and the theorem speaks of every choice of struck calls and not of the purge alone.
+-- The conditions are about one call each; what follows from them is about lists of any length (proofs/Unwinding).
+use Prim.Native.Nat.{ℕ}
+use mathlib.Core.Path.{_≡_}
+use mathlib.Core.Bool.{Bool, true, false, cond, _||_}
+use mathlib.Core.List.{List, [], _∷_, _++_}
+use mathlib.Core.Option.{Option, none, some}
+use lib.Dec.{eqb}
+use Rattle.machine.specs.Purge.{member, callerIn, calledBy}
+
+-- A machine. Its domains are numbers, and a set of domains is the list of its members.
+pub record StateMachine : Type 1 where
+  pub State : Type 0
+  pub Call : Type 0
+  -- the numbers that are domains
+  pub Domain : ℕ → Type 0
+  -- the state after a call, and the words of its answer
+  pub step : State → Call → State
+  pub out : State → Call → List ℕ
+  -- who makes a call; a call may have no caller, and a caller need be no domain
+  pub caller : Call → Option ℕ
+  -- u has a right on v in a state: this moves with the state
+  pub reaches : State → ℕ → ℕ → Bool
+
+-- a call's caller is in a group
+unfoldable pub fromGroup : (ℕ → Bool) → Option ℕ → Bool
+fromGroup group none = false
+fromGroup group (some u) = group u
+
+module _ (M : StateMachine) where
+  open StateMachine M using (State, Call, step, out, caller, reaches)
+
+  -- the state after calls
+  unfoldable pub run : State → List Call → State
+  run s [] = s
+  run s (c ∷ cs) = run (step s c) cs
+
+  -- what d is answered: the words of each call whose caller is d, in order
+  unfoldable pub outputs : ℕ → State → List Call → List ℕ
+  outputs d s [] = []
+  outputs d s (c ∷ cs) =
+      let rest = outputs d (step s c) cs in
+      cond (calledBy d (caller c)) (out s c ++ rest) rest
+
+  -- u reaches a member
+  unfoldable pub reachesAny : State → ℕ → List ℕ → Bool
+  reachesAny s u [] = false
+  reachesAny s u (v ∷ vs) = reaches s u v || reachesAny s u vs
+
+  -- a set, joined by a call's caller where that reaches a member
+  unfoldable pub joinedBy : State → Option ℕ → List ℕ → List ℕ
+  joinedBy s none vs = vs
+  joinedBy s (some u) vs = cond (reachesAny s u vs) (u ∷ vs) vs
+
+  -- the domains that can have reached d, at the first of the calls that are run from s; past the last call it is d alone
+  unfoldable pub sources : State → List Call → ℕ → List ℕ
+  sources s [] d = d ∷ []
+  sources s (c ∷ cs) d = joinedBy s (caller c) (sources (step s c) cs d)
+
+  -- exactly the calls whose caller is in the set at that call (CapFlow: ipurge)
+  unfoldable pub purge : State → List Call → ℕ → List Call
+  purge s [] d = []
+  purge s (c ∷ cs) d =
+      let rest = purge (step s c) cs d in
+      cond (callerIn (caller c) (sources s (c ∷ cs) d)) (c ∷ rest) rest
+
+  -- A choice of struck calls: the second list keeps of the first, run from s, at least the calls whose caller is in the set
+  -- at that call.
+  pub data Keeps (d : ℕ) : State → List Call → List Call → Type 0 where
+    done : {s : State} → Keeps d s [] []
+    keep : {s : State} (c : Call) {cs ks : List Call} → Keeps d (step s c) cs ks → Keeps d s (c ∷ cs) (c ∷ ks)
+    strike :
+        {s : State} (c : Call) {cs ks : List Call}
+        → callerIn (caller c) (sources s (c ∷ cs) d) ≡ false
+        → Keeps d (step s c) cs ks
+        → Keeps d s (c ∷ cs) ks
+
+  -- a call's caller is v or reaches it; no caller influences none (CapFlow: interferes)
+  unfoldable pub influences : State → Option ℕ → ℕ → Bool
+  influences s none v = false
+  influences s (some u) v = eqb u v || reaches s u v
+
+  -- along the calls run from s, a caller that reaches a member of the group P is a member
+  abbrev pub Closed : (ℕ → Type 0) → State → List Call → Type 0
+  Closed P s [] = Unit {0}
+  Closed P s (c ∷ cs) =
+      ((u v : ℕ) → caller c ≡ some u → reaches s u v ≡ true → P v → P u) × Closed P (step s c) cs
+
+  -- exactly the calls whose caller is in a group, whatever the run
+  unfoldable pub groupCalls : (ℕ → Bool) → List Call → List Call
+  groupCalls group [] = []
+  groupCalls group (c ∷ cs) =
+      let rest = groupCalls group cs in
+      cond (fromGroup group (caller c)) (c ∷ rest) rest
+
+-- two states look the same to each member of a set (CapFlow: ivpeq)
+abbrev pub SameFor : {S : Type 0} → (ℕ → S → S → Type 0) → List ℕ → S → S → Type 0
+SameFor same vs s t = (v : ℕ) → member v vs ≡ true → same v s t
+
+-- Two relations of states are the user's choice: ok, both states are proper and have the same unchanging parts; and same v,
+-- the states look the same to the domain v (CapFlow: vpeq).
+module _ (M : StateMachine) (ok : M .State → M .State → Type 0) (same : ℕ → M .State → M .State → Type 0) where
+  open StateMachine M using (State, Call, Domain, step, out, caller, reaches)
+
+  -- The unwinding conditions.
+  pub record Unwinding : Type 0 where
+    -- ok is symmetric and transitive, and a call leaves a state that is ok with the one before it
+    pub okSym : {s t : State} → ok s t → ok t s
+    pub okTrans : {s t r : State} → ok s t → ok t r → ok s r
+    pub okStep : {s : State} (c : Call) → ok s s → ok s (step s c)
+    -- same v is an equivalence
+    pub sameRefl : {s : State} {v : ℕ} → ok s s → same v s s
+    pub sameSym : {s t : State} {v : ℕ} → ok s t → same v s t → same v t s
+    pub sameTrans : {s t r : State} {v : ℕ} → ok s t → ok t r → same v s t → same v t r → same v s r
+    -- only domains reach
+    pub reachesDomain : {s : State} {u v : ℕ} → ok s s → reaches s u v ≡ true → Domain u
+    -- policy respect: states that look the same to v agree on who reaches it
+    pub policyRespect :
+        {s t : State} {v : ℕ} (u : ℕ) → ok s t → Domain v → same v s t → reaches s u v ≡ reaches t u v
+    -- local respect: a call alters nothing for a domain that its caller doesn't influence
+    pub localRespect :
+        {s : State} {v : ℕ} (c : Call) → ok s s → Domain v → influences M s (caller c) v ≡ false → same v s (step s c)
+    -- weak step consistency: what a call alters for a domain that its caller influences depends only on what looks the same
+    -- to these two
+    pub weaklyStepConsistent :
+        {s t : State} {u v : ℕ} (c : Call)
+        → ok s t
+        → Domain u
+        → Domain v
+        → caller c ≡ some u
+        → influences M s (some u) v ≡ true
+        → same u s t
+        → same v s t
+        → same v (step s c) (step t c)
+    -- output consistency: an answer depends only on what looks the same to the caller
+    pub outputConsistent :
+        {s t : State} {u : ℕ} (c : Call) → ok s t → Domain u → caller c ≡ some u → same u s t → out s c ≡ out t c
+
+  -- s and t look the same to every source of the domain d along cs.
+  pub record Agree (d : ℕ) (s : State) (cs : List Call) (t : State) : Type 0 where
+    pub domain : Domain d
+    pub proper : ok s t
+    pub each : SameFor same (sources M s cs d) s t
+
+  -- What d sees of cs run from s is what it sees of ks run from t (CapFlow: observ-equivalence; here with the answers).
+  pub record ObservEquivalent (d : ℕ) (s : State) (cs : List Call) (t : State) (ks : List Call) : Type 0 where
+    pub proper : ok (run M s cs) (run M t ks)
+    pub state : same d (run M s cs) (run M t ks)
+    pub answers : outputs M d s cs ≡ outputs M d t ks
+
+  -- The theorem: of states that look the same to every source of d, d sees the same, whatever calls of others are struck.
+  abbrev pub UnwindingTheorem : Type 0
+  UnwindingTheorem =
+      (d : ℕ) (s t : State) (cs ks : List Call) → Agree d s cs t → Keeps M d s cs ks → ObservEquivalent d s cs t ks
+
+  -- Its cases: the purge, worked out on the second state;
+  abbrev pub Noninfluence : Type 0
+  Noninfluence = (d : ℕ) (s t : State) (cs : List Call) → Agree d s cs t → ObservEquivalent d s cs t (purge M t cs d)
+
+  -- the purge, on one state;
+  abbrev pub Noninterference : Type 0
+  Noninterference =
+      (d : ℕ) (s : State) (cs : List Call) → Domain d → ok s s → ObservEquivalent d s cs s (purge M s cs d)
+
+  -- nothing struck;
+  abbrev pub Nonleakage : Type 0
+  Nonleakage = (d : ℕ) (s t : State) (cs : List Call) → Agree d s cs t → ObservEquivalent d s cs t cs
+
+  -- and the sources worked out on the second state are the same.
+  abbrev pub SameSources : Type 0
+  SameSources = (d : ℕ) (s t : State) (cs : List Call) → Agree d s cs t → sources M s cs d ≡ sources M t cs d

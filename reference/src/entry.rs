@@ -1,0 +1,47 @@
+//! The run of a whole list, with the entry's codes 1 to 6 (document 01, "Where
+//! each number is checked").
+
+use crate::calls::{cut, Call, LIST_WORDS_MAX};
+use crate::machine::step;
+use crate::table::check_table;
+
+/// The answer words of one call.
+pub const ANSWER_WORDS: usize = 3;
+
+/// Runs a list on a table: (code 0, the number of calls), or (the code of the
+/// entry's refusal, 0) with table and answers as they were.
+pub fn run(table: &mut [u32], list: &[u32], answers: &mut [u32]) -> (u32, u32) {
+    let calls = cut(list);
+    let code = entry_code(table, list, &calls, answers.len());
+    if code != 0 {
+        return (code, 0);
+    }
+    run_calls(table, &calls, answers);
+    (0, calls.len() as u32)
+}
+
+/// 1, then the table's 2 to 5, then 6; 0 when none of them refuses.
+fn entry_code(table: &[u32], list: &[u32], calls: &[Call], space: usize) -> u32 {
+    if list.len() > LIST_WORDS_MAX {
+        return 1;
+    }
+    let table_code = check_table(table);
+    if table_code != 0 {
+        return table_code;
+    }
+    if space < ANSWER_WORDS * calls.len() {
+        return 6;
+    }
+    0
+}
+
+/// Feeds the calls to the machine in their order. Space beyond three words a
+/// call is untouched.
+fn run_calls(table: &mut [u32], calls: &[Call], answers: &mut [u32]) {
+    let mut place = 0;
+    for call in calls {
+        let answer = step(table, call);
+        answers[place..place + ANSWER_WORDS].copy_from_slice(&answer);
+        place += ANSWER_WORDS;
+    }
+}

@@ -1,0 +1,498 @@
+//! Seeded tables, lists and inputs for property tests and comparisons.
+//!
+//! Everything follows from the seed alone. The draws are biased so that every
+//! code is met, most calls do something, queues fill and empty, and lost counts
+//! reach their top. `tests/all/generator.rs` counts that this is so.
+
+use crate::calls::{
+    cut, GRANT, LIST_WORDS_MAX, LOOK_UP, MY_ENDPOINTS, MY_RIGHTS, RECEIVE, REMOVE, SEND, STRAY,
+};
+use crate::entry::ANSWER_WORDS;
+use crate::machine::step;
+use crate::table::{
+    capacity, check_table, domains, endpoint_place, endpoints, name, owner, right, rights, waiting,
+    DOMAINS_MAX, ENDPOINTS_MAX, HEADER, INFO, INFO_PLACE, LOST, LOST_PLACE, MESSAGE, NAME,
+    NAME_PLACE, RIGHTS, SLOTS, SLOTS_PLACE, TABLE_WORDS_MAX, WAITING, WAITING_PLACE,
+};
+use crate::words::{content, to_bytes, word, CONTENT_MAX, EMPTY_SLOT};
+
+/// A small random generator (splitmix64).
+#[derive(Debug, Clone)]
+pub struct Rng {
+    state: u64,
+}
+
+impl Rng {
+    pub fn new(seed: u64) -> Rng {
+        Rng { state: seed }
+    }
+
+    /// The next 64 bits.
+    pub fn draw(&mut self) -> u64 {
+        self.state = self.state.wrapping_add(0x9E37_79B9_7F4A_7C15);
+        let mut bits = self.state;
+        bits = (bits ^ (bits >> 30)).wrapping_mul(0xBF58_476D_1CE4_E5B9);
+        bits = (bits ^ (bits >> 27)).wrapping_mul(0x94D0_49BB_1331_11EB);
+        bits ^ (bits >> 31)
+    }
+
+    /// A whole word, every bit drawn.
+    pub fn word(&mut self) -> u32 {
+        (self.draw() >> 32) as u32
+    }
+
+    /// A number below `bound`, which isn't 0.
+    pub fn below(&mut self, bound: usize) -> usize {
+        (self.draw() % bound as u64) as usize
+    }
+
+    /// A number from `low` to `high`, both included.
+    pub fn between(&mut self, low: usize, high: usize) -> usize {
+        low + self.below(high - low + 1)
+    }
+
+    /// The same, with the two ends drawn more often.
+    pub fn size(&mut self, low: usize, high: usize) -> usize {
+        match self.below(16) {
+            0 => low,
+            1 | 2 => high,
+            _ => self.between(low, high),
+        }
+    }
+
+    /// True `times` times out of `of`.
+    pub fn chance(&mut self, times: usize, of: usize) -> bool {
+        self.below(of) < times
+    }
+
+    /// One of the given, which aren't none.
+    pub fn pick<T: Copy>(&mut self, from: &[T]) -> T {
+        from[self.below(from.len())]
+    }
+}
+
+// Tables.
+
+/// An accepted table of 1 to `max_n` domains and 0 to `max_m` endpoints.
+pub fn table(rng: &mut Rng, max_n: usize, max_m: usize) -> Vec<u32> {
+    let n = rng.size(1, max_n.clamp(1, DOMAINS_MAX));
+    let m = rng.size(0, max_m.min(ENDPOINTS_MAX));
+    table_of(rng, n, m)
+}
+
+/// An accepted table of just n domains and m endpoints.
+pub fn table_of(rng: &mut Rng, n: usize, m: usize) -> Vec<u32> {
+    let mut words = vec![word(HEADER, ((n << 8) | m) as u32)];
+    let density = rng.pick(&[1, 2, 4, 8]);
+    for _ in 0..n * n {
+        let set = if rng.chance(density, 8) {
+            rights_set(rng)
+        } else {
+            0
+        };
+        words.push(word(RIGHTS, set));
+    }
+    for name in names(rng, m) {
+        words.extend(endpoint(rng, n, name));
+    }
+    words
+}
+
+/// A set of rights, all three more often than the others.
+fn rights_set(rng: &mut Rng) -> u32 {
+    rng.pick(&[1, 2, 3, 4, 5, 6, 7, 7, 7])
+}
+
+/// m names, none of them 0 and no two equal.
+fn names(rng: &mut Rng, m: usize) -> Vec<u32> {
+    let mut names: Vec<u32> = Vec::new();
+    while names.len() < m {
+        let name = match rng.below(4) {
+            0 => CONTENT_MAX - rng.below(ENDPOINTS_MAX) as u32,
+            1 => content(rng.word()).max(1),
+            _ => rng.between(1, 2 * ENDPOINTS_MAX) as u32,
+        };
+        if !names.contains(&name) {
+            names.push(name);
+        }
+    }
+    names
+}
+
+/// The twelve words of an endpoint in a table of n domains.
+fn endpoint(rng: &mut Rng, n: usize, name: u32) -> Vec<u32> {
+    let owner = rng.below(n);
+    let capacity = rng.pick(&[1, 1, 2, 2, 3, 4, 5, 6, 7, 8, 8]);
+    let waiting = match rng.below(3) {
+        0 => 0,
+        1 => capacity,
+        _ => rng.between(0, capacity),
+    };
+    let mut words = vec![
+        word(NAME, name),
+        word(INFO, ((owner << 8) | capacity) as u32),
+        word(WAITING, waiting as u32),
+        word(LOST, lost_count(rng)),
+    ];
+    for slot in 0..SLOTS {
+        words.push(if slot < waiting {
+            word(MESSAGE, message(rng))
+        } else {
+            EMPTY_SLOT
+        });
+    }
+    words
+}
+
+/// A lost count, often at its top or just below.
+fn lost_count(rng: &mut Rng) -> u32 {
+    match rng.below(8) {
+        0 | 1 => CONTENT_MAX,
+        2 => CONTENT_MAX - 1,
+        3 => CONTENT_MAX - 2,
+        4 => content(rng.word()),
+        _ => 0,
+    }
+}
+
+/// A message, sometimes 0 or the largest.
+fn message(rng: &mut Rng) -> u32 {
+    match rng.below(8) {
+        0 => 0,
+        1 => CONTENT_MAX,
+        2 => content(rng.word()),
+        _ => rng.below(256) as u32,
+    }
+}
+
+/// A table that is refused, and the code that refuses it, 2 to 5. Often more
+/// than one thing is wrong with it.
+pub fn damaged_table(rng: &mut Rng, max_n: usize, max_m: usize) -> (Vec<u32>, u32) {
+    let mut words = table(rng, max_n, max_m);
+    let lowest = match rng.between(2, 5) {
+        5 if endpoints(&words) == 0 => 4,
+        code => code,
+    };
+    for code in (lowest..=5).rev() {
+        if code == lowest || rng.chance(1, 4) {
+            damage(rng, &mut words, code);
+        }
+    }
+    (words, lowest as u32)
+}
+
+fn damage(rng: &mut Rng, table: &mut Vec<u32>, code: usize) {
+    match code {
+        2 => damage_header(rng, table),
+        3 => damage_length(rng, table),
+        4 => damage_rights(rng, table),
+        _ => damage_endpoint(rng, table),
+    }
+}
+
+fn damage_header(rng: &mut Rng, table: &mut Vec<u32>) {
+    let (n, m) = (domains(table) as u32, endpoints(table) as u32);
+    table[0] = match rng.below(6) {
+        0 => return table.clear(),
+        1 => other_kind(rng, table[0]),
+        2 => table[0] | (1 << rng.between(16, 27)),
+        3 => word(HEADER, m),
+        4 => word(HEADER, ((rng.size(17, 255) as u32) << 8) | m),
+        _ => word(HEADER, (n << 8) | rng.size(33, 255) as u32),
+    };
+}
+
+fn damage_length(rng: &mut Rng, table: &mut Vec<u32>) {
+    match rng.below(4) {
+        0 => table.push(EMPTY_SLOT),
+        1 => table.extend(vec![EMPTY_SLOT; rng.between(1, 12)]),
+        2 => table.truncate(rng.between(1, table.len() - 1)),
+        _ => table.truncate(table.len() - 1),
+    }
+}
+
+fn damage_rights(rng: &mut Rng, table: &mut [u32]) {
+    let place = 1 + rng.below(domains(table) * domains(table));
+    table[place] = if rng.chance(1, 2) {
+        other_kind(rng, table[place])
+    } else {
+        table[place] | (1 << rng.size(3, 27))
+    };
+}
+
+/// Breaks one word of one endpoint, where there is one.
+fn damage_endpoint(rng: &mut Rng, table: &mut [u32]) {
+    if endpoints(table) == 0 {
+        return;
+    }
+    let e = rng.below(endpoints(table));
+    let place = endpoint_place(table, e);
+    let (at, content) = match rng.below(7) {
+        0 => (NAME_PLACE, bad_name(rng, table, e)),
+        1 => (INFO_PLACE, bad_info(rng, table, e)),
+        2 => (WAITING_PLACE, bad_waiting(rng, table, e)),
+        3 => (LOST_PLACE, None),
+        _ => bad_slot(rng, table, e),
+    };
+    let old = table[place + at];
+    table[place + at] = match content {
+        Some(content) if rng.chance(3, 4) => word(old >> 28, content),
+        _ => other_kind(rng, old),
+    };
+}
+
+/// The name 0, or that of another endpoint.
+fn bad_name(rng: &mut Rng, table: &[u32], e: usize) -> Option<u32> {
+    let other = rng.below(endpoints(table));
+    Some(if other == e { 0 } else { name(table, other) })
+}
+
+fn bad_info(rng: &mut Rng, table: &[u32], e: usize) -> Option<u32> {
+    let (owner, capacity) = (owner(table, e), capacity(table, e));
+    Some(match rng.below(4) {
+        0 => (owner << 8) as u32,
+        1 => ((owner << 8) | rng.size(9, 255)) as u32,
+        2 => ((rng.size(domains(table), 255) << 8) | capacity) as u32,
+        _ => (((owner << 8) | capacity) | (1 << rng.between(16, 27))) as u32,
+    })
+}
+
+/// A waiting count above the capacity.
+fn bad_waiting(rng: &mut Rng, table: &[u32], e: usize) -> Option<u32> {
+    Some(match rng.below(2) {
+        0 => capacity(table, e) as u32 + 1,
+        _ => rng.size(9, CONTENT_MAX as usize) as u32,
+    })
+}
+
+/// A message past the waiting count, where there is a slot past it.
+fn bad_slot(rng: &mut Rng, table: &[u32], e: usize) -> (usize, Option<u32>) {
+    if waiting(table, e) == SLOTS {
+        return (SLOTS_PLACE + rng.below(SLOTS), None);
+    }
+    let slot = rng.size(waiting(table, e), SLOTS - 1);
+    (SLOTS_PLACE + slot, Some(1 << rng.below(28)))
+}
+
+/// The same word with another kind.
+fn other_kind(rng: &mut Rng, word: u32) -> u32 {
+    word ^ ((rng.between(1, 15) as u32) << 28)
+}
+
+// Calls and lists.
+
+/// The first word of a call from its fields, each within its bits.
+pub fn call_word(kind: u32, caller: usize, a: usize, b: usize, c: u32) -> u32 {
+    (kind << 28) | ((caller << 22) as u32) | ((a << 16) as u32) | ((b << 8) as u32) | c
+}
+
+/// A list of 0 to `max_words` words for a table. On an accepted table most calls
+/// do something; the table that they leave is followed along.
+pub fn list(rng: &mut Rng, table: &[u32], max_words: usize) -> Vec<u32> {
+    let wanted = rng.size(0, max_words);
+    if check_table(table) != 0 {
+        return (0..wanted).map(|_| wild_word(rng)).collect();
+    }
+    let mut now = table.to_vec();
+    let mut list = Vec::new();
+    while list.len() < wanted {
+        let words = call_words(rng, &now);
+        let times = if rng.chance(1, 8) {
+            rng.between(2, 9)
+        } else {
+            1
+        };
+        for call in cut(&words.repeat(times)) {
+            step(&mut now, &call);
+            list.extend(call.words());
+        }
+    }
+    list.truncate(wanted);
+    list
+}
+
+/// The words of one call for an accepted table, mostly one that isn't refused.
+pub fn call_words(rng: &mut Rng, table: &[u32]) -> Vec<u32> {
+    match rng.below(32) {
+        0 => vec![wild_word(rng)],
+        1 => vec![word(STRAY, content(rng.word()))],
+        2 => vec![unknown_word(rng, table)],
+        3..=6 => slipped_call(rng, table),
+        _ => sensible_call(rng, table),
+    }
+}
+
+/// A word of which every bit is drawn, or one with few bits set.
+fn wild_word(rng: &mut Rng) -> u32 {
+    let word = rng.word();
+    if rng.chance(1, 2) {
+        word
+    } else {
+        (word & rng.word() & rng.word()) | (word & 0xF000_0000)
+    }
+}
+
+fn unknown_word(rng: &mut Rng, table: &[u32]) -> u32 {
+    let kind = rng.pick(&[0, 8, 9, 10, 11, 12, 13, 14]);
+    call_word(kind, rng.below(domains(table) + 1), 0, 0, 0)
+}
+
+/// A sensible call with one thing about it altered.
+fn slipped_call(rng: &mut Rng, table: &[u32]) -> Vec<u32> {
+    let mut words = sensible_call(rng, table);
+    let (n, m) = (domains(table), endpoints(table));
+    let first = words[0];
+    match rng.below(6) {
+        0 => words[0] = (first & !(63 << 22)) | ((rng.size(n, 63) as u32) << 22),
+        1 => words[0] = (first & !(63 << 16)) | ((rng.size(0, n) as u32) << 16),
+        2 => words[0] = (first & !(255 << 8)) | ((rng.pick(&[0, 1, n, m, 255]) as u32) << 8),
+        3 => words[0] = (first & !255) | rng.size(0, 255) as u32,
+        4 => words.truncate(1),
+        _ => words.push(word(STRAY, message(rng))),
+    }
+    words
+}
+
+/// A call by some domain that is seldom refused.
+fn sensible_call(rng: &mut Rng, table: &[u32]) -> Vec<u32> {
+    let anyone = rng.below(domains(table));
+    let kinds = [2, 2, 2, 2, 3, 3, 3, 6, 6, 6, 6, 7, 7, 1, 4, 5, 5];
+    match rng.pick(&kinds) {
+        LOOK_UP => look_up_words(rng, table, anyone),
+        SEND => send_words(rng, table),
+        RECEIVE => vec![receive_word(rng, table)],
+        GRANT => vec![grant_word(rng, table)],
+        REMOVE => vec![remove_word(rng, table)],
+        MY_ENDPOINTS => vec![call_word(MY_ENDPOINTS, anyone, 0, 0, 0)],
+        _ => vec![call_word(MY_RIGHTS, anyone, 0, 0, 0)],
+    }
+}
+
+/// Mostly one of the numbers below `bound` that are suitable; now and then, or
+/// where none is, any of them; 0 where there is no number below `bound`.
+fn mostly(rng: &mut Rng, bound: usize, suitable: impl Fn(usize) -> bool) -> usize {
+    let suited: Vec<usize> = (0..bound).filter(|&number| suitable(number)).collect();
+    if bound == 0 {
+        0
+    } else if suited.is_empty() || rng.chance(1, 10) {
+        rng.below(bound)
+    } else {
+        rng.pick(&suited)
+    }
+}
+
+fn look_up_words(rng: &mut Rng, table: &[u32], caller: usize) -> Vec<u32> {
+    let name = if endpoints(table) == 0 || rng.chance(1, 4) {
+        rng.below(2 * ENDPOINTS_MAX) as u32
+    } else {
+        name(table, rng.below(endpoints(table)))
+    };
+    vec![call_word(LOOK_UP, caller, 0, 0, 0), word(STRAY, name)]
+}
+
+fn send_words(rng: &mut Rng, table: &[u32]) -> Vec<u32> {
+    let e = rng.below(endpoints(table).max(1));
+    let caller = mostly(rng, domains(table), |caller| may_send(table, caller, e));
+    let message = word(STRAY, message(rng));
+    vec![call_word(SEND, caller, 0, e, 0), message]
+}
+
+fn may_send(table: &[u32], caller: usize, e: usize) -> bool {
+    e < endpoints(table) && {
+        let to = owner(table, e);
+        to == caller || rights(table, caller, to) & right::SEND != 0
+    }
+}
+
+fn receive_word(rng: &mut Rng, table: &[u32]) -> u32 {
+    let e = mostly(rng, endpoints(table), |e| waiting(table, e) > 0);
+    let is_owner = |caller| e < endpoints(table) && owner(table, e) == caller;
+    let caller = mostly(rng, domains(table), is_owner);
+    call_word(RECEIVE, caller, 0, e, 0)
+}
+
+/// Mostly a grant of rights that the recipient doesn't have yet.
+fn grant_word(rng: &mut Rng, table: &[u32]) -> u32 {
+    let n = domains(table);
+    let has = |holder, target, set| rights(table, holder, target) & set == set;
+    let caller = mostly(rng, n, |c| (0..n).any(|t| has(c, t, right::GRANT)));
+    let target = mostly(rng, n, |t| has(caller, t, right::GRANT));
+    let held = rights(table, caller, target);
+    let recipient = mostly(rng, n, |r| {
+        (r == caller || rights(table, caller, r) != 0) && !has(r, target, held)
+    });
+    let set = match held & rng.between(1, 7) as u32 {
+        0 => rng.pick(&[held.max(1), 1, 2, 4]),
+        some => some,
+    };
+    call_word(GRANT, caller, target, recipient, set)
+}
+
+fn remove_word(rng: &mut Rng, table: &[u32]) -> u32 {
+    let n = domains(table);
+    let can_remove = |caller, target| rights(table, caller, target) & right::REMOVE != 0;
+    let caller = mostly(rng, n, |c| (0..n).any(|t| can_remove(c, t)));
+    let target = mostly(rng, n, |t| can_remove(caller, t));
+    let held = rights(table, caller, target);
+    let single = [right::SEND, right::GRANT, right::REMOVE];
+    let c = single[mostly(rng, 3, |i| held & single[i] != 0)];
+    call_word(REMOVE, caller, target, 0, c)
+}
+
+// Whole runs.
+
+/// What is lent to one run.
+#[derive(Debug, Clone, PartialEq, Eq)]
+pub struct Case {
+    pub table: Vec<u32>,
+    pub list: Vec<u32>,
+    /// The answer space, holding words that a run must leave beyond its answers.
+    pub answers: Vec<u32>,
+}
+
+/// A run, now and then with something that an entry refuses, 1 to 6.
+pub fn case(rng: &mut Rng, max_n: usize, max_m: usize, max_words: usize) -> Case {
+    let table = if rng.chance(1, 8) {
+        damaged_table(rng, max_n, max_m).0
+    } else {
+        table(rng, max_n, max_m)
+    };
+    let mut list = list(rng, &table, max_words);
+    if rng.chance(1, 64) {
+        let length = LIST_WORDS_MAX + rng.below(3);
+        list.resize_with(length, || wild_word(rng));
+    }
+    let needed = ANSWER_WORDS * cut(&list).len();
+    let space = match rng.below(16) {
+        0 => rng.below(needed + 1),
+        1 => needed.saturating_sub(1),
+        2 => needed,
+        _ => needed + rng.below(8),
+    };
+    let answers = (0..space).map(|_| rng.word()).collect();
+    Case {
+        table,
+        list,
+        answers,
+    }
+}
+
+/// An input for `linerun`, now and then one that it refuses.
+pub fn linerun_input(rng: &mut Rng, max_n: usize, max_m: usize, max_words: usize) -> Vec<u8> {
+    let Case { table, list, .. } = case(rng, max_n, max_m, max_words);
+    let length = match rng.below(16) {
+        0 => rng.size(0, TABLE_WORDS_MAX) as u32,
+        1 => rng.size(TABLE_WORDS_MAX + 1, u32::MAX as usize) as u32,
+        _ => table.len() as u32,
+    };
+    let mut input = to_bytes(&[length]);
+    input.extend(to_bytes(&table));
+    input.extend(to_bytes(&list));
+    match rng.below(16) {
+        0 => input.truncate(rng.between(0, 4 + 4 * table.len())),
+        1 => input.truncate(rng.between(0, 4)),
+        2 => input.extend(vec![0xF0; rng.between(1, 3)]),
+        _ => {}
+    }
+    input
+}

@@ -1,0 +1,38 @@
+//! The separate implementation of the capability kernel.
+//!
+//! It is written from document 01 alone, to be plain rather than fast, and is
+//! what the kernel is compared with. It shares no code with the kernel.
+//!
+//! One module stands for one section of document 01:
+//!
+//! | Module | Section |
+//! |---|---|
+//! | [`words`] | the fields of a word |
+//! | [`table`] | "The table", and its check, codes 2 to 5 |
+//! | [`calls`] | "The calls": the cutting of a list |
+//! | [`machine`] | the call-by-call machine, codes 10 to 23 |
+//! | [`entry`] | the run of a whole list, codes 1 to 6 |
+//! | [`influence`] | "Influence" and "The striking rule" |
+//! | [`bytes`] | the table's check over little-endian bytes |
+//! | `linerun` | the program: its reading and printing, codes 7 and 1 |
+//! | [`example`] | table T, list L and what is printed for it |
+//! | [`generate`] | seeded tables, lists and inputs for tests |
+
+pub mod bytes;
+pub mod calls;
+pub mod entry;
+pub mod example;
+pub mod generate;
+pub mod influence;
+mod linerun;
+pub mod machine;
+pub mod table;
+pub mod words;
+
+pub use bytes::check_bytes;
+pub use calls::{cut, Call};
+pub use entry::run;
+pub use influence::{influences, purge, sources, view, QueueView, View};
+pub use linerun::linerun;
+pub use machine::step;
+pub use table::check_table;

@@ -1,0 +1,114 @@
+//! The generator meets what it is biased towards: every code, full and emptied
+//! queues, lost counts at their top, the smallest and the largest tables.
+
+use std::collections::BTreeSet;
+
+use crate::support::{code_of, shown};
+use reference::generate::{case, damaged_table, linerun_input, list, table, table_of, Rng};
+use reference::table::{capacity, domains, endpoints, lost, waiting};
+use reference::words::CONTENT_MAX;
+use reference::{check_table, cut, linerun, run, step};
+
+#[test]
+fn the_same_seed_draws_the_same() {
+    let drawn = |seed| {
+        let rng = &mut Rng::new(seed);
+        let table = table(rng, 16, 32);
+        let list = list(rng, &table, 100);
+        (table, list)
+    };
+    assert_eq!(drawn(7), drawn(7));
+    assert_ne!(drawn(7), drawn(8));
+}
+
+#[test]
+fn tables_are_accepted_and_of_every_size() {
+    let (mut n_met, mut m_met) = (BTreeSet::new(), BTreeSet::new());
+    for seed in 0..1000 {
+        let table = table(&mut Rng::new(seed), 16, 32);
+        assert_eq!(check_table(&table), 0, "{}", shown(seed, &table, &[]));
+        n_met.insert(domains(&table));
+        m_met.insert(endpoints(&table));
+    }
+    assert_eq!(n_met, (1..=16).collect());
+    assert_eq!(m_met, (0..=32).collect());
+    assert_eq!(table_of(&mut Rng::new(1), 16, 32).len(), 641);
+}
+
+#[test]
+fn lists_keep_to_their_length() {
+    for seed in 0..300 {
+        let rng = &mut Rng::new(seed);
+        let max_words = rng.below(50);
+        let table = table(rng, 16, 32);
+        assert!(list(rng, &table, max_words).len() <= max_words);
+    }
+}
+
+#[test]
+fn every_code_of_a_call_is_met() {
+    let mut met = BTreeSet::new();
+    let (mut calls, mut done) = (0, 0);
+    for seed in 0..300 {
+        let rng = &mut Rng::new(seed);
+        let mut now = table(rng, 16, 32);
+        for call in cut(&list(rng, &now, 60)) {
+            let code = code_of(&step(&mut now, &call));
+            met.insert(code);
+            calls += 1;
+            done += usize::from(code == 0);
+        }
+    }
+    let expected: BTreeSet<u32> = std::iter::once(0).chain(10..=23).collect();
+    assert_eq!(met, expected);
+    assert!(2 * done > calls, "{done} of {calls} calls did something");
+}
+
+#[test]
+fn every_code_of_an_entry_is_met() {
+    let mut met = BTreeSet::new();
+    let mut damage = BTreeSet::new();
+    for seed in 0..600 {
+        let mut case = case(&mut Rng::new(seed), 8, 8, 20);
+        met.insert(run(&mut case.table, &case.list, &mut case.answers).0);
+        damage.insert(damaged_table(&mut Rng::new(seed), 8, 8).1);
+    }
+    assert_eq!(met, (0..=6).collect());
+    assert_eq!(damage, (2..=5).collect());
+}
+
+#[test]
+fn every_code_of_the_program_is_met() {
+    let mut met = BTreeSet::new();
+    for seed in 0..600 {
+        let input = linerun_input(&mut Rng::new(seed), 8, 8, 20);
+        let printed = String::from_utf8(linerun(&input)).unwrap();
+        let first = printed.lines().next().unwrap().to_owned();
+        let code = first.rsplit(' ').next().unwrap().to_owned();
+        met.insert(code.parse::<u32>().unwrap());
+    }
+    assert_eq!(met, BTreeSet::from([0, 1, 2, 3, 4, 5, 7]));
+}
+
+#[test]
+fn queues_fill_and_empty_and_lost_counts_reach_the_top() {
+    let (mut filled, mut emptied, mut topped) = (0, 0, 0);
+    for seed in 0..300 {
+        let rng = &mut Rng::new(seed);
+        let mut now = table(rng, 6, 6);
+        for call in cut(&list(rng, &now, 60)) {
+            let before = now.clone();
+            step(&mut now, &call);
+            for e in 0..endpoints(&now) {
+                let moved = waiting(&before, e) != waiting(&now, e);
+                filled += usize::from(moved && waiting(&now, e) == capacity(&now, e));
+                emptied += usize::from(moved && waiting(&now, e) == 0);
+                let rose = lost(&before, e) != lost(&now, e);
+                topped += usize::from(rose && lost(&now, e) == CONTENT_MAX);
+            }
+        }
+    }
+    assert!(filled > 100, "filled {filled}");
+    assert!(emptied > 100, "emptied {emptied}");
+    assert!(topped > 20, "reached the top {topped}");
+}
