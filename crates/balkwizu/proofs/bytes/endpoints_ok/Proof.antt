@@ -13,7 +13,7 @@ use Rattle.table.proofs.Places.{square-small}
 use Rattle.table.proofs.Scan.{scan-start, scan-next}
 use Rattle.table.proofs.Fill.{fill-start, fill-next}
 use Rattle.table.proofs.Gather.{Gathered, gathered}
-use Rattle.balkwizu.specs.Bytes.{wordsOf}
+use Rattle.text.specs.Bytes.{wordsOf}
 use Rattle.balkwizu.proofs.Places.{Counted, counted-endpoint, header-four, fitting-counted}
 use Rattle.balkwizu.proofs.bytes.endpoints_ok.Statement.{statement}
 use Rattle.balkwizu.proofs.bytes.endpoints_ok.Tie as tie
