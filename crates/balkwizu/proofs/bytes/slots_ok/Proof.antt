@@ -20,7 +20,7 @@ abbrev μ-loop : tie.MeasureT-loop
 again : tie.Need-loop-again Inv-loop μ-loop
 again c =
     let t = c .before .before in
-    scan-next _ _ _ _ _ (t .before .loop .inv) (t .loop-test .taken)
+    scan-next _ _ _ _ _ (t .before .loop .inv) (omega arith)
     (c .slot-word-ok .ensures ∙ ap (slotWordOk _ _) (c .before .word-at .ensures))
 
 returns : tie.Need-returns Inv-loop μ-loop
