@@ -11,10 +11,12 @@ use lib.Dec.{eqb, ltb}
 use lib.ListN.{length, getD, take, drop}
 use Rattle.machine.specs.Table as table
 use Rattle.machine.specs.Table.{lengthFor, endpoint}
+use Rattle.machine.specs.Queue.{name}
 use Rattle.machine.specs.Check.{headerWordOk, headerOk, lengthOk, tableCode}
 use Rattle.machine.proofs.Bools.{and-left}
 use Rattle.table.specs.Checked.{Headed}
 use Rattle.table.proofs.Places.{empty-header, word-header, headed-most, headed-size}
+use Rattle.table.proofs.Gather.{part-name}
 use Rattle.text.specs.Bytes.{wordsOf}
 use Rattle.balkwizu.specs.Bytes.{bytesFor, bytesCode, Fitting}
 use Rattle.balkwizu.proofs.Words.{words-length}
@@ -28,10 +30,13 @@ pub record Counted (b : List ℕ) (n from m : ℕ) : Type 0 where
   pub room : 4 * (from + 12 * m) ≤ length b
   pub most : m ≤ 32
 
--- the words of endpoint e by their place
+-- the words of endpoint e by their place, and its name
 pub counted-endpoint : (b : List ℕ) (n from m : ℕ) → Counted b n from m → (e : ℕ) → take 12 (drop (from + 12 * e) (wordsOf b)) ≡ endpoint (wordsOf b) e
 unfolding endpoint
 counted-endpoint b n from m c e = rw (c .start, c .domains)
+
+pub counted-name : (b : List ℕ) (n from m : ℕ) → Counted b n from m → (e : ℕ) → getD (wordsOf b) (from + 12 * e) 0 % 268435456 ≡ name (endpoint (wordsOf b) e)
+counted-name b n from m c e = rw (c .start, c .domains) (part-name (wordsOf b) e)
 
 module _ (b : List ℕ) where
   pub under-four : length b < 4 → headerOk (wordsOf b) ≡ false

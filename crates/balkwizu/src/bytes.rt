@@ -2,17 +2,22 @@
 // here, and every test of a word is crate table's.
 use table::Checked;
 use table::TableRefusal;
-use table::endpoint::endpoint_ok;
 use table::names::all_different;
 use table::words::KIND;
 use table::words::header_word_ok;
+use table::words::info_word_ok;
+use table::words::lost_word_ok;
+use table::words::name_word_ok;
 use table::words::rights_word_ok;
+use table::words::slot_word_ok;
+use table::words::waiting_word_ok;
 ghost use mathlib.Core.Path.{_≡_};
 ghost use mathlib.Core.Bool.{true};
 ghost use Prim.Native.Nat.{_+_, _*_, _≤_};
 ghost use lib.Dec.{eqb};
 ghost use lib.ListN.{length, getD, take, drop};
-ghost use Rattle.machine.specs.Check.{headerOk, rightsOk, endpointsOk};
+ghost use Rattle.machine.specs.Below.{allBelow};
+ghost use Rattle.machine.specs.Check.{slotWordOk, endpointOk, headerOk, rightsOk, endpointsOk};
 ghost use Rattle.table.specs.Checked.{checkedCode};
 ghost use Rattle.text.specs.Bytes.{wordOf, wordsOf};
 ghost use Rattle.balkwizu.specs.Bytes.{bytesFor, bytesCode, Fitting};
@@ -72,18 +77,34 @@ fn rights_ok(bytes: &[u8]) -> bool
     all
 }
 
-// The twelve words from word start on.
-fn twelve_at(bytes: &[u8], start: usize) -> [u32; 12]
-    requires { ⌜ 4 * start + 48 ≤ length (now bytes) ⌝ }
-    ensures { λ r. ⌜ r ≡ take 12 (drop start (wordsOf (now (bytes .entry)))) ⌝ }
+// The eight slots from word `start` on while count messages wait.
+fn slots_ok(bytes: &[u8], start: usize, count: u32) -> bool
+    requires { ⌜ 4 * start + 32 ≤ length (now bytes) ⌝ }
+    ensures { λ b. ⌜ b ≡ allBelow 8 (λ i. slotWordOk count i (getD (wordsOf (now (bytes .entry))) (start + i) 0)) ⌝ }
 {
-    let mut words = [0u32; 12];
-    let mut i: usize = 0;
-    while i < 12 {
-        words[i] = word_at(bytes, start + i);
+    let mut all = true;
+    let mut i: u32 = 0;
+    while i < 8 {
+        let ok = slot_word_ok(count, i, word_at(bytes, start + i as usize));
+        all = all & ok;
         i += 1;
     }
-    words
+    all
+}
+
+// The endpoint from word `start` on, among n domains.
+fn endpoint_ok(bytes: &[u8], start: usize, n: u32) -> bool
+    requires { ⌜ 4 * start + 48 ≤ length (now bytes) ⌝ }
+    ensures { λ b. ⌜ b ≡ endpointOk n (take 12 (drop start (wordsOf (now (bytes .entry))))) ⌝ }
+{
+    let name = name_word_ok(word_at(bytes, start));
+    let info_word = word_at(bytes, start + 1);
+    let info = info_word_ok(n, info_word);
+    let waiting_word = word_at(bytes, start + 2);
+    let waiting = waiting_word_ok(info_word % 256, waiting_word);
+    let lost = lost_word_ok(word_at(bytes, start + 3));
+    let slots = slots_ok(bytes, start + 4, waiting_word % KIND);
+    (name & info) & (waiting & lost & slots)
 }
 
 // Place 5: every endpoint word is right and no name repeats. The names are gathered on the way, and compared at the end.
@@ -99,9 +120,9 @@ fn endpoints_ok(bytes: &[u8]) -> bool
     let mut all = true;
     let mut e: usize = 0;
     while e < m {
-        let words = twelve_at(bytes, from + 12 * e);
-        let ok = endpoint_ok(n, &words);
-        names[e] = words[0] % KIND;
+        let start = from + 12 * e;
+        let ok = endpoint_ok(bytes, start, n);
+        names[e] = word_at(bytes, start) % KIND;
         all = all & ok;
         e += 1;
     }

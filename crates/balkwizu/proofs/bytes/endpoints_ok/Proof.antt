@@ -2,19 +2,15 @@
 -- gathered. Assumes nothing.
 use Prim.Native.Nat.{ℕ, _-_, _/_, _%_}
 use mathlib.Core.Path.{refl, ap, ap₂, _∙_}
-use mathlib.Core.List.{List}
 use native.Mathlib.Omega.{arith}
 use borrow.Author.Needs.{needs}
-use lib.ListN.{getD}
 use Rattle.machine.specs.Check.{endpointOk}
-use Rattle.machine.specs.Table.{endpoint}
-use Rattle.machine.specs.Queue.{name}
 use Rattle.table.proofs.Places.{square-small}
 use Rattle.table.proofs.Scan.{scan-start, scan-next}
 use Rattle.table.proofs.Fill.{fill-start, fill-next}
 use Rattle.table.proofs.Gather.{Gathered, gathered}
 use Rattle.text.specs.Bytes.{wordsOf}
-use Rattle.balkwizu.proofs.Places.{Counted, counted-endpoint, header-four, fitting-counted}
+use Rattle.balkwizu.proofs.Places.{Counted, counted-endpoint, counted-name, header-four, fitting-counted}
 use Rattle.balkwizu.proofs.bytes.endpoints_ok.Statement.{statement}
 use Rattle.balkwizu.proofs.bytes.endpoints_ok.Tie as tie
 
@@ -29,12 +25,11 @@ holds c =
     (record { tested = scan-start _ _; named = fill-start _ _ _ refl }, fitting-counted _ (c .before .before .pre) _ (c .word-at .ensures))
 
 again : tie.Need-loop-again Inv-loop μ-loop
-unfolding name
 again c =
-    let l = c .before .before .before .before .loop in
+    let l = c .before .before .before .loop in
     let g = l .inv .0 in
-    let q = c .before .before .twelve-at .ensures ∙ counted-endpoint _ _ _ _ (l .inv .1) _ in
-    (record { tested = scan-next _ _ _ _ _ (g .tested) (omega arith) (c .endpoint-ok .ensures ∙ ap₂ endpointOk (l .inv .1 .domains) q); named = fill-next _ _ _ _ _ (g .named) (omega arith) (ap (λ (w : List ℕ). getD w 0 0 % 268435456) q) }, l .inv .1)
+    let k = l .inv .1 in
+    (record { tested = scan-next _ _ _ _ _ (g .tested) (omega arith) (c .before .endpoint-ok .ensures ∙ ap₂ endpointOk (k .domains) (counted-endpoint _ _ _ _ k _)); named = fill-next _ _ _ _ _ (g .named) (omega arith) (ap (λ (w : ℕ). w % 268435456) (c .word-at2 .ensures) ∙ counted-name _ _ _ _ k _) }, k)
 
 names-tested : tie.Need-returns Inv-loop μ-loop
 names-tested c =
@@ -64,9 +59,7 @@ endpoints-ok-spec =
     (λ c. omega arith)
     (λ c. omega arith)
     (λ c κs. omega arith)
-    (λ c. search needs)
-    (λ c κs. search needs)
-    (λ c. search needs)
+    (λ c κs. omega arith)
     (λ c. omega arith)
     (λ c. omega arith)
     (λ c. omega arith)

@@ -1,0 +1,43 @@
+-- `slots_ok`: the flag is the test of the slots passed. Assumes nothing.
+use Prim.Native.Nat.{_+_, _-_}
+use mathlib.Core.Path.{ap, _∙_}
+use native.Mathlib.Omega.{arith}
+use borrow.Author.Needs.{needs}
+use lib.ListN.{getD}
+use Rattle.machine.specs.Check.{slotWordOk}
+use Rattle.table.proofs.Scan.{Scanned, scan-start, scan-next, scan-end}
+use Rattle.text.specs.Bytes.{wordsOf}
+use Rattle.balkwizu.proofs.bytes.slots_ok.Statement.{statement}
+use Rattle.balkwizu.proofs.bytes.slots_ok.Tie as tie
+
+abbrev Inv-loop : tie.InvT-loop
+Inv-loop bytes start count all₀ i₀ all i =
+    Scanned (λ j. slotWordOk count j (getD (wordsOf bytes) (start + j) 0)) 8 all i
+
+abbrev μ-loop : tie.MeasureT-loop
+μ-loop bytes start count all₀ i₀ all i = 8 - i
+
+again : tie.Need-loop-again Inv-loop μ-loop
+again c =
+    let t = c .before .before in
+    scan-next _ _ _ _ _ (t .before .loop .inv) (omega arith)
+    (c .slot-word-ok .ensures ∙ ap (slotWordOk _ _) (c .before .word-at .ensures))
+
+returns : tie.Need-returns Inv-loop μ-loop
+returns c = scan-end _ _ _ _ (c .before .loop .inv) (c .loop-test .left)
+
+pub slots-ok-spec : {M : Type 1} → statement M
+slots-ok-spec =
+    tie.close
+    (tie.spec
+    Inv-loop
+    μ-loop
+    (λ c. scan-start _ _)
+    (λ c. omega arith)
+    (λ c. omega arith)
+    (λ c κs. omega arith)
+    (λ c κs. search needs)
+    (λ c. omega arith)
+    (λ c. omega arith)
+    again
+    returns)
