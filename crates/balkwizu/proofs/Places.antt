@@ -15,7 +15,8 @@ use Rattle.machine.specs.Check.{headerWordOk, headerOk, lengthOk, tableCode}
 use Rattle.machine.proofs.Bools.{and-left}
 use Rattle.table.specs.Checked.{Headed}
 use Rattle.table.proofs.Places.{empty-header, word-header, headed-most, headed-size}
-use Rattle.balkwizu.specs.Bytes.{wordsOf, bytesFor, bytesCode, Fitting}
+use Rattle.text.specs.Bytes.{wordsOf}
+use Rattle.balkwizu.specs.Bytes.{bytesFor, bytesCode, Fitting}
 use Rattle.balkwizu.proofs.Words.{words-length}
 
 -- What a first word x of a table says of it: its n domains and m endpoints, the first endpoint at `from`, and that the bytes

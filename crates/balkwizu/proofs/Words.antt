@@ -6,7 +6,7 @@ use native.Mathlib.Omega.{arith}
 use lib.ListN.{length, getD, take, drop, length-take, length-drop}
 use lib.Seq.{ext-getD, getD-take, getD-drop}
 use Rattle.table.proofs.Fill.{Filled}
-use Rattle.balkwizu.specs.Bytes.{wordOf, wordsOf}
+use Rattle.text.specs.Bytes.{wordOf, wordsOf}
 
 pub words-length : (b : List ℕ) → length (wordsOf b) ≡ length b / 4
 unfolding wordsOf

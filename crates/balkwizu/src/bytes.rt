@@ -14,7 +14,8 @@ ghost use lib.Dec.{eqb};
 ghost use lib.ListN.{length, getD, take, drop};
 ghost use Rattle.machine.specs.Check.{headerOk, rightsOk, endpointsOk};
 ghost use Rattle.table.specs.Checked.{checkedCode};
-ghost use Rattle.balkwizu.specs.Bytes.{wordOf, wordsOf, bytesFor, bytesCode, Fitting};
+ghost use Rattle.text.specs.Bytes.{wordOf, wordsOf};
+ghost use Rattle.balkwizu.specs.Bytes.{bytesFor, bytesCode, Fitting};
 
 // The word of four bytes, the lowest first.
 fn word(a: u8, b: u8, c: u8, d: u8) -> u32

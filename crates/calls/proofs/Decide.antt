@@ -4,9 +4,7 @@ use Prim.Native.Nat.{ℕ}
 use mathlib.Core.Path.{_≡_, refl, sym}
 use mathlib.Core.Bool.{Bool, true, false, cond, not, _&&_}
 use mathlib.Core.List.{List}
-use lib.Dec.{ltb}
 use Rattle.machine.specs.Word.{kind, caller}
-use Rattle.machine.specs.Table.{domains}
 use Rattle.machine.specs.Call.{Kind, first, callKind, kindOf, allZero, unusedFields, wantsSecond, hasSecond}
 use Rattle.machine.specs.Call.{Kind.lookUp, Kind.send, Kind.receive, Kind.myEndpoints, Kind.myRights, Kind.grant, Kind.remove, Kind.stray, Kind.unknown}
 use Rattle.machine.specs.Machine.{Decision, place, framed, places, decide}

@@ -1,7 +1,6 @@
 -- What holds of a decision of the machine: it can be done. Assumes nothing.
 use mathlib.Core.List.{List}
 use Prim.Native.Nat.{ℕ}
-use Rattle.machine.specs.Check.{Accepted}
 use Rattle.machine.specs.Call.{Call}
 use Rattle.machine.specs.Machine.{decide}
 use Rattle.machine.proofs.Decide.{decide-elim}

@@ -3,13 +3,16 @@
 use mathlib.Core.Path.{_≡_, sym, ap, ap₂, subst, _∙_}
 use mathlib.Core.List.{List, _++_}
 use Prim.Native.Nat.{ℕ, _+_, _*_, _-_, _<_, _≤_}
-use native.Mathlib.Nat.{mul-le-mul, le-trans}
+use native.Mathlib.Nat.{mul-le-mul, le-trans, div-add-mod'}
 use native.Mathlib.Omega.{arith}
+use borrow.Author.Tests.{eqb-true}
 use lib.ListN.{length, getD, take, drop, set}
-use Rattle.machine.specs.Word.{payload, word}
+use Rattle.machine.specs.Word.{kind, payload, word}
 use Rattle.machine.specs.Table as table
 use Rattle.machine.specs.Table.{rightsAt, endpointAt}
-use Rattle.machine.specs.Queue.{owner, waiting, mostLost}
+use Rattle.machine.specs.Queue.{name, owner, waiting, mostLost}
+use Rattle.machine.specs.Check.{endpointOk, identityOk, nameWordOk}
+use Rattle.machine.proofs.Bools.{and-left}
 use Rattle.machine.proofs.Table.{rights-below, endpoint-length}
 use Rattle.machine.proofs.Accepted.{accepted-sized, accepted-counts, accepted-endpoint, accepted-owner, info-of}
 use Rattle.machine.proofs.Queue.{waiting-most}
@@ -36,6 +39,15 @@ module _ (t : List ℕ) (n : ℕ) (r : Ready t n) where
 
   pub twelve : (e : ℕ) → e < table.endpoints t → length (table.endpoint t e) ≡ 12
   twelve = endpoint-length t (accepted-sized t (r .accepted))
+
+  -- a name word has kind 3
+  pub name-word : (e : ℕ) → e < table.endpoints t → getD (table.endpoint t e) 0 0 ≡ word 3 (name (table.endpoint t e))
+  unfolding endpointOk identityOk nameWordOk name
+  name-word e p =
+      let ok = and-left _ _ (and-left _ _ (accepted-endpoint t (r .accepted) e p)) in
+      let w = getD (table.endpoint t e) 0 0 in
+      let three : kind w ≡ 3 = eqb-true _ _ (and-left _ _ ok) in
+      sym (div-add-mod' w 268435456) ∙ ap (λ (k : ℕ). word k (payload w)) three
 
   pub owner-below : (e : ℕ) → e < table.endpoints t → owner (table.endpoint t e) < n
   owner-below e p = omega (arith, accepted-owner t (r .accepted) e p, r .domains)

@@ -1,13 +1,13 @@
 -- A receive, by what its loop does: the waiting messages move up one by one. Assumes nothing.
-use mathlib.Core.Path.{_≡_, refl, sym, ap, ap₂, _∙_}
+use mathlib.Core.Path.{_≡_, sym, ap, _∙_}
 use mathlib.Core.List.{List, _∷_, _++_, append-assoc}
-use Prim.Native.Nat.{ℕ, suc, _+_, _-_, _<_, _≤_, min}
+use Prim.Native.Nat.{ℕ, suc, _+_, _-_, _<_, _≤_}
 use native.Mathlib.Numerals.{add-one}
 use native.Mathlib.Omega.{arith}
 use lib.ListN.{length, getD, take, drop, set, length-drop}
 use lib.Seq.{getD-drop, drop-cons, set-at, paste, paste-suc, drop-paste, length-paste, length-paste-head}
 use Rattle.machine.specs.Word.{word}
-use Rattle.machine.specs.Queue.{waiting, emptySlot, movedUp, received, mostLost}
+use Rattle.machine.specs.Queue.{waiting, emptySlot, movedUp, received}
 
 -- the first j of the waiting messages behind the oldest have moved up
 abbrev pub moved : List ℕ → ℕ → List ℕ

@@ -1,5 +1,5 @@
 -- Loops over the numbers below k: the first that passes a test. Assumes nothing.
-use mathlib.Core.Path.{_≡_, sym, ap, ap₂, _∙_}
+use mathlib.Core.Path.{_≡_, refl, sym, ap, ap₂, _∙_}
 use mathlib.Core.Bool.{Bool, true, false, cond}
 use mathlib.Core.Logic.{⊎-elim}
 use mathlib.Core.Option.{Option, none, some}
@@ -26,3 +26,9 @@ found p (suc k) e h passes l =
     (λ same.
     ap₂ (next k) (ap (λ (i : ℕ). firstBelow i p) (sym same) ∙ h) (ap p (sym same) ∙ passes) ∙ ap some (sym same))
     (below-or-last k e l)
+
+-- none passes
+pub none-below : (p : ℕ → Bool) (k : ℕ) → ((e : ℕ) → p e ≡ false) → firstBelow k p ≡ none
+unfolding firstBelow
+none-below p zero fails = refl
+none-below p (suc k) fails = ap₂ (next k) (none-below p k fails) (fails k)

@@ -7,7 +7,6 @@ use native.Mathlib.Omega.{arith}
 use lib.ListN.{length, getD, take, drop, drop-of-length-le}
 use Rattle.machine.specs.Table as table
 use Rattle.machine.specs.Call.{cut}
-use Rattle.machine.specs.Machine as machine
 use Rattle.machine.proofs.Cut.{Running, running-start, running-next, running-end}
 use Rattle.machine.proofs.Step.{stays-accepted}
 use Rattle.calls.specs.Apart.{callOf}

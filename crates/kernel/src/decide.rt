@@ -6,12 +6,13 @@ use crate::queue;
 use calls::Call;
 use calls::Refusal;
 use table::rights::Rights;
+use table::words::KIND;
 ghost use mathlib.Core.Path.{_≡_};
-ghost use mathlib.Core.List.{List};
 ghost use mathlib.Core.Bool.{_||_, _&&_};
+ghost use mathlib.Core.List.{List};
+ghost use Prim.Native.Nat.{ℕ, _<_};
 ghost use lib.Dec.{eqb};
 ghost use Rattle.machine.specs.Right.{SEND, GRANT, REMOVE, holds};
-ghost use Prim.Native.Nat.{ℕ, _<_};
 ghost use Rattle.machine.specs.Table.{domains, endpoints, rights};
 ghost use Rattle.machine.specs.Machine.{maySend, mayGive, named, lookUpPlaces, sendPlaces, receivePlaces, grantPlaces, removePlaces, Decision.listsEndpoints, Decision.listsRights};
 ghost use Rattle.calls.specs.Decide.{knownCaller, refusedCall, decideCall};
@@ -97,6 +98,7 @@ fn refused(n: u32, caller: u32, refusal: Refusal) -> Decision
     Decision::Refused(refusal)
 }
 
+// A name has 28 bits. The words compared are whole: on an accepted table a name word has kind 3.
 fn look_up(table: &[u32], n: u32, m: u32, caller: u32, name: u32) -> Decision
     requires { ⌜ Ready (now table) n ⌝ }
     requires { ⌜ m ≡ endpoints (now table) ⌝ }
@@ -105,9 +107,14 @@ fn look_up(table: &[u32], n: u32, m: u32, caller: u32, name: u32) -> Decision
     if n <= caller {
         return Decision::Refused(Refusal::UnknownCaller);
     }
+    if KIND <= name {
+        return Decision::Refused(Refusal::NoSuchName);
+    }
+    let wanted = 0x3000_0000 + name;
     let mut e = 0;
     while e < m {
-        if queue::name(endpoint(table, n, e)) == name {
+        let q = endpoint(table, n, e);
+        if q[0] == wanted {
             return Decision::LookedUp { endpoint: e };
         }
         e += 1;

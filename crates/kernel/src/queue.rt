@@ -4,18 +4,11 @@ use table::words::KIND;
 ghost use mathlib.Core.Path.{_≡_};
 ghost use Prim.Native.Nat.{ℕ};
 ghost use lib.ListN.{length};
-ghost use Rattle.machine.specs.Queue.{name, owner, waiting, lost, oldest, sendWithSpace, sendToFull, sent, received};
+ghost use Rattle.machine.specs.Queue.{owner, waiting, lost, oldest, sendWithSpace, sendToFull, sent, received};
 ghost use Rattle.kernel.specs.Queue.{HasRoom, MaySend, MayReceive};
 
 // The largest lost count.
 const MOST_LOST: u32 = 268435455;
-
-pub fn name(q: &[u32]) -> u32
-    requires { ⌜ length (now q) ≡ 12 ⌝ }
-    ensures { λ r. ⌜ r ≡ name (now (q .entry)) ⌝ }
-{
-    q[0] % KIND
-}
 
 pub fn owner(q: &[u32]) -> u32
     requires { ⌜ length (now q) ≡ 12 ⌝ }

@@ -13,7 +13,7 @@ use Rattle.table.proofs.Places.{square-small}
 use Rattle.table.proofs.Scan.{scan-start, scan-next}
 use Rattle.table.proofs.Fill.{fill-start, fill-next}
 use Rattle.table.proofs.Gather.{Gathered, gathered}
-use Rattle.balkwizu.specs.Bytes.{wordsOf}
+use Rattle.text.specs.Bytes.{wordsOf}
 use Rattle.balkwizu.proofs.Places.{Counted, counted-endpoint, header-four, fitting-counted}
 use Rattle.balkwizu.proofs.bytes.endpoints_ok.Statement.{statement}
 use Rattle.balkwizu.proofs.bytes.endpoints_ok.Tie as tie
@@ -33,7 +33,7 @@ unfolding name
 again c =
     let l = c .before .before .before .before .loop in
     let g = l .inv .0 in
-    let q = c .before .before .twelve-at .ensures ∙ counted-endpoint _ _ _ _ (l .inv .1) (l .e) in
+    let q = c .before .before .twelve-at .ensures ∙ counted-endpoint _ _ _ _ (l .inv .1) _ in
     (record { tested = scan-next _ _ _ _ _ (g .tested) (omega arith) (c .endpoint-ok .ensures ∙ ap₂ endpointOk (l .inv .1 .domains) q); named = fill-next _ _ _ _ _ (g .named) (omega arith) (ap (λ (w : List ℕ). getD w 0 0 % 268435456) q) }, l .inv .1)
 
 names-tested : tie.Need-returns Inv-loop μ-loop

@@ -5,7 +5,7 @@ use native.Mathlib.Omega.{arith}
 use denote.Ref.{now}
 use lib.ListN.{getD}
 use Rattle.table.proofs.Fill.{Filled, fill-start, fill-next}
-use Rattle.balkwizu.specs.Bytes.{wordsOf}
+use Rattle.text.specs.Bytes.{wordsOf}
 use Rattle.balkwizu.proofs.Words.{words-length, twelve}
 use Rattle.balkwizu.proofs.bytes.twelve_at.Statement.{statement}
 use Rattle.balkwizu.proofs.bytes.twelve_at.Tie as tie

@@ -6,7 +6,7 @@ use native.Mathlib.Nat.{add-zero}
 use native.Mathlib.Omega.{arith}
 use lib.ListN.{length}
 use borrow.Author.Tests.{eq-eqb, ne-eqb}
-use Rattle.machine.specs.Table.{endpoint, endpoints}
+use Rattle.machine.specs.Table.{endpoint}
 use Rattle.machine.specs.Queue.{owner}
 use Rattle.machine.specs.Machine.{ownedBits}
 use Rattle.machine.proofs.Accepted.{accepted-counts}

@@ -1,7 +1,7 @@
 -- `answers::rights_bits` meets its contract. The loop's invariant: the rights on the targets from the present one on are found,
 -- those below still to be. Assumes nothing.
-use mathlib.Core.Path.{_≡_, sym, ap, _∙_}
-use Prim.Native.Nat.{ℕ, _+_, _*_, _-_, _^_, _<_, _≤_}
+use mathlib.Core.Path.{_≡_, _∙_}
+use Prim.Native.Nat.{_+_, _*_, _-_, _^_, _<_, _≤_}
 use native.Mathlib.Omega.{arith}
 use Rattle.machine.specs.Table.{rights}
 use Rattle.machine.specs.Machine.{rightsBits}

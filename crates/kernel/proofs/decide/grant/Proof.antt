@@ -1,5 +1,5 @@
 -- `decide::grant` meets its contract, place by place. Assumes nothing.
-use mathlib.Core.Path.{_≡_, refl, sym, ap, _∙_}
+use mathlib.Core.Path.{_≡_, refl}
 use mathlib.Core.Bool.{not, _&&_, _||_}
 use lib.Dec.{eqb, leb, ltb}
 use borrow.Author.Needs.{needs}

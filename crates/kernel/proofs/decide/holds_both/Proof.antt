@@ -1,6 +1,5 @@
 -- `decide::holds_both` meets its contract: the tests one after the other. Assumes nothing.
-use mathlib.Core.Path.{sym, ap, _∙_}
-use Prim.Native.Nat.{ℕ}
+use mathlib.Core.Path.{sym, _∙_}
 use borrow.Author.Needs.{needs}
 use Rattle.machine.specs.Right.{holds}
 use Rattle.kernel.proofs.decide.holds_both.Statement.{statement}

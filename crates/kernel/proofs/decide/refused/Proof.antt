@@ -1,10 +1,7 @@
 -- `decide::refused` meets its contract: 12 stands between 11 and 13. Assumes nothing.
-use mathlib.Core.Path.{refl, sym, ap, _∙_}
-use mathlib.Core.Bool.{Bool, cond}
+use mathlib.Core.Path.{refl, sym}
 use borrow.Author.Needs.{needs}
 use borrow.Author.Tests.{lt-ltb, le-ltb}
-use Prim.Native.Nat.{ℕ}
-use lib.Dec.{ltb}
 use Rattle.calls.specs.Decide.{refusedCall}
 use Rattle.kernel.specs.Decision.{decisionOf}
 use Rattle.kernel.proofs.Guards.{unknown-caller, known-caller}

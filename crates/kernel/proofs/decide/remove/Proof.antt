@@ -1,8 +1,12 @@
 -- `decide::remove` meets its contract, place by place. Assumes nothing.
-use mathlib.Core.Path.{refl, sym, ap, _∙_}
-use mathlib.Core.Bool.{not}
+use mathlib.Core.Path.{_≡_, refl, ap}
+use mathlib.Core.Bool.{not, _||_}
+use lib.Dec.{eqb, ltb}
 use borrow.Author.Needs.{needs}
-use Rattle.machine.specs.Machine.{removePlaces}
+use Rattle.machine.specs.Right.{SEND, GRANT, REMOVE}
+use Rattle.machine.specs.Table.{domains}
+use Rattle.machine.specs.Machine.{Decision, place, removePlaces}
+use Rattle.calls.specs.Decide.{knownCaller}
 use Rattle.kernel.specs.Decision.{decisionOf}
 use Rattle.kernel.proofs.Guards.{stop, by-negated, pass, is-beyond, unknown-caller, known-caller, past-domain}
 use Rattle.kernel.proofs.decide.remove.Statement.{statement}
@@ -29,26 +33,30 @@ returns-3 c =
     past-domain _ _ _ _ (at1 .before .before .pre .domains) (at1 .if1 .left) (at2 .if2 .left) _ _
     (stop _ 21 _ (by-negated (c .before .is-right .ensures) (c .if3 .taken)))
 
+-- past 12, 20 and 21
+past : (c : tie.Else3)
+    → let a = c .before .before .before .before .before .args in
+    (d next : Decision)
+    → d ≡ next
+    → d ≡ knownCaller (a .table .now) (a .caller)
+    (place (not (ltb (a .target) (domains (a .table .now)))) 20
+    (place (not (eqb (a .given) SEND || eqb (a .given) GRANT || eqb (a .given) REMOVE)) 21 next))
+past c d next same =
+    past-domain _ _ _ _ (c .before .before .before .before .before .pre .domains) (c .before .before .before .if1 .left) (c .before .before .if2 .left) _ _
+    (pass _ 21 d next (by-negated (c .before .is-right .ensures) (c .if3 .left)) same)
+
 holds-both-requires : tie.Need-holds-both-requires
 holds-both-requires c κs = search needs
 
 returns-4 : tie.Need-returns-4
 unfolding decisionOf removePlaces
 returns-4 c =
-    let at2 = c .before .before .before .before in
-    let at1 = at2 .before in
-    past-domain _ _ _ _ (at1 .before .before .pre .domains) (at1 .if1 .left) (at2 .if2 .left) _ _
-    (pass _ 21 _ _ (by-negated (c .before .before .before .is-right .ensures) (c .before .before .if3 .left))
-    (stop _ 22 _ (by-negated (c .before .holds-both .ensures) (c .if4 .taken))))
+    past (c .before .before) _ _ (stop _ 22 _ (by-negated (c .before .holds-both .ensures) (c .if4 .taken)))
 
 returns-5 : tie.Need-returns-5
 unfolding decisionOf removePlaces
 returns-5 c =
-    let at2 = c .before .before .before .before in
-    let at1 = at2 .before in
-    past-domain _ _ _ _ (at1 .before .before .pre .domains) (at1 .if1 .left) (at2 .if2 .left) _ _
-    (pass _ 21 _ _ (by-negated (c .before .before .before .is-right .ensures) (c .before .before .if3 .left))
-    (pass _ 22 _ _ (by-negated (c .before .holds-both .ensures) (c .if4 .left)) refl))
+    past (c .before .before) _ _ (pass _ 22 _ _ (by-negated (c .before .holds-both .ensures) (c .if4 .left)) refl)
 
 pub remove-spec : {M : Type 1} → statement M
 remove-spec =

@@ -1,8 +1,7 @@
 -- `decide::send` meets its contract, place by place. Assumes nothing.
-use mathlib.Core.Path.{_≡_, refl, sym, ap, _∙_}
-use mathlib.Core.Bool.{not}
+use mathlib.Core.Path.{refl}
 use borrow.Author.Needs.{needs}
-use Rattle.machine.specs.Machine.{Decision, sendPlaces}
+use Rattle.machine.specs.Machine.{sendPlaces}
 use Rattle.kernel.specs.Decision.{decisionOf}
 use Rattle.kernel.proofs.Guards.{stop, by-test, pass, unknown-caller, no-endpoint, past-endpoint}
 use Rattle.kernel.proofs.decide.send.Statement.{statement}

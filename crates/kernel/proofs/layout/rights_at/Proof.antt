@@ -1,6 +1,6 @@
 -- `layout::rights_at` meets its contract: among at most 16 domains the place is small. Assumes nothing.
 use Prim.Native.Nat.{_*_, _≤_}
-use native.Mathlib.Nat.{le-refl, le-of-lt}
+use native.Mathlib.Nat.{le-of-lt}
 use native.Mathlib.Omega.{arith}
 use borrow.Author.Needs.{needs}
 use Rattle.kernel.proofs.Places.{row-small}

@@ -1,5 +1,4 @@
 -- `list::run_calls` meets its contract: the loop's invariant is a run on its way. Assumes nothing.
-use mathlib.Core.Path.{_≡_}
 use Prim.Native.Nat.{_+_, _*_, _-_, _≤_}
 use native.Mathlib.Omega.{arith}
 use lib.ListN.{length}

@@ -1,9 +1,9 @@
 -- `perform::grant` meets its contract: one rights word is written. Assumes nothing.
-use mathlib.Core.Path.{_≡_, sym, ap, _∙_}
-use Prim.Native.Nat.{ℕ, _≤_}
+use mathlib.Core.Path.{_≡_, ap, _∙_}
+use Prim.Native.Nat.{ℕ}
 use native.Mathlib.Omega.{arith}
 use borrow.Author.Needs.{needs}
-use Rattle.machine.specs.Right.{adds, allRights}
+use Rattle.machine.specs.Right.{adds}
 use Rattle.machine.specs.Table.{rights, setRights}
 use Rattle.machine.specs.Machine.{effect, after}
 use Rattle.machine.proofs.Right.{adds-within}
@@ -35,8 +35,7 @@ same-length c = search needs
 returns : tie.Need-returns
 unfolding effect after
 returns c =
-    let call = c .before .before in
-    call .set-rights .ensures ∙ ap (setRights _ _ _) (changed (call .before .before))
+    c .before .before .set-rights .ensures ∙ ap (setRights _ _ _) (changed (c .before .before .before .before))
 
 pub grant-spec : {M : Type 1} → statement M
 grant-spec = tie.close (tie.spec rights-requires adds-requires set-rights-requires same-length returns)

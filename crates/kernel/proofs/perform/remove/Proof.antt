@@ -1,10 +1,10 @@
 -- `perform::remove` meets its contract: one rights word is written. Assumes nothing.
-use mathlib.Core.Path.{_≡_, sym, ap, _∙_}
-use Prim.Native.Nat.{ℕ, _≤_}
+use mathlib.Core.Path.{_≡_, ap, _∙_}
+use Prim.Native.Nat.{ℕ}
 use native.Mathlib.Nat.{le-trans}
 use native.Mathlib.Omega.{arith}
 use borrow.Author.Needs.{needs}
-use Rattle.machine.specs.Right.{without, allRights}
+use Rattle.machine.specs.Right.{without}
 use Rattle.machine.specs.Table.{rights, setRights}
 use Rattle.machine.specs.Machine.{effect, after}
 use Rattle.machine.proofs.Right.{without-le}
@@ -36,8 +36,7 @@ same-length c = search needs
 returns : tie.Need-returns
 unfolding effect after
 returns c =
-    let call = c .before .before in
-    call .set-rights .ensures ∙ ap (setRights _ _ _) (changed (call .before .before))
+    c .before .before .set-rights .ensures ∙ ap (setRights _ _ _) (changed (c .before .before .before .before))
 
 pub remove-spec : {M : Type 1} → statement M
 remove-spec = tie.close (tie.spec rights-requires without-requires set-rights-requires same-length returns)

@@ -1,7 +1,6 @@
 -- `queue::send` meets its contract: the test is the machine's `hasSpace`.
 -- Assumes nothing.
 use borrow.Author.Needs.{needs}
-use native.Mathlib.Omega.{arith}
 use borrow.Author.Tests.{lt-ltb, le-ltb}
 use Rattle.machine.specs.Queue.{waiting, capacity, hasSpace, sent}
 use Rattle.kernel.proofs.queue.send.Statement.{statement}
