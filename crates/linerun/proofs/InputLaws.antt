@@ -1,8 +1,8 @@
 -- The reading: it stays within what the program has room for, and where it stops before the input ends, no further byte
 -- makes a difference to what is printed. Assumes nothing.
-use Prim.Native.Nat.{ℕ, _+_, _-_, _*_, _≤_, _<_}
-use mathlib.Core.Path.{_≡_, refl, sym, ap, _∙_}
-use mathlib.Core.Bool.{Bool, true, false, cond}
+use Prim.Native.Nat.{ℕ, _+_, _*_, _≤_}
+use mathlib.Core.Path.{_≡_, refl, ap, _∙_}
+use mathlib.Core.Bool.{Bool, true, false}
 use mathlib.Core.List.{List, _++_}
 use borrow.Author.Tests.{le-ltb}
 use native.Mathlib.Omega.{arith}
@@ -10,11 +10,10 @@ use lib.Dec.{lit≤}
 use lib.ListN.{length, take, length-append, length-take, length-drop}
 use Rattle.machine.proofs.Bools.{or-none-left}
 use Rattle.text.specs.Bytes.{wordsOf}
-use Rattle.text.specs.TableInput.{tableEnd, noTable, tableOf, afterTable, tableWanted}
+use Rattle.text.specs.TableInput.{tableEnd, noTable, afterTable}
 use Rattle.text.proofs.WordLaws.{take-wordsOf-append}
 use Rattle.text.proofs.TableLaws.{Whole, whole, whole-table, table-within, no-more, no-table-more, whole-more, tableOf-more, afterTable-more}
 use Rattle.linerun.specs.Input.{listWordsRead, mostInput, listOf, leftOver, unreadable, wanted}
-use Rattle.linerun.specs.Lines.{firstLine}
 use Rattle.linerun.specs.Report.{report}
 
 -- the reading asks for no byte past the room for a longest table and a list one word too long

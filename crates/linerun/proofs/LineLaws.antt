@@ -1,7 +1,6 @@
 -- How long the lines are, and what a turn of the loop that writes them adds. Assumes nothing.
 use Prim.Native.Nat.{ℕ, suc, _+_, _*_, _^_, _/_, _%_, _≤_, _<_}
-use mathlib.Core.Path.{_≡_, refl, sym, ap, _∙_}
-use mathlib.Core.List.{List, [], _++_, append-assoc, append-nil}
+use mathlib.Core.List.{List, _++_}
 use native.Mathlib.Numerals.{add-one}
 use native.Mathlib.Omega.{arith}
 use lib.ListN.{length, getD, length-append}
@@ -11,7 +10,7 @@ use Rattle.text.specs.Write.{Writes}
 use Rattle.text.proofs.DigitLaws.{length-decimal}
 use Rattle.text.proofs.WriteLaws.{then}
 use Rattle.machine.specs.Word.{kind, caller}
-use Rattle.linerun.specs.Lines.{codeOf, firstLine, callLine, callLines, allLines, mostBytes}
+use Rattle.linerun.specs.Lines.{codeOf, firstLine, callLine, callLines}
 
 -- a label and a number of at most so many digits
 length-labelled : (label : List ℕ) (n k : ℕ) → n < 10 ^ suc k → length (labelled label n) ≤ length label + suc k

@@ -5,7 +5,7 @@ use mathlib.Core.Path.{_≡_}
 use mathlib.Core.Bool.{true, false}
 use mathlib.Core.List.{List}
 use native.Mathlib.Omega.{arith}
-use Rattle.machine.specs.Entry.{longestList, entry}
+use Rattle.machine.specs.Entry.{longestList}
 use Rattle.machine.specs.Promise.{RunPromise}
 use Rattle.machine.proofs.Promise.{calls-few}
 use Rattle.text.specs.TableInput.{tableOf}

@@ -1,6 +1,6 @@
 -- Inputs of `linerun` and what it prints for them: list L on table T of document 01, each of the four conditions of code 7 by
 -- itself, the list that is one word too long, and the empty table.
-use Prim.Native.Nat.{ℕ, _/_, _%_, _*_}
+use Prim.Native.Nat.{ℕ, _/_, _%_}
 use Prim.Native.String.{String}
 use mathlib.Core.Path.{_≡_}
 use mathlib.Core.List.{List, [], _∷_, _++_}

@@ -2,7 +2,6 @@
 use text::write::put;
 use text::write::put_labelled;
 ghost use Prim.Native.Nat.{_+_, _*_, _≤_};
-ghost use mathlib.Core.Path.{_≡_};
 ghost use lib.ListN.{length};
 ghost use Rattle.text.specs.Write.{Writes};
 ghost use Rattle.linerun.specs.Lines.{firstLine, callLine, allLines, mostBytes};

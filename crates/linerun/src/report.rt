@@ -27,7 +27,8 @@ fn run_input(bytes: &[u8], answers: &mut [u32]) -> Ran
     run(&mut table[0..words], &list[0..listed], answers)
 }
 
-// What is printed for the bytes read, from the buffer's front on; answers how many bytes that is.
+// What is printed for the bytes read, from the buffer's front on; answers how many bytes that is. A buffer that is too short
+// gets what fits, and the answer is then one past its length.
 pub fn report(bytes: &[u8], out: &mut [u8]) -> usize
     ensures { λ r. ⌜ Writes 0 (report (now (bytes .entry))) (now (out .entry)) r (now (out .exit)) ⌝ }
     ensures { λ r. ⌜ r ≤ mostBytes 4096 ⌝ }
@@ -35,6 +36,7 @@ pub fn report(bytes: &[u8], out: &mut [u8]) -> usize
     if unreadable(bytes) {
         return first_line(0, 7, out, 0);
     }
+    // three words for each call of the longest list
     let mut answers = [0u32; 12288];
     let ran = run_input(bytes, &mut answers);
     all_lines(ran.calls(), ran.code(), &answers, out)

@@ -1,11 +1,11 @@
 -- The digits of a number, written from the last one back to the front of an array: the invariant of that loop, where it
 -- begins, its turn and its end. Assumes nothing.
 use Prim.Native.Nat.{ℕ, zero, suc, _-_, _^_, _/_, _≤_, _<_}
-use mathlib.Core.Path.{_≡_, refl, sym, ap, _∙_}
+use mathlib.Core.Path.{_≡_, sym, ap, _∙_}
 use mathlib.Core.List.{List, [], _∷_, _++_, append-assoc}
 use native.Mathlib.Numerals.{sub-one}
 use native.Mathlib.Omega.{arith}
-use lib.Dec.{lit<, lit≤}
+use lib.Dec.{lit≤}
 use lib.ListN.{length, take, drop, set, length-set, length-drop, drop-of-length-le}
 use lib.Seq.{set-split, drop-at, take-all, length-take-le}
 use Rattle.text.specs.Decimal.{lastDigit, digitsWithin, digits, decimal}

@@ -1,7 +1,6 @@
 -- `linerun::read_input` meets its contract: what is wanted always has room, and each full read leaves less. Assumes nothing.
-use borrow.Author.Needs.{needs}
 use Prim.Native.Nat.{_+_, _-_, _≤_}
-use mathlib.Core.Path.{_≡_, sym, ap, _∙_}
+use mathlib.Core.Path.{_≡_, _∙_}
 use native.Mathlib.Omega.{arith}
 use lib.ListN.{length}
 use Rattle.linerun.specs.Input.{mostInput}

@@ -1,5 +1,4 @@
 -- `linerun::wanted_after` meets its contract: what is wanted always has room (`wanted-within`). Assumes nothing.
-use Prim.Native.Nat.{_+_, _≤_}
 use mathlib.Core.Path.{_≡_, ap, _∙_}
 use native.Mathlib.Nat.{sub-zero}
 use native.Mathlib.Omega.{arith}

@@ -1,6 +1,6 @@
 -- `text::write::copy` meets its contract: after i turns the first i bytes are written. Assumes nothing.
 use Prim.Native.Nat.{_-_, _≤_}
-use mathlib.Core.Path.{_≡_, refl, sym, ap, _∙_}
+use mathlib.Core.Path.{_≡_, refl, sym}
 use native.Mathlib.Omega.{arith}
 use lib.ListN.{length, take, length-set}
 use Rattle.text.specs.Write.{overwrite}

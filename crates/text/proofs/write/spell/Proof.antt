@@ -1,5 +1,4 @@
 -- `text::write::spell` meets its contract: the invariant of its loop is `Spelled`. Assumes nothing.
-use Prim.Native.Nat.{_≤_}
 use mathlib.Core.Path.{_≡_, sym, _∙_}
 use native.Mathlib.Omega.{arith}
 use Rattle.text.proofs.Spelling.{Spelled, start, next, place-before, done}
