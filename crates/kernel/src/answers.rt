@@ -62,16 +62,24 @@ fn rights_bits(table: &[u32], n: u32, caller: u32, low: u32, high: u32) -> u32
     bits
 }
 
+// No data.
+fn plain(head: u32) -> Answer
+    ensures { λ a. ⌜ wordsOf a ≡ head ∷ 0 ∷ 0 ∷ [] ⌝ }
+{
+    Answer {
+        head,
+        first: 0,
+        second: 0,
+    }
+}
+
 fn refused(head: u32, refusal: Refusal) -> Answer
     requires { ⌜ head + 23 < 2 ^ 32 ⌝ }
     ensures { λ a. ⌜ wordsOf a ≡ (head + numberOf refusal) ∷ 0 ∷ 0 ∷ [] ⌝ }
 {
     let number = calls::number(refusal);
-    Answer {
-        head: head + number,
-        first: 0,
-        second: 0,
-    }
+    let word = head + number;
+    plain(word)
 }
 
 // The oldest message and the lost count of the endpoint.
@@ -131,11 +139,7 @@ pub fn answer_to(table: &[u32], n: u32, m: u32, head: u32, decision: Decision) -
         Decision::Sends {
             endpoint: _,
             message: _,
-        } => Answer {
-            head,
-            first: 0,
-            second: 0,
-        },
+        } => plain(head),
         Decision::Receives { endpoint } => received(table, n, head, endpoint),
         Decision::ListsEndpoints { caller } => {
             let first = owned_bits(table, n, m, caller);
@@ -150,19 +154,11 @@ pub fn answer_to(table: &[u32], n: u32, m: u32, head: u32, decision: Decision) -
             target: _,
             recipient: _,
             rights: _,
-        } => Answer {
-            head,
-            first: 0,
-            second: 0,
-        },
+        } => plain(head),
         Decision::Removes {
             target: _,
             caller: _,
             rights: _,
-        } => Answer {
-            head,
-            first: 0,
-            second: 0,
-        },
+        } => plain(head),
     }
 }

@@ -20,6 +20,9 @@ enum-known-decision-2 c = search needs
 enum-told : tie.Need-enum-told
 enum-told c = search needs
 
+plain-requires : tie.Need-plain-requires
+plain-requires c κs = search needs
+
 enum-known-decision-3 : tie.Need-enum-known-decision-3
 enum-known-decision-3 c = search needs
 
@@ -47,8 +50,14 @@ rights-listed-requires c κs =
 enum-told-2 : tie.Need-enum-told-2
 enum-told-2 c = search needs
 
+plain-requires-2 : tie.Need-plain-requires-2
+plain-requires-2 c κs = search needs
+
 enum-told-3 : tie.Need-enum-told-3
 enum-told-3 c = search needs
+
+plain-requires-3 : tie.Need-plain-requires-3
+plain-requires-3 c κs = search needs
 
 returns : tie.Need-returns
 unfolding decisionOf answerWith code firstData secondData
@@ -60,7 +69,7 @@ returns-2 c = rw (c .before .decision2 .given .1, add-zero)
 
 returns-3 : tie.Need-returns-3
 unfolding decisionOf answerWith code firstData secondData
-returns-3 c = rw (c .enum-told .given .1, add-zero)
+returns-3 c = rw (c .before .enum-told .given .1, add-zero) (c .plain .ensures)
 
 returns-4 : tie.Need-returns-4
 unfolding decisionOf answerWith code firstData secondData
@@ -76,11 +85,11 @@ returns-6 c = rw (c .before .before .decision5 .given .1, add-zero) (c .rights-l
 
 returns-7 : tie.Need-returns-7
 unfolding decisionOf answerWith code firstData secondData
-returns-7 c = rw (c .enum-told2 .given .1, add-zero)
+returns-7 c = rw (c .before .enum-told2 .given .1, add-zero) (c .plain2 .ensures)
 
 returns-8 : tie.Need-returns-8
 unfolding decisionOf answerWith code firstData secondData
-returns-8 c = rw (c .enum-told3 .given .1, add-zero)
+returns-8 c = rw (c .before .enum-told3 .given .1, add-zero) (c .plain3 .ensures)
 
 pub answer-to-spec : {M : Type 1} → statement M
 answer-to-spec =
@@ -90,6 +99,7 @@ answer-to-spec =
     refused-requires
     enum-known-decision-2
     enum-told
+    plain-requires
     enum-known-decision-3
     received-requires
     enum-known-decision-4
@@ -97,7 +107,9 @@ answer-to-spec =
     enum-known-decision-5
     rights-listed-requires
     enum-told-2
+    plain-requires-2
     enum-told-3
+    plain-requires-3
     returns
     returns-2
     returns-3
