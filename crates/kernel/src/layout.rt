@@ -1,7 +1,7 @@
 // Where a table's words stand, by n, which is read once and handed on: reading and writing a holder's rights on a target,
 // and the twelve words of an endpoint as a part of the table.
-use table::rights::Rights;
-use table::words::KIND;
+use words::KIND;
+use words::rights::Rights;
 ghost use mathlib.Core.Path.{_≡_};
 ghost use Prim.Native.Nat.{_<_, _≤_};
 ghost use lib.ListN.{length};

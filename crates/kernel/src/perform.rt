@@ -4,7 +4,7 @@ use crate::layout::endpoint_at;
 use crate::layout::rights;
 use crate::layout::set_rights;
 use crate::queue;
-use table::rights::Rights;
+use words::rights::Rights;
 ghost use mathlib.Core.Path.{_≡_};
 ghost use Rattle.machine.specs.Machine.{effect, after, Decision.sends, Decision.receives, Decision.grants, Decision.removes};
 ghost use Rattle.kernel.specs.Ready.{Ready};

@@ -1,6 +1,6 @@
 // An endpoint's twelve words, lent as a part of the table: what they hold, and what a send and a receive make of them.
 // Nothing here sees the rest of the table. A word of kind k that holds p is k × KIND + p.
-use table::words::KIND;
+use words::KIND;
 ghost use mathlib.Core.Path.{_≡_};
 ghost use Prim.Native.Nat.{ℕ};
 ghost use lib.ListN.{length};

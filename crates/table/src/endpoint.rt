@@ -1,11 +1,11 @@
 // An endpoint's twelve words: its identity (name, info) and its queue (waiting, lost, slots), which a repair treats apart.
 // The words are lent as a part of the table. A part that is too short reads as zeros past its end, and no such word is right.
-use crate::words::KIND;
-use crate::words::info_word_ok;
-use crate::words::lost_word_ok;
-use crate::words::name_word_ok;
-use crate::words::slot_word_ok;
-use crate::words::waiting_word_ok;
+use words::KIND;
+use words::info_word_ok;
+use words::lost_word_ok;
+use words::name_word_ok;
+use words::slot_word_ok;
+use words::waiting_word_ok;
 ghost use mathlib.Core.Path.{_≡_};
 ghost use Prim.Native.Nat.{_+_, _≤_};
 ghost use lib.ListN.{length, getD};

@@ -1,14 +1,12 @@
-// The table's words: the type of a right, and the check that accepts or refuses a lent table.
+// The table check: it accepts or refuses a lent table, place by place.
 use crate::endpoint::endpoint_ok;
 use crate::names::all_different;
-use crate::words::KIND;
-use crate::words::header_word_ok;
-use crate::words::rights_word_ok;
+use words::KIND;
+use words::header_word_ok;
+use words::rights_word_ok;
 
 pub mod endpoint;
 pub mod names;
-pub mod rights;
-pub mod words;
 
 ghost use mathlib.Core.Path.{_≡_};
 ghost use Rattle.machine.specs.Check.{headerOk, lengthOk, rightsOk, endpointsOk, tableCode};

@@ -1,0 +1,12 @@
+-- `Rights::adds` is the machine's `adds`. Assumes nothing.
+use mathlib.Core.Path.{refl}
+use Rattle.machine.specs.Right.{adds}
+use Rattle.words.proofs.rights.Rights.adds.Statement.{statement}
+use Rattle.words.proofs.rights.Rights.adds.Tie as tie
+
+returns : tie.Need-returns
+unfolding adds
+returns c = refl
+
+pub adds-spec : {M : Type 1} → statement M
+adds-spec = tie.close (tie.spec returns)
