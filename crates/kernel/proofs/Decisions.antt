@@ -5,7 +5,7 @@ use Rattle.machine.specs.Call.{Call}
 use Rattle.machine.specs.Machine.{decide}
 use Rattle.machine.proofs.Decide.{decide-elim}
 use Rattle.machine.proofs.Queue.{message-small}
-use Rattle.kernel.specs.Decision.{Doable}
+use Rattle.kernel.specs.Doable.{Doable}
 
 pub doable : (t : List ℕ) (c : Call) → Doable t (decide t c)
 doable t c =

@@ -1,7 +1,5 @@
 -- What is proved of the kernel besides its functions.
 pub mod Places
-pub mod Guards
-pub mod Scans
 pub mod Digits
 pub mod AnswerWords
 pub mod Decisions

@@ -40,18 +40,6 @@ module _ (t : List ℕ) (n : ℕ) (r : Ready t n) where
   pub twelve : (e : ℕ) → e < table.endpoints t → length (table.endpoint t e) ≡ 12
   twelve = endpoint-length t (accepted-sized t (r .accepted))
 
-  -- a name word has kind 3
-  pub name-word : (e : ℕ) → e < table.endpoints t → getD (table.endpoint t e) 0 0 ≡ word 3 (name (table.endpoint t e))
-  unfolding endpointOk identityOk nameWordOk name
-  name-word e p =
-      let ok = and-left _ _ (and-left _ _ (accepted-endpoint t (r .accepted) e p)) in
-      let w = getD (table.endpoint t e) 0 0 in
-      let three : kind w ≡ 3 = eqb-true _ _ (and-left _ _ ok) in
-      sym (div-add-mod' w 268435456) ∙ ap (λ (k : ℕ). word k (payload w)) three
-
-  pub owner-below : (e : ℕ) → e < table.endpoints t → owner (table.endpoint t e) < n
-  owner-below e p = omega (arith, accepted-owner t (r .accepted) e p, r .domains)
-
   -- what the queue functions ask holds on an accepted table
   pub may-send : (e message : ℕ) → e < table.endpoints t → message ≤ mostLost → MaySend (table.endpoint t e) message
   may-send e message p small =

@@ -1,7 +1,7 @@
 -- What the kernel's contracts cite.
 pub mod Queue
 pub mod Ready
-pub mod Decision
+pub mod Doable
 pub mod Answer
 pub mod Step
 pub mod Run

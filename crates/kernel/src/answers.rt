@@ -1,10 +1,10 @@
 // A call's three answer words, by the table as it stands before the call: nothing is written here.
 use crate::Answer;
-use crate::decide::Decision;
 use crate::layout::endpoint;
 use crate::layout::rights;
-use crate::queue;
 use calls::Refusal;
+use decide::Decision;
+use words::KIND;
 ghost use mathlib.Core.Path.{_≡_};
 ghost use mathlib.Core.List.{[], _∷_};
 ghost use Prim.Native.Nat.{_+_, _^_, _<_};
@@ -13,7 +13,8 @@ ghost use Rattle.machine.specs.Queue.{oldest, lost};
 ghost use Rattle.machine.specs.Machine.{ownedBits, rightsBits};
 ghost use Rattle.calls.specs.Number.{numberOf};
 ghost use Rattle.kernel.specs.Ready.{Ready};
-ghost use Rattle.kernel.specs.Decision.{decisionOf, Doable};
+ghost use Rattle.decide.specs.Decision.{decisionOf};
+ghost use Rattle.kernel.specs.Doable.{Doable};
 ghost use Rattle.kernel.specs.Answer.{wordsOf, headOf, answerWith, Eight};
 
 // The first answer word of a call without its code: the kind and the caller of the call's first word, as found; a stray shows
@@ -38,7 +39,8 @@ fn owned_bits(table: &[u32], n: u32, m: u32, caller: u32) -> u32
     while 0 < e {
         e -= 1;
         bits = bits * 2;
-        if queue::owner(endpoint(table, n, e)) == caller {
+        let q = endpoint(table, n, e);
+        if q[1] / 256 % 256 == caller {
             bits += 1;
         }
     }
@@ -89,12 +91,10 @@ fn received(table: &[u32], n: u32, head: u32, e: u32) -> Answer
     ensures { λ a. ⌜ wordsOf a ≡ head ∷ oldest (endpoint (now (table .entry)) e) ∷ lost (endpoint (now (table .entry)) e) ∷ [] ⌝ }
 {
     let q = endpoint(table, n, e);
-    let message = queue::oldest(q);
-    let count = queue::lost(q);
     Answer {
         head,
-        first: message,
-        second: count,
+        first: q[4] % KIND,
+        second: q[3] % KIND,
     }
 }
 

@@ -1,6 +1,5 @@
 // The kernel: what a call and a list of calls do to a lent table, and what they answer. Every table is checked first.
 mod answers;
-mod decide;
 mod layout;
 mod list;
 mod perform;
@@ -8,6 +7,8 @@ mod queue;
 mod serve;
 
 use calls::Second;
+use entry::EntryRefusal;
+use entry::Ran;
 use layout::domains;
 use layout::endpoints;
 use list::has_space;
@@ -20,7 +21,7 @@ ghost use mathlib.Core.Path.{_≡_};
 ghost use Rattle.machine.specs.Promise.{RunPromise};
 ghost use Rattle.calls.specs.Apart.{callOf};
 ghost use Rattle.kernel.specs.Step.{StepPromise};
-ghost use Rattle.kernel.specs.Run.{entryRefusalCode, ranCode, ranCalls};
+ghost use Rattle.entry.specs.Entry.{ranCode, ranCalls};
 
 // A call's three answer words.
 pub struct Answer {
@@ -33,51 +34,6 @@ pub struct Answer {
 pub enum Stepped {
     Refused(TableRefusal),
     Answered(Answer),
-}
-
-// Why a list doesn't run.
-pub enum EntryRefusal {
-    ListTooLong, // 1
-    BadTable(TableRefusal), // 2 to 5
-    SpaceTooSmall, // 6
-}
-
-impl EntryRefusal {
-    pub fn code(self) -> u32
-        ensures { λ r. ⌜ r ≡ entryRefusalCode self ⌝ }
-    {
-        match self {
-            EntryRefusal::ListTooLong => 1,
-            EntryRefusal::BadTable(refusal) => refusal.code(),
-            EntryRefusal::SpaceTooSmall => 6,
-        }
-    }
-}
-
-// What the run of a list comes to: a refusal at the entry, or the number of calls that ran.
-pub enum Ran {
-    Refused(EntryRefusal),
-    Done(usize),
-}
-
-impl Ran {
-    pub fn code(self) -> u32
-        ensures { λ r. ⌜ r ≡ ranCode self ⌝ }
-    {
-        match self {
-            Ran::Refused(refusal) => refusal.code(),
-            Ran::Done(_) => 0,
-        }
-    }
-
-    pub fn calls(self) -> usize
-        ensures { λ r. ⌜ r ≡ ranCalls self ⌝ }
-    {
-        match self {
-            Ran::Refused(_) => 0,
-            Ran::Done(calls) => calls,
-        }
-    }
 }
 
 // One call on any table.

@@ -1,14 +1,15 @@
 // What a decision does to the table: one endpoint's twelve words or one rights word are written, or nothing.
-use crate::decide::Decision;
 use crate::layout::endpoint_at;
 use crate::layout::rights;
 use crate::layout::set_rights;
 use crate::queue;
+use decide::Decision;
 use words::rights::Rights;
 ghost use mathlib.Core.Path.{_≡_};
 ghost use Rattle.machine.specs.Machine.{effect, after, Decision.sends, Decision.receives, Decision.grants, Decision.removes};
 ghost use Rattle.kernel.specs.Ready.{Ready};
-ghost use Rattle.kernel.specs.Decision.{decisionOf, Doable};
+ghost use Rattle.decide.specs.Decision.{decisionOf};
+ghost use Rattle.kernel.specs.Doable.{Doable};
 
 fn send(table: &mut [u32], n: u32, e: u32, message: u32)
     requires { ⌜ Ready (now table) n ⌝ }

@@ -4,40 +4,11 @@ use words::KIND;
 ghost use mathlib.Core.Path.{_≡_};
 ghost use Prim.Native.Nat.{ℕ};
 ghost use lib.ListN.{length};
-ghost use Rattle.machine.specs.Queue.{owner, waiting, lost, oldest, sendWithSpace, sendToFull, sent, received};
+ghost use Rattle.machine.specs.Queue.{sendWithSpace, sendToFull, sent, received};
 ghost use Rattle.kernel.specs.Queue.{HasRoom, MaySend, MayReceive};
 
 // The largest lost count.
 const MOST_LOST: u32 = 268435455;
-
-pub fn owner(q: &[u32]) -> u32
-    requires { ⌜ length (now q) ≡ 12 ⌝ }
-    ensures { λ r. ⌜ r ≡ owner (now (q .entry)) ⌝ }
-{
-    q[1] / 256 % 256
-}
-
-pub fn waiting(q: &[u32]) -> u32
-    requires { ⌜ length (now q) ≡ 12 ⌝ }
-    ensures { λ r. ⌜ r ≡ waiting (now (q .entry)) ⌝ }
-{
-    q[2] % KIND
-}
-
-pub fn lost(q: &[u32]) -> u32
-    requires { ⌜ length (now q) ≡ 12 ⌝ }
-    ensures { λ r. ⌜ r ≡ lost (now (q .entry)) ⌝ }
-{
-    q[3] % KIND
-}
-
-// The oldest message.
-pub fn oldest(q: &[u32]) -> u32
-    requires { ⌜ length (now q) ≡ 12 ⌝ }
-    ensures { λ r. ⌜ r ≡ oldest (now (q .entry)) ⌝ }
-{
-    q[4] % KIND
-}
 
 // The message fills the slot at the waiting count, and waiting rises by 1.
 fn send_with_space(q: &mut [u32], message: u32)

@@ -2,10 +2,10 @@
 use crate::Answer;
 use crate::answers::answer_to;
 use crate::answers::head;
-use crate::decide::decide;
 use crate::perform::perform;
 use calls::Second;
 use calls::take_apart;
+use decide::decide;
 ghost use mathlib.Core.Path.{_≡_};
 ghost use Rattle.machine.specs.Table.{endpoints};
 ghost use Rattle.calls.specs.Apart.{callOf};
@@ -19,7 +19,7 @@ pub fn serve(table: &mut [u32], n: u32, m: u32, first: u32, second: Second) -> A
     ensures { λ a. ⌜ Served (now (table .entry)) (callOf first second) (wordsOf a) (now (table .exit)) ⌝ }
 {
     let call = take_apart(first, second);
-    let decision = decide(table, n, m, call);
+    let decision = decide(table, call);
     let shown = head(first);
     let words = answer_to(table, n, m, shown, decision);
     perform(table, n, decision);

@@ -3,7 +3,7 @@ use borrow.Author.Needs.{needs}
 use native.Mathlib.Nat.{add-zero}
 use native.Mathlib.Omega.{arith}
 use Rattle.machine.specs.Machine.{code, firstData, secondData}
-use Rattle.kernel.specs.Decision.{decisionOf}
+use Rattle.decide.specs.Decision.{decisionOf}
 use Rattle.kernel.specs.Answer.{answerWith}
 use Rattle.kernel.proofs.answers.answer_to.Statement.{statement}
 use Rattle.kernel.proofs.answers.answer_to.Tie as tie

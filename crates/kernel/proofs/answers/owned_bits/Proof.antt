@@ -4,8 +4,10 @@ use mathlib.Core.Path.{_≡_, refl, sym, ap, _∙_}
 use Prim.Native.Nat.{ℕ, _+_, _*_, _-_, _^_, _<_, _≤_}
 use native.Mathlib.Nat.{add-zero}
 use native.Mathlib.Omega.{arith}
-use lib.ListN.{length}
+use mathlib.Core.List.{List}
+use lib.ListN.{length, getD}
 use borrow.Author.Tests.{eq-eqb, ne-eqb}
+use Rattle.machine.specs.Word.{fieldB}
 use Rattle.machine.specs.Table.{endpoint}
 use Rattle.machine.specs.Queue.{owner}
 use Rattle.machine.specs.Machine.{ownedBits}
@@ -56,25 +58,30 @@ endpoint-requires c κs =
     let pre = c .before .before .before .pre in
     (pre .0, omega (arith, pre .1))
 
-owner-requires : tie.Need-owner-requires Inv-loop μ-loop
-owner-requires c κs =
-    let pre = c .before .before .before .before .pre in
-    ap length (c .endpoint .ensures) ∙ twelve _ _ (pre .0) _ (omega (arith, pre .1, c .before .loop-test .taken, c .before .before .loop .inv .0))
+shared-slice-read-if1 : tie.Need-shared-slice-read-if1 Inv-loop μ-loop
+shared-slice-read-if1 c =
+    let read = c .before in
+    let pre = read .before .before .before .before .pre in
+    omega (
+      arith,
+      ap length (read .endpoint .ensures) ∙ twelve _ _ (pre .0) _ (omega (arith, pre .1, read .before .loop-test .taken, read .before .before .loop .inv .0)),
+    )
 
-owned : (c : tie.After-owner Inv-loop μ-loop)
-    → c .owner .result ≡ owner (endpoint (c .before .before .before .before .before .args .table .now) (c .before .before .before .loop .e - 1))
-owned c = c .owner .ensures ∙ ap owner (c .before .endpoint .ensures)
+owned : (c : tie.After-endpoint Inv-loop μ-loop)
+    → fieldB (getD (c .endpoint .result .now) 1 0) ≡ owner (endpoint (c .before .before .before .before .args .table .now) (c .before .before .loop .e - 1))
+unfolding owner
+owned c = ap (λ (q : List ℕ). fieldB (getD q 1 0)) (c .endpoint .ensures)
 
 -- the bit that an owned endpoint has, and any other
 bit-set : (c : tie.Then1 Inv-loop μ-loop)
     → let a = c .before .before .before .before .before .before .args in
     1 ≡ ownsAt (a .table .now) (a .caller) (c .before .before .before .before .loop .e - 1)
-bit-set c = rw (eq-eqb _ _ (sym (owned (c .before)) ∙ c .if1 .taken))
+bit-set c = rw (eq-eqb _ _ (sym (owned (c .before .before)) ∙ c .if1 .taken))
 
 bit-clear : (c : tie.Else1 Inv-loop μ-loop)
     → let a = c .before .before .before .before .before .before .args in
     0 ≡ ownsAt (a .table .now) (a .caller) (c .before .before .before .before .loop .e - 1)
-bit-clear c = rw (ne-eqb _ _ (λ same. c .if1 .left (owned (c .before) ∙ same)))
+bit-clear c = rw (ne-eqb _ _ (λ same. c .if1 .left (owned (c .before .before) ∙ same)))
 
 add-bits : tie.Need-add-bits Inv-loop μ-loop
 add-bits c = record { fits = next-fits (c .before .before .before) 1 (bit-set c) }
@@ -113,7 +120,7 @@ owned-bits-spec =
     sub-e
     mul-bits
     endpoint-requires
-    owner-requires
+    shared-slice-read-if1
     add-bits
     loop-less
     loop-again

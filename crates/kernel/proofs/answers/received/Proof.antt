@@ -1,7 +1,8 @@
 -- `answers::received` meets its contract. Assumes nothing.
-use mathlib.Core.Path.{_≡_, ap, ap₂, _∙_}
-use mathlib.Core.List.{[], _∷_}
+use mathlib.Core.Path.{_≡_, ap, _∙_}
+use mathlib.Core.List.{List, [], _∷_}
 use Prim.Native.Nat.{ℕ}
+use native.Mathlib.Omega.{arith}
 use denote.Ref.{now}
 use lib.ListN.{length}
 use borrow.Author.Needs.{needs}
@@ -18,18 +19,18 @@ read-twelve c =
     let pre = c .before .before .pre in
     ap length (c .endpoint .ensures) ∙ twelve _ _ (pre .0) _ (pre .1)
 
-oldest-requires : tie.Need-oldest-requires
-oldest-requires c κs = read-twelve c
+shared-slice-read-t7 : tie.Need-shared-slice-read-t7
+shared-slice-read-t7 c = omega (arith, read-twelve (c .before))
 
-lost-requires : tie.Need-lost-requires
-lost-requires c κs = read-twelve (c .before)
+shared-slice-read-t10 : tie.Need-shared-slice-read-t10
+shared-slice-read-t10 c = omega (arith, read-twelve (c .before .before))
 
 returns : tie.Need-returns
+unfolding oldest lost
 returns c =
-    let read = c .before .before .endpoint .ensures in
-    ap₂ (λ (x y : ℕ). c .before .before .before .before .args .head ∷ x ∷ y ∷ [])
-    (c .before .oldest .ensures ∙ ap oldest read)
-    (c .lost .ensures ∙ ap lost read)
+    let read = c .before .before in
+    ap (λ (q : List ℕ). read .before .before .args .head ∷ oldest q ∷ lost q ∷ []) (read .endpoint .ensures)
 
 pub received-spec : {M : Type 1} → statement M
-received-spec = tie.close (tie.spec endpoint-requires oldest-requires lost-requires returns)
+received-spec =
+    tie.close (tie.spec endpoint-requires shared-slice-read-t7 shared-slice-read-t10 returns)

@@ -1,7 +1,7 @@
 -- `perform::perform` meets its contract: each arm is one case of the decision. Assumes nothing.
 use borrow.Author.Needs.{needs}
 use Rattle.machine.specs.Machine.{effect, after}
-use Rattle.kernel.specs.Decision.{decisionOf}
+use Rattle.decide.specs.Decision.{decisionOf}
 use Rattle.kernel.proofs.perform.perform.Statement.{statement}
 use Rattle.kernel.proofs.perform.perform.Tie as tie
 

@@ -7,7 +7,8 @@ use Rattle.machine.specs.Machine as machine
 use Rattle.calls.specs.Apart.{callOf}
 use Rattle.calls.specs.Decide.{decideCall}
 use Rattle.calls.proofs.Decide.{decided}
-use Rattle.kernel.specs.Decision.{decisionOf, Doable}
+use Rattle.decide.specs.Decision.{decisionOf}
+use Rattle.kernel.specs.Doable.{Doable}
 use Rattle.kernel.specs.Answer.{answerWith}
 use Rattle.kernel.proofs.AnswerWords.{head-room, answer-with}
 use Rattle.kernel.proofs.Decisions.{doable}

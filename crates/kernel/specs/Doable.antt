@@ -1,4 +1,4 @@
--- What the kernel decides, as the machine has it, and what holds of it: the machine decides nothing else.
+-- What holds of a decision of the machine, so that it can be done.
 use Prim.Native.Nat.{ℕ, _<_, _≤_}
 use mathlib.Core.Path.{_≡_}
 use mathlib.Core.List.{List}
@@ -6,19 +6,6 @@ use Rattle.machine.specs.Right.{allRights}
 use Rattle.machine.specs.Table.{domains, endpoints, endpoint}
 use Rattle.machine.specs.Queue.{waiting, mostLost}
 use Rattle.machine.specs.Machine as machine
-use Rattle.calls.specs.Number.{numberOf}
-use Rattle.kernel.specs.declared.decide.Decision.{Decision}
-use Rattle.kernel.specs.declared.decide.Decision.the-variants.{Refused, LookedUp, Sends, Receives, ListsEndpoints, ListsRights, Grants, Removes}
-
-unfoldable pub decisionOf : Decision → machine.Decision
-decisionOf (Refused r) = machine.refused (numberOf r)
-decisionOf (LookedUp e) = machine.lookedUp e
-decisionOf (Sends e message) = machine.sends e message
-decisionOf (Receives e) = machine.receives e
-decisionOf (ListsEndpoints u) = machine.listsEndpoints u
-decisionOf (ListsRights u) = machine.listsRights u
-decisionOf (Grants g h r) = machine.grants g h r
-decisionOf (Removes g u r) = machine.removes g u r
 
 -- what a decision names is in the table, and what it writes fits there
 abbrev pub Doable : List ℕ → machine.Decision → Type 0

@@ -1,0 +1,20 @@
+-- The numbers of a run's answer: its code and its number of calls (document 01, 'Where each number is checked').
+use Prim.Native.Nat.{ℕ}
+use Rattle.table.specs.Checked.{refusalCode}
+use Rattle.entry.specs.declared.EntryRefusal.{EntryRefusal}
+use Rattle.entry.specs.declared.EntryRefusal.the-variants.{ListTooLong, BadTable, SpaceTooSmall}
+use Rattle.entry.specs.declared.Ran.{Ran}
+use Rattle.entry.specs.declared.Ran.the-variants.{Refused, Done}
+
+abbrev pub entryRefusalCode : EntryRefusal → ℕ
+entryRefusalCode ListTooLong = 1
+entryRefusalCode (BadTable r) = refusalCode r
+entryRefusalCode SpaceTooSmall = 6
+
+abbrev pub ranCode : Ran → ℕ
+ranCode (Refused r) = entryRefusalCode r
+ranCode (Done calls) = 0
+
+abbrev pub ranCalls : Ran → ℕ
+ranCalls (Refused r) = 0
+ranCalls (Done calls) = calls
