@@ -1,0 +1,72 @@
+-- The tests of a send and of a receive, taken apart and put together. A caller that knows its words gets the machine's
+-- `sent` and `received`. Assumes nothing.
+use Prim.Native.Nat.{ℕ, _≤_, _<_}
+use mathlib.Core.Path.{_≡_, refl}
+use mathlib.Core.Bool.{true, false, _&&_}
+use mathlib.Core.List.{List}
+use borrow.Author.Tests.{eq-eqb, le-leb, eqb-true, leb-true, lt-ltb, le-ltb}
+use lib.Dec.{eqb, leb}
+use lib.ListN.{length}
+use Rattle.machine.specs.Queue.{capacity, waiting, mostLost, hasSpace, sendWithSpace, sendToFull, sent, received}
+use Rattle.machine.proofs.Bools.{and-left, and-right}
+use Rattle.queue.specs.Queue.{sendable, sentTo, receivable, receivedFrom, MaySend, MayReceive}
+
+-- what the test of a send says
+pub may-send : (q : List ℕ) (m : ℕ) → sendable q m ≡ true → MaySend q m
+unfolding sendable
+may-send q m h =
+    let twelve = eqb (length q) 12 in
+    let slots = leb (capacity q) 8 in
+    let both = and-left (twelve && slots) (leb m mostLost) h in
+    record {
+      twelve = eqb-true _ _ (and-left twelve slots both);
+      slots = leb-true _ _ (and-right twelve slots both);
+      small = leb-true _ _ (and-right (twelve && slots) (leb m mostLost) h);
+    }
+
+-- what the test of a receive says
+pub may-receive : (q : List ℕ) → receivable q ≡ true → MayReceive q
+unfolding receivable
+may-receive q h =
+    let twelve = eqb (length q) 12 in
+    let some = leb 1 (waiting q) in
+    let both = and-left (twelve && some) (leb (waiting q) 8) h in
+    record {
+      twelve = eqb-true _ _ (and-left twelve some both);
+      some = leb-true _ _ (and-right twelve some both);
+      slots = leb-true _ _ (and-right (twelve && some) (leb (waiting q) 8) h);
+    }
+
+-- a send to words that pass the test
+pub sends-there : (q : List ℕ) (m : ℕ) → length q ≡ 12 → capacity q ≤ 8 → m ≤ mostLost → sentTo q m ≡ sent q m
+unfolding sentTo sendable
+sends-there q m twelve slots small = rw (eq-eqb _ _ twelve, le-leb _ _ slots, le-leb _ _ small)
+
+-- a receive from words that pass the test
+pub receives-there : (q : List ℕ) → length q ≡ 12 → 1 ≤ waiting q → waiting q ≤ 8 → receivedFrom q ≡ received q
+unfolding receivedFrom receivable
+receives-there q twelve some slots = rw (eq-eqb _ _ twelve, le-leb _ _ some, le-leb _ _ slots)
+
+-- words that the test of a send refuses
+pub not-sent : (q : List ℕ) (m : ℕ) → sendable q m ≡ false → q ≡ sentTo q m
+unfolding sentTo
+not-sent q m h = rw h
+
+module _ (q : List ℕ) (m : ℕ) (passed : sendable q m ≡ true) where
+  pub sent-with-space : waiting q < capacity q → sendWithSpace q m ≡ sentTo q m
+  unfolding sentTo sent hasSpace
+  sent-with-space space = rw (passed, lt-ltb _ _ space)
+
+  pub sent-to-full : capacity q ≤ waiting q → sendToFull q m ≡ sentTo q m
+  unfolding sentTo sent hasSpace
+  sent-to-full full = rw (passed, le-ltb _ _ full)
+
+-- words that the test of a receive refuses
+pub not-received : (q : List ℕ) → receivable q ≡ false → q ≡ receivedFrom q
+unfolding receivedFrom
+not-received q h = rw h
+
+-- words that it lets through
+pub received-there : (q : List ℕ) → receivable q ≡ true → received q ≡ receivedFrom q
+unfolding receivedFrom
+received-there q h = rw h

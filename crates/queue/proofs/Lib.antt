@@ -1,0 +1,3 @@
+-- What is proved of a send and a receive besides the functions.
+pub mod Laws
+pub mod Received

@@ -1,0 +1,2 @@
+-- What the contracts of a send and a receive cite.
+pub mod Queue

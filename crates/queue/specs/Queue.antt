@@ -1,0 +1,42 @@
+-- A send and a receive, of any words at all: which words they are done with, and what they leave of them.
+use Prim.Native.Nat.{ℕ, _<_, _≤_}
+use mathlib.Core.Path.{_≡_}
+use mathlib.Core.Bool.{Bool, cond, _&&_}
+use mathlib.Core.List.{List}
+use lib.Dec.{eqb, leb}
+use lib.ListN.{length}
+use Rattle.machine.specs.Queue.{capacity, waiting, mostLost, sent, received}
+
+-- twelve words with at most eight slots, and a message of 28 bits
+unfoldable pub sendable : List ℕ → ℕ → Bool
+sendable q message = eqb (length q) 12 && leb (capacity q) 8 && leb message mostLost
+
+-- a send; other words stay as they are
+unfoldable pub sentTo : List ℕ → ℕ → List ℕ
+sentTo q message = cond (sendable q message) (sent q message) q
+
+-- twelve words with 1 to 8 waiting, whatever the slots from the waiting count on hold
+unfoldable pub receivable : List ℕ → Bool
+receivable q = eqb (length q) 12 && leb 1 (waiting q) && leb (waiting q) 8
+
+-- a receive; other words stay as they are
+unfoldable pub receivedFrom : List ℕ → List ℕ
+receivedFrom q = cond (receivable q) (received q) q
+
+-- what the function that fills a slot asks: a slot is left for the message
+pub record HasRoom (q : List ℕ) (message : ℕ) : Type 0 where
+  pub twelve : length q ≡ 12
+  pub room : waiting q < 8
+  pub small : message ≤ mostLost
+
+-- what the functions behind the test of a send ask
+pub record MaySend (q : List ℕ) (message : ℕ) : Type 0 where
+  pub twelve : length q ≡ 12
+  pub slots : capacity q ≤ 8
+  pub small : message ≤ mostLost
+
+-- what the function behind the test of a receive asks: one waits, and all that wait stand in slots
+pub record MayReceive (q : List ℕ) : Type 0 where
+  pub twelve : length q ≡ 12
+  pub some : 1 ≤ waiting q
+  pub slots : waiting q ≤ 8

@@ -1,0 +1,103 @@
+// An endpoint's twelve words, lent as a part of the table: what a send and a receive make of them. Nothing here sees the
+// rest of the table. Each first tests the words that it is lent, and leaves other words as they are.
+use words::KIND;
+ghost use mathlib.Core.Path.{_≡_};
+ghost use Prim.Native.Nat.{ℕ};
+ghost use lib.ListN.{length};
+ghost use Rattle.machine.specs.Queue.{sendWithSpace, sendToFull, received};
+ghost use Rattle.queue.specs.Queue.{sendable, sentTo, receivable, receivedFrom, HasRoom, MayReceive};
+
+// The largest lost count, and the largest message.
+const MOST_LOST: u32 = 268435455;
+
+// Twelve words with at most eight slots, and a message of 28 bits.
+fn sendable(q: &[u32], message: u32) -> bool
+    ensures { λ b. ⌜ b ≡ sendable (now (q .entry)) message ⌝ }
+{
+    if q.len() != 12 {
+        return false;
+    }
+    (q[1] % 256 <= 8) & (message <= MOST_LOST)
+}
+
+// The message fills the slot at the waiting count, and waiting rises by 1.
+fn send_with_space(q: &mut [u32], message: u32)
+    requires { ⌜ HasRoom (now q) message ⌝ }
+    ensures { λ _. ⌜ now (q .exit) ≡ sendWithSpace (now (q .entry)) message ⌝ }
+{
+    let count = q[2] % KIND;
+    let slot = 4 + count as usize;
+    q[slot] = 0xF000_0000 + message;
+    q[2] = 0x5000_0000 + (count + 1);
+}
+
+// The message is dropped, and lost rises by 1, staying at its largest.
+fn send_to_full(q: &mut [u32])
+    requires { ⌜ length (now q) ≡ 12 ⌝ }
+    ensures { λ _. ⌜ ((message : ℕ) → now (q .exit) ≡ sendToFull (now (q .entry)) message) ⌝ }
+{
+    let count = q[3] % KIND;
+    if count < MOST_LOST {
+        q[3] = 0x6000_0000 + (count + 1);
+    } else {
+        q[3] = 0x6000_0000 + count;
+    }
+}
+
+// A send: the waiting count and the capacity say whether there is space. The answer is the same with space and without.
+pub fn send(q: &mut [u32], message: u32) -> bool
+    ensures { λ done. ⌜ done ≡ sendable (now (q .entry)) message ⌝ }
+    ensures { λ _. ⌜ now (q .exit) ≡ sentTo (now (q .entry)) message ⌝ }
+{
+    if !sendable(q, message) {
+        return false;
+    }
+    let count = q[2] % KIND;
+    let most = q[1] % 256;
+    if count < most {
+        send_with_space(q, message);
+    } else {
+        send_to_full(q);
+    }
+    true
+}
+
+// Twelve words with 1 to 8 messages waiting, whatever the slots from the waiting count on hold.
+fn receivable(q: &[u32]) -> bool
+    ensures { λ b. ⌜ b ≡ receivable (now (q .entry)) ⌝ }
+{
+    if q.len() != 12 {
+        return false;
+    }
+    let count = q[2] % KIND;
+    (1 <= count) & (count <= 8)
+}
+
+// The oldest message goes out: the others move up, the slot that comes free is cleared, and waiting falls by 1. Slots from
+// the waiting count on aren't touched, whatever they hold.
+fn take_oldest(q: &mut [u32])
+    requires { ⌜ MayReceive (now q) ⌝ }
+    ensures { λ _. ⌜ now (q .exit) ≡ received (now (q .entry)) ⌝ }
+{
+    let left = q[2] % KIND - 1;
+    let last = left as usize;
+    let mut i: usize = 0;
+    while i < last {
+        q[4 + i] = q[5 + i];
+        i += 1;
+    }
+    q[4 + last] = 0xF000_0000;
+    q[2] = 0x5000_0000 + left;
+}
+
+// A receive: done where a message waits.
+pub fn receive(q: &mut [u32]) -> bool
+    ensures { λ done. ⌜ done ≡ receivable (now (q .entry)) ⌝ }
+    ensures { λ _. ⌜ now (q .exit) ≡ receivedFrom (now (q .entry)) ⌝ }
+{
+    if !receivable(q) {
+        return false;
+    }
+    take_oldest(q);
+    true
+}
