@@ -3,6 +3,5 @@ pub mod Places
 pub mod Digits
 pub mod AnswerWords
 pub mod Decisions
-pub mod Received
 pub mod Underway
 pub mod Entries

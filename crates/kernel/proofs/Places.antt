@@ -3,20 +3,18 @@
 use mathlib.Core.Path.{_≡_, sym, ap, ap₂, subst, _∙_}
 use mathlib.Core.List.{List, _++_}
 use Prim.Native.Nat.{ℕ, _+_, _*_, _-_, _<_, _≤_}
-use native.Mathlib.Nat.{mul-le-mul, le-trans, div-add-mod'}
+use native.Mathlib.Nat.{mul-le-mul, le-trans}
 use native.Mathlib.Omega.{arith}
-use borrow.Author.Tests.{eqb-true}
 use lib.ListN.{length, getD, take, drop, set}
-use Rattle.machine.specs.Word.{kind, payload, word}
+use Rattle.machine.specs.Word.{payload, word}
 use Rattle.machine.specs.Table as table
 use Rattle.machine.specs.Table.{rightsAt, endpointAt}
-use Rattle.machine.specs.Queue.{name, owner, waiting, mostLost}
-use Rattle.machine.specs.Check.{endpointOk, identityOk, nameWordOk}
-use Rattle.machine.proofs.Bools.{and-left}
+use Rattle.machine.specs.Queue.{waiting, mostLost, sent, received}
 use Rattle.machine.proofs.Table.{rights-below, endpoint-length}
-use Rattle.machine.proofs.Accepted.{accepted-sized, accepted-counts, accepted-endpoint, accepted-owner, info-of}
+use Rattle.machine.proofs.Accepted.{accepted-sized, accepted-counts, accepted-endpoint, info-of}
 use Rattle.machine.proofs.Queue.{waiting-most}
-use Rattle.kernel.specs.Queue.{MaySend, MayReceive}
+use Rattle.queue.specs.Queue.{sentTo, receivedFrom}
+use Rattle.queue.proofs.Laws.{sends-there, receives-there}
 use Rattle.kernel.specs.Ready.{Ready}
 
 -- among n domains, n at most 16
@@ -40,22 +38,20 @@ module _ (t : List ℕ) (n : ℕ) (r : Ready t n) where
   pub twelve : (e : ℕ) → e < table.endpoints t → length (table.endpoint t e) ≡ 12
   twelve = endpoint-length t (accepted-sized t (r .accepted))
 
-  -- what the queue functions ask holds on an accepted table
-  pub may-send : (e message : ℕ) → e < table.endpoints t → message ≤ mostLost → MaySend (table.endpoint t e) message
-  may-send e message p small =
-      record {
-        twelve = twelve e p;
-        slots = info-of (table.domains t) (table.endpoint t e) (accepted-endpoint t (r .accepted) e p) .2;
-        small = small;
-      }
+  -- an accepted table's queues pass the tests of a send and of a receive
+  pub send-there : (e message : ℕ)
+      → e < table.endpoints t
+      → message ≤ mostLost
+      → sentTo (table.endpoint t e) message ≡ sent (table.endpoint t e) message
+  send-there e message p small =
+      sends-there _ _ (twelve e p) (info-of (table.domains t) (table.endpoint t e) (accepted-endpoint t (r .accepted) e p) .2) small
 
-  pub may-receive : (e : ℕ) → e < table.endpoints t → (waiting (table.endpoint t e) ≡ 0 → ⊥) → MayReceive (table.endpoint t e)
-  may-receive e p some =
-      record {
-        twelve = twelve e p;
-        some = omega (arith, some);
-        slots = waiting-most (table.domains t) (table.endpoint t e) (accepted-endpoint t (r .accepted) e p);
-      }
+  pub receive-there : (e : ℕ)
+      → e < table.endpoints t
+      → (waiting (table.endpoint t e) ≡ 0 → ⊥)
+      → receivedFrom (table.endpoint t e) ≡ received (table.endpoint t e)
+  receive-there e p some =
+      receives-there _ (twelve e p) (omega (arith, some)) (waiting-most (table.domains t) (table.endpoint t e) (accepted-endpoint t (r .accepted) e p))
 
   pub endpoint-within : (e : ℕ) → e < table.endpoints t → endpointAt n e + 12 ≤ length t
   endpoint-within e p = omega (arith, sized)

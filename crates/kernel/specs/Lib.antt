@@ -1,5 +1,4 @@
 -- What the kernel's contracts cite.
-pub mod Queue
 pub mod Ready
 pub mod Doable
 pub mod Answer

@@ -3,7 +3,6 @@ mod answers;
 mod layout;
 mod list;
 mod perform;
-mod queue;
 mod serve;
 
 use calls::Second;

@@ -2,7 +2,6 @@
 use crate::layout::endpoint_at;
 use crate::layout::rights;
 use crate::layout::set_rights;
-use crate::queue;
 use decide::Decision;
 use words::rights::Rights;
 ghost use mathlib.Core.Path.{_≡_};

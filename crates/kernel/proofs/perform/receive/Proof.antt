@@ -5,9 +5,9 @@ use native.Mathlib.Omega.{arith}
 use lib.ListN.{length, take, drop}
 use borrow.Author.Needs.{needs}
 use Rattle.machine.specs.Table.{endpoint, setEndpoint}
-use Rattle.machine.specs.Queue.{received}
 use Rattle.machine.specs.Machine.{effect, after}
-use Rattle.kernel.proofs.Places.{few, endpoint-few, endpoint-within, endpoint-read, endpoint-written, may-receive}
+use Rattle.queue.specs.Queue.{receivedFrom}
+use Rattle.kernel.proofs.Places.{few, endpoint-few, endpoint-within, endpoint-read, endpoint-written, receive-there}
 use Rattle.kernel.proofs.perform.receive.Statement.{statement}
 use Rattle.kernel.proofs.perform.receive.Tie as tie
 
@@ -42,9 +42,7 @@ lent : (c : tie.After-endpoint-at)
 lent c = endpoint-read _ _ (c .before .before .pre .0 .domains) _ _ (c .endpoint-at .ensures)
 
 receive-requires : tie.Need-receive-requires
-receive-requires c κs =
-    let start = c .before .before .before in
-    rw (lent (c .before)) (may-receive _ _ (start .pre .0) _ (start .pre .1 .0) (start .pre .1 .1))
+receive-requires c κs = search needs
 
 same-length : tie.Need-same-length
 same-length c = search needs
@@ -56,7 +54,7 @@ returns c =
     let at = call .before .before in
     let start = at .before .before in
     endpoint-written _ _ (start .pre .0 .domains) _ _ _ (at .endpoint-at .ensures)
-    ∙ ap (setEndpoint (start .args .table .now) (start .args .e)) (call .receive .ensures ∙ ap received (lent at))
+    ∙ ap (setEndpoint (start .args .table .now) (start .args .e)) (call .receive .ensures .1 ∙ ap receivedFrom (lent at) ∙ receive-there _ _ (start .pre .0) _ (start .pre .1 .0) (start .pre .1 .1))
 
 pub receive-spec : {M : Type 1} → statement M
 receive-spec =

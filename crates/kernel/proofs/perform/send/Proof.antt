@@ -6,9 +6,9 @@ use native.Mathlib.Omega.{arith}
 use lib.ListN.{length, take, drop}
 use borrow.Author.Needs.{needs}
 use Rattle.machine.specs.Table.{endpoint, setEndpoint}
-use Rattle.machine.specs.Queue.{sent}
 use Rattle.machine.specs.Machine.{effect, after}
-use Rattle.kernel.proofs.Places.{few, endpoint-few, endpoint-within, endpoint-read, endpoint-written, may-send}
+use Rattle.queue.specs.Queue.{sentTo}
+use Rattle.kernel.proofs.Places.{few, endpoint-few, endpoint-within, endpoint-read, endpoint-written, send-there}
 use Rattle.kernel.proofs.perform.send.Statement.{statement}
 use Rattle.kernel.proofs.perform.send.Tie as tie
 
@@ -43,9 +43,7 @@ lent : (c : tie.After-endpoint-at)
 lent c = endpoint-read _ _ (c .before .before .pre .0 .domains) _ _ (c .endpoint-at .ensures)
 
 send-requires : tie.Need-send-requires
-send-requires c κs =
-    let start = c .before .before .before in
-    rw (lent (c .before)) (may-send _ _ (start .pre .0) _ _ (start .pre .1 .0) (start .pre .1 .1))
+send-requires c κs = search needs
 
 same-length : tie.Need-same-length
 same-length c = search needs
@@ -57,7 +55,7 @@ returns c =
     let at = call .before .before in
     let start = at .before .before in
     endpoint-written _ _ (start .pre .0 .domains) _ _ _ (at .endpoint-at .ensures)
-    ∙ ap (setEndpoint (start .args .table .now) (start .args .e)) (call .send .ensures ∙ ap (λ (q : List ℕ). sent q (start .args .message)) (lent at))
+    ∙ ap (setEndpoint (start .args .table .now) (start .args .e)) (call .send .ensures .1 ∙ ap (λ (q : List ℕ). sentTo q (start .args .message)) (lent at) ∙ send-there _ _ (start .pre .0) _ _ (start .pre .1 .0) (start .pre .1 .1))
 
 pub send-spec : {M : Type 1} → statement M
 send-spec =
