@@ -1,19 +1,18 @@
 // The program `linerun`: a table and a list of calls from standard input, the calls' answers as lines on standard output
 // (document 01, 'Into firmware and onto the bench'). What is printed for what was read is the function report; here is only the
 // reading and the writing.
-use input::wanted;
 use libc::STDIN_FILENO;
 use libc::STDOUT_FILENO;
+use linerun_text::input::wanted;
 use report::report;
 
-mod input;
 mod lines;
 mod report;
 
 ghost use Prim.Native.Nat.{_+_, _≤_};
 ghost use mathlib.Core.Path.{_≡_};
 ghost use lib.ListN.{length, take};
-ghost use Rattle.linerun.specs.Input.{wanted, mostInput};
+ghost use Rattle.linerun_text.specs.Input.{wanted, mostInput};
 
 // How many bytes more to read behind the first ones.
 fn wanted_after(input: &[u8], have: usize) -> usize
