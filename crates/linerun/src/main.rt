@@ -51,12 +51,20 @@ fn read_input(input: &mut [u8]) -> usize
     have
 }
 
+// At most 28 bytes in the first line and 66 in that of each of 4,096 calls.
+const MOST_BYTES: usize = 270364;
+
+// Prints the report of the bytes read, by way of the lent buffer.
+fn print(bytes: &[u8], out: &mut [u8; MOST_BYTES]) {
+    let printed = report(bytes, out);
+    let lines = &out[..];
+    io::write_all(STDOUT_FILENO, &lines[0..printed]);
+}
+
 fn main() {
     // the length word, 641 table words and 4,097 list words
     let mut input = [0u8; 18956];
     let have = read_input(&mut input);
-    // at most 28 bytes in the first line and 66 in that of each of 4,096 calls
-    let mut out = [0u8; 270364];
-    let printed = report(&input[0..have], &mut out);
-    io::write_all(STDOUT_FILENO, &out[0..printed]);
+    let mut out = [0u8; MOST_BYTES];
+    print(&input[0..have], &mut out);
 }
