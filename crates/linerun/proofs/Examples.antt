@@ -4,8 +4,9 @@ use Rattle.machine.specs.Everything.{everything}
 use Rattle.text.specs.Bytes.{ascii, wordsOf}
 use Rattle.text.specs.Decimal.{digitsWithin, decimal, labelled}
 use Rattle.text.specs.TableInput.{noTable, tableOf, afterTable}
-use Rattle.linerun.specs.Input.{listOf, leftOver, unreadable}
-use Rattle.linerun.specs.Lines.{firstLine, callLine, callLines, allLines}
+use Rattle.linerun_text.specs.Input.{listOf, leftOver, unreadable}
+use Rattle.linerun_text.specs.Lines.{firstLine, callLine}
+use Rattle.linerun.specs.Lines.{callLines, allLines}
 use Rattle.linerun.specs.Report.{answerSpace, outcomeLines, report}
 use Rattle.linerun.specs.Examples.{EveryRow, rows}
 

@@ -1,6 +1,5 @@
 -- What is proved of `linerun`'s input and output as definitions.
 pub mod LineLaws
-pub mod InputLaws
 pub mod ReportLaws
 pub mod Refusals
 pub mod Examples

@@ -18,10 +18,11 @@ use Rattle.text.specs.Bytes.{wordsOf}
 use Rattle.text.specs.TableInput.{tableOf, afterTable}
 use Rattle.text.proofs.WordLaws.{length-wordsOf}
 use Rattle.text.proofs.TableLaws.{Whole, whole-table}
-use Rattle.linerun.specs.Input.{listWordsRead, listOf, unreadable}
-use Rattle.linerun.specs.Lines.{firstLine, callLines, allLines}
+use Rattle.linerun_text.specs.Input.{listWordsRead, listOf, unreadable}
+use Rattle.linerun_text.specs.Lines.{firstLine}
+use Rattle.linerun.specs.Lines.{callLines, allLines}
 use Rattle.linerun.specs.Report.{answerSpace, outcomeLines, report}
-use Rattle.linerun.proofs.InputLaws.{no-left-over}
+use Rattle.linerun_text.proofs.InputLaws.{no-left-over}
 
 -- where there are as many list words as are read, the list is one word too long
 long : (bytes : List ℕ) → 4 * listWordsRead ≤ length (afterTable bytes) → longestList < length (listOf bytes)

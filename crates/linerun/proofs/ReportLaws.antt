@@ -1,16 +1,20 @@
--- The report as the functions make it up: the two ways that the definition goes, and how many calls there are.
--- Assumes nothing.
-use Prim.Native.Nat.{ℕ, _≤_}
-use mathlib.Core.Path.{_≡_}
-use mathlib.Core.Bool.{true, false}
-use mathlib.Core.List.{List}
+-- The report as the functions make it up: the two ways that the definition goes, and how many calls there are; and where the
+-- reading stops before the input ends, no further byte makes a difference to it. Assumes nothing.
+use Prim.Native.Nat.{ℕ, _*_, _≤_}
+use mathlib.Core.Path.{_≡_, refl}
+use mathlib.Core.Bool.{Bool, true, false}
+use mathlib.Core.List.{List, _++_}
 use native.Mathlib.Omega.{arith}
+use lib.ListN.{length, length-append}
 use Rattle.machine.specs.Entry.{longestList}
 use Rattle.machine.specs.Promise.{RunPromise}
 use Rattle.machine.proofs.Promise.{calls-few}
-use Rattle.text.specs.TableInput.{tableOf}
-use Rattle.linerun.specs.Input.{listOf, unreadable}
-use Rattle.linerun.specs.Lines.{firstLine, allLines}
+use Rattle.text.specs.TableInput.{noTable, tableOf, afterTable}
+use Rattle.text.proofs.TableLaws.{Whole, whole, whole-table, no-more, no-table-more, whole-more, tableOf-more, afterTable-more}
+use Rattle.linerun_text.specs.Input.{listWordsRead, listOf, unreadable, wanted}
+use Rattle.linerun_text.specs.Lines.{firstLine}
+use Rattle.linerun_text.proofs.InputLaws.{no-left-over, listOf-more}
+use Rattle.linerun.specs.Lines.{allLines}
 use Rattle.linerun.specs.Report.{answerSpace, outcomeLines, report, RanInput}
 
 -- a run of the table and the list that the input gives
@@ -34,3 +38,27 @@ report-ran bytes e r same-calls same-code = simp e (cc)
 pub ran-few : {bytes space : List ℕ} {code calls : ℕ} {after : List ℕ} → RanInput bytes space code calls after
     → calls ≤ longestList
 ran-few {bytes} {space} r = omega (arith, r .sameCalls, calls-few (tableOf bytes) (listOf bytes) space)
+
+-- where the reading asks for nothing more, what follows makes no difference
+pub nothing-follows : (bytes more : List ℕ) → wanted bytes ≡ 0 → report (bytes ++ more) ≡ report bytes
+unfolding report unreadable wanted
+nothing-follows bytes more done = go (noTable bytes) refl
+  where
+    go : (b : Bool) → noTable bytes ≡ b → report (bytes ++ more) ≡ report bytes
+    go true e =
+        let long = no-more bytes e (simp e at done) in
+        simp (e, no-table-more bytes more (long .0) (long .1))
+    go false e =
+        let w : Whole bytes = whole bytes e in
+        let full : 4 * listWordsRead ≤ length (afterTable bytes) = omega (arith, simp e at done) in
+        let fuller : 4 * listWordsRead ≤ length (afterTable bytes ++ more) =
+        omega (arith, length-append (afterTable bytes) more) in
+        simp (
+          e,
+          whole-table (bytes ++ more) (whole-more bytes more w),
+          afterTable-more bytes more w,
+          no-left-over (afterTable bytes) full,
+          no-left-over (afterTable bytes ++ more) fuller,
+          tableOf-more bytes more w,
+          listOf-more bytes more w full,
+        )

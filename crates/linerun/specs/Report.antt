@@ -6,8 +6,9 @@ use mathlib.Core.List.{List}
 use lib.ListN.{replicate}
 use Rattle.machine.specs.Entry.{Outcome, entry, longestList}
 use Rattle.text.specs.TableInput.{tableOf}
-use Rattle.linerun.specs.Input.{listOf, unreadable}
-use Rattle.linerun.specs.Lines.{firstLine, allLines}
+use Rattle.linerun_text.specs.Input.{listOf, unreadable}
+use Rattle.linerun_text.specs.Lines.{firstLine}
+use Rattle.linerun.specs.Lines.{allLines}
 
 -- an answer space that is never too small: three words for each call of the longest list
 unfoldable pub answerSpace : List ℕ

@@ -1,19 +1,18 @@
 // The program `linerun`: a table and a list of calls from standard input, the calls' answers as lines on standard output
 // (document 01, 'Into firmware and onto the bench'). What is printed for what was read is the function report; here is only the
 // reading and the writing.
-use input::wanted;
 use libc::STDIN_FILENO;
 use libc::STDOUT_FILENO;
+use linerun_text::input::wanted;
 use report::report;
 
-mod input;
 mod lines;
 mod report;
 
 ghost use Prim.Native.Nat.{_+_, _≤_};
 ghost use mathlib.Core.Path.{_≡_};
 ghost use lib.ListN.{length, take};
-ghost use Rattle.linerun.specs.Input.{wanted, mostInput};
+ghost use Rattle.linerun_text.specs.Input.{wanted, mostInput};
 
 // How many bytes more to read behind the first ones.
 fn wanted_after(input: &[u8], have: usize) -> usize
@@ -52,12 +51,20 @@ fn read_input(input: &mut [u8]) -> usize
     have
 }
 
+// At most 28 bytes in the first line and 66 in that of each of 4,096 calls.
+const MOST_BYTES: usize = 270364;
+
+// Prints the report of the bytes read, by way of the lent buffer.
+fn print(bytes: &[u8], out: &mut [u8; MOST_BYTES]) {
+    let printed = report(bytes, out);
+    let lines = &out[..];
+    io::write_all(STDOUT_FILENO, &lines[0..printed]);
+}
+
 fn main() {
     // the length word, 641 table words and 4,097 list words
     let mut input = [0u8; 18956];
     let have = read_input(&mut input);
-    // at most 28 bytes in the first line and 66 in that of each of 4,096 calls
-    let mut out = [0u8; 270364];
-    let printed = report(&input[0..have], &mut out);
-    io::write_all(STDOUT_FILENO, &out[0..printed]);
+    let mut out = [0u8; MOST_BYTES];
+    print(&input[0..have], &mut out);
 }

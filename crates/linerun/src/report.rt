@@ -1,10 +1,10 @@
 // The whole program on bytes: from what was read to what is printed.
-use crate::input::read_list;
-use crate::input::unreadable;
 use crate::lines::all_lines;
-use crate::lines::first_line;
 use kernel::Ran;
 use kernel::run;
+use linerun_text::input::read_list;
+use linerun_text::input::unreadable;
+use linerun_text::lines::first_line;
 use text::table_input::read_table;
 ghost use mathlib.Core.Path.{_≡_};
 ghost use mathlib.Core.Bool.{false};

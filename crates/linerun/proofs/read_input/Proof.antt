@@ -3,7 +3,7 @@ use Prim.Native.Nat.{_+_, _-_, _≤_}
 use mathlib.Core.Path.{_≡_, _∙_}
 use native.Mathlib.Omega.{arith}
 use lib.ListN.{length}
-use Rattle.linerun.specs.Input.{mostInput}
+use Rattle.linerun_text.specs.Input.{mostInput}
 use Rattle.linerun.proofs.read_input.Statement.{statement}
 use Rattle.linerun.proofs.read_input.Tie as tie
 

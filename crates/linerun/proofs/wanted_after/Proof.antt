@@ -4,8 +4,8 @@ use native.Mathlib.Nat.{sub-zero}
 use native.Mathlib.Omega.{arith}
 use lib.ListN.{length, take}
 use lib.Seq.{length-take-le}
-use Rattle.linerun.specs.Input.{wanted}
-use Rattle.linerun.proofs.InputLaws.{wanted-within}
+use Rattle.linerun_text.specs.Input.{wanted}
+use Rattle.linerun_text.proofs.InputLaws.{wanted-within}
 use borrow.Author.Needs.{needs}
 use Rattle.linerun.proofs.wanted_after.Statement.{statement}
 use Rattle.linerun.proofs.wanted_after.Tie as tie

@@ -7,7 +7,8 @@ use native.Mathlib.Omega.{arith}
 use Rattle.text.specs.Write.{Writes}
 use Rattle.text.proofs.WriteLaws.{then, writes-nothing, writes-length}
 use Rattle.linerun.specs.Lines.{callLines, allLines, mostBytes}
-use Rattle.linerun.proofs.LineLaws.{length-firstLine, length-callLine, next-line}
+use Rattle.linerun_text.proofs.LineLaws.{length-firstLine, length-callLine}
+use Rattle.linerun.proofs.LineLaws.{next-line}
 use Rattle.linerun.proofs.lines.all_lines.Statement.{statement}
 use Rattle.linerun.proofs.lines.all_lines.Tie as tie
 

@@ -2,8 +2,8 @@
 use mathlib.Core.Path.{sym, _∙_}
 use native.Mathlib.Omega.{arith}
 use Rattle.linerun.specs.Report.{answerSpace}
-use Rattle.linerun.proofs.InputLaws.{readable-whole}
-use Rattle.linerun.proofs.LineLaws.{length-firstLine}
+use Rattle.linerun_text.proofs.InputLaws.{readable-whole}
+use Rattle.linerun_text.proofs.LineLaws.{length-firstLine}
 use Rattle.linerun.proofs.ReportLaws.{report-unreadable, report-ran, ran-few}
 use borrow.Author.Needs.{needs}
 use Rattle.linerun.proofs.report.report.Statement.{statement}

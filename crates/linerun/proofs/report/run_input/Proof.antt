@@ -1,7 +1,8 @@
 -- `linerun::report::run_input` meets its contract: what the two reads left is the input's table and list. Assumes nothing.
+use mathlib.Core.Path.{refl}
 use Rattle.text.proofs.WriteLaws.{fills-part}
 use Rattle.text.proofs.TableLaws.{whole, length-tableOf}
-use Rattle.linerun.proofs.InputLaws.{length-listOf}
+use Rattle.linerun_text.proofs.InputLaws.{list-part}
 use Rattle.linerun.proofs.ReportLaws.{ran-input}
 use borrow.Author.Needs.{needs}
 use Rattle.linerun.proofs.report.run_input.Statement.{statement}
@@ -52,7 +53,7 @@ returns c =
     let bytes = start .args .bytes .now in
     ran-input bytes (start .args .answers .now)
     (fills-part (length-tableOf bytes (whole bytes (start .pre))) (filled .read-table .ensures))
-    (fills-part (length-listOf bytes) (listed .read-list .ensures))
+    (list-part bytes refl (listed .read-list .ensures))
     (ran .run .ensures)
 
 pub run-input-spec : {M : Type 1} → statement M

@@ -1,10 +1,10 @@
--- `linerun::lines::call_line` meets its contract: the pieces of the line are written one after another (`then`). Assumes nothing.
+-- `linerun_text::lines::call_line` meets its contract: the pieces of the line are written one after another (`then`). Assumes nothing.
 use Rattle.text.specs.Bytes.{ascii}
 use Rattle.text.proofs.WriteLaws.{then, writes-length}
-use Rattle.linerun.specs.Lines.{callLine}
+use Rattle.linerun_text.specs.Lines.{callLine}
 use borrow.Author.Needs.{needs}
-use Rattle.linerun.proofs.lines.call_line.Statement.{statement}
-use Rattle.linerun.proofs.lines.call_line.Tie as tie
+use Rattle.linerun_text.proofs.lines.call_line.Statement.{statement}
+use Rattle.linerun_text.proofs.lines.call_line.Tie as tie
 
 slice-aggregate-put-labelled : tie.Need-slice-aggregate-put-labelled
 slice-aggregate-put-labelled c = search needs

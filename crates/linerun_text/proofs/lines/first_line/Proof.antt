@@ -1,10 +1,10 @@
--- `linerun::lines::first_line` meets its contract: the pieces of the line are written one after another (`then`). Assumes nothing.
+-- `linerun_text::lines::first_line` meets its contract: the pieces of the line are written one after another (`then`). Assumes nothing.
 use Rattle.text.specs.Bytes.{ascii}
 use Rattle.text.proofs.WriteLaws.{then}
-use Rattle.linerun.specs.Lines.{firstLine}
+use Rattle.linerun_text.specs.Lines.{firstLine}
 use borrow.Author.Needs.{needs}
-use Rattle.linerun.proofs.lines.first_line.Statement.{statement}
-use Rattle.linerun.proofs.lines.first_line.Tie as tie
+use Rattle.linerun_text.proofs.lines.first_line.Statement.{statement}
+use Rattle.linerun_text.proofs.lines.first_line.Tie as tie
 
 slice-aggregate-put-labelled : tie.Need-slice-aggregate-put-labelled
 slice-aggregate-put-labelled c = search needs

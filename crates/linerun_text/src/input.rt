@@ -4,9 +4,10 @@ use text::table_input::no_table;
 use text::table_input::table_wanted;
 use text::words::fill;
 ghost use mathlib.Core.Path.{_≡_};
-ghost use lib.ListN.{length};
+ghost use Rattle.text.specs.Bytes.{wordsOf};
+ghost use Rattle.text.specs.TableInput.{afterTable};
 ghost use Rattle.text.specs.Write.{Fills};
-ghost use Rattle.linerun.specs.Input.{listOf, listWordsRead, unreadable, wanted};
+ghost use Rattle.linerun_text.specs.Input.{unreadable, wanted};
 
 // The bytes of 4,097 list words: where the reading stops.
 const LIST_BYTES: usize = 16388;
@@ -39,10 +40,9 @@ pub fn wanted(bytes: &[u8]) -> usize
     0
 }
 
-// Fills list, which has room for all words that are read, with the list's words, and answers how many.
+// Fills list from the front with the words after the table, as many as there is room for, and answers how many.
 pub fn read_list(bytes: &[u8], list: &mut [u32]) -> usize
-    requires { ⌜ length (now list) ≡ listWordsRead ⌝ }
-    ensures { λ r. ⌜ Fills (listOf (now (bytes .entry))) (now (list .entry)) r (now (list .exit)) ⌝ }
+    ensures { λ r. ⌜ Fills (wordsOf (afterTable (now (bytes .entry)))) (now (list .entry)) r (now (list .exit)) ⌝ }
 {
     fill(after_table(bytes), list)
 }

@@ -1,0 +1,3 @@
+-- What the contracts of `linerun_text` cite: what linerun reads, and its lines.
+pub mod Input
+pub mod Lines

@@ -1,0 +1,25 @@
+-- The lines that `linerun` prints, as bytes (document 01, 'Into firmware and onto the bench').
+use Prim.Native.Nat.{ℕ, _%_}
+use mathlib.Core.List.{List, _++_}
+use Rattle.machine.specs.Word.{kind, caller}
+use Rattle.text.specs.Bytes.{ascii}
+use Rattle.text.specs.Decimal.{labelled}
+
+-- bits 15–0 of an answer's first word: its code
+abbrev pub codeOf : ℕ → ℕ
+codeOf w = w % 65536
+
+-- the first line: the number of calls and the entry's code
+unfoldable pub firstLine : ℕ → ℕ → List ℕ
+firstLine calls code = labelled (ascii "calls ") calls ++ labelled (ascii " code ") code ++ ascii "\n"
+
+-- the line of call i, whose answer is the words w, x and y
+unfoldable pub callLine : ℕ → ℕ → ℕ → ℕ → List ℕ
+callLine i w x y =
+    labelled (ascii "call ") i
+    ++ labelled (ascii " caller ") (caller w)
+    ++ labelled (ascii " kind ") (kind w)
+    ++ labelled (ascii " code ") (codeOf w)
+    ++ labelled (ascii " data ") x
+    ++ labelled (ascii " ") y
+    ++ ascii "\n"

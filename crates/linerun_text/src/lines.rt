@@ -1,0 +1,30 @@
+// The lines that linerun prints, into a lent buffer from a place on.
+use text::write::put;
+use text::write::put_labelled;
+ghost use Rattle.text.specs.Write.{Writes};
+ghost use Rattle.linerun_text.specs.Lines.{firstLine, callLine};
+
+// The number of calls and the entry's code.
+pub fn first_line(calls: usize, code: u32, out: &mut [u8], at: usize) -> usize
+    ensures { λ r. ⌜ Writes at (firstLine calls code) (now (out .entry)) r (now (out .exit)) ⌝ }
+{
+    let calls_end = put_labelled(b"calls ", calls as u64, out, at);
+    let code_end = put_labelled(b" code ", code as u64, out, calls_end);
+    put(b"\n", out, code_end)
+}
+
+// Call i, whose answer is the words w, x and y: caller, kind and code out of w, and x and y as they are.
+pub fn call_line(i: usize, w: u32, x: u32, y: u32, out: &mut [u8], at: usize) -> usize
+    ensures { λ r. ⌜ Writes at (callLine i w x y) (now (out .entry)) r (now (out .exit)) ⌝ }
+{
+    let caller = w / 4194304 % 64;
+    let kind = w / 268435456;
+    let code = w % 65536;
+    let call_end = put_labelled(b"call ", i as u64, out, at);
+    let caller_end = put_labelled(b" caller ", caller as u64, out, call_end);
+    let kind_end = put_labelled(b" kind ", kind as u64, out, caller_end);
+    let code_end = put_labelled(b" code ", code as u64, out, kind_end);
+    let first_end = put_labelled(b" data ", x as u64, out, code_end);
+    let second_end = put_labelled(b" ", y as u64, out, first_end);
+    put(b"\n", out, second_end)
+}
