@@ -1,15 +1,16 @@
 -- `endpoints_ok` is the machine's `endpointsOk`: the flag is the test of the endpoints passed, and their names are gathered.
 -- Assumes nothing.
-use Prim.Native.Nat.{_+_, _-_, _*_, _/_, _≤_}
+use Prim.Native.Nat.{_+_, _-_, _*_, _/_, _≤_, zero-le}
 use mathlib.Core.Path.{_≡_, refl, ap, _∙_}
-use native.Mathlib.Nat.{lt-of-lt-of-le}
+use native.Mathlib.Nat.{le-add-right, lt-of-lt-of-le}
 use native.Mathlib.Omega.{arith}
-use borrow.Author.Needs.{needs}
+use borrow.Author.Count.{falls}
 use denote.Ref.{now}
 use lib.ListN.{getD, length}
 use Rattle.machine.specs.Table.{domains, endpoints}
 use Rattle.machine.specs.Check.{endpointOk}
 use Rattle.table.proofs.Places.{square-small, headed-most, headed-size}
+use Rattle.table.proofs.Bounds.{words-fit, start-fits, end-fits, bytes-fit, start-within, end-within, name-fits, next-fits}
 use Rattle.table.proofs.Scan.{scan-start, scan-next}
 use Rattle.table.proofs.Fill.{fill-start, fill-next}
 use Rattle.table.proofs.Gather.{Gathered, part, part-name, all-words-right, some-word-wrong}
@@ -63,23 +64,23 @@ endpoints-ok-spec =
     (λ c. omega (arith, square-small (getD (now (c .before .before .args .table)) 0 0 / 256)))
     (λ c. omega (arith, square-small (getD (now (c .before .before .args .table)) 0 0 / 256)))
     holds
-    (λ c. omega (arith, c .loop-test .taken, c .before .loop .inv .2))
-    (λ c. omega (arith, c .loop-test .taken, c .before .loop .inv .2, square-small (getD (now (c .before .before .before .before .args .table)) 0 0 / 256)))
-    (λ c. omega (arith, c .loop-test .taken, c .before .loop .inv .2, square-small (getD (now (c .before .before .before .before .args .table)) 0 0 / 256)))
-    (λ c. omega (arith, c .loop-test .taken, c .before .loop .inv .2, square-small (getD (now (c .before .before .before .before .args .table)) 0 0 / 256)))
-    (λ c. omega arith)
-    (λ c. omega arith)
-    (λ c. omega (arith, c .loop-test .taken, c .before .loop .inv .1))
+    (λ c. words-fit (c .loop-test .taken) (c .before .loop .inv .2))
+    (λ c. start-fits _ (c .loop-test .taken) (c .before .loop .inv .2))
+    (λ c. end-fits _ (c .loop-test .taken) (c .before .loop .inv .2))
+    (λ c. bytes-fit _ (c .loop-test .taken) (c .before .loop .inv .2))
+    (λ c. le-add-right _ 12)
+    (λ c. le-add-right _ 12)
+    (λ c. end-within _ (c .loop-test .taken) (c .before .loop .inv .1))
     (λ c κs. tt)
-    (λ c. let l = c .before .before in omega (arith, l .loop-test .taken, l .before .loop .inv .2, square-small (getD (now (l .before .before .before .before .args .table)) 0 0 / 256)))
-    (λ c. let l = c .before .before .before in omega (arith, l .loop-test .taken, l .before .loop .inv .1))
-    (λ c. let l = c .before .before .before in omega (arith, l .loop-test .taken, l .before .loop .inv .2))
-    (λ c. let l = c .before .before .before in omega (arith, l .loop-test .taken, l .before .loop .inv .2))
-    (λ c. let l = c .before .before .before in omega (arith, l .loop-test .taken, l .before .loop .inv .2))
-    (λ c. let l = c .before .before .before in omega (arith, l .loop-test .taken))
+    (λ c. bytes-fit _ (c .before .before .loop-test .taken) (c .before .before .before .loop .inv .2))
+    (λ c. start-within _ (c .before .before .before .loop-test .taken) (c .before .before .before .before .loop .inv .1))
+    (λ c. name-fits (c .before .before .before .loop-test .taken) (c .before .before .before .before .loop .inv .2))
+    (λ c. lt-of-lt-of-le (c .before .before .before .loop-test .taken) (c .before .before .before .before .loop .inv .2))
+    (λ c. next-fits (c .before .before .before .loop-test .taken) (c .before .before .before .before .loop .inv .2))
+    (λ c. falls _ _ (c .before .before .before .loop-test .taken))
     again
-    (λ c. omega arith)
-    (λ c. omega arith)
+    (λ c. zero-le)
+    (λ c. zero-le)
     (λ c. omega (arith, c .before .before .before .loop .inv .2, c .before .before .before .loop .inv .0 .named .room))
     (λ c κs. tt)
     names-tested
