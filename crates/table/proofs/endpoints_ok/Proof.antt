@@ -1,16 +1,16 @@
 -- `endpoints_ok` is the machine's `endpointsOk`: the flag is the test of the endpoints passed, and their names are gathered.
 -- Assumes nothing.
-use Prim.Native.Nat.{_+_, _-_, _*_, _/_, _≤_, zero-le}
+use Prim.Native.Nat.{_+_, _-_, _*_, _≤_, zero-le}
 use mathlib.Core.Path.{_≡_, refl, ap, _∙_}
 use native.Mathlib.Nat.{le-add-right, lt-of-lt-of-le}
 use native.Mathlib.Omega.{arith}
 use borrow.Author.Count.{falls}
 use denote.Ref.{now}
-use lib.ListN.{getD, length}
+use lib.ListN.{length}
 use Rattle.machine.specs.Table.{domains, endpoints}
 use Rattle.machine.specs.Check.{endpointOk}
-use Rattle.table.proofs.Places.{square-small, headed-most, headed-size}
-use Rattle.table.proofs.Bounds.{words-fit, start-fits, end-fits, bytes-fit, start-within, end-within, name-fits, next-fits}
+use Rattle.table.proofs.Places.{headed-most, headed-size}
+use Rattle.table.proofs.Bounds.{count-fits, from-fits, words-fit, start-fits, end-fits, bytes-fit, start-within, end-within, name-fits, next-fits}
 use Rattle.table.proofs.Scan.{scan-start, scan-next}
 use Rattle.table.proofs.Fill.{fill-start, fill-next}
 use Rattle.table.proofs.Gather.{Gathered, part, part-name, all-words-right, some-word-wrong}
@@ -61,8 +61,8 @@ endpoints-ok-spec =
     (λ c. omega arith)
     (λ c. omega arith)
     (λ c. omega arith)
-    (λ c. omega (arith, square-small (getD (now (c .before .before .args .table)) 0 0 / 256)))
-    (λ c. omega (arith, square-small (getD (now (c .before .before .args .table)) 0 0 / 256)))
+    (λ c. count-fits _)
+    (λ c. from-fits _)
     holds
     (λ c. words-fit (c .loop-test .taken) (c .before .loop .inv .2))
     (λ c. start-fits _ (c .loop-test .taken) (c .before .loop .inv .2))
