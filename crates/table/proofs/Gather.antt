@@ -59,8 +59,15 @@ module _ (t : List ℕ) where
       (sym (getD-take 12 (drop (endpointAt (domains t) e) t) 0 0 (omega arith) ∙ getD-drop (endpointAt (domains t) e) t 0 0 ∙ ap (λ (i : ℕ). getD t i 0) (add-zero _)))
 
   -- at the loop's end the flag, with the test of names[0..m], is the machine's test
-  pub gathered : (m : ℕ) (names : List ℕ) (flag : Bool) (e : ℕ) → m ≡ endpoints t → m ≤ 32 → Gathered t m names flag e → m ≤ e → (flag && allDifferent (take (m - 0) (drop 0 names))) ≡ endpointsOk t
+  gathered : (m : ℕ) (names : List ℕ) (flag : Bool) (e : ℕ) → m ≡ endpoints t → m ≤ 32 → Gathered t m names flag e → m ≤ e → (flag && allDifferent (take (m - 0) (drop 0 names))) ≡ endpointsOk t
   unfolding endpointsOk
   gathered m names flag e all b g l =
       rw (scan-end _ m flag e (g .tested) l, sub-zero m, different t names m e (g .named) l b, all)
       (sym (all-both (endpoints t) (λ f. endpointOk (domains t) (endpoint t f)) (nameNew t)))
+
+  -- so the test of the names decides where the flag holds, and the flag where it doesn't
+  pub all-words-right : (m : ℕ) (names : List ℕ) (flag : Bool) (e : ℕ) → m ≡ endpoints t → m ≤ 32 → Gathered t m names flag e → m ≤ e → flag ≡ true → allDifferent (take (m - 0) (drop 0 names)) ≡ endpointsOk t
+  all-words-right m names flag e all b g l holds = rw holds at (gathered m names flag e all b g l)
+
+  pub some-word-wrong : (m : ℕ) (names : List ℕ) (flag : Bool) (e : ℕ) → m ≡ endpoints t → m ≤ 32 → Gathered t m names flag e → m ≤ e → flag ≡ false → false ≡ endpointsOk t
+  some-word-wrong m names flag e all b g l fails = rw fails at (gathered m names flag e all b g l)

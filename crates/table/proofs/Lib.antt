@@ -3,4 +3,5 @@ pub mod Scan
 pub mod Fill
 pub mod Short
 pub mod Places
+pub mod Bounds
 pub mod Gather

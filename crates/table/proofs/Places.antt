@@ -4,7 +4,7 @@ use mathlib.Core.Path.{_≡_, sym, _∙_}
 use mathlib.Core.Bool.{true, false, _&&_, not}
 use mathlib.Core.List.{List}
 use Prim.Native.Nat.{ℕ, _+_, _*_, _/_, _%_, _≤_}
-use native.Mathlib.Nat.{mul-le-mul}
+use native.Mathlib.Nat.{le-add-right, mul-le-mul}
 use native.Mathlib.Omega.{arith}
 use borrow.Author.Tests.{leb-true, eqb-true, ne-eqb}
 use lib.Dec.{eqb, leb}
@@ -43,6 +43,9 @@ module _ (t : List ℕ) where
   pub headed-size : Headed t → length t ≡ 1 + (getD t 0 0 / 256 % 256) * (getD t 0 0 / 256 % 256) + 12 * (getD t 0 0 % 256)
   unfolding lengthOk domains endpoints
   headed-size h = eqb-true _ _ (h .size)
+
+  pub headed-rights : Headed t → 1 + (getD t 0 0 / 256 % 256) * (getD t 0 0 / 256 % 256) ≤ length t
+  headed-rights h = rw (headed-size h) (le-add-right _ _)
 
   pub code-2 : headerOk t ≡ false → 2 ≡ tableCode t
   unfolding tableCode

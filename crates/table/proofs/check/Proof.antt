@@ -1,7 +1,6 @@
 -- `check` gives the machine's `tableCode`: each place is tested once, in the order of document 01. Assumes nothing.
-use mathlib.Core.Path.{_≡_}
+use mathlib.Core.Path.{_≡_, sym, _∙_}
 use mathlib.Core.Bool.{true}
-use borrow.Author.Needs.{needs}
 use borrow.Author.Tests.{not-true, not-false}
 use denote.Ref.{now}
 use Rattle.machine.specs.Check.{headerOk, rightsOk}
@@ -12,40 +11,40 @@ use Rattle.table.proofs.check.Tie as tie
 
 -- what is known of the table behind the places 2, 3 and 4
 header-holds : (c : tie.Else1) → headerOk (now (c .before .before .before .args .table)) ≡ true
-header-holds c = not-false _ (cc)
+header-holds c = sym (c .before .header-ok .ensures) ∙ not-false _ (c .if1 .left)
 
 headed : (c : tie.Else2) → Headed (now (c .before .before .before .before .before .args .table))
-headed c = record { header = header-holds (c .before .before); size = not-false _ (cc) }
+headed c = record { header = header-holds (c .before .before); size = sym (c .before .length-ok .ensures) ∙ not-false _ (c .if2 .left) }
 
 rights-hold : (c : tie.Else3) → rightsOk (now (c .before .before .before .before .before .before .before .args .table)) ≡ true
-rights-hold c = not-false _ (cc)
+rights-hold c = sym (c .before .rights-ok .ensures) ∙ not-false _ (c .if3 .left)
 
 bad-header : tie.Need-returns
-bad-header c = code-2 _ (not-true _ (cc))
+bad-header c = code-2 _ (sym (c .before .header-ok .ensures) ∙ not-true _ (c .if1 .taken))
 
 bad-length : tie.Need-returns-2
-bad-length c = code-3 _ (header-holds (c .before .before)) (not-true _ (cc))
+bad-length c = code-3 _ (header-holds (c .before .before)) (sym (c .before .length-ok .ensures) ∙ not-true _ (c .if2 .taken))
 
 bad-rights : tie.Need-returns-3
-bad-rights c = code-4 _ (headed (c .before .before)) (not-true _ (cc))
+bad-rights c = code-4 _ (headed (c .before .before)) (sym (c .before .rights-ok .ensures) ∙ not-true _ (c .if3 .taken))
 
 bad-endpoint : tie.Need-returns-4
 bad-endpoint c =
     let r = c .before .before in
-    code-5 _ (headed (r .before .before)) (rights-hold r) (not-true _ (cc))
+    code-5 _ (headed (r .before .before)) (rights-hold r) (sym (c .before .endpoints-ok .ensures) ∙ not-true _ (c .if4 .taken))
 
 sound : tie.Need-returns-5
 sound c =
     let r = c .before .before in
-    code-0 _ (headed (r .before .before)) (rights-hold r) (not-false _ (cc))
+    code-0 _ (headed (r .before .before)) (rights-hold r) (sym (c .before .endpoints-ok .ensures) ∙ not-false _ (c .if4 .left))
 
 pub check-spec : {M : Type 1} → statement M
 check-spec =
     tie.close
     (tie.spec
-    (λ c κs. search needs)
+    (λ c κs. tt)
     bad-header
-    (λ c κs. search needs)
+    (λ c κs. tt)
     bad-length
     (λ c κs. headed c)
     bad-rights

@@ -1,17 +1,19 @@
 -- `endpoints_ok` is the machine's `endpointsOk`: the flag is the test of the endpoints passed, and their names are gathered.
 -- Assumes nothing.
-use Prim.Native.Nat.{_+_, _-_, _*_, _/_, _≤_}
+use Prim.Native.Nat.{_+_, _-_, _*_, _≤_, zero-le}
 use mathlib.Core.Path.{_≡_, refl, ap, _∙_}
+use native.Mathlib.Nat.{le-add-right, lt-of-lt-of-le}
 use native.Mathlib.Omega.{arith}
-use borrow.Author.Needs.{needs}
+use borrow.Author.Count.{falls}
 use denote.Ref.{now}
-use lib.ListN.{getD, length}
+use lib.ListN.{length}
 use Rattle.machine.specs.Table.{domains, endpoints}
 use Rattle.machine.specs.Check.{endpointOk}
-use Rattle.table.proofs.Places.{square-small, headed-most, headed-size}
+use Rattle.table.proofs.Places.{headed-most, headed-size}
+use Rattle.table.proofs.Bounds.{count-fits, from-fits, words-fit, start-fits, end-fits, bytes-fit, start-within, end-within, name-fits, next-fits}
 use Rattle.table.proofs.Scan.{scan-start, scan-next}
 use Rattle.table.proofs.Fill.{fill-start, fill-next}
-use Rattle.table.proofs.Gather.{Gathered, part, part-name, gathered}
+use Rattle.table.proofs.Gather.{Gathered, part, part-name, all-words-right, some-word-wrong}
 use Rattle.table.proofs.endpoints_ok.Statement.{statement}
 use Rattle.table.proofs.endpoints_ok.Tie as tie
 
@@ -30,23 +32,24 @@ holds c =
 again : tie.Need-loop-again Inv-loop μ-loop
 unfolding domains
 again c =
-    let l = c .before .before .before .before .loop in
-    let t = now (c .before .before .before .before .before .before .before .args .table) in
+    let i = c .before .before .before in
+    let l = i .before .loop in
+    let t = now (i .before .before .before .before .args .table) in
     let g = l .inv .0 in
-    (record { tested = scan-next _ _ _ _ _ (g .tested) (omega arith) (c .before .endpoint-ok .ensures ∙ ap (endpointOk (domains t)) (part t _)); named = fill-next _ _ _ _ _ (g .named) (omega arith) (part-name t _) }, l .inv .1, l .inv .2)
+    (record { tested = scan-next _ _ _ _ _ (g .tested) (i .loop-test .taken) (c .before .endpoint-ok .ensures ∙ ap (endpointOk (domains t)) (part t _)); named = fill-next _ _ _ _ _ (g .named) (lt-of-lt-of-le (i .loop-test .taken) (l .inv .2)) (part-name t _) }, l .inv .1, l .inv .2)
 
 names-tested : tie.Need-returns Inv-loop μ-loop
 unfolding endpoints
 names-tested c =
     let b = c .before .before .before in
     let l = b .before .before .loop in
-    c .all-different .ensures ∙ rw (b .if1 .taken) at (gathered _ _ _ _ _ refl (l .inv .2) (l .inv .0) (b .before .loop-test .left))
+    c .all-different .ensures ∙ all-words-right _ _ _ _ _ refl (l .inv .2) (l .inv .0) (b .before .loop-test .left) (b .if1 .taken)
 
 words-fail : tie.Need-returns-2 Inv-loop μ-loop
 unfolding endpoints
 words-fail c =
     let l = c .before .before .loop in
-    rw (c .if1 .left) at (gathered _ _ _ _ _ refl (l .inv .2) (l .inv .0) (c .before .loop-test .left))
+    some-word-wrong _ _ _ _ _ refl (l .inv .2) (l .inv .0) (c .before .loop-test .left) (c .if1 .left)
 
 pub endpoints-ok-spec : {M : Type 1} → statement M
 endpoints-ok-spec =
@@ -55,30 +58,30 @@ endpoints-ok-spec =
     Inv-loop
     μ-loop
     (λ c. omega (arith, headed-size _ (c .before .before .pre)))
-    (λ c. search needs)
-    (λ c. search needs)
-    (λ c. search needs)
-    (λ c. omega (arith, square-small (getD (now (c .before .before .args .table)) 0 0 / 256)))
-    (λ c. omega (arith, square-small (getD (now (c .before .before .args .table)) 0 0 / 256)))
+    (λ c. omega arith)
+    (λ c. omega arith)
+    (λ c. omega arith)
+    (λ c. count-fits _)
+    (λ c. from-fits _)
     holds
-    (λ c. omega arith)
-    (λ c. omega arith)
-    (λ c. omega arith)
-    (λ c. omega arith)
-    (λ c. omega arith)
-    (λ c. omega arith)
-    (λ c. omega arith)
-    (λ c κs. search needs)
-    (λ c. omega arith)
-    (λ c. omega arith)
-    (λ c. omega arith)
-    (λ c. omega arith)
-    (λ c. omega arith)
-    (λ c. omega arith)
+    (λ c. words-fit (c .loop-test .taken) (c .before .loop .inv .2))
+    (λ c. start-fits _ (c .loop-test .taken) (c .before .loop .inv .2))
+    (λ c. end-fits _ (c .loop-test .taken) (c .before .loop .inv .2))
+    (λ c. bytes-fit _ (c .loop-test .taken) (c .before .loop .inv .2))
+    (λ c. le-add-right _ 12)
+    (λ c. le-add-right _ 12)
+    (λ c. end-within _ (c .loop-test .taken) (c .before .loop .inv .1))
+    (λ c κs. tt)
+    (λ c. bytes-fit _ (c .before .before .loop-test .taken) (c .before .before .before .loop .inv .2))
+    (λ c. start-within _ (c .before .before .before .loop-test .taken) (c .before .before .before .before .loop .inv .1))
+    (λ c. name-fits (c .before .before .before .loop-test .taken) (c .before .before .before .before .loop .inv .2))
+    (λ c. lt-of-lt-of-le (c .before .before .before .loop-test .taken) (c .before .before .before .before .loop .inv .2))
+    (λ c. next-fits (c .before .before .before .loop-test .taken) (c .before .before .before .before .loop .inv .2))
+    (λ c. falls _ _ (c .before .before .before .loop-test .taken))
     again
-    (λ c. omega arith)
-    (λ c. omega arith)
-    (λ c. omega arith)
-    (λ c κs. search needs)
+    (λ c. zero-le)
+    (λ c. zero-le)
+    (λ c. omega (arith, c .before .before .before .loop .inv .2, c .before .before .before .loop .inv .0 .named .room))
+    (λ c κs. tt)
     names-tested
     words-fail)

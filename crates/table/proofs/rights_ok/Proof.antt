@@ -1,12 +1,12 @@
 -- `rights_ok` is the machine's `rightsOk`: the flag is the test of the rights words passed. Assumes nothing.
-use Prim.Native.Nat.{ℕ, _+_, _-_, _/_, _≤_}
+use Prim.Native.Nat.{_+_, _-_, _≤_}
 use native.Mathlib.Omega.{arith}
-use borrow.Author.Needs.{needs}
-use denote.Ref.{now}
+use borrow.Author.Count.{falls}
 use lib.ListN.{getD, length}
 use Rattle.machine.specs.Table.{domains}
 use Rattle.machine.specs.Check.{rightsWordOk, rightsOk}
-use Rattle.table.proofs.Places.{square-small, headed-size}
+use Rattle.table.proofs.Places.{headed-size, headed-rights}
+use Rattle.table.proofs.Bounds.{count-fits, rights-fits, rights-bytes-fit, rights-next-fits, rights-within}
 use Rattle.table.proofs.Scan.{Scanned, scan-start, scan-next, scan-end}
 use Rattle.table.proofs.rights_ok.Statement.{statement}
 use Rattle.table.proofs.rights_ok.Tie as tie
@@ -19,7 +19,7 @@ abbrev μ-loop : tie.MeasureT-loop
 μ-loop table header n count all₀ i₀ all i = count - i
 
 holds : tie.Need-loop-holds Inv-loop μ-loop
-holds c = (scan-start _ _, omega (arith, headed-size _ (c .before .before .pre)))
+holds c = (scan-start _ _, headed-rights _ (c .before .before .pre))
 
 again : tie.Need-loop-again Inv-loop μ-loop
 again c =
@@ -38,14 +38,14 @@ rights-ok-spec =
     Inv-loop
     μ-loop
     (λ c. omega (arith, headed-size _ (c .before .before .pre)))
-    (λ c. search needs)
-    (λ c. omega (arith, square-small (getD (now (c .before .before .args .table)) 0 0 / 256)))
+    (λ c. omega arith)
+    (λ c. count-fits _)
     holds
-    (λ c. omega arith)
-    (λ c. omega arith)
-    (λ c. omega arith)
-    (λ c κs. search needs)
-    (λ c. omega arith)
-    (λ c. omega arith)
+    (λ c. rights-fits _ (c .loop-test .taken))
+    (λ c. rights-bytes-fit _ (c .loop-test .taken))
+    (λ c. rights-within (c .before .loop-test .taken) (c .before .before .loop .inv .1))
+    (λ c κs. tt)
+    (λ c. rights-next-fits _ (c .before .before .loop-test .taken))
+    (λ c. falls _ _ (c .before .before .loop-test .taken))
     again
     returns)

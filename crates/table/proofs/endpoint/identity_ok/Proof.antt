@@ -1,6 +1,7 @@
 -- `identity_ok` is the machine's `identityOk`. Assumes nothing.
-use mathlib.Core.Path.{sym}
-use borrow.Author.Needs.{needs}
+use mathlib.Core.Path.{sym, ap₂}
+use mathlib.Core.Bool.{_&&_}
+use native.Mathlib.Omega.{arith}
 use Rattle.machine.specs.Check.{identityOk}
 use Rattle.table.proofs.Short.{short-identity}
 use Rattle.table.proofs.endpoint.identity_ok.Statement.{statement}
@@ -11,9 +12,15 @@ too-short c = sym (short-identity _ _ (c .if1 .taken))
 
 both : tie.Need-returns-2
 unfolding identityOk
-both c = cc
+both c = ap₂ _&&_ (c .before .before .name-word-ok .ensures) (c .info-word-ok .ensures)
 
 pub identity-ok-spec : {M : Type 1} → statement M
 identity-ok-spec =
     tie.close
-    (tie.spec too-short (λ c. search needs) (λ c κs. search needs) (λ c. search needs) (λ c κs. search needs) both)
+    (tie.spec
+    too-short
+    (λ c. omega (arith, c .before .if1 .left))
+    (λ c κs. tt)
+    (λ c. omega (arith, c .before .before .before .if1 .left))
+    (λ c κs. tt)
+    both)
