@@ -1,6 +1,6 @@
 // The whole program on bytes: from what was read to what is printed.
 use crate::lines::all_lines;
-use kernel::Ran;
+use entry::Ran;
 use kernel::run;
 use linerun_text::input::read_list;
 use linerun_text::input::unreadable;
@@ -9,7 +9,7 @@ use text::table_input::read_table;
 ghost use mathlib.Core.Path.{_≡_};
 ghost use mathlib.Core.Bool.{false};
 ghost use Prim.Native.Nat.{_≤_};
-ghost use Rattle.kernel.specs.Run.{ranCode, ranCalls};
+ghost use Rattle.entry.specs.Entry.{ranCode, ranCalls};
 ghost use Rattle.text.specs.TableInput.{noTable};
 ghost use Rattle.text.specs.Write.{Writes};
 ghost use Rattle.linerun.specs.Lines.{mostBytes};
