@@ -1,7 +1,6 @@
--- The tests of a send and of a receive, taken apart and put together. A caller that knows its words gets the machine's
--- `sent` and `received`. Assumes nothing.
+-- The tests of a send and of a receive, put together and taken apart. Assumes nothing.
 use Prim.Native.Nat.{ℕ, _≤_, _<_}
-use mathlib.Core.Path.{_≡_, refl}
+use mathlib.Core.Path.{_≡_}
 use mathlib.Core.Bool.{true, false, _&&_}
 use mathlib.Core.List.{List}
 use borrow.Author.Tests.{eq-eqb, le-leb, eqb-true, leb-true, lt-ltb, le-ltb}
@@ -9,9 +8,23 @@ use lib.Dec.{eqb, leb}
 use lib.ListN.{length}
 use Rattle.machine.specs.Queue.{capacity, waiting, mostLost, hasSpace, sendWithSpace, sendToFull, sent, received}
 use Rattle.machine.proofs.Bools.{and-left, and-right}
-use Rattle.queue.specs.Queue.{sendable, sentTo, receivable, receivedFrom, MaySend, MayReceive}
+use Rattle.queue.specs.Queue.{sendable, sentTo, receivable, receivedFrom, MayReceive}
 
--- what the test of a send says
+-- ---- for callers: with words that they know to pass the test, a send and a receive are the machine's
+pub sends-there : (q : List ℕ) (m : ℕ) → length q ≡ 12 → capacity q ≤ 8 → m ≤ mostLost → sentTo q m ≡ sent q m
+unfolding sentTo sendable
+sends-there q m twelve slots small = rw (eq-eqb _ _ twelve, le-leb _ _ slots, le-leb _ _ small)
+
+pub receives-there : (q : List ℕ) → length q ≡ 12 → 1 ≤ waiting q → waiting q ≤ 8 → receivedFrom q ≡ received q
+unfolding receivedFrom receivable
+receives-there q twelve some slots = rw (eq-eqb _ _ twelve, le-leb _ _ some, le-leb _ _ slots)
+
+-- ---- what the test of a send says, and what a send is on either side of it
+pub record MaySend (q : List ℕ) (message : ℕ) : Type 0 where
+  pub twelve : length q ≡ 12
+  pub slots : capacity q ≤ 8
+  pub small : message ≤ mostLost
+
 pub may-send : (q : List ℕ) (m : ℕ) → sendable q m ≡ true → MaySend q m
 unfolding sendable
 may-send q m h =
@@ -24,30 +37,6 @@ may-send q m h =
       small = leb-true _ _ (and-right (twelve && slots) (leb m mostLost) h);
     }
 
--- what the test of a receive says
-pub may-receive : (q : List ℕ) → receivable q ≡ true → MayReceive q
-unfolding receivable
-may-receive q h =
-    let twelve = eqb (length q) 12 in
-    let some = leb 1 (waiting q) in
-    let both = and-left (twelve && some) (leb (waiting q) 8) h in
-    record {
-      twelve = eqb-true _ _ (and-left twelve some both);
-      some = leb-true _ _ (and-right twelve some both);
-      slots = leb-true _ _ (and-right (twelve && some) (leb (waiting q) 8) h);
-    }
-
--- a send to words that pass the test
-pub sends-there : (q : List ℕ) (m : ℕ) → length q ≡ 12 → capacity q ≤ 8 → m ≤ mostLost → sentTo q m ≡ sent q m
-unfolding sentTo sendable
-sends-there q m twelve slots small = rw (eq-eqb _ _ twelve, le-leb _ _ slots, le-leb _ _ small)
-
--- a receive from words that pass the test
-pub receives-there : (q : List ℕ) → length q ≡ 12 → 1 ≤ waiting q → waiting q ≤ 8 → receivedFrom q ≡ received q
-unfolding receivedFrom receivable
-receives-there q twelve some slots = rw (eq-eqb _ _ twelve, le-leb _ _ some, le-leb _ _ slots)
-
--- words that the test of a send refuses
 pub not-sent : (q : List ℕ) (m : ℕ) → sendable q m ≡ false → q ≡ sentTo q m
 unfolding sentTo
 not-sent q m h = rw h
@@ -61,12 +50,23 @@ module _ (q : List ℕ) (m : ℕ) (passed : sendable q m ≡ true) where
   unfolding sentTo sent hasSpace
   sent-to-full full = rw (passed, le-ltb _ _ full)
 
--- words that the test of a receive refuses
+-- ---- what the test of a receive says, and what a receive is on either side of it
+pub may-receive : (q : List ℕ) → receivable q ≡ true → MayReceive q
+unfolding receivable
+may-receive q h =
+    let twelve = eqb (length q) 12 in
+    let some = leb 1 (waiting q) in
+    let both = and-left (twelve && some) (leb (waiting q) 8) h in
+    record {
+      twelve = eqb-true _ _ (and-left twelve some both);
+      some = leb-true _ _ (and-right twelve some both);
+      slots = leb-true _ _ (and-right (twelve && some) (leb (waiting q) 8) h);
+    }
+
 pub not-received : (q : List ℕ) → receivable q ≡ false → q ≡ receivedFrom q
 unfolding receivedFrom
 not-received q h = rw h
 
--- words that it lets through
 pub received-there : (q : List ℕ) → receivable q ≡ true → received q ≡ receivedFrom q
 unfolding receivedFrom
 received-there q h = rw h

@@ -5,7 +5,7 @@ use Prim.Native.Nat.{ℕ, suc, _+_, _-_, _<_, _≤_}
 use native.Mathlib.Numerals.{add-one}
 use native.Mathlib.Omega.{arith}
 use lib.ListN.{length, getD, take, drop, set, length-drop}
-use lib.Seq.{getD-drop, drop-cons, set-at, paste, paste-suc, drop-paste, length-paste, length-paste-head}
+use lib.Seq.{getD-drop, drop-cons, set-at, paste, paste-suc, drop-paste, length-paste-head}
 use Rattle.machine.specs.Word.{word}
 use Rattle.machine.specs.Queue.{waiting, emptySlot, movedUp, received}
 
@@ -33,11 +33,6 @@ module _ (q : List ℕ) (j : ℕ) (within : 5 + j < length q) where
       ap (λ (w : ℕ). set (moved q j) (4 + j) w) moved-read
       ∙ paste-suc q 4 (drop 5 q) j 0 (omega arith) behind
       ∙ ap (moved q) (sym (add-one j))
-
-pub moved-length : (q : List ℕ) (j : ℕ) → 5 + j ≤ length q → length (moved q j) ≡ length q
-moved-length q j within =
-    let behind : j ≤ length (drop 5 q) = rw length-drop (omega arith) in
-    length-paste q 4 (drop 5 q) j (omega arith) behind
 
 -- what is left once they have moved up: the slot that comes free and the waiting count
 pub moved-end : (q : List ℕ) → 1 ≤ waiting q → 4 + waiting q ≤ length q

@@ -23,19 +23,13 @@ receivable q = eqb (length q) 12 && leb 1 (waiting q) && leb (waiting q) 8
 unfoldable pub receivedFrom : List ℕ → List ℕ
 receivedFrom q = cond (receivable q) (received q) q
 
--- what the function that fills a slot asks: a slot is left for the message
+-- what `send_with_space` asks: a slot is left for the message
 pub record HasRoom (q : List ℕ) (message : ℕ) : Type 0 where
   pub twelve : length q ≡ 12
   pub room : waiting q < 8
   pub small : message ≤ mostLost
 
--- what the functions behind the test of a send ask
-pub record MaySend (q : List ℕ) (message : ℕ) : Type 0 where
-  pub twelve : length q ≡ 12
-  pub slots : capacity q ≤ 8
-  pub small : message ≤ mostLost
-
--- what the function behind the test of a receive asks: one waits, and all that wait stand in slots
+-- what `take_oldest` asks: one waits, and all that wait stand in slots
 pub record MayReceive (q : List ℕ) : Type 0 where
   pub twelve : length q ≡ 12
   pub some : 1 ≤ waiting q

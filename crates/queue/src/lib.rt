@@ -1,5 +1,6 @@
 // An endpoint's twelve words, lent as a part of the table: what a send and a receive make of them. Nothing here sees the
-// rest of the table. Each first tests the words that it is lent, and leaves other words as they are.
+// rest of the table. Each tests the words first: other words stay as they are, and the answer is false.
+// A word of kind k that holds p is k × KIND + p.
 use words::KIND;
 ghost use mathlib.Core.Path.{_≡_};
 ghost use Prim.Native.Nat.{ℕ};
@@ -44,7 +45,7 @@ fn send_to_full(q: &mut [u32])
     }
 }
 
-// A send: the waiting count and the capacity say whether there is space. The answer is the same with space and without.
+// A send: the waiting count and the capacity say whether there is space. The answer doesn't.
 pub fn send(q: &mut [u32], message: u32) -> bool
     ensures { λ done. ⌜ done ≡ sendable (now (q .entry)) message ⌝ }
     ensures { λ _. ⌜ now (q .exit) ≡ sentTo (now (q .entry)) message ⌝ }
@@ -54,11 +55,11 @@ pub fn send(q: &mut [u32], message: u32) -> bool
     }
     let count = q[2] % KIND;
     let most = q[1] % 256;
-    if count < most {
-        send_with_space(q, message);
-    } else {
+    if most <= count {
         send_to_full(q);
+        return true;
     }
+    send_with_space(q, message);
     true
 }
 

@@ -6,16 +6,14 @@ use Rattle.queue.specs.Queue.{receivable}
 use Rattle.queue.proofs.receivable.Statement.{statement}
 use Rattle.queue.proofs.receivable.Tie as tie
 
+-- words that aren't twelve
 returns : tie.Need-returns
-unfolding receivable waiting
+unfolding receivable
 returns c = rw (ne-eqb _ _ (c .if1 .taken))
-
-shared-slice-read-count : tie.Need-shared-slice-read-count
-shared-slice-read-count c = search needs
 
 returns-2 : tie.Need-returns-2
 unfolding receivable waiting
 returns-2 c = rw (eq-eqb _ _ (c .before .if1 .left))
 
 pub receivable-spec : {M : Type 1} → statement M
-receivable-spec = tie.close (tie.spec returns shared-slice-read-count returns-2)
+receivable-spec = tie.close (tie.spec returns (λ c. search needs) returns-2)

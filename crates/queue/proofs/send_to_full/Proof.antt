@@ -1,5 +1,4 @@
--- `send_to_full` meets its contract: lost is the lesser of what it would rise to and its largest.
--- Assumes nothing.
+-- `send_to_full` meets its contract: lost is the lesser of what it would rise to and its largest. Assumes nothing.
 use borrow.Author.Needs.{needs}
 use mathlib.Core.Path.{_≡_, ap}
 use Prim.Native.Nat.{ℕ, _+_, min}
@@ -10,27 +9,7 @@ use Rattle.machine.specs.Queue.{lost, mostLost, sendToFull}
 use Rattle.queue.proofs.send_to_full.Statement.{statement}
 use Rattle.queue.proofs.send_to_full.Tie as tie
 
-slice-read-count : tie.Need-slice-read-count
-slice-read-count c = search needs
-
-add-q : tie.Need-add-q
-add-q c = search needs
-
-add-q-2 : tie.Need-add-q-2
-add-q-2 c = search needs
-
-slice-write-q : tie.Need-slice-write-q
-slice-write-q c = search needs
-
-add-q-3 : tie.Need-add-q-3
-add-q-3 c = search needs
-
-slice-write-q-2 : tie.Need-slice-write-q-2
-slice-write-q-2 c = search needs
-
-same-length : tie.Need-same-length
-same-length c = search needs
-
+-- below its largest
 returns : tie.Need-returns
 unfolding sendToFull lost
 returns c message =
@@ -38,9 +17,7 @@ returns c message =
     let risen : lost q + 1 ≡ min (lost q + 1) mostLost = omega arith in
     ap (λ (n : ℕ). set q 3 (word 6 n)) risen
 
-same-length-2 : tie.Need-same-length-2
-same-length-2 c = search needs
-
+-- at its largest
 returns-2 : tie.Need-returns-2
 unfolding sendToFull lost
 returns-2 c message =
@@ -52,13 +29,13 @@ pub send-to-full-spec : {M : Type 1} → statement M
 send-to-full-spec =
     tie.close
     (tie.spec
-    slice-read-count
-    add-q
-    add-q-2
-    slice-write-q
-    add-q-3
-    slice-write-q-2
-    same-length
+    (λ c. search needs)
+    (λ c. search needs)
+    (λ c. search needs)
+    (λ c. search needs)
+    (λ c. search needs)
+    (λ c. search needs)
+    (λ c. search needs)
     returns
-    same-length-2
+    (λ c. search needs)
     returns-2)

@@ -6,16 +6,14 @@ use Rattle.queue.specs.Queue.{sendable}
 use Rattle.queue.proofs.sendable.Statement.{statement}
 use Rattle.queue.proofs.sendable.Tie as tie
 
+-- words that aren't twelve
 returns : tie.Need-returns
-unfolding sendable capacity
+unfolding sendable
 returns c = rw (ne-eqb _ _ (c .if1 .taken))
-
-shared-slice-read-result : tie.Need-shared-slice-read-result
-shared-slice-read-result c = search needs
 
 returns-2 : tie.Need-returns-2
 unfolding sendable capacity
 returns-2 c = rw (eq-eqb _ _ (c .before .if1 .left))
 
 pub sendable-spec : {M : Type 1} → statement M
-sendable-spec = tie.close (tie.spec returns shared-slice-read-result returns-2)
+sendable-spec = tie.close (tie.spec returns (λ c. search needs) returns-2)
