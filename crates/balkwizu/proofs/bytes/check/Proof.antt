@@ -1,7 +1,6 @@
 -- `bytes::check` gives `bytesCode`: each place is tested once, in the order of document 01. Assumes nothing.
-use mathlib.Core.Path.{_≡_, _∙_}
+use mathlib.Core.Path.{_≡_, sym, _∙_}
 use mathlib.Core.Bool.{true}
-use borrow.Author.Needs.{needs}
 use borrow.Author.Tests.{eqb-true, not-true, not-false}
 use denote.Ref.{now}
 use Rattle.machine.specs.Check.{headerOk, rightsOk}
@@ -14,45 +13,45 @@ use Rattle.balkwizu.proofs.bytes.check.Tie as tie
 
 -- what is known of the bytes behind the places 2, 3 and 4
 header-holds : (c : tie.Else1) → headerOk (wordsOf (now (c .before .before .before .args .bytes))) ≡ true
-header-holds c = not-false _ (cc)
+header-holds c = sym (c .before .header-ok .ensures) ∙ not-false _ (c .if1 .left)
 
 fitting : (c : tie.Else2) → Fitting (now (c .before .before .before .before .before .args .bytes))
 fitting c =
-    record { header = header-holds (c .before .before); size = eqb-true _ _ (not-false _ (cc)) }
+    record { header = header-holds (c .before .before); size = eqb-true _ _ (sym (c .before .length-ok .ensures) ∙ not-false _ (c .if2 .left)) }
 
 rights-hold : (c : tie.Else3) → rightsOk (wordsOf (now (c .before .before .before .before .before .before .before .args .bytes))) ≡ true
-rights-hold c = not-false _ (cc)
+rights-hold c = sym (c .before .rights-ok .ensures) ∙ not-false _ (c .if3 .left)
 
 bad-header : tie.Need-returns
-bad-header c = bytes-2 _ (not-true _ (cc))
+bad-header c = bytes-2 _ (sym (c .before .header-ok .ensures) ∙ not-true _ (c .if1 .taken))
 
 bad-length : tie.Need-returns-2
-bad-length c = bytes-3 _ (header-holds (c .before .before)) (not-true _ (cc))
+bad-length c = bytes-3 _ (header-holds (c .before .before)) (sym (c .before .length-ok .ensures) ∙ not-true _ (c .if2 .taken))
 
 bad-rights : tie.Need-returns-3
 bad-rights c =
     let f = fitting (c .before .before) in
-    code-4 _ (fitting-headed _ f) (not-true _ (cc)) ∙ bytes-words _ f
+    code-4 _ (fitting-headed _ f) (sym (c .before .rights-ok .ensures) ∙ not-true _ (c .if3 .taken)) ∙ bytes-words _ f
 
 bad-endpoint : tie.Need-returns-4
 bad-endpoint c =
     let r = c .before .before in
     let f = fitting (r .before .before) in
-    code-5 _ (fitting-headed _ f) (rights-hold r) (not-true _ (cc))
+    code-5 _ (fitting-headed _ f) (rights-hold r) (sym (c .before .endpoints-ok .ensures) ∙ not-true _ (c .if4 .taken))
     ∙ bytes-words _ f
 
 sound : tie.Need-returns-5
 sound c =
     let r = c .before .before in
     let f = fitting (r .before .before) in
-    code-0 _ (fitting-headed _ f) (rights-hold r) (not-false _ (cc))
+    code-0 _ (fitting-headed _ f) (rights-hold r) (sym (c .before .endpoints-ok .ensures) ∙ not-false _ (c .if4 .left))
     ∙ bytes-words _ f
 
 pub check-spec : {M : Type 1} → statement M
 check-spec =
     tie.close
     (tie.spec
-    (λ c κs. search needs)
+    (λ c κs. tt)
     bad-header
     (λ c κs. header-holds c)
     bad-length

@@ -1,16 +1,17 @@
 -- `endpoints_ok` is the machine's `endpointsOk` of the words: the flag is the test of the endpoints passed, and their names are
 -- gathered. Assumes nothing.
-use Prim.Native.Nat.{ℕ, _-_, _/_, _%_}
+use Prim.Native.Nat.{ℕ, _-_, _%_, zero-le}
 use mathlib.Core.Path.{refl, ap, ap₂, _∙_}
+use native.Mathlib.Nat.{lt-of-lt-of-le}
 use native.Mathlib.Omega.{arith}
-use borrow.Author.Needs.{needs}
+use borrow.Author.Count.{falls}
 use Rattle.machine.specs.Check.{endpointOk}
-use Rattle.table.proofs.Places.{square-small}
+use Rattle.table.proofs.Bounds.{count-fits, from-fits, words-fit, start-fits, name-fits, next-fits}
 use Rattle.table.proofs.Scan.{scan-start, scan-next}
 use Rattle.table.proofs.Fill.{fill-start, fill-next}
-use Rattle.table.proofs.Gather.{Gathered, gathered}
+use Rattle.table.proofs.Gather.{Gathered, all-words-right, some-word-wrong}
 use Rattle.text.specs.Bytes.{wordsOf}
-use Rattle.balkwizu.proofs.Places.{Counted, counted-endpoint, counted-name, header-four, fitting-counted}
+use Rattle.balkwizu.proofs.Places.{Counted, counted-endpoint, counted-name, counted-within, counted-first, header-four, fitting-counted}
 use Rattle.balkwizu.proofs.bytes.endpoints_ok.Statement.{statement}
 use Rattle.balkwizu.proofs.bytes.endpoints_ok.Tie as tie
 
@@ -26,22 +27,23 @@ holds c =
 
 again : tie.Need-loop-again Inv-loop μ-loop
 again c =
-    let l = c .before .before .before .loop in
+    let i = c .before .before in
+    let l = i .before .loop in
     let g = l .inv .0 in
     let k = l .inv .1 in
-    (record { tested = scan-next _ _ _ _ _ (g .tested) (omega arith) (c .before .endpoint-ok .ensures ∙ ap₂ endpointOk (k .domains) (counted-endpoint _ _ _ _ k _)); named = fill-next _ _ _ _ _ (g .named) (omega arith) (ap (λ (w : ℕ). w % 268435456) (c .word-at2 .ensures) ∙ counted-name _ _ _ _ k _) }, k)
+    (record { tested = scan-next _ _ _ _ _ (g .tested) (i .loop-test .taken) (c .before .endpoint-ok .ensures ∙ ap₂ endpointOk (k .domains) (counted-endpoint _ _ _ _ k _)); named = fill-next _ _ _ _ _ (g .named) (lt-of-lt-of-le (i .loop-test .taken) (k .most)) (ap (λ (w : ℕ). w % 268435456) (c .word-at2 .ensures) ∙ counted-name _ _ _ _ k _) }, k)
 
 names-tested : tie.Need-returns Inv-loop μ-loop
 names-tested c =
     let b = c .before .before .before in
     let l = b .before .before .loop in
     c .all-different .ensures
-    ∙ rw (b .if1 .taken) at (gathered _ _ _ _ _ (l .inv .1 .endpoints) (l .inv .1 .most) (l .inv .0) (b .before .loop-test .left))
+    ∙ all-words-right _ _ _ _ _ (l .inv .1 .endpoints) (l .inv .1 .most) (l .inv .0) (b .before .loop-test .left) (b .if1 .taken)
 
 words-fail : tie.Need-returns-2 Inv-loop μ-loop
 words-fail c =
     let l = c .before .before .loop in
-    rw (c .if1 .left) at (gathered _ _ _ _ _ (l .inv .1 .endpoints) (l .inv .1 .most) (l .inv .0) (c .before .loop-test .left))
+    some-word-wrong _ _ _ _ _ (l .inv .1 .endpoints) (l .inv .1 .most) (l .inv .0) (c .before .loop-test .left) (c .if1 .left)
 
 pub endpoints-ok-spec : {M : Type 1} → statement M
 endpoints-ok-spec =
@@ -49,25 +51,25 @@ endpoints-ok-spec =
     (tie.spec
     Inv-loop
     μ-loop
-    (λ c κs. omega (arith, header-four _ (c .before .pre .header)))
-    (λ c. search needs)
-    (λ c. search needs)
-    (λ c. search needs)
-    (λ c. omega (arith, square-small (c .word-at .result / 256)))
-    (λ c. omega (arith, square-small (c .word-at .result / 256)))
+    (λ c κs. header-four _ (c .before .pre .header))
+    (λ c. omega arith)
+    (λ c. omega arith)
+    (λ c. omega arith)
+    (λ c. count-fits _)
+    (λ c. from-fits _)
     holds
-    (λ c. omega arith)
-    (λ c. omega arith)
-    (λ c κs. omega arith)
-    (λ c κs. omega arith)
-    (λ c. omega arith)
-    (λ c. omega arith)
-    (λ c. omega arith)
-    (λ c. omega arith)
+    (λ c. words-fit (c .loop-test .taken) (c .before .loop .inv .1 .most))
+    (λ c. start-fits _ (c .loop-test .taken) (c .before .loop .inv .1 .most))
+    (λ c κs. counted-within (c .before .loop .inv .1) (c .loop-test .taken))
+    (λ c κs. counted-first (c .before .before .loop .inv .1) (c .before .loop-test .taken))
+    (λ c. name-fits (c .before .before .loop-test .taken) (c .before .before .before .loop .inv .1 .most))
+    (λ c. lt-of-lt-of-le (c .before .before .loop-test .taken) (c .before .before .before .loop .inv .1 .most))
+    (λ c. next-fits (c .before .before .loop-test .taken) (c .before .before .before .loop .inv .1 .most))
+    (λ c. falls _ _ (c .before .before .loop-test .taken))
     again
-    (λ c. omega arith)
-    (λ c. omega arith)
-    (λ c. omega arith)
-    (λ c κs. search needs)
+    (λ c. zero-le)
+    (λ c. zero-le)
+    (λ c. omega (arith, c .before .before .before .loop .inv .1 .most, c .before .before .before .loop .inv .0 .named .room))
+    (λ c κs. tt)
     names-tested
     words-fail)

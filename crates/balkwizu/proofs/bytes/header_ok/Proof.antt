@@ -1,7 +1,6 @@
 -- `header_ok` is the machine's `headerOk` of the words. Assumes nothing.
-use mathlib.Core.Path.{sym}
-use native.Mathlib.Omega.{arith}
-use borrow.Author.Needs.{needs}
+use mathlib.Core.Path.{sym, ap, _∙_}
+use Rattle.machine.specs.Check.{headerWordOk}
 use Rattle.balkwizu.proofs.Places.{under-four, first-word}
 use Rattle.balkwizu.proofs.bytes.header_ok.Statement.{statement}
 use Rattle.balkwizu.proofs.bytes.header_ok.Tie as tie
@@ -10,7 +9,9 @@ short : tie.Need-returns
 short c = sym (under-four _ (c .if1 .taken))
 
 word : tie.Need-returns-2
-word c = cc (first-word _ (c .before .before .if1 .left))
+word c =
+    c .header-word-ok .ensures ∙ ap headerWordOk (c .before .word-at .ensures)
+    ∙ sym (first-word _ (c .before .before .if1 .left))
 
 pub header-ok-spec : {M : Type 1} → statement M
-header-ok-spec = tie.close (tie.spec short (λ c κs. omega arith) (λ c κs. search needs) word)
+header-ok-spec = tie.close (tie.spec short (λ c κs. c .if1 .left) (λ c κs. tt) word)

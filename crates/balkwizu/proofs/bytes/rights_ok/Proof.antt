@@ -1,12 +1,12 @@
 -- `rights_ok` is the machine's `rightsOk` of the words: the flag is the test of the rights words passed. Assumes nothing.
-use Prim.Native.Nat.{_+_, _-_, _*_, _/_, _≤_}
+use Prim.Native.Nat.{_+_, _-_, _*_, _≤_}
 use mathlib.Core.Path.{_≡_, ap, _∙_}
 use native.Mathlib.Omega.{arith}
-use borrow.Author.Needs.{needs}
+use borrow.Author.Count.{falls}
 use lib.ListN.{getD, length}
 use Rattle.machine.specs.Table.{domains}
 use Rattle.machine.specs.Check.{rightsWordOk, rightsOk}
-use Rattle.table.proofs.Places.{square-small}
+use Rattle.table.proofs.Bounds.{count-fits, rights-fits, rights-next-fits}
 use Rattle.table.proofs.Scan.{Scanned, scan-start, scan-next, scan-end}
 use Rattle.text.specs.Bytes.{wordsOf}
 use Rattle.balkwizu.proofs.Places.{header-four, fitting-counted}
@@ -21,7 +21,7 @@ abbrev μ-loop : tie.MeasureT-loop
 μ-loop bytes header n count all₀ i₀ all i = count - i
 
 holds : tie.Need-loop-holds Inv-loop μ-loop
-holds c = (scan-start _ _, omega (arith, fitting-counted _ (c .before .before .pre) _ (c .word-at .ensures)))
+holds c = (scan-start _ _, omega (arith, fitting-counted _ (c .before .before .pre) _ (c .word-at .ensures) .room))
 
 again : tie.Need-loop-again Inv-loop μ-loop
 again c =
@@ -39,14 +39,14 @@ rights-ok-spec =
     (tie.spec
     Inv-loop
     μ-loop
-    (λ c κs. omega (arith, header-four _ (c .before .pre .header)))
-    (λ c. search needs)
-    (λ c. omega (arith, square-small (c .word-at .result / 256)))
+    (λ c κs. header-four _ (c .before .pre .header))
+    (λ c. omega arith)
+    (λ c. count-fits _)
     holds
-    (λ c. omega arith)
-    (λ c κs. omega arith)
-    (λ c κs. search needs)
-    (λ c. omega arith)
-    (λ c. omega arith)
+    (λ c. rights-fits _ (c .loop-test .taken))
+    (λ c κs. omega (arith, c .loop-test .taken, c .before .loop .inv .1))
+    (λ c κs. tt)
+    (λ c. rights-next-fits _ (c .before .before .loop-test .taken))
+    (λ c. falls _ _ (c .before .before .loop-test .taken))
     again
     returns)
