@@ -5,7 +5,7 @@ use words::KIND;
 use words::header_word_ok;
 use words::rights_word_ok;
 
-pub mod endpoint;
+mod endpoint;
 pub mod names;
 
 ghost use mathlib.Core.Path.{_≡_};
@@ -57,7 +57,7 @@ impl Checked {
 }
 
 // Place 2: word 0 is there and right.
-pub fn header_ok(table: &[u32]) -> bool
+fn header_ok(table: &[u32]) -> bool
     ensures { λ b. ⌜ b ≡ headerOk (now (table .entry)) ⌝ }
 {
     if table.len() == 0 {
@@ -67,7 +67,7 @@ pub fn header_ok(table: &[u32]) -> bool
 }
 
 // Place 3: the length is the one that the n domains and m endpoints of word 0 ask for.
-pub fn length_ok(table: &[u32]) -> bool
+fn length_ok(table: &[u32]) -> bool
     ensures { λ b. ⌜ b ≡ lengthOk (now (table .entry)) ⌝ }
 {
     if table.len() == 0 {
