@@ -45,7 +45,7 @@ fn send_to_full(q: &mut [u32])
     }
 }
 
-// A send: the waiting count and the capacity say whether there is space. The answer doesn't.
+// A send: the waiting count and the capacity say whether there is space. The answer is the same either way.
 pub fn send(q: &mut [u32], message: u32) -> bool
     ensures { λ done. ⌜ done ≡ sendable (now (q .entry)) message ⌝ }
     ensures { λ _. ⌜ now (q .exit) ≡ sentTo (now (q .entry)) message ⌝ }
