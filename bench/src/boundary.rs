@@ -6,41 +6,12 @@
 //! lent parts of which one is written never overlap, and nobody else writes
 //! them. So every wrapper is safe, and there is no other `unsafe` in the bench.
 
-/// uint32_t balkwizu_table_check(const uint8_t *bytes, size_t len);
-type TableCheck = unsafe extern "C" fn(bytes: *const u8, len: usize) -> u32;
+/// The check of bytes that are valid for reads.
+type TableCheck = unsafe fn(bytes: *const [u8]) -> u32;
 
-/// uint32_t balkwizu_run(uint32_t *table, size_t table_len,
-///                       const uint32_t *list, size_t list_len,
-///                       uint32_t *answers, size_t answers_len);
-type Run = unsafe extern "C" fn(
-    table: *mut u32,
-    table_len: usize,
-    list: *const u32,
-    list_len: usize,
-    answers: *mut u32,
-    answers_len: usize,
-) -> u32;
-
-macro_rules! declare {
-    ($check:ident, $run:ident) => {
-        extern "C" {
-            fn $check(bytes: *const u8, len: usize) -> u32;
-            fn $run(
-                table: *mut u32,
-                table_len: usize,
-                list: *const u32,
-                list_len: usize,
-                answers: *mut u32,
-                answers_len: usize,
-            ) -> u32;
-        }
-    };
-}
-
-declare!(balkwizu_table_check, balkwizu_run);
-declare!(plain_gcc_table_check, plain_gcc_run);
-#[cfg(clang)]
-declare!(plain_clang_table_check, plain_clang_run);
+/// A run on words that are valid for reads, those of the table and the answers for
+/// writes too, and that don't overlap.
+type Run = unsafe fn(table: *mut [u32], list: *const [u32], answers: *mut [u32]) -> u32;
 
 /// A kernel behind the C boundary.
 #[derive(Clone, Copy)]
@@ -65,65 +36,100 @@ impl Kernel {
     /// The check of a table image: 0, or 2 to 5.
     pub fn table_check(&self, bytes: &[u8]) -> u32 {
         // SAFETY: a slice is valid for reads of its length, and nobody writes it.
-        unsafe { (self.table_check)(bytes.as_ptr(), bytes.len()) }
+        unsafe { (self.table_check)(bytes) }
     }
 
     /// Runs a list on a table and writes the answers.
     pub fn run(&self, table: &mut [u32], list: &[u32], answers: &mut [u32]) -> Outcome {
         // SAFETY: three slices, each valid for its length and aligned; the two
         // that are written are borrowed alone, so that none overlaps another.
-        let result = unsafe {
-            (self.run)(
-                table.as_mut_ptr(),
-                table.len(),
-                list.as_ptr(),
-                list.len(),
-                answers.as_mut_ptr(),
-                answers.len(),
-            )
-        };
+        let result = unsafe { (self.run)(table, list, answers) };
         Outcome {
             code: result & 0xFFFF,
             calls: result >> 16,
         }
     }
 
-    /// A kernel of other functions, for tests of the bench itself.
+    /// The kernel with another check, for tests of the bench itself.
     #[cfg(test)]
-    pub const fn of(name: &'static str, table_check: TableCheck, run: Run) -> Kernel {
+    pub const fn with_check(self, name: &'static str, table_check: TableCheck) -> Kernel {
         Kernel {
             name,
-            title: name,
             table_check,
-            run,
+            ..self
         }
+    }
+
+    /// The kernel with another run, for tests of the bench itself.
+    #[cfg(test)]
+    pub const fn with_run(self, name: &'static str, run: Run) -> Kernel {
+        Kernel { name, run, ..self }
     }
 }
 
+/// A kernel by its two C functions, which the header declares like this:
+///
+/// uint32_t balkwizu_table_check(const uint8_t *bytes, size_t len);
+///
+/// uint32_t balkwizu_run(uint32_t *table, size_t table_len,
+///                       const uint32_t *list, size_t list_len,
+///                       uint32_t *answers, size_t answers_len);
+macro_rules! kernel {
+    ($name:literal, $title:literal, $table_check:ident, $run:ident) => {{
+        extern "C" {
+            fn $table_check(bytes: *const u8, len: usize) -> u32;
+            fn $run(
+                table: *mut u32,
+                table_len: usize,
+                list: *const u32,
+                list_len: usize,
+                answers: *mut u32,
+                answers_len: usize,
+            ) -> u32;
+        }
+        Kernel {
+            name: $name,
+            title: $title,
+            // SAFETY: in both, the caller's duties are those of the C function.
+            table_check: |bytes| unsafe { $table_check(bytes.cast(), bytes.len()) },
+            run: |table, list, answers| unsafe {
+                $run(
+                    table.cast(),
+                    table.len(),
+                    list.cast(),
+                    list.len(),
+                    answers.cast(),
+                    answers.len(),
+                )
+            },
+        }
+    }};
+}
+
 /// The proved kernel.
-pub const PROVED: Kernel = Kernel {
-    name: "balkwizu",
-    title: "proved archive",
-    table_check: balkwizu_table_check,
-    run: balkwizu_run,
-};
+pub const PROVED: Kernel = kernel!(
+    "balkwizu",
+    "proved archive",
+    balkwizu_table_check,
+    balkwizu_run
+);
 
 /// The plain C kernel as gcc -O3 makes it.
-pub const PLAIN_GCC: Kernel = Kernel {
-    name: "plain-gcc",
-    title: "plain C, gcc -O3",
-    table_check: plain_gcc_table_check,
-    run: plain_gcc_run,
-};
+pub const PLAIN_GCC: Kernel = kernel!(
+    "plain-gcc",
+    "plain C, gcc -O3",
+    plain_gcc_table_check,
+    plain_gcc_run
+);
 
 /// The plain C kernel as clang -O3 makes it.
 #[cfg(clang)]
-pub const PLAIN_CLANG: Kernel = Kernel {
-    name: "plain-clang",
-    title: "plain C, clang -O3",
-    table_check: plain_clang_table_check,
-    run: plain_clang_run,
-};
+pub const PLAIN_CLANG: Kernel = kernel!(
+    "plain-clang",
+    "plain C, clang -O3",
+    plain_clang_table_check,
+    plain_clang_run
+);
 
 /// Every kernel of this program, the proved one first.
 pub const KERNELS: &[Kernel] = &[

@@ -260,14 +260,9 @@ mod tests {
     use super::*;
     use crate::boundary::KERNELS;
     use crate::faulty;
-    use reference::example::{LIST_L, TABLE_T};
 
     fn checklist(kernel: Kernel) -> Checklist {
-        let input = Input {
-            table: TABLE_T.to_vec(),
-            list: LIST_L.to_vec(),
-        };
-        Checklist::new(kernel, &input, 1)
+        Checklist::new(kernel, &Input::example(), 1)
     }
 
     #[test]

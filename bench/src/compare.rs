@@ -252,14 +252,11 @@ mod tests {
     use super::*;
     use crate::boundary::PROVED;
     use crate::faulty;
-    use reference::example::{LIST_L, TABLE_T};
+    use crate::input::Input;
+    use crate::variants::case_of;
 
     fn example() -> Case {
-        Case {
-            table: TABLE_T.to_vec(),
-            list: LIST_L.to_vec(),
-            answers: vec![0xDEAD_BEEF; 29],
-        }
+        case_of(&Input::example())
     }
 
     fn told(kernel: &Kernel) -> Option<String> {

@@ -61,6 +61,18 @@ impl Input {
     }
 }
 
+#[cfg(test)]
+impl Input {
+    /// Document 01's table T and list L.
+    pub fn example() -> Input {
+        use reference::example::{LIST_L, TABLE_T};
+        Input {
+            table: TABLE_T.to_vec(),
+            list: LIST_L.to_vec(),
+        }
+    }
+}
+
 /// The bytes of a file, or of standard input where the path is `-`.
 pub fn read_bytes(path: &str) -> Result<Vec<u8>, String> {
     let mut bytes = Vec::new();
@@ -78,26 +90,18 @@ pub fn read_bytes(path: &str) -> Result<Vec<u8>, String> {
 #[cfg(test)]
 mod tests {
     use super::*;
-    use reference::example::{LIST_L, TABLE_T};
-
-    fn example() -> Input {
-        Input {
-            table: TABLE_T.to_vec(),
-            list: LIST_L.to_vec(),
-        }
-    }
 
     #[test]
     fn bytes_and_back() {
-        let bytes = example().to_bytes();
+        let bytes = Input::example().to_bytes();
         assert_eq!(bytes[..4], [34, 0, 0, 0]);
         assert_eq!(bytes.len(), 4 * (1 + 34 + 12));
-        assert_eq!(Input::parse(&bytes), Ok(example()));
+        assert_eq!(Input::parse(&bytes), Ok(Input::example()));
     }
 
     #[test]
     fn what_linerun_refuses_is_refused_with_its_number() {
-        let bytes = example().to_bytes();
+        let bytes = Input::example().to_bytes();
         let code = |bytes: &[u8]| Input::parse(bytes).unwrap_err().0;
         assert_eq!(code(&[]), 7);
         assert_eq!(code(&bytes[..3]), 7);

@@ -447,7 +447,6 @@ fn call_row(drawing: &mut Drawing, number: usize, call: &Call, left: f64, y: f64
 #[cfg(test)]
 mod tests {
     use super::*;
-    use reference::example::{LIST_L, TABLE_T};
     use reference::generate::{list, table_of, Rng};
 
     fn opened_and_closed(svg: &str) -> bool {
@@ -460,11 +459,7 @@ mod tests {
 
     #[test]
     fn the_worked_example_has_an_arrow_for_each_right() {
-        let input = Input {
-            table: TABLE_T.to_vec(),
-            list: LIST_L.to_vec(),
-        };
-        let picture = svg(&input, 24);
+        let picture = svg(&Input::example(), 24);
         assert!(opened_and_closed(&picture));
         let bent = picture
             .lines()

@@ -148,18 +148,11 @@ fn calls_in_words(list: &[u32], most: usize) -> String {
 #[cfg(test)]
 mod tests {
     use super::*;
-    use reference::example::{LIST_L, TABLE_T};
-
-    fn example() -> Input {
-        Input {
-            table: TABLE_T.to_vec(),
-            list: LIST_L.to_vec(),
-        }
-    }
+    use reference::example::TABLE_T;
 
     #[test]
     fn the_worked_example_in_words() {
-        let told = in_words(&example(), 2);
+        let told = in_words(&Input::example(), 2);
         assert!(told.starts_with("Table: 3 domains, 2 endpoints, 34 words\n"));
         assert!(told.contains("domain  1    S   . SGR\n"), "{told}");
         assert!(told.contains("from 0 1 ==> endpoint 0 (name 17) [- -] ==> domain 1; 0 of 2 wait"));

@@ -43,14 +43,12 @@ fn with_calls(case: &Case, calls: &[Call]) -> Case {
 #[cfg(test)]
 mod tests {
     use super::*;
-    use reference::example::{LIST_L, TABLE_T};
+    use crate::input::Input;
+    use crate::variants::case_of;
+    use reference::example::TABLE_T;
 
     fn example() -> Case {
-        Case {
-            table: TABLE_T.to_vec(),
-            list: LIST_L.to_vec(),
-            answers: vec![0; 30],
-        }
+        case_of(&Input::example())
     }
 
     #[test]

@@ -139,15 +139,7 @@ fn words_of(item: &str) -> Result<Vec<u32>, String> {
 #[cfg(test)]
 mod tests {
     use super::*;
-    use reference::example::{LIST_L, TABLE_T};
     use reference::generate::{linerun_input, Rng};
-
-    fn example() -> Input {
-        Input {
-            table: TABLE_T.to_vec(),
-            list: LIST_L.to_vec(),
-        }
-    }
 
     /// The worked example as document 01 writes it.
     const TYPED: &str = "
@@ -161,18 +153,18 @@ mod tests {
 
     #[test]
     fn the_worked_example_typed_in() {
-        assert_eq!(read(TYPED), Ok(example().to_bytes()));
+        assert_eq!(read(TYPED), Ok(Input::example().to_bytes()));
         let printed = reference::linerun(&read(TYPED).unwrap());
         assert_eq!(printed, reference::example::PRINTED.as_bytes());
     }
 
     #[test]
     fn text_and_back() {
-        let text = write(&example());
+        let text = write(&Input::example());
         assert!(text.starts_with("table\n10000302\n20000000 20000001 20000000\n"));
         assert!(text.contains("30000012 40000201 50000000 60000000 F0000000*8\n"));
         assert!(text.contains("list\n20000100 F0000005\n60420001\n"));
-        assert_eq!(read(&text), Ok(example().to_bytes()));
+        assert_eq!(read(&text), Ok(Input::example().to_bytes()));
     }
 
     #[test]

@@ -173,14 +173,10 @@ fn mixed(list: &[u32], rng: &mut Rng) -> Vec<u32> {
 #[cfg(test)]
 mod tests {
     use super::*;
-    use reference::example::{LIST_L, TABLE_T};
 
     #[test]
     fn there_are_hundreds_and_they_meet_every_entry_code() {
-        let input = Input {
-            table: TABLE_T.to_vec(),
-            list: LIST_L.to_vec(),
-        };
+        let input = Input::example();
         let mut rng = Rng::new(1);
         let mut variants = damaged_tables(&input, &mut rng);
         assert_eq!(variants.len(), 2 * 34 + 104);
