@@ -15,29 +15,28 @@ use Rattle.linerun_text.specs.Input.{listWordsRead, listOf, unreadable, wanted}
 use Rattle.linerun_text.specs.Lines.{firstLine}
 use Rattle.linerun_text.proofs.InputLaws.{no-left-over, listOf-more}
 use Rattle.linerun.specs.Lines.{allLines}
-use Rattle.linerun.specs.Report.{answerSpace, outcomeLines, report, RanInput}
-
--- a run of the table and the list that the input gives
-pub ran-input : (bytes space : List ℕ) {table list : List ℕ} {code calls : ℕ} {end after : List ℕ}
-    → table ≡ tableOf bytes → list ≡ listOf bytes → RunPromise table list space code calls end after
-    → RanInput bytes space code calls after
-ran-input bytes space t l p =
-    let q = rw (t, l) at p in
-    record { sameCode = q .sameCode; sameCalls = q .sameCalls; sameAnswers = q .sameAnswers }
+use Rattle.linerun.specs.Report.{answerSpace, outcomeLines, report}
 
 pub report-unreadable : (bytes : List ℕ) → unreadable bytes ≡ true → report bytes ≡ firstLine 0 7
 unfolding report
 report-unreadable bytes e = simp e
 
-pub report-ran : (bytes : List ℕ) {code calls c k : ℕ} {after : List ℕ} → unreadable bytes ≡ false
-    → RanInput bytes answerSpace code calls after → k ≡ calls → c ≡ code → report bytes ≡ allLines k c after
+-- where what ran is the input's table and list, the lines of its answers are the report
+pub report-ran : (bytes : List ℕ) {table list : List ℕ} {code calls c k : ℕ} {end after : List ℕ} → unreadable bytes ≡ false
+    → table ≡ tableOf bytes → list ≡ listOf bytes → RunPromise table list answerSpace code calls end after → k ≡ calls → c ≡ code
+    → report bytes ≡ allLines k c after
 unfolding report outcomeLines
-report-ran bytes e r same-calls same-code = simp e (cc)
+report-ran bytes e t l p same-calls same-code =
+    let q = rw (t, l) at p in
+    let calls-are = q .sameCalls in
+    let code-is = q .sameCode in
+    let answers-are = q .sameAnswers in
+    simp e (cc)
 
--- an input's run has no more calls than the longest list has words
-pub ran-few : {bytes space : List ℕ} {code calls : ℕ} {after : List ℕ} → RanInput bytes space code calls after
-    → calls ≤ longestList
-ran-few {bytes} {space} r = omega (arith, r .sameCalls, calls-few (tableOf bytes) (listOf bytes) space)
+-- a run has no more calls than the longest list has words
+pub ran-few : {table list space : List ℕ} {code calls : ℕ} {end after : List ℕ}
+    → RunPromise table list space code calls end after → calls ≤ longestList
+ran-few {table} {list} {space} p = omega (arith, p .sameCalls, calls-few table list space)
 
 -- where the reading asks for nothing more, what follows makes no difference
 pub nothing-follows : (bytes more : List ℕ) → wanted bytes ≡ 0 → report (bytes ++ more) ≡ report bytes

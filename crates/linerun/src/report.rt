@@ -1,31 +1,15 @@
 // The whole program on bytes: from what was read to what is printed.
 use crate::lines::all_lines;
-use entry::Ran;
 use kernel::run;
-use linerun_text::input::read_list;
 use linerun_text::input::unreadable;
 use linerun_text::lines::first_line;
+use text::table_input::after_table;
 use text::table_input::read_table;
-ghost use mathlib.Core.Path.{_≡_};
-ghost use mathlib.Core.Bool.{false};
+use text::words::fill;
 ghost use Prim.Native.Nat.{_≤_};
-ghost use Rattle.entry.specs.Entry.{ranCode, ranCalls};
-ghost use Rattle.text.specs.TableInput.{noTable};
 ghost use Rattle.text.specs.Write.{Writes};
 ghost use Rattle.linerun.specs.Lines.{mostBytes};
-ghost use Rattle.linerun.specs.Report.{RanInput, report};
-
-// Runs the list of an input that has a whole table.
-fn run_input(bytes: &[u8], answers: &mut [u32]) -> Ran
-    requires { ⌜ noTable (now bytes) ≡ false ⌝ }
-    ensures { λ r. ⌜ RanInput (now (bytes .entry)) (now (answers .entry)) (ranCode r) (ranCalls r) (now (answers .exit)) ⌝ }
-{
-    let mut table = [0u32; 641];
-    let words = read_table(bytes, &mut table);
-    let mut list = [0u32; 4097];
-    let listed = read_list(bytes, &mut list);
-    run(&mut table[0..words], &list[0..listed], answers)
-}
+ghost use Rattle.linerun.specs.Report.{report};
 
 // What is printed for the bytes read, from the buffer's front on; answers how many bytes that is. A buffer that is too short
 // gets what fits, and the answer is then one past its length.
@@ -36,8 +20,13 @@ pub fn report(bytes: &[u8], out: &mut [u8]) -> usize
     if unreadable(bytes) {
         return first_line(0, 7, out, 0);
     }
+    let mut table = [0u32; 641];
+    let words = read_table(bytes, &mut table);
+    // the longest list and one word more
+    let mut list = [0u32; 4097];
+    let listed = fill(after_table(bytes), &mut list);
     // three words for each call of the longest list
     let mut answers = [0u32; 12288];
-    let ran = run_input(bytes, &mut answers);
+    let ran = run(&mut table[0..words], &list[0..listed], &mut answers);
     all_lines(ran.calls(), ran.code(), &answers, out)
 }

@@ -2,11 +2,7 @@
 use text::table_input::after_table;
 use text::table_input::no_table;
 use text::table_input::table_wanted;
-use text::words::fill;
 ghost use mathlib.Core.Path.{_≡_};
-ghost use Rattle.text.specs.Bytes.{wordsOf};
-ghost use Rattle.text.specs.TableInput.{afterTable};
-ghost use Rattle.text.specs.Write.{Fills};
 ghost use Rattle.linerun_text.specs.Input.{unreadable, wanted};
 
 // The bytes of 4,097 list words: where the reading stops.
@@ -38,11 +34,4 @@ pub fn wanted(bytes: &[u8]) -> usize
         return LIST_BYTES - rest;
     }
     0
-}
-
-// Fills list from the front with the words after the table, as many as there is room for, and answers how many.
-pub fn read_list(bytes: &[u8], list: &mut [u32]) -> usize
-    ensures { λ r. ⌜ Fills (wordsOf (afterTable (now (bytes .entry)))) (now (list .entry)) r (now (list .exit)) ⌝ }
-{
-    fill(after_table(bytes), list)
 }

@@ -1,19 +1,21 @@
 -- `linerun::report::report` meets its contract: the two ways that the definition goes. Assumes nothing.
-use mathlib.Core.Path.{sym, _∙_}
+use mathlib.Core.Path.{refl, sym, _∙_}
 use native.Mathlib.Omega.{arith}
-use Rattle.linerun.specs.Report.{answerSpace}
-use Rattle.linerun_text.proofs.InputLaws.{readable-whole}
+use Rattle.text.proofs.WriteLaws.{fills-part}
+use Rattle.text.proofs.TableLaws.{whole, length-tableOf}
+use Rattle.linerun_text.proofs.InputLaws.{readable-whole, list-part}
 use Rattle.linerun_text.proofs.LineLaws.{length-firstLine}
+use Rattle.linerun.specs.Report.{answerSpace}
 use Rattle.linerun.proofs.ReportLaws.{report-unreadable, report-ran, ran-few}
 use borrow.Author.Needs.{needs}
 use Rattle.linerun.proofs.report.report.Statement.{statement}
 use Rattle.linerun.proofs.report.report.Tie as tie
 
 unreadable-requires : tie.Need-unreadable-requires
-unreadable-requires c κs = search needs
+unreadable-requires c κs = tt
 
 first-line-requires : tie.Need-first-line-requires
-first-line-requires c κs = search needs
+first-line-requires c κs = tt
 
 same-length : tie.Need-same-length
 same-length c = search needs
@@ -27,27 +29,59 @@ returns c =
       omega (arith, first .ensures .place, length-firstLine 0 7 (omega arith) (omega arith)),
     )
 
-slice-aggregate-run-input : tie.Need-slice-aggregate-run-input
-slice-aggregate-run-input c = search needs
+slice-aggregate-read-table : tie.Need-slice-aggregate-read-table
+slice-aggregate-read-table c = refl
 
-run-input-requires : tie.Need-run-input-requires
-run-input-requires c κs =
-    readable-whole (c .before .before .before .before .before .args .bytes .now)
-    (sym (c .before .before .unreadable .ensures) ∙ c .before .if1 .left)
+read-table-requires : tie.Need-read-table-requires
+read-table-requires c κs = tt
+
+after-table-requires : tie.Need-after-table-requires
+after-table-requires c κs = tt
+
+slice-aggregate-fill : tie.Need-slice-aggregate-fill
+slice-aggregate-fill c = refl
+
+fill-requires : tie.Need-fill-requires
+fill-requires c κs = tt
+
+sub-run : tie.Need-sub-run
+sub-run c = search needs
+
+part-table-start : tie.Need-part-table-start
+part-table-start c = search needs
+
+part-table-end : tie.Need-part-table-end
+part-table-end c = search needs
+
+sub-run-2 : tie.Need-sub-run-2
+sub-run-2 c = search needs
+
+part-run-start : tie.Need-part-run-start
+part-run-start c = search needs
+
+part-run-end : tie.Need-part-run-end
+part-run-end c = search needs
+
+slice-aggregate-run : tie.Need-slice-aggregate-run
+slice-aggregate-run c = refl
+
+run-requires : tie.Need-run-requires
+run-requires c κs = tt
 
 calls-requires : tie.Need-calls-requires
-calls-requires c κs = search needs
+calls-requires c κs = tt
 
 code-requires : tie.Need-code-requires
-code-requires c κs = search needs
+code-requires c κs = tt
 
 slice-aggregate-all-lines : tie.Need-slice-aggregate-all-lines
 slice-aggregate-all-lines c = search needs
 
 all-lines-requires : tie.Need-all-lines-requires
 all-lines-requires c κs =
-    let ran = c .before .before .before .before .before .run-input in
-    omega (arith, ran-few (ran .ensures), c .before .before .before .calls .ensures, ran .kept)
+    let called = c .before .before .before in
+    let ran = called .before .before .before .run in
+    omega (arith, ran-few (ran .ensures), called .calls .ensures, ran .kept)
 
 same-length-2 : tie.Need-same-length-2
 same-length-2 c = search needs
@@ -57,14 +91,21 @@ unfolding answerSpace
 returns-2 c =
     let lines = c .before .before .all-lines in
     let coded = c .before .before .before .before .before in
-    let ran = coded .before .before .before in
-    let tested = ran .before .before in
+    let called = coded .before in
+    let ran = called .before .before .before in
+    let filled = ran .before .before .before .before .before .before in
+    let after = filled .before .before in
+    let read = after .before .before in
+    let tested = read .before .before in
     let bytes = tested .before .before .before .before .args .bytes .now in
-    let calls = coded .before .calls .ensures in
-    let few = ran-few (ran .run-input .ensures) in (
+    let readable = sym (tested .before .unreadable .ensures) ∙ tested .if1 .left in
+    let calls = called .calls .ensures in
+    let few = ran-few (ran .run .ensures) in (
       rw
-          (report-ran bytes (sym (tested .before .unreadable .ensures) ∙ tested .if1 .left) (ran .run-input .ensures) calls
-          (coded .code .ensures))
+          (report-ran bytes readable
+          (fills-part (length-tableOf bytes (whole bytes (readable-whole bytes readable))) (read .read-table .ensures))
+          (list-part bytes refl (rw (after .after-table .ensures) at (filled .fill .ensures)))
+          (ran .run .ensures) calls (coded .code .ensures))
           (lines .ensures .0),
       omega (arith, lines .ensures .1 (omega arith)),
     )
@@ -77,8 +118,19 @@ report-spec =
     first-line-requires
     same-length
     returns
-    slice-aggregate-run-input
-    run-input-requires
+    slice-aggregate-read-table
+    read-table-requires
+    after-table-requires
+    slice-aggregate-fill
+    fill-requires
+    sub-run
+    part-table-start
+    part-table-end
+    sub-run-2
+    part-run-start
+    part-run-end
+    slice-aggregate-run
+    run-requires
     calls-requires
     code-requires
     slice-aggregate-all-lines
