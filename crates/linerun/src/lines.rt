@@ -14,9 +14,10 @@ pub fn all_lines(calls: usize, code: u32, answers: &[u32], out: &mut [u8]) -> us
 {
     let mut at = first_line(calls, code, out, 0);
     for i in 0..calls {
-        let w = answers[3 * i];
-        let x = answers[3 * i + 1];
-        let y = answers[3 * i + 2];
+        let from = 3 * i;
+        let w = answers[from];
+        let x = answers[from + 1];
+        let y = answers[from + 2];
         at = call_line(i, w, x, y, out, at);
     }
     at

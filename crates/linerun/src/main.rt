@@ -39,16 +39,17 @@ fn read_input(input: &mut [u8]) -> usize
     ensures { λ r. ⌜ r ≤ mostInput ⌝ }
 {
     let mut have: usize = 0;
-    let mut want = wanted_after(input, have);
-    while 0 < want {
+    loop {
+        let want = wanted_after(input, have);
+        if want == 0 {
+            return have;
+        }
         let got = read_after(input, have, want);
         have += got;
         if got < want {
             return have;
         }
-        want = wanted_after(input, have);
     }
-    have
 }
 
 // At most 28 bytes in the first line and 66 in that of each of 4,096 calls.

@@ -31,35 +31,29 @@ loop-holds c =
       λ few. omega (arith, first .ensures .place, length-firstLine (given .calls) (given .code) few (omega arith)),
     )
 
+mul-from : tie.Need-mul-from Inv-loop μ-loop
+mul-from c = omega arith
+
 mul-w : tie.Need-mul-w Inv-loop μ-loop
 mul-w c = omega arith
-
-mul-w-2 : tie.Need-mul-w-2 Inv-loop μ-loop
-mul-w-2 c = omega arith
 
 shared-slice-read-w : tie.Need-shared-slice-read-w Inv-loop μ-loop
 shared-slice-read-w c = omega arith
 
-mul-x : tie.Need-mul-x Inv-loop μ-loop
-mul-x c = omega arith
-
 add-x : tie.Need-add-x Inv-loop μ-loop
 add-x c = omega arith
 
-mul-x-2 : tie.Need-mul-x-2 Inv-loop μ-loop
-mul-x-2 c = omega arith
+mul-x : tie.Need-mul-x Inv-loop μ-loop
+mul-x c = omega arith
 
 shared-slice-read-x : tie.Need-shared-slice-read-x Inv-loop μ-loop
 shared-slice-read-x c = omega arith
 
-mul-y : tie.Need-mul-y Inv-loop μ-loop
-mul-y c = omega arith
-
 add-y : tie.Need-add-y Inv-loop μ-loop
 add-y c = omega arith
 
-mul-y-2 : tie.Need-mul-y-2 Inv-loop μ-loop
-mul-y-2 c = omega arith
+mul-y : tie.Need-mul-y Inv-loop μ-loop
+mul-y c = omega arith
 
 shared-slice-read-y : tie.Need-shared-slice-read-y Inv-loop μ-loop
 shared-slice-read-y c = omega arith
@@ -113,16 +107,14 @@ all-lines-spec =
     μ-loop
     first-line-requires
     loop-holds
+    mul-from
     mul-w
-    mul-w-2
     shared-slice-read-w
-    mul-x
     add-x
-    mul-x-2
+    mul-x
     shared-slice-read-x
-    mul-y
     add-y
-    mul-y-2
+    mul-y
     shared-slice-read-y
     call-line-requires
     add-i
