@@ -1,4 +1,4 @@
--- Rows that pin the definitions, each by computation: the lines, what 7 refuses, and how much is read. Assumes nothing.
+-- Rows that pin the lines, each by computation. Assumes nothing.
 use mathlib.Core.Path.{_≡_, refl}
 use Rattle.text.specs.Bytes.{ascii}
 use Rattle.text.specs.Decimal.{digitsWithin, decimal, labelled}

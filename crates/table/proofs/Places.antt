@@ -1,12 +1,12 @@
 -- The places 2 to 5 in the order of document 01: what each test says of a table's code (specs/Check of the machine), and what
 -- the first two say of the counts in word 0. Assumes nothing.
 use mathlib.Core.Path.{_≡_, sym, _∙_}
-use mathlib.Core.Bool.{true, false, _&&_, not}
+use mathlib.Core.Bool.{Bool, true, false, _&&_, not}
 use mathlib.Core.List.{List}
 use Prim.Native.Nat.{ℕ, _+_, _*_, _/_, _%_, _≤_}
 use native.Mathlib.Nat.{le-add-right, mul-le-mul}
 use native.Mathlib.Omega.{arith}
-use borrow.Author.Tests.{leb-true, eqb-true, ne-eqb}
+use borrow.Author.Tests.{leb-true, eqb-true, ne-eqb, not-true, not-false}
 use lib.Dec.{eqb, leb}
 use lib.ListN.{length, getD}
 use Rattle.machine.specs.Word.{kind, upper, fieldB, fieldC}
@@ -18,6 +18,13 @@ use Rattle.table.specs.Checked.{Headed}
 -- a field of eight bits times itself is small
 pub square-small : (x : ℕ) → (x % 256) * (x % 256) ≤ 65025
 square-small x = let h : x % 256 ≤ 255 = omega arith in mul-le-mul h h
+
+-- what a place says of its test where the code gets past it, and where it stops there
+pub past : {a b : Bool} → a ≡ b → not a ≡ false → b ≡ true
+past {a} e h = sym e ∙ not-false a h
+
+pub stopped : {a b : Bool} → a ≡ b → not a ≡ true → b ≡ false
+stopped {a} e h = sym e ∙ not-true a h
 
 module _ (t : List ℕ) where
   pub empty-header : length t ≡ 0 → headerOk t ≡ false

@@ -1,42 +1,41 @@
 -- `check` gives the machine's `tableCode`: each place is tested once, in the order of document 01. Assumes nothing.
-use mathlib.Core.Path.{_≡_, sym, _∙_}
+use mathlib.Core.Path.{_≡_}
 use mathlib.Core.Bool.{true}
-use borrow.Author.Tests.{not-true, not-false}
 use denote.Ref.{now}
 use Rattle.machine.specs.Check.{headerOk, rightsOk}
 use Rattle.table.specs.Checked.{Headed}
-use Rattle.table.proofs.Places.{code-0, code-2, code-3, code-4, code-5}
+use Rattle.table.proofs.Places.{past, stopped, code-0, code-2, code-3, code-4, code-5}
 use Rattle.table.proofs.check.Statement.{statement}
 use Rattle.table.proofs.check.Tie as tie
 
 -- what is known of the table behind the places 2, 3 and 4
 header-holds : (c : tie.Else1) → headerOk (now (c .before .before .before .args .table)) ≡ true
-header-holds c = sym (c .before .header-ok .ensures) ∙ not-false _ (c .if1 .left)
+header-holds c = search past
 
 headed : (c : tie.Else2) → Headed (now (c .before .before .before .before .before .args .table))
-headed c = record { header = header-holds (c .before .before); size = sym (c .before .length-ok .ensures) ∙ not-false _ (c .if2 .left) }
+headed c = record { header = header-holds (c .before .before); size = search past }
 
 rights-hold : (c : tie.Else3) → rightsOk (now (c .before .before .before .before .before .before .before .args .table)) ≡ true
-rights-hold c = sym (c .before .rights-ok .ensures) ∙ not-false _ (c .if3 .left)
+rights-hold c = search past
 
 bad-header : tie.Need-returns
-bad-header c = code-2 _ (sym (c .before .header-ok .ensures) ∙ not-true _ (c .if1 .taken))
+bad-header c = code-2 _ (search stopped)
 
 bad-length : tie.Need-returns-2
-bad-length c = code-3 _ (header-holds (c .before .before)) (sym (c .before .length-ok .ensures) ∙ not-true _ (c .if2 .taken))
+bad-length c = code-3 _ (header-holds (c .before .before)) (search stopped)
 
 bad-rights : tie.Need-returns-3
-bad-rights c = code-4 _ (headed (c .before .before)) (sym (c .before .rights-ok .ensures) ∙ not-true _ (c .if3 .taken))
+bad-rights c = code-4 _ (headed (c .before .before)) (search stopped)
 
 bad-endpoint : tie.Need-returns-4
 bad-endpoint c =
     let r = c .before .before in
-    code-5 _ (headed (r .before .before)) (rights-hold r) (sym (c .before .endpoints-ok .ensures) ∙ not-true _ (c .if4 .taken))
+    code-5 _ (headed (r .before .before)) (rights-hold r) (search stopped)
 
 sound : tie.Need-returns-5
 sound c =
     let r = c .before .before in
-    code-0 _ (headed (r .before .before)) (rights-hold r) (sym (c .before .endpoints-ok .ensures) ∙ not-false _ (c .if4 .left))
+    code-0 _ (headed (r .before .before)) (rights-hold r) (search past)
 
 pub check-spec : {M : Type 1} → statement M
 check-spec =
