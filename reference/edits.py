@@ -37,7 +37,7 @@ ROOT = Path(__file__).resolve().parent.parent
 REFERENCE = ROOT / "reference"
 EDITS = REFERENCE / "mutants"
 PROPERTY = "noninterference"
-SECONDS = 120
+SECONDS = 600
 
 
 class Wrong(Exception):
