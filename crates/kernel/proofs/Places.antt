@@ -5,8 +5,8 @@ use mathlib.Core.List.{List, _++_}
 use Prim.Native.Nat.{ℕ, _+_, _*_, _-_, _<_, _≤_}
 use native.Mathlib.Nat.{mul-le-mul, le-trans}
 use native.Mathlib.Omega.{arith}
-use lib.ListN.{length, getD, take, drop, set}
-use Rattle.machine.specs.Word.{payload, word}
+use lib.ListN.{length, take, drop, set}
+use Rattle.machine.specs.Word.{word}
 use Rattle.machine.specs.Table as table
 use Rattle.machine.specs.Table.{rightsAt, endpointAt}
 use Rattle.machine.specs.Queue.{waiting, mostLost, sent, received}
@@ -61,10 +61,6 @@ twelve-long at = omega arith
 
 -- reading and writing by n is reading and writing by the table's own number of domains
 module _ (t : List ℕ) (n : ℕ) (e : n ≡ table.domains t) where
-  pub rights-read : (h g : ℕ) → payload (getD t (rightsAt n h g) 0) ≡ table.rights t h g
-  unfolding table.rights table.rightsWord
-  rights-read h g = ap (λ (k : ℕ). payload (getD t (rightsAt k h g) 0)) e
-
   pub rights-written : (h g s : ℕ) → set t (rightsAt n h g) (word 2 s) ≡ table.setRights t h g s
   unfolding table.setRights
   rights-written h g s = ap (λ (k : ℕ). set t (rightsAt k h g) (word 2 s)) e

@@ -4,7 +4,8 @@ use Prim.Native.Nat.{ℕ, _<_}
 use native.Mathlib.Omega.{arith}
 use lib.ListN.{length, getD}
 use Rattle.machine.specs.Word.{payload}
-use Rattle.kernel.proofs.Places.{few, rights-within, rights-read}
+use Rattle.decide.proofs.Places.{rights-read}
+use Rattle.kernel.proofs.Places.{few, rights-within}
 use Rattle.kernel.proofs.layout.rights.Statement.{statement}
 use Rattle.kernel.proofs.layout.rights.Tie as tie
 
