@@ -19,6 +19,10 @@ pub or-cases : (a b : Bool) → (a || b) ≡ true → (a ≡ true) ⊎ (b ≡ tr
 or-cases true b h = inl refl
 or-cases false b h = inr h
 
+pub or-right : (a b : Bool) → b ≡ true → (a || b) ≡ true
+or-right true b h = refl
+or-right false b h = h
+
 pub or-none-left : (a b : Bool) → (a || b) ≡ false → a ≡ false
 or-none-left true b h = absurd (true≢false h)
 or-none-left false b h = refl

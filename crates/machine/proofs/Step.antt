@@ -24,7 +24,7 @@ use Rattle.machine.specs.Run.{run}
 use Rattle.machine.specs.Influence.{reaches, influences}
 use Rattle.machine.specs.Purge.{rightsOf}
 use Rattle.machine.specs.Claims.{SameFrame, SamePart, Agree, StaysAccepted, callerInfluences, AltersOnly}
-use Rattle.machine.proofs.Bools.{and-intro, or-cases, or-none-left, or-none-right, either}
+use Rattle.machine.proofs.Bools.{and-intro, or-cases, or-right, either}
 use Rattle.machine.proofs.Table as table
 use Rattle.machine.proofs.Table.{Sized}
 use Rattle.machine.proofs.Right.{adds-within, without-le, rights-word-ok, rights-within, holds-any}
@@ -149,41 +149,55 @@ module _ (t : List ℕ) (a : Accepted t) (v : ℕ) (lv : v < domains t) where
   pub after-agrees : (x : Effect) → InOrder t x → Spares t x v → Agree v (after t x) t
   after-agrees x o n = record { part = after-part x o n; onIt = after-column x o n }
 
--- a known caller that doesn't influence v is not v and has no right on it
-pub not-influenced : (t : List ℕ) (c : Call) (v : ℕ) → Known t c → callerInfluences t (callerOf c) v ≡ false → (caller (first c) ≡ v → ⊥) × (hasAny (rights t (caller (first c)) v) ≡ true → ⊥)
-unfolding influences reaches
-not-influenced t c v k n =
+-- Whoever may act on a domain influences it: as the domain itself, by a right on it, by a send to its endpoint, by a gift.
+module _ (t : List ℕ) (u : ℕ) where
+  by-itself : influences t u u ≡ true
+  unfolding influences
+  by-itself = rw (eq-eqb u u refl)
+
+  by-right : (g r : ℕ) → (r ≡ 0 → ⊥) → holds (rights t u g) r ≡ true → influences t u g ≡ true
+  unfolding influences reaches
+  by-right g r ne h = or-right (eqb u g) (hasAny (rights t u g)) (holds-any _ r ne h)
+
+  by-send : (e : ℕ) → maySend t u e ≡ true → influences t u (owner (endpoint t e)) ≡ true
+  unfolding maySend
+  by-send e h =
+      let o = owner (endpoint t e) in
+      ⊎-elim (λ own. subst (λ (x : ℕ). influences t u x ≡ true) (sym (eqb-true o u own)) by-itself)
+      (by-right o SEND (λ z. omega arith))
+      (or-cases (eqb o u) (holds (rights t u o) SEND) h)
+
+  by-gift : (h : ℕ) → mayGive t u h ≡ true → influences t u h ≡ true
+  unfolding mayGive influences reaches
+  by-gift h m = m
+
+-- what a known caller influences isn't a domain that it doesn't
+not-influenced : (t : List ℕ) (c : Call) (v x : ℕ) → callerInfluences t (callerOf c) v ≡ false → Known t c → influences t (caller (first c)) x ≡ true → x ≡ v → ⊥
+not-influenced t c v x n k h w =
     let u = caller (first c) in
-    let f : (ltb u (domains t) && (eqb u v || hasAny (rights t u v))) ≡ false = sym (ap (λ (o : Option ℕ). callerInfluences t o v) (k .calledBy)) ∙ n in
-    let g : (eqb u v || hasAny (rights t u v)) ≡ false = sym (ap (λ (b : Bool). b && (eqb u v || hasAny (rights t u v))) (lt-ltb u (domains t) (k .below))) ∙ f in
-    (eqb-false u v (or-none-left (eqb u v) (hasAny (rights t u v)) g), λ h. true≢false (sym h ∙ or-none-right (eqb u v) (hasAny (rights t u v)) g))
+    let f : (ltb u (domains t) && influences t u v) ≡ false = sym (ap (λ (o : Option ℕ). callerInfluences t o v) (k .calledBy)) ∙ n in
+    true≢false (sym (and-intro (lt-ltb u (domains t) (k .below)) (rw (← w) h)) ∙ f)
 
 -- Local respect: what a call does spares every domain that its caller doesn't influence.
 pub call-spares : (t : List ℕ) (c : Call) (v : ℕ) → callerInfluences t (callerOf c) v ≡ false → Spares t (effect t (decide t c)) v
-unfolding effect maySend mayGive
+unfolding effect
 call-spares t c v n =
+    let u = caller (first c) in
+    let spared : (x : ℕ) → Known t c → influences t u x ≡ true → x ≡ v → ⊥ = λ x. not-influenced t c v x n in
     decide-elim t c (λ d. Spares t (effect t d) v)
     (record {
       refuses = λ _ _. tt;
       looksUp = λ _ _ _ _. tt;
-      sending =
-          λ k _ l m w.
-          ⊎-elim (λ x. not-influenced t c v k n .0 (sym (eqb-true _ _ x) ∙ w))
-          (λ x. not-influenced t c v k n .1 (holds-any _ SEND (λ z. omega arith) (rw (← w) x)))
-          (or-cases (eqb (owner (endpoint t (fieldB (first c)))) (caller (first c))) _ m);
-      receiving = λ k _ _ o _ w. not-influenced t c v k n .0 (sym o ∙ w);
+      sending = λ k _ _ m. spared _ k (by-send t u _ m);
+      receiving = λ k _ _ o _ w. spared u k (by-itself t u) (sym o ∙ w);
       endpointsListed = λ _ _. tt;
       rightsListed = λ _ _. tt;
       granting =
-          λ k _ _ _ _ hg _ m. (
-            λ w. ⊎-elim (λ x. not-influenced t c v k n .0 (eqb-true _ _ x ∙ w))
-                (λ x. not-influenced t c v k n .1 (rw (← w) x))
-                (or-cases (eqb (caller (first c)) (fieldB (first c))) _ m),
-            λ w. not-influenced t c v k n .1 (holds-any _ GRANT (λ z. omega arith) (rw (← w) hg)),
-          );
+          λ k _ _ _ _ hg _ m.
+          (spared _ k (by-gift t u _ m), spared _ k (by-right t u _ GRANT (λ z. omega arith) hg));
       removing =
           λ k _ _ hr _.
-          (not-influenced t c v k n .0, λ w. not-influenced t c v k n .1 (holds-any _ REMOVE (λ z. omega arith) (rw (← w) hr)));
+          (spared u k (by-itself t u), spared _ k (by-right t u _ REMOVE (λ z. omega arith) hr));
     })
 
 -- what agreeing on v comes to, word by word
