@@ -11,15 +11,16 @@ use crate::args::Options;
 use crate::boundary::{Kernel, KERNELS};
 use crate::compare::{difference, kernel_run, separate_run};
 use crate::output::{self, say};
-use crate::workloads::{largest_table, workloads, Workload};
+use crate::workloads::{by_kind, largest_table, workloads, Workload};
 
 pub const HELP: &str = "\
-bench speed [--rounds N]
+bench speed [--by-kind] [--rounds N]
 
 Measures the proved kernel beside the plain C kernel of bench/c as gcc -O3 and,
 where there is one, clang -O3 make it, and prints a Markdown table: table checks,
-and calls on four lists of 4,096 words. All kernels take turns in each of N
-rounds (default 301); a figure is the median of the rounds, a ratio the median of
+and calls on four lists of 4,096 words. With --by-kind the lists have one kind of
+call each, on a small table and on the largest. All kernels take turns in each of
+N rounds (default 301); a figure is the median of the rounds, a ratio the median of
 the rounds' ratios, the proved kernel's time over the other's: above 1 the proved
 kernel is slower. Every kernel's run is first compared with the separate machine.
 
@@ -43,19 +44,30 @@ struct Subject<'a> {
 
 /// The command: whether every kernel's runs are right, so that its speed counts.
 pub fn command(line: &[String]) -> Result<bool, String> {
-    let options = Options::parse(line, &["--rounds"], &[])?;
+    let options = Options::parse(line, &["--rounds"], &["--by-kind"])?;
     options.no_file()?;
     let rounds = options.number("--rounds")?.unwrap_or(301).clamp(1, 100_000) as usize;
-    let workloads = workloads();
+    let apart = options.has("--by-kind");
+    let workloads = if apart { by_kind() } else { workloads() };
     if let Some(told) = workloads.iter().find_map(first_wrong) {
         say!("{told}");
         return Ok(false);
     }
     output::write(head(rounds).as_bytes());
-    for subject in subjects(&workloads) {
+    let subjects = if apart {
+        workloads.iter().map(runs).collect()
+    } else {
+        subjects(&workloads)
+    };
+    for subject in subjects {
         say!("{}", row(&subject, rounds));
     }
-    output::write(foot(&workloads).as_bytes());
+    let sizes = if apart {
+        String::new()
+    } else {
+        sizes(&workloads)
+    };
+    output::write(foot(&sizes).as_bytes());
     Ok(true)
 }
 
@@ -226,7 +238,8 @@ fn processor() -> String {
     name.map_or("unknown".to_string(), |(_, name)| name.to_string())
 }
 
-fn foot(workloads: &[Workload]) -> String {
+/// How many calls each list has.
+fn sizes(workloads: &[Workload]) -> String {
     let sizes: Vec<String> = workloads
         .iter()
         .map(|workload| {
@@ -234,11 +247,14 @@ fn foot(workloads: &[Workload]) -> String {
             format!("{} ({calls} calls)", workload.name)
         })
         .collect();
+    format!(": {}", sizes.join("; "))
+}
+
+fn foot(sizes: &str) -> String {
     format!(
-        "\nLists of 4,096 words: {}. Before each run of a list the table and the answers are \
+        "\nLists of 4,096 words{sizes}. Before each run of a list the table and the answers are \
          reset outside the timed part; checks and entries write nothing and are not reset. An \
-         entry alone is a run of the empty list.\n",
-        sizes.join("; ")
+         entry alone is a run of the empty list.\n"
     )
 }
 
@@ -254,7 +270,8 @@ mod tests {
 
     #[test]
     fn every_kernel_is_right_on_every_workload() {
-        assert_eq!(workloads().iter().find_map(first_wrong), None);
+        let all = workloads().into_iter().chain(by_kind());
+        assert_eq!(all.into_iter().find_map(|one| first_wrong(&one)), None);
     }
 
     #[test]

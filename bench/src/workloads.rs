@@ -12,7 +12,7 @@ use reference::table::name;
 
 /// A table and a list to run on it.
 pub struct Workload {
-    pub name: &'static str,
+    pub name: String,
     pub table: Vec<u32>,
     pub list: Vec<u32>,
 }
@@ -20,6 +20,73 @@ pub struct Workload {
 /// All workloads, each with a list of 4,096 words.
 pub fn workloads() -> Vec<Workload> {
     vec![send_and_receive(), all_seven(), refusals(), largest()]
+}
+
+/// The largest and a small table, each with lists of one kind of call, done or
+/// refused: what a call costs by itself.
+pub fn by_kind() -> Vec<Workload> {
+    let sizes = [(4, 4), (16, 32)];
+    sizes
+        .iter()
+        .flat_map(|&(n, m)| of_each_kind(n, m))
+        .collect()
+}
+
+/// Who calls, somebody else, an endpoint and its owner.
+struct Drawn {
+    caller: usize,
+    other: usize,
+    endpoint: usize,
+    owner: usize,
+}
+
+/// Every domain has every right on every domain, and the endpoints' owners go
+/// round.
+fn of_each_kind(n: usize, m: usize) -> Vec<Workload> {
+    type Calls = fn(&Drawn) -> Vec<u32>;
+    let kinds: [(&str, Calls); 6] = [
+        ("look up", |it| {
+            let name = second(101 + it.endpoint as u32);
+            vec![call_word(LOOK_UP, it.caller, 0, 0, 0), name]
+        }),
+        ("send and receive", |it| {
+            vec![
+                call_word(SEND, it.caller, 0, it.endpoint, 0),
+                second(7),
+                call_word(RECEIVE, it.owner, 0, it.endpoint, 0),
+            ]
+        }),
+        ("my endpoints", |it| {
+            vec![call_word(MY_ENDPOINTS, it.caller, 0, 0, 0)]
+        }),
+        ("my rights", |it| {
+            vec![call_word(MY_RIGHTS, it.caller, 0, 0, 0)]
+        }),
+        ("remove and grant", |it| {
+            vec![
+                call_word(REMOVE, it.caller, it.owner, 0, 1),
+                call_word(GRANT, it.other, it.owner, it.caller, 1),
+            ]
+        }),
+        ("unknown kind", |it| vec![call_word(9, it.caller, 0, 0, 0)]),
+    ];
+    let owners: Vec<usize> = (0..m).map(|e| e % n).collect();
+    let table = table_with(&vec![7; n * n], n, &owners);
+    let mut rng = Rng::new(6);
+    let mut workload = |(name, calls): &(&str, Calls)| Workload {
+        name: format!("{name}, n {n}, m {m}"),
+        table: table.clone(),
+        list: filled(call_word(9, 0, 0, 0, 0), || {
+            let (caller, endpoint) = (rng.below(n), rng.below(m));
+            calls(&Drawn {
+                caller,
+                other: (caller + 1) % n,
+                endpoint,
+                owner: owners[endpoint],
+            })
+        }),
+    };
+    kinds.iter().map(|kind| workload(kind)).collect()
 }
 
 /// A table with the given rights, row by row, and endpoints of capacity 8, empty,
@@ -66,7 +133,7 @@ fn send_and_receive() -> Workload {
         ]
     });
     Workload {
-        name: "send and receive between two domains",
+        name: "send and receive between two domains".to_string(),
         table: table_with(&[0, 1, 0, 0], 2, &[1]),
         list,
     }
@@ -96,7 +163,7 @@ fn all_seven() -> Workload {
         groups.concat()
     });
     Workload {
-        name: "mixed list of all seven kinds",
+        name: "mixed list of all seven kinds".to_string(),
         table: table_with(&rights, 4, &[0, 1, 2, 3]),
         list,
     }
@@ -125,7 +192,7 @@ fn refusals() -> Workload {
     ];
     let mut rng = Rng::new(3);
     Workload {
-        name: "list full of refusals",
+        name: "list full of refusals".to_string(),
         table: table_with(&[0, 3, 0, 0, 0, 0, 0, 0, 0], 3, &[1]),
         list: filled(call_word(9, 0, 0, 0, 0), || {
             refused[rng.below(refused.len())].clone()
@@ -147,7 +214,7 @@ fn largest() -> Workload {
         ]
     });
     Workload {
-        name: "n 16, m 32, my rights and look up",
+        name: "n 16, m 32, my rights and look up".to_string(),
         list,
         table,
     }
@@ -190,6 +257,21 @@ mod tests {
         assert!(kinds[1..=7].iter().all(|&count| count > 400), "{kinds:?}");
         let (codes, kinds) = counted(&all[3]);
         assert_eq!(codes[0], kinds[1] + kinds[5]);
+    }
+
+    #[test]
+    fn a_list_of_one_kind_has_no_other_but_for_its_filling() {
+        let all = by_kind();
+        let kinds: [&[usize]; 6] = [&[1], &[2, 3], &[4], &[5], &[6, 7], &[9]];
+        assert_eq!(all.len(), 2 * kinds.len());
+        for (workload, own) in all.iter().zip(kinds.iter().chain(&kinds)) {
+            let (codes, counts) = counted(workload);
+            let calls: usize = counts.iter().sum();
+            let of_own: usize = own.iter().map(|&kind| counts[kind]).sum();
+            assert!(of_own + 3 > calls, "{}: {counts:?}", workload.name);
+            let unknown = counts[9];
+            assert_eq!((codes[0], codes[11]), (calls - unknown, unknown));
+        }
     }
 
     #[test]

@@ -150,8 +150,11 @@ fn a_program_that_is_no_linerun_differs() {
 
 #[test]
 fn speed_prints_a_table() {
-    let table = printed(&["speed", "--rounds", "1"]);
-    let rows = table.lines().filter(|line| line.starts_with("| ")).count();
-    assert_eq!(rows, 11, "{table}");
-    assert!(table.contains("reset outside the timed part"), "{table}");
+    for (flag, wanted) in [(None, 11), (Some("--by-kind"), 13)] {
+        let line = ["speed", "--rounds", "1"].into_iter().chain(flag);
+        let table = printed(&line.collect::<Vec<_>>());
+        let rows = table.lines().filter(|line| line.starts_with("| ")).count();
+        assert_eq!(rows, wanted, "{table}");
+        assert!(table.contains("reset outside the timed part"), "{table}");
+    }
 }
