@@ -1,6 +1,7 @@
 // The program `linerun`: a table and a list of calls from standard input, the calls' answers as lines on standard output
 // (document 01, 'Into firmware and onto the bench'). What is printed for what was read is the function report; here is only the
 // reading and the writing.
+use libc::STDERR_FILENO;
 use libc::STDIN_FILENO;
 use libc::STDOUT_FILENO;
 use linerun_text::input::wanted;
@@ -55,11 +56,14 @@ fn read_input(input: &mut [u8]) -> usize
 // At most 28 bytes in the first line and 66 in that of each of 4,096 calls.
 const MOST_BYTES: usize = 270364;
 
-// Prints the report of the bytes read, by way of the lent buffer.
+// Prints the report of the bytes read, by way of the lent buffer. A program has no exit status to give, so lines that standard
+// output didn't take are told of on standard error.
 fn print(bytes: &[u8], out: &mut [u8; MOST_BYTES]) {
     let printed = report(bytes, out);
     let lines = &out[..];
-    io::write_all(STDOUT_FILENO, &lines[0..printed]);
+    if !io::write_all(STDOUT_FILENO, &lines[0..printed]) {
+        io::write_all(STDERR_FILENO, b"linerun: not all lines could be written\n");
+    }
 }
 
 fn main() {
