@@ -2,10 +2,10 @@
 --     same-code     bytes that are those of a list of words get the code of the words
 --     left-over     bytes left over behind the last whole word are 3, unless the first word is broken
 -- Assumes nothing.
-use mathlib.Core.Path.{_≡_, refl, sym, ap, ap₂, subst, _∙_}
-use mathlib.Core.Bool.{Bool, true, false, not}
+use mathlib.Core.Path.{_≡_, refl, sym, ap, ap₂, _∙_}
+use mathlib.Core.Bool.{Bool, true, false}
 use mathlib.Core.List.{List, [], _∷_}
-use Prim.Native.Nat.{ℕ, suc, _+_, _*_, _/_, _%_, _^_, _<_, _≤_}
+use Prim.Native.Nat.{ℕ, suc, _+_, _*_, _/_, _%_, _^_, _<_}
 use native.Mathlib.Nat.{mod-eq-of-lt, div-add-mod', div-div-eq-div-mul}
 use native.Mathlib.Omega.{arith}
 use borrow.Author.Tests.{eqb-true, eqb-false, eq-eqb, ne-eqb}
@@ -16,7 +16,6 @@ use Rattle.machine.specs.Check.{headerOk, lengthOk, tableCode}
 use Rattle.table.proofs.Places.{code-2, code-3}
 use Rattle.text.specs.Bytes.{wordOf, wordsOf}
 use Rattle.balkwizu.specs.Bytes.{bytesOf, bytesFor, bytesCode}
-use Rattle.balkwizu.proofs.Words.{words-length}
 use Rattle.balkwizu.proofs.Places.{bytes-2, bytes-3, bytes-words}
 
 -- a word of 32 bits is made of its four bytes

@@ -4,7 +4,7 @@ use mathlib.Core.Path.{_≡_, refl, sym, ap, _∙_}
 use mathlib.Core.Bool.{Bool, true, false, cond, _&&_}
 use mathlib.Core.List.{List, [], _∷_}
 use Prim.Native.Nat.{ℕ, suc, _+_, _<_, _≤_}
-use native.Mathlib.Numerals.{add-one, add-two}
+use native.Mathlib.Numerals.{add-one}
 use native.Mathlib.Omega.{arith}
 use borrow.Author.Tests.{ltb-true, ltb-false}
 use lib.Dec.{ltb}
@@ -12,7 +12,6 @@ use lib.ListN.{length, getD, drop, drop-of-length-le}
 use lib.Seq.{drop-cons}
 use Rattle.machine.specs.Call as machine
 use Rattle.machine.specs.Call.{pairs, cut}
-use Rattle.machine.proofs.Bools.{and-left, and-right}
 use Rattle.machine.proofs.Cut.{cut-last, cut-one, cut-two}
 use Rattle.calls.specs.Apart.{callOf}
 use Rattle.calls.specs.Cutting.{secondAt, widthOf}

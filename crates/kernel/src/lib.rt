@@ -16,7 +16,6 @@ use serve::serve;
 use table::Checked;
 use table::TableRefusal;
 use table::check;
-ghost use mathlib.Core.Path.{_≡_};
 ghost use Rattle.machine.specs.Promise.{RunPromise};
 ghost use Rattle.calls.specs.Apart.{callOf};
 ghost use Rattle.kernel.specs.Step.{StepPromise};

@@ -1,17 +1,16 @@
 -- What acceptance says of each word of a table, and what makes a table accepted (specs/Check).
 -- Assumes nothing.
-use mathlib.Core.Path.{_≡_, refl, sym, ap, ap₂, subst, _∙_}
+use mathlib.Core.Path.{_≡_, refl, ap, ap₂, subst, _∙_}
 use mathlib.Core.Bool.{Bool, true, false, cond, not, _&&_}
 use mathlib.Core.List.{List}
-use Prim.Native.Nat.{ℕ, zero, suc, _+_, _*_, _/_, _%_, _<_, _≤_}
+use Prim.Native.Nat.{ℕ, suc, _+_, _*_, _/_, _%_, _<_, _≤_}
 use native.Mathlib.Nat.{div-lt-iff-lt-mul, mod-lt, div-add-mod'}
 use native.Mathlib.Omega.{arith}
-use borrow.Author.Tests.{ltb-true, leb-true, eqb-true, eqb-false, eq-eqb, not-false}
+use borrow.Author.Tests.{ltb-true, leb-true, eqb-true}
 use lib.Dec.{eqb, leb, ltb}
 use lib.ListN.{length, getD}
 use lib.Arith.{digits-lt}
 use Rattle.machine.specs.Word.{kind, upper, fieldB, fieldC}
-use Rattle.machine.specs.Below.{allBelow}
 use Rattle.machine.specs.Table.{domains, endpoints, rightsWord, endpoint}
 use Rattle.machine.specs.Queue.{name, owner, capacity}
 use Rattle.machine.specs.Check.{headerWordOk, rightsWordOk, nameWordOk, infoWordOk, identityOk, queueOk, endpointOk, nameNew, headerOk, lengthOk, rightsOk, endpointsOk, tableCode, Accepted}

@@ -2,31 +2,27 @@
 -- unchanging parts (specs/Claims: AnswerDepends).
 -- Assumes nothing.
 use mathlib.Core.Path.{_≡_, refl, sym, ap, ap₂, subst, _∙_}
-use mathlib.Core.Bool.{Bool, true, false, cond, not, _&&_, _||_, false≢true}
+use mathlib.Core.Bool.{Bool, true, false, cond, not, _&&_, _||_}
 use mathlib.Core.List.{List, [], _∷_}
-use mathlib.Core.Logic.{_⊎_, ⊎-elim}
-use mathlib.Core.Option.{Option, none, some}
-use Prim.Native.Nat.{ℕ, _+_, _*_, _^_, _<_, _≤_}
-use native.Mathlib.Omega.{arith}
+use Prim.Native.Nat.{ℕ, _+_, _*_, _^_, _<_}
 use borrow.Author.Tests.{ltb-true, eqb-true, not-false}
-use lib.Dec.{eqb, leb, ltb}
-use lib.ListN.{getD, take, drop}
+use lib.Dec.{eqb, ltb}
+use lib.ListN.{getD}
 use Rattle.machine.specs.Word.{kind, payload, caller, fieldA, fieldB, fieldC}
-use Rattle.machine.specs.Right.{SEND, GRANT, REMOVE, allRights, holds, hasAny}
+use Rattle.machine.specs.Right.{SEND, GRANT, REMOVE, holds, hasAny}
 use Rattle.machine.specs.Table.{domains, endpoints, rightsWord, rights, endpoint}
 use Rattle.machine.specs.Queue.{name, owner, waiting, lost, oldest}
 use Rattle.machine.specs.Check.{Accepted}
-use Rattle.machine.specs.Call.{Call, Kind, first, kindOf, callKind, callerOf, secondPayload}
-use Rattle.machine.specs.Call.{Kind.lookUp, Kind.send, Kind.receive, Kind.myEndpoints, Kind.myRights, Kind.grant, Kind.remove, Kind.stray, Kind.unknown}
+use Rattle.machine.specs.Call.{Call, Kind, first, callKind, secondPayload}
+use Rattle.machine.specs.Call.{Kind.lookUp, Kind.send, Kind.receive, Kind.myEndpoints, Kind.myRights, Kind.grant, Kind.remove}
 use Rattle.machine.specs.Machine.{Decision, place, maySend, mayGive, named, lookUpPlaces, sendPlaces, receivePlaces, grantPlaces, removePlaces, framed, places, decide, ownedBits, rightsBits, code, firstData, secondData, answerWord, answerTo, answer}
-use Rattle.machine.specs.Purge.{rightsOf}
 use Rattle.machine.specs.Claims.{SameFrame, SamePart, AnswerDepends}
 use Rattle.machine.proofs.Bools.{cond-same, and-left, and-right}
 use Rattle.machine.proofs.Below.{first-same, sum-same}
 use Rattle.machine.proofs.Accepted.{accepted-owner}
 use Rattle.machine.proofs.Queue.{name-kept, owner-kept}
 use Rattle.machine.proofs.Frame.{whole, rightsOf-word}
-use Rattle.machine.proofs.Decide.{Known, Rows, kind-elim, calls-back, decide-elim}
+use Rattle.machine.proofs.Decide.{Known, kind-elim, calls-back, decide-elim}
 
 -- equal tests and, where they pass, equal rests make equal places
 pub place-same : {b b′ : Bool} (n : ℕ) {x y : Decision} → b ≡ b′ → (b′ ≡ false → x ≡ y) → place b n x ≡ place b′ n y

@@ -1,16 +1,16 @@
 -- Laws of the cutting and of the run, for a loop over the words of a list (specs/Call, specs/Run): what stands at the front
 -- of the words that are left, and what remains behind it.
 -- Assumes nothing.
-use mathlib.Core.Path.{_≡_, refl, sym, ap, ap₂, subst, _∙_}
-use mathlib.Core.Bool.{Bool, true, false, cond, _&&_, _||_}
+use mathlib.Core.Path.{_≡_, refl, sym, ap, ap₂, _∙_}
+use mathlib.Core.Bool.{Bool, true, false, cond}
 use mathlib.Core.List.{List, [], _∷_, _++_, append-assoc, append-nil}
-use Prim.Native.Nat.{ℕ, zero, suc, _+_, _*_, _<_, _≤_, zero-le}
+use Prim.Native.Nat.{ℕ, suc, _+_, _*_, _≤_, zero-le}
 use native.Mathlib.Numerals.{add-one, add-two}
 use native.Mathlib.Omega.{arith}
-use borrow.Author.Tests.{eqb-true, eq-eqb}
+use borrow.Author.Tests.{eqb-true}
 use lib.Dec.{eqb}
-use lib.ListN.{length, getD, take, drop, set, length-append, length-set, length-take, length-drop}
-use lib.Seq.{drop-cons, set-split, take-at, drop-at, drop-drop, sets-eq}
+use lib.ListN.{length, take, drop, set, length-append}
+use lib.Seq.{take-at, drop-at, drop-drop, sets-eq}
 use Rattle.machine.specs.Word.{kind}
 use Rattle.machine.specs.Call.{Call, wantsSecond, pairs, callAt, cutAfter, cut, Call.one, Call.two}
 use Rattle.machine.specs.Machine.{step, answer, answerTo}

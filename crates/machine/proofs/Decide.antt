@@ -1,23 +1,23 @@
 -- What a call comes to, by cases: a refusal by a number from 10 to 23, or a row of the call table under all that its places
 -- have then shown (specs/Machine). Whatever is proved of every call is proved through this one law.
 -- Assumes nothing.
-use mathlib.Core.Path.{_≡_, refl, sym, ap, subst, _∙_}
-use mathlib.Core.Bool.{Bool, true, false, cond, not, _&&_, _||_}
+use mathlib.Core.Path.{_≡_, refl}
+use mathlib.Core.Bool.{Bool, true, false, _&&_}
 use mathlib.Core.List.{List}
 use mathlib.Core.Option.{Option, none, some}
-use Prim.Native.Nat.{ℕ, _+_, _*_, _<_, _≤_}
+use Prim.Native.Nat.{ℕ, _<_, _≤_}
 use native.Mathlib.Omega.{arith}
-use borrow.Author.Tests.{ltb-true, leb-true, eqb-true, eqb-false, not-true, not-false}
-use lib.Dec.{eqb, leb, ltb}
+use borrow.Author.Tests.{ltb-true, leb-true, eqb-true, eqb-false, not-false}
+use lib.Dec.{eqb, ltb}
 use Rattle.machine.specs.Word.{kind, caller, fieldA, fieldB, fieldC}
-use Rattle.machine.specs.Right.{SEND, GRANT, REMOVE, allRights, holds}
+use Rattle.machine.specs.Right.{GRANT, REMOVE, allRights, holds}
 use Rattle.machine.specs.Table.{domains, endpoints, rights, endpoint}
 use Rattle.machine.specs.Queue.{owner, waiting}
-use Rattle.machine.specs.Call.{Call, Kind, first, kindOf, callKind, callerOf, secondPayload, unusedFields, allZero, wantsSecond, hasSecond}
+use Rattle.machine.specs.Call.{Call, Kind, first, kindOf, callKind, callerOf, secondPayload}
 use Rattle.machine.specs.Call.{Kind.lookUp, Kind.send, Kind.receive, Kind.myEndpoints, Kind.myRights, Kind.grant, Kind.remove, Kind.stray, Kind.unknown}
 use Rattle.machine.specs.Machine.{Decision, place, maySend, mayGive, named, lookUpPlaces, sendPlaces, receivePlaces, grantPlaces, removePlaces, framed, places, decide}
 use Rattle.machine.specs.Machine.{Decision.refused, Decision.lookedUp, Decision.sends, Decision.receives, Decision.listsEndpoints, Decision.listsRights, Decision.grants, Decision.removes}
-use Rattle.machine.proofs.Bools.{and-left, and-right, cond-elim, or-none-left, or-none-right}
+use Rattle.machine.proofs.Bools.{and-left, and-right, cond-elim, or-none-right}
 
 -- a number is the kind of one of the seven calls, of a stray, or unknown
 pub kind-elim : (k : ℕ) (P : Kind → Type 0) → (k ≡ 1 → P lookUp) → (k ≡ 2 → P send) → (k ≡ 3 → P receive) → (k ≡ 4 → P myEndpoints) → (k ≡ 5 → P myRights) → (k ≡ 6 → P grant) → (k ≡ 7 → P remove) → (k ≡ 15 → P stray) → P unknown → P (kindOf k)

@@ -2,14 +2,14 @@
 -- Assumes nothing.
 use mathlib.Core.Path.{_≡_, refl, sym, ap, ap₂, subst, _∙_}
 use mathlib.Core.List.{List, _++_}
-use Prim.Native.Nat.{ℕ, _+_, _*_, _<_, _≤_}
+use Prim.Native.Nat.{ℕ, _<_}
 use native.Mathlib.Nat.{mul-le-mul-right, suc-mul}
 use native.Mathlib.Omega.{arith}
-use lib.ListN.{length, getD, take, drop, length-take, length-drop, take-append-drop}
+use lib.ListN.{length, getD, take, drop, length-drop, take-append-drop}
 use lib.Seq.{getD-take, getD-drop, ext-getD, length-take-le}
-use Rattle.machine.specs.Table.{domains, endpoints, lengthFor, rightsAt, rightsWord, rights, endpoint}
+use Rattle.machine.specs.Table.{domains, rightsAt, rightsWord}
 use Rattle.machine.specs.Purge.{rightsOf}
-use Rattle.machine.specs.Claims.{SameFrame, SamePart}
+use Rattle.machine.specs.Claims.{SameFrame}
 use Rattle.machine.proofs.Table.{Sized}
 
 -- the two halves of an endpoint make it whole

@@ -1,33 +1,33 @@
 -- The striking rule (noninterference): accepted tables meet the unwinding conditions, so for every domain d the view of a
 -- whole list is the view of the machine fed the kept calls alone (specs/Claims: Noninterference).
 -- Assumes nothing.
-use mathlib.Core.Path.{_≡_, refl, sym, ap, ap₂, subst, _∙_}
-use mathlib.Core.Bool.{Bool, true, false, cond, _&&_, true≢false}
-use mathlib.Core.List.{List, [], _∷_, _++_, append-nil}
-use mathlib.Core.Option.{Option, none, some}
+use mathlib.Core.Path.{_≡_, refl, sym, ap, subst, _∙_}
+use mathlib.Core.Bool.{Bool, true, false, cond, _&&_}
+use mathlib.Core.List.{List, [], _∷_, _++_}
+use mathlib.Core.Option.{Option, some}
 use Prim.Native.Nat.{ℕ, zero, suc, _<_, _≤_}
 use native.Mathlib.Nat.{le-refl}
 use native.Mathlib.Omega.{arith}
-use borrow.Author.Tests.{ltb-true, eqb-true, leb-true}
+use borrow.Author.Tests.{ltb-true, eqb-true}
 use lib.Dec.{eqb, ltb}
 use lib.ListN.{getD, drop}
 use Rattle.machine.specs.Word.{payload, caller}
 use Rattle.machine.specs.Right.{hasAny}
-use Rattle.machine.specs.Table.{domains, endpoints, rightsWord, rights, endpoint}
+use Rattle.machine.specs.Table.{domains, endpoints, rights, endpoint}
 use Rattle.machine.specs.Queue.{owner}
-use Rattle.machine.specs.Check.{tableCode, Accepted}
+use Rattle.machine.specs.Check.{Accepted}
 use Rattle.machine.specs.Call.{Call, first, callerOf, cut}
-use Rattle.machine.specs.Machine.{step, answer}
+use Rattle.machine.specs.Machine.{step}
 use Rattle.machine.specs.Run.{run, answers}
 use Rattle.machine.specs.Influence.{reaches}
-use Rattle.machine.specs.Purge.{purge, answersOf, rightsOf, ofOwned, queuesOf, lostOf, View, view}
+use Rattle.machine.specs.Purge.{purge, answersOf, ofOwned, queuesOf, lostOf, view}
 use Rattle.machine.specs.Claims.{SameFrame, SamePart, Agree, Noninterference}
 use Rattle.machine.specs.Unwinding.{Unwinding}
 use Rattle.machine.proofs.Bools.{and-left, cond-same}
 use Rattle.machine.proofs.Frame.{frame-refl, frame-sym, frame-trans}
 use Rattle.machine.proofs.Consistency.{owner-same, owned-same, answer-depends}
 use Rattle.machine.proofs.Step.{stays-accepted, local-respect, step-consistent}
-use Rattle.machine.proofs.Purge.{tables, influences-is, Observed, observes-purge}
+use Rattle.machine.proofs.Purge.{tables, influences-is, observes-purge}
 
 -- Two accepted tables of n domains with the same unchanging parts.
 pub record Alike (n : ℕ) (s t : List ℕ) : Type 0 where

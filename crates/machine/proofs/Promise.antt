@@ -1,15 +1,15 @@
 -- Whoever leaves what the entry leaves keeps the whole promise: noninterference and the counts hold of the words it left
 -- (specs/Promise). Assumes nothing.
-use mathlib.Core.Path.{_≡_, refl, sym, ap, ap₂, subst, _∙_}
-use mathlib.Core.Bool.{Bool, true, false, cond, not}
+use mathlib.Core.Path.{_≡_, refl, sym, ap, subst, _∙_}
+use mathlib.Core.Bool.{cond, not}
 use mathlib.Core.List.{List, [], _∷_, _++_, append-nil}
-use Prim.Native.Nat.{ℕ, _+_, _*_, _<_, _≤_, zero-le}
+use Prim.Native.Nat.{ℕ, _*_, _<_, _≤_, zero-le}
 use native.Mathlib.Nat.{add-zero, le-trans}
 use native.Mathlib.Omega.{arith}
 use borrow.Author.Tests.{eqb-true, eq-eqb, ne-eqb, lt-ltb, le-ltb, ltb-false}
 use lib.Dec.{eqb, ltb}
 use lib.ListN.{length, getD, drop}
-use Rattle.machine.specs.Table.{endpoints, endpoint}
+use Rattle.machine.specs.Table.{endpoints}
 use Rattle.machine.specs.Check.{headerOk, lengthOk, rightsOk, endpointsOk, tableCode, Accepted}
 use Rattle.machine.specs.Call.{Call, cut}
 use Rattle.machine.specs.Machine.{step, answer, answerTo}

@@ -2,37 +2,36 @@
 -- its caller influences (specs/Claims: StaysAccepted, AltersOnly). Local respect and step consistency stand here.
 -- Assumes nothing.
 use mathlib.Core.Path.{_≡_, refl, sym, ap, ap₂, subst, _∙_}
-use mathlib.Core.Bool.{Bool, true, false, cond, not, _&&_, _||_, true≢false, false≢true}
+use mathlib.Core.Bool.{true, false, _&&_, true≢false}
 use mathlib.Core.List.{List, [], _∷_}
-use mathlib.Core.Logic.{_⊎_, ⊎-elim}
+use mathlib.Core.Logic.{⊎-elim}
 use mathlib.Core.Option.{Option, none, some}
-use Prim.Native.Nat.{ℕ, _+_, _*_, _<_, _≤_}
+use Prim.Native.Nat.{ℕ, _<_, _≤_}
 use native.Mathlib.Nat.{le-trans}
 use native.Mathlib.Omega.{arith}
-use borrow.Author.Tests.{ltb-true, lt-ltb, eqb-true, eqb-false, eq-eqb, le-ltb}
+use borrow.Author.Tests.{lt-ltb, eqb-true, eq-eqb}
 use lib.Dec.{eqb, ltb}
-use lib.ListN.{length, getD, take, drop}
-use Rattle.machine.specs.Word.{kind, payload, word, caller, fieldA, fieldB, fieldC}
+use lib.ListN.{length, take, drop}
+use Rattle.machine.specs.Word.{payload, word, caller, fieldA, fieldB, fieldC}
 use Rattle.machine.specs.Right.{SEND, GRANT, REMOVE, allRights, holds, adds, without, hasAny}
 use Rattle.machine.specs.Table.{domains, endpoints, rightsWord, rights, endpoint, setRights, setEndpoint}
-use Rattle.machine.specs.Queue.{name, owner, waiting, sent, received}
+use Rattle.machine.specs.Queue.{name, owner, sent, received}
 use Rattle.machine.specs.Check.{rightsWordOk, endpointOk, Accepted}
 use Rattle.machine.specs.Call.{Call, first, callerOf, secondPayload}
 use Rattle.machine.specs.Machine.{Decision, Effect, maySend, mayGive, decide, effect, after, step}
 use Rattle.machine.specs.Machine.{Decision.refused, Effect.nothing, Effect.newRights, Effect.newEndpoint}
 use Rattle.machine.specs.Run.{run}
 use Rattle.machine.specs.Influence.{reaches, influences}
-use Rattle.machine.specs.Purge.{rightsOf}
 use Rattle.machine.specs.Claims.{SameFrame, SamePart, Agree, StaysAccepted, callerInfluences, AltersOnly}
-use Rattle.machine.proofs.Bools.{and-intro, or-cases, or-right, either}
+use Rattle.machine.proofs.Bools.{and-intro, or-cases, or-right}
 use Rattle.machine.proofs.Table as table
 use Rattle.machine.proofs.Table.{Sized}
 use Rattle.machine.proofs.Right.{adds-within, without-le, rights-word-ok, rights-within, holds-any}
-use Rattle.machine.proofs.Accepted.{accepted-sized, accepted-header, accepted-rights, accepted-endpoint, accepted-like, accepted-owner}
+use Rattle.machine.proofs.Accepted.{accepted-sized, accepted-rights, accepted-endpoint, accepted-like}
 use Rattle.machine.proofs.Queue.{name-kept, owner-kept, sent-length, sent-identity, sent-ok, received-length, received-identity, received-ok, waiting-most, message-small}
 use Rattle.machine.proofs.Consistency.{row-same, owned-same, decide-same}
-use Rattle.machine.proofs.Frame.{whole, frame-refl, frame-trans, rightsOf-ext}
-use Rattle.machine.proofs.Decide.{Known, Rows, decide-elim}
+use Rattle.machine.proofs.Frame.{frame-refl, frame-trans, rightsOf-ext}
+use Rattle.machine.proofs.Decide.{Known, decide-elim}
 
 -- what stands in a rights word is a set of rights
 pub rights-held : (t : List ℕ) → Accepted t → (h g : ℕ) → h < domains t → g < domains t → rights t h g ≤ allRights

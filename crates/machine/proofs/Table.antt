@@ -1,15 +1,14 @@
 -- Laws of reading and writing a table (specs/Table): what is written is read back, and nothing else changes.
 -- Everything above cites these and never an index. Assumes nothing.
-use mathlib.Core.Path.{_≡_, refl, sym, ap, ap₂, subst, _∙_}
+use mathlib.Core.Path.{_≡_, sym, ap, subst, _∙_}
 use mathlib.Core.Logic.{_⊎_, _⊎_.inl, _⊎_.inr, ⊎-elim}
 use native.Mathlib.Decide.{decLt, ℕ-discrete}
 use borrow.Rule.Slice.PartMut.{same-len-mid}
-use mathlib.Core.List.{List, [], _∷_, _++_, append-assoc}
-use Prim.Native.Nat.{ℕ, zero, suc, _+_, _*_, _-_, _/_, _%_, _<_, _≤_}
-use native.Mathlib.Nat.{mul-le-mul-right, mul-le-mul-left, suc-mul, le-trans}
+use mathlib.Core.List.{List, _++_}
+use Prim.Native.Nat.{ℕ, _+_, _*_, _-_, _/_, _%_, _<_, _≤_}
 use native.Mathlib.Omega.{arith}
-use lib.ListN.{length, getD, take, drop, set, length-set, length-take, length-drop, length-append, List·getD-append}
-use lib.Seq.{getD-set-same, getD-set-other, length-take-le, getD-take, getD-drop, ext-getD, take-at, drop-at, drop-drop, take-append-le, drop-append-le, getD-append-add}
+use lib.ListN.{length, getD, take, drop, length-set, length-drop, List·getD-append}
+use lib.Seq.{getD-set-same, getD-set-other, length-take-le, getD-take, getD-drop, ext-getD, take-at, drop-at, getD-append-add}
 use lib.Arith.{digits-lt, digits-div, digits-mod}
 use Rattle.machine.specs.Word.{word}
 use Rattle.machine.specs.Table.{domains, endpoints, lengthFor, rightsAt, endpointAt, rightsWord, endpoint, setRights, setEndpoint}

@@ -11,7 +11,7 @@ use borrow.Author.Tests.{eqb-true, eq-eqb}
 use Rattle.machine.specs.Purge.{member, callerIn, calledBy}
 use Rattle.machine.specs.Unwinding.{StateMachine, run, outputs, reachesAny, joinedBy, sources, purge, influences}
 use Rattle.machine.specs.Unwinding.{Keeps, Keeps.done, Keeps.keep, Keeps.strike, Closed, fromGroup, groupCalls}
-use Rattle.machine.specs.Unwinding.{SameFor, Unwinding, Agree, ObservEquivalent}
+use Rattle.machine.specs.Unwinding.{SameFor, Unwinding, Agree}
 use Rattle.machine.specs.Unwinding.{UnwindingTheorem, Noninfluence, Noninterference, Nonleakage, SameSources}
 
 -- Tests.

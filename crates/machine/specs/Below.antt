@@ -1,6 +1,6 @@
 -- For each number below k: a test of all of them, the first that passes one, and a sum over them.
 use Prim.Native.Nat.{ℕ, zero, suc, _+_}
-use mathlib.Core.Bool.{Bool, true, false, cond, _&&_}
+use mathlib.Core.Bool.{Bool, true, cond, _&&_}
 use mathlib.Core.Option.{Option, none, some}
 
 -- p holds of every number below k

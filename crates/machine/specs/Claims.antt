@@ -1,20 +1,18 @@
 -- What is claimed of the machine, each in one place; the proofs stand in proofs/.
-use Prim.Native.Nat.{ℕ, _+_, _*_, _<_, _≤_, min}
+use Prim.Native.Nat.{ℕ, _+_, _<_, _≤_, min}
 use mathlib.Core.Path.{_≡_}
-use mathlib.Core.Logic.{_⊎_}
-use mathlib.Core.Bool.{Bool, true, false, _&&_, _||_}
-use mathlib.Core.List.{List, [], _∷_, _++_}
+use mathlib.Core.Bool.{Bool, true, false, _&&_}
+use mathlib.Core.List.{List, _++_}
 use mathlib.Core.Option.{Option, none, some}
-use lib.ListN.{length, getD, take, drop}
+use lib.ListN.{length, take, drop}
 use lib.Dec.{ltb}
 use Rattle.machine.specs.Right.{GRANT, holds}
 use Rattle.machine.specs.Table.{domains, endpoints, rights, rightsWord, endpoint}
 use Rattle.machine.specs.Queue.{owner, waiting, lost, mostLost}
 use Rattle.machine.specs.Check.{Accepted}
 use Rattle.machine.specs.Call.{Call, callerOf, cut}
-use Rattle.machine.specs.Machine.{Decision, decide, step, answer, mayGive, Decision.refused, Decision.grants}
+use Rattle.machine.specs.Machine.{decide, step, answer, mayGive, Decision.refused, Decision.grants}
 use Rattle.machine.specs.Run.{run, answers}
-use Rattle.machine.specs.Entry.{Runs}
 use Rattle.machine.specs.Influence.{influences}
 use Rattle.machine.specs.Purge.{purge, view, rightsOf}
 use Rattle.machine.specs.Counts.{sentTo, receivedFrom, fullSends, messagesFrom, messagesTo, messages}

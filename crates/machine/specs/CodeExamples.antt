@@ -4,7 +4,7 @@
 use Prim.Native.Nat.{ℕ}
 use mathlib.Core.List.{List, [], _∷_, _++_}
 use lib.ListN.{set, replicate}
-use Rattle.machine.specs.Examples.{Row, Row.leaves, emptySlots, spaceOf, unchanged, T}
+use Rattle.machine.specs.Examples.{Row, Row.leaves, spaceOf, unchanged, T}
 
 -- a call's words and its answer's
 pub data Answered : Type 0 where

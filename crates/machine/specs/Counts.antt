@@ -1,8 +1,8 @@
 -- What the fourth line of the checklist counts, and the messages of a queue in their order.
 -- Sent and received are told by calls and their answer words alone; which sends found the queue full, by the run's tables.
-use Prim.Native.Nat.{ℕ, zero, suc, _+_, _%_}
-use mathlib.Core.Bool.{Bool, true, false, cond, not, _&&_}
-use mathlib.Core.List.{List, [], _∷_, _++_, map}
+use Prim.Native.Nat.{ℕ, _+_, _%_}
+use mathlib.Core.Bool.{Bool, cond, not, _&&_}
+use mathlib.Core.List.{List, [], _∷_, map}
 use lib.ListN.{getD, take, drop}
 use lib.Dec.{eqb}
 use Rattle.machine.specs.Word.{kind, payload, fieldB}

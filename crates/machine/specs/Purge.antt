@@ -1,7 +1,7 @@
 -- The striking rule's terms: which domains can have reached d at each call (sources; document 01: the set), which calls are
 -- kept (purge), and what d sees at the end (its view) (document 01, 'The striking rule').
-use Prim.Native.Nat.{ℕ, suc, zero, _+_, _*_}
-use mathlib.Core.Bool.{Bool, true, false, cond, _&&_, _||_}
+use Prim.Native.Nat.{ℕ, suc, zero}
+use mathlib.Core.Bool.{Bool, false, cond, _&&_, _||_}
 use mathlib.Core.List.{List, [], _∷_, _++_}
 use mathlib.Core.Option.{Option, none, some}
 use lib.ListN.{getD, take, drop}

@@ -1,6 +1,6 @@
 -- The table's words: where each stands, how it is read, and the two ways to write (document 01, 'The table').
 -- A call reads a table by these names alone; only the check and the views also take words by their places.
-use Prim.Native.Nat.{ℕ, _+_, _*_, _%_}
+use Prim.Native.Nat.{ℕ, _+_, _*_}
 use mathlib.Core.List.{List, _++_}
 use lib.ListN.{getD, take, drop, set}
 use Rattle.machine.specs.Word.{payload, word, fieldB, fieldC}

@@ -1,11 +1,11 @@
 -- A loop that tests each number below k: its flag is the test of those passed (specs/Below of the machine).
 -- The invariant of every loop of the check, with what holds at its start, after a turn and at its end.
 -- Assumes nothing.
-use mathlib.Core.Path.{_≡_, refl, ap₂, _∙_}
+use mathlib.Core.Path.{_≡_, refl, ap₂}
 use mathlib.Core.Bool.{Bool, true, _&&_}
 use Prim.Native.Nat.{ℕ, _+_, _<_, _≤_}
 use native.Mathlib.Nat.{le-antisymm}
-use native.Mathlib.Numerals.{add-one, add-one-le}
+use native.Mathlib.Numerals.{add-one}
 use native.Mathlib.Omega.{arith}
 use Rattle.machine.specs.Below.{allBelow}
 

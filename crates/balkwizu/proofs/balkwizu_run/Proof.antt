@@ -3,7 +3,6 @@
 -- Assumes nothing.
 use Prim.Native.Nat.{ℕ, _+_, _*_, _/_, _%_, _≤_}
 use mathlib.Core.Path.{_≡_, sym, subst₂, _∙_}
-use mathlib.Core.List.{List}
 use native.Mathlib.Omega.{arith}
 use borrow.Author.Needs.{needs}
 use denote.Ref.{now}
@@ -11,8 +10,6 @@ use Rattle.machine.specs.Promise.{RunPromise}
 use Rattle.machine.proofs.Promise.{calls-few, code-small}
 use Rattle.balkwizu.proofs.balkwizu_run.Statement.{statement}
 use Rattle.balkwizu.proofs.balkwizu_run.Tie as tie
-use Rattle.balkwizu.proofs.balkwizu_run.Reads as reads
-use Rattle.balkwizu.proofs.balkwizu_run.Lts as lts
 
 -- at most 4,096 calls, and a code of at most 6
 few : (c : tie.After-calls) → c .calls .result ≤ 4096

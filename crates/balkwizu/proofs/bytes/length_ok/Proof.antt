@@ -1,5 +1,4 @@
 -- `length_ok`: the length is four times that of the words. Assumes nothing.
-use mathlib.Core.Path.{refl, ap}
 use Prim.Native.Nat.{_/_}
 use native.Mathlib.Omega.{arith}
 use Rattle.machine.specs.Table.{domains, endpoints}

@@ -1,6 +1,6 @@
 -- `rights_ok` is the machine's `rightsOk` of the words: the flag is the test of the rights words passed. Assumes nothing.
 use Prim.Native.Nat.{_+_, _-_, _*_, _≤_}
-use mathlib.Core.Path.{_≡_, ap, _∙_}
+use mathlib.Core.Path.{ap, _∙_}
 use native.Mathlib.Omega.{arith}
 use borrow.Author.Count.{falls}
 use lib.ListN.{getD, length}

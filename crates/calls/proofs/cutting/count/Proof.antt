@@ -1,7 +1,6 @@
 -- `calls::cutting::count` meets its contract. The invariant says what remains (proofs/Counted).
 -- Assumes nothing.
-use Prim.Native.Nat.{ℕ, _≤_, _+_, _-_}
-use mathlib.Core.Path.{_≡_}
+use Prim.Native.Nat.{_≤_, _-_}
 use native.Mathlib.Omega.{arith}
 use borrow.Author.Needs.{needs}
 use denote.Ref.{now}
@@ -10,8 +9,6 @@ use Rattle.machine.specs.Call.{pairs}
 use Rattle.calls.proofs.Counted.{Counted, counted-none, counted-next, counted-all, one-at-most}
 use Rattle.calls.proofs.cutting.count.Statement.{statement}
 use Rattle.calls.proofs.cutting.count.Tie as tie
-use Rattle.calls.proofs.cutting.count.Reads as reads
-use Rattle.calls.proofs.cutting.count.Lts as lts
 
 abbrev Inv-loop : tie.InvT-loop
 Inv-loop list calls₀ before₀ i₀ calls before i = (i ≤ length list) × (calls ≤ i) × Counted list calls before i

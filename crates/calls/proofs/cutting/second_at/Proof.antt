@@ -1,19 +1,15 @@
 -- `calls::cutting::second_at` meets its contract: each return rewrites `secondAt` with the tests that led there.
 -- Assumes nothing.
-use Prim.Native.Nat.{ℕ, _+_, _<_, _≤_}
-use mathlib.Core.Path.{_≡_, _∙_, sym}
-use mathlib.Core.Bool.{true, false}
+use Prim.Native.Nat.{_+_, _<_, _≤_}
+use mathlib.Core.Path.{_∙_, sym}
 use native.Mathlib.Omega.{arith}
 use borrow.Author.Needs.{needs}
 use borrow.Author.Tests.{lt-ltb, le-ltb}
 use denote.Ref.{now}
 use lib.ListN.{length}
-use lib.Dec.{ltb}
 use Rattle.calls.specs.Cutting.{secondAt}
 use Rattle.calls.proofs.cutting.second_at.Statement.{statement}
 use Rattle.calls.proofs.cutting.second_at.Tie as tie
-use Rattle.calls.proofs.cutting.second_at.Reads as reads
-use Rattle.calls.proofs.cutting.second_at.Lts as lts
 
 returns : tie.Need-returns
 unfolding secondAt

@@ -1,7 +1,6 @@
 -- `decide::holds_both` meets its contract: the tests one after the other. Assumes nothing.
 use mathlib.Core.Path.{sym, _∙_}
 use borrow.Author.Needs.{needs}
-use Rattle.machine.specs.Right.{holds}
 use Rattle.decide.proofs.rights_calls.holds_both.Statement.{statement}
 use Rattle.decide.proofs.rights_calls.holds_both.Tie as tie
 

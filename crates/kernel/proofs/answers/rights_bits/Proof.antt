@@ -3,7 +3,6 @@
 use mathlib.Core.Path.{_≡_, _∙_}
 use Prim.Native.Nat.{_+_, _*_, _-_, _^_, _<_, _≤_}
 use native.Mathlib.Omega.{arith}
-use Rattle.machine.specs.Table.{rights}
 use Rattle.machine.specs.Machine.{rightsBits}
 use Rattle.kernel.proofs.Digits.{Found, none-found, one-found, all-found, found-within}
 use Rattle.kernel.proofs.AnswerWords.{rightsOn, rights-fit, rights-start, rights-digit}
