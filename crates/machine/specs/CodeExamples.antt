@@ -1,6 +1,6 @@
 -- Rows that pin what L and P1 to P12 leave open: every code from 10 to 23 with its order, what each call answers, a table
 -- in which the caller, the target and the owner differ, and the edges of the entry. Inputs and outcomes are literals, worked
--- out from the paper by hand and by a model of its own, never by the definitions.
+-- out from the paper by hand, never by the definitions.
 use Prim.Native.Nat.{ℕ}
 use mathlib.Core.List.{List, [], _∷_, _++_}
 use lib.ListN.{set, replicate}
@@ -49,10 +49,10 @@ everyCode =
     ∷ answered (0x10C0_0000 ∷ 0xF000_0007 ∷ []) (0x10C0_000F ∷ 0 ∷ 0 ∷ [])
     -- look up: the endpoint named 6 is 2
     ∷ answered (0x10C0_0000 ∷ 0xF000_0006 ∷ []) (0x10C0_0000 ∷ 2 ∷ 0 ∷ [])
-    -- 16
-    ∷ answered (0x2000_0300 ∷ 0xF000_0001 ∷ []) (0x2000_0010 ∷ 0 ∷ 0 ∷ [])
-    -- 16
-    ∷ answered (0x3000_0300 ∷ []) (0x3000_0010 ∷ 0 ∷ 0 ∷ [])
+    -- 16, before 17: caller 3 has no right on anybody
+    ∷ answered (0x20C0_0300 ∷ 0xF000_0001 ∷ []) (0x20C0_0010 ∷ 0 ∷ 0 ∷ [])
+    -- 16, before 18
+    ∷ answered (0x3040_0300 ∷ []) (0x3040_0010 ∷ 0 ∷ 0 ∷ [])
     -- 17
     ∷ answered (0x20C0_0000 ∷ 0xF000_0001 ∷ []) (0x20C0_0011 ∷ 0 ∷ 0 ∷ [])
     -- 18, before 19
@@ -81,15 +81,17 @@ everyCode =
     ∷ answered (0x6002_0201 ∷ []) (0x6000_0016 ∷ 0 ∷ 0 ∷ [])
     -- 22: GRANT is held and the right given is not
     ∷ answered (0x6040_0103 ∷ []) (0x6040_0016 ∷ 0 ∷ 0 ∷ [])
+    -- 22, before 23: caller 3 has neither GRANT on the target nor a right on the recipient
+    ∷ answered (0x60C1_0201 ∷ []) (0x60C0_0016 ∷ 0 ∷ 0 ∷ [])
     -- 23
     ∷ answered (0x6001_0301 ∷ []) (0x6000_0017 ∷ 0 ∷ 0 ∷ [])
     -- a grant of what the recipient has already
     ∷ answered (0x6001_0201 ∷ []) (0x6000_0000 ∷ 0 ∷ 0 ∷ [])
     -- a grant that adds to it
     ∷ answered (0x6001_0203 ∷ []) (0x6000_0000 ∷ 0 ∷ 0 ∷ [])
-    -- 20
-    ∷ answered (0x7084_0001 ∷ []) (0x7080_0014 ∷ 0 ∷ 0 ∷ [])
-    -- 21: two rights
+    -- 20, before 21
+    ∷ answered (0x7084_0003 ∷ []) (0x7080_0014 ∷ 0 ∷ 0 ∷ [])
+    -- 21, before 22: two rights, one of them not held
     ∷ answered (0x7081_0003 ∷ []) (0x7080_0015 ∷ 0 ∷ 0 ∷ [])
     -- 22: REMOVE is held and the right is not
     ∷ answered (0x7082_0001 ∷ []) (0x7080_0016 ∷ 0 ∷ 0 ∷ [])
@@ -103,10 +105,10 @@ everyCode =
 
 abbrev pub codeRows : List Row
 codeRows =
-    leaves fourDomains (callWords everyCode) (spaceOf 96)
+    leaves fourDomains (callWords everyCode) (spaceOf 99)
     (record {
       code = 0;
-      calls = 32;
+      calls = 33;
       table = set (set fourDomains 10 0x2000_0006) 21 0xF000_0009;
       answers = callAnswers everyCode;
     })
