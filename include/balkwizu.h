@@ -63,7 +63,7 @@ enum balkwizu_code {
     BALKWIZU_BAD_RIGHTS = 21,      /* grant: not 1 to 7; remove: not 1, 2 or 4 */
     BALKWIZU_LACKS_RIGHT = 22,     /* grant: no GRANT, or a right of C, on the
                                       target; remove: no REMOVE or not that right */
-    BALKWIZU_MAY_NOT_GIVE = 23     /* grant: no right on the recipient */
+    BALKWIZU_MAY_NOT_GIVE = 23     /* grant: to another, with no right on it */
 };
 
 /* The kinds of calls, bits 31-28 of a call's first word. */

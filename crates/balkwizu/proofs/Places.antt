@@ -19,7 +19,7 @@ use Rattle.table.proofs.Places.{empty-header, word-header, headed-most, headed-
 use Rattle.table.proofs.Gather.{part-name}
 use Rattle.text.specs.Bytes.{wordsOf}
 use Rattle.balkwizu.specs.Bytes.{bytesFor, bytesCode, Fitting}
-use Rattle.balkwizu.proofs.Words.{words-length}
+use Rattle.text.proofs.WordLaws.{length-wordsOf}
 
 -- What a first word x of a table says of it: its n domains and m endpoints, the first endpoint at `from`, and that the bytes
 -- hold them all.
@@ -48,10 +48,10 @@ module _ {b : List ℕ} {n from m : ℕ} (c : Counted b n from m) {e : ℕ} (l :
 
 module _ (b : List ℕ) where
   pub under-four : length b < 4 → headerOk (wordsOf b) ≡ false
-  under-four h = empty-header (wordsOf b) (let n = words-length b in omega arith)
+  under-four h = empty-header (wordsOf b) (let n = length-wordsOf b in omega arith)
 
   pub first-word : 4 ≤ length b → headerOk (wordsOf b) ≡ headerWordOk (getD (wordsOf b) 0 0)
-  first-word f = word-header (wordsOf b) (λ e. omega (arith, words-length b))
+  first-word f = word-header (wordsOf b) (λ e. omega (arith, length-wordsOf b))
 
   -- a first word that is right is there
   pub header-four : headerOk (wordsOf b) ≡ true → 4 ≤ length b
@@ -59,14 +59,14 @@ module _ (b : List ℕ) where
   header-four h =
       let some = eqb-false (length (wordsOf b)) 0 (not-true _ (and-left (not (eqb (length (wordsOf b)) 0)) _ h)) in
       let n = pos-of-ne-zero some in
-      omega (arith, words-length b)
+      omega (arith, length-wordsOf b)
 
   pub fitting-headed : Fitting b → Headed (wordsOf b)
   unfolding bytesFor lengthOk
   fitting-headed f =
       record {
         header = f .header;
-        size = eq-eqb (length (wordsOf b)) (lengthFor (table.domains (wordsOf b)) (table.endpoints (wordsOf b))) (omega (arith, words-length b, f .size));
+        size = eq-eqb (length (wordsOf b)) (lengthFor (table.domains (wordsOf b)) (table.endpoints (wordsOf b))) (omega (arith, length-wordsOf b, f .size));
       }
 
   pub fitting-counted : Fitting b → (x : ℕ) → x ≡ getD (wordsOf b) 0 0 → Counted b (x / 256 % 256) (1 + (x / 256 % 256) * (x / 256 % 256)) (x % 256)
@@ -77,7 +77,7 @@ module _ (b : List ℕ) where
         domains = rw e;
         endpoints = rw e;
         start = refl;
-        room = rw e (omega (arith, words-length b, headed-size (wordsOf b) h));
+        room = rw e (omega (arith, length-wordsOf b, headed-size (wordsOf b) h));
         most = rw e (headed-most (wordsOf b) h);
       }
 

@@ -1,4 +1,4 @@
--- The words of bytes: how many there are, and where the bytes of each stand (specs/Bytes). Assumes nothing.
+-- The words of bytes (specs/Bytes of crate text): where the bytes of each stand. Assumes nothing.
 use mathlib.Core.Path.{_≡_, refl, sym, ap, _∙_}
 use mathlib.Core.Bool.{Bool, _&&_}
 use mathlib.Core.List.{List, [], _∷_}
@@ -11,14 +11,6 @@ use Rattle.machine.specs.Queue.{capacity, waiting}
 use Rattle.machine.specs.Check.{nameWordOk, infoWordOk, waitingWordOk, lostWordOk, slotWordOk, identityOk, queueOk, endpointOk}
 use Rattle.machine.proofs.Below.{all-same}
 use Rattle.text.specs.Bytes.{wordOf, wordsOf}
-
-pub words-length : (b : List ℕ) → length (wordsOf b) ≡ length b / 4
-unfolding wordsOf
-words-length [] = refl
-words-length (a ∷ []) = refl
-words-length (a ∷ b ∷ []) = refl
-words-length (a ∷ b ∷ c ∷ []) = refl
-words-length (a ∷ b ∷ c ∷ d ∷ rest) = let ih = words-length rest in omega arith
 
 -- behind the first four bytes
 past : (a b c d : ℕ) (rest : List ℕ) (j k : ℕ) → j ≡ suc (suc (suc (suc k))) → getD (a ∷ b ∷ c ∷ d ∷ rest) j 0 ≡ getD rest k 0

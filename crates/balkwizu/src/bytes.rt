@@ -1,5 +1,5 @@
 // A table's check over its little-endian bytes. The words are taken out of the bytes where they stand: only the loops are
-// here, and every test of a word is crate table's.
+// here, and every test of a word is crate words'.
 use table::Checked;
 use table::TableRefusal;
 use table::names::all_different;

@@ -1,2 +1,2 @@
--- What the contracts of this crate cite besides the machine.
+-- What the contracts of this crate cite besides the machine and the calls' definitions.
 pub mod Decision

@@ -1,4 +1,4 @@
--- Two tables with the same unchanging parts, and what they agree on for a domain (specs/Claims: SameFrame, SamePart).
+-- Two tables with the same unchanging parts (specs/Claims: SameFrame), and a domain's rights in both.
 -- Assumes nothing.
 use mathlib.Core.Path.{_≡_, refl, sym, ap, ap₂, subst, _∙_}
 use mathlib.Core.List.{List, _++_}

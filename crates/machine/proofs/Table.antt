@@ -1,5 +1,5 @@
 -- Laws of reading and writing a table (specs/Table): what is written is read back, and nothing else changes.
--- Everything above cites these and never an index. Assumes nothing.
+-- What is above cites these wherever it reads or writes by domain or endpoint. Assumes nothing.
 use mathlib.Core.Path.{_≡_, sym, ap, subst, _∙_}
 use mathlib.Core.Logic.{_⊎_, _⊎_.inl, _⊎_.inr, ⊎-elim}
 use native.Mathlib.Decide.{decLt, ℕ-discrete}

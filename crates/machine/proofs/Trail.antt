@@ -1,4 +1,5 @@
--- No right from nowhere, and none lost but by its holder (specs/Trail): call by call, and from there along every list of calls.
+-- No right from nowhere, and none lost but by its holder (specs/Trail): call by call, the first from there along every list of
+-- calls.
 -- Assumes nothing.
 use mathlib.Core.Path.{_≡_, refl, sym, ap, ap₂, subst, _∙_}
 use mathlib.Core.Bool.{true, false, not, _&&_, or-true, and-false}

@@ -1,4 +1,4 @@
--- What a reader must believe: document 01 as definitions, one module for a section, in the paper's order.
+-- What a reader must believe: document 01 as definitions, in the paper's order; each module names its section.
 pub mod Below
 pub mod Word
 pub mod Right

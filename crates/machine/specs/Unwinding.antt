@@ -1,6 +1,7 @@
 -- Noninterference by unwinding, for any machine whose calls have callers; nothing here knows a table. The theory and its
--- names are CapFlow's (SM, sources, ipurge, the unwinding conditions), with two additions: a call's answer is seen by its
--- caller, and the theorem speaks of every choice of struck calls and not of the purge alone.
+-- names are CapFlow's (SM, sources, ipurge, the unwinding conditions), with additions: a call's answer is seen by its
+-- caller; the theorem speaks of every choice of struck calls and not of the purge alone; a caller need be no domain (`Domain`);
+-- and the states are those that are `ok`, a relation of the user's, in place of those that one first state leads to.
 -- The conditions are about one call each; what follows from them is about lists of any length (proofs/Unwinding).
 use Prim.Native.Nat.{ℕ}
 use mathlib.Core.Path.{_≡_}

@@ -1,4 +1,4 @@
-// An endpoint's twelve words: its identity (name, info) and its queue (waiting, lost, slots), which a repair treats apart.
+// An endpoint's twelve words: its identity (name, info), which never changes, and its queue (waiting, lost, slots).
 // The words are lent as a part of the table. A part that is too short reads as zeros past its end, and no such word is right.
 use words::KIND;
 use words::info_word_ok;
