@@ -11,12 +11,13 @@ use lib.Dec.{eqb, lit<}
 use borrow.Author.Tests.{eqb-true, eqb-false, eq-eqb, ne-eqb}
 use Rattle.machine.specs.Word.{kind, caller, fieldA, fieldB, fieldC}
 use Rattle.machine.specs.Call.{Kind, kindOf, Kind.unknown, unusedFields, allZero, wantsSecond, hasSecond}
-use Rattle.calls.specs.Apart.{callOf, whole, ofKind, apart}
+use Rattle.calls.specs.Apart.{whole, ofKind, apart}
+use Rattle.cutting.specs.Cutting.{callOf}
 use Rattle.calls.specs.declared.Call.{Call}
 use Rattle.calls.specs.declared.Call.the-variants.{Refused}
 use Rattle.calls.specs.declared.Refusal.the-variants.{UnusedField, NoSecondWord}
-use Rattle.calls.specs.declared.Second.{Second}
-use Rattle.calls.specs.declared.Second.the-variants.{Nothing}
+use Rattle.cutting.specs.declared.Second.{Second}
+use Rattle.cutting.specs.declared.Second.the-variants.{Nothing}
 
 abbrev pub total : List ℕ → ℕ
 total [] = 0

@@ -8,13 +8,14 @@ use Rattle.machine.specs.Word.{kind, caller}
 use Rattle.machine.specs.Call.{Kind, first, callKind, kindOf, allZero, unusedFields, wantsSecond, hasSecond}
 use Rattle.machine.specs.Call.{Kind.lookUp, Kind.send, Kind.receive, Kind.myEndpoints, Kind.myRights, Kind.grant, Kind.remove, Kind.stray, Kind.unknown}
 use Rattle.machine.specs.Machine.{Decision, place, framed, places, decide}
-use Rattle.calls.specs.Apart.{callOf, whole, ofKind, apart}
+use Rattle.calls.specs.Apart.{whole, ofKind, apart}
+use Rattle.cutting.specs.Cutting.{callOf}
 use Rattle.calls.specs.Decide.{knownCaller, refusedCall, decideCall}
 use Rattle.calls.specs.declared.Call.{Call}
 use Rattle.calls.specs.declared.Call.the-variants.{Refused}
 use Rattle.calls.specs.declared.Refusal.the-variants.{UnusedField, NoSecondWord}
-use Rattle.calls.specs.declared.Second.{Second}
-use Rattle.calls.specs.declared.Second.the-variants.{Nothing, Word}
+use Rattle.cutting.specs.declared.Second.{Second}
+use Rattle.cutting.specs.declared.Second.the-variants.{Nothing, Word}
 
 first-of : (w : ℕ) (s : Second) → first (callOf w s) ≡ w
 unfolding first

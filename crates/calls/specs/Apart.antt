@@ -8,13 +8,8 @@ use Rattle.machine.specs.Call.{Kind.lookUp, Kind.send, Kind.receive, Kind.myEnd
 use Rattle.calls.specs.declared.Call.{Call}
 use Rattle.calls.specs.declared.Call.the-variants.{LookUp, Send, Receive, MyEndpoints, MyRights, Grant, Remove, Refused}
 use Rattle.calls.specs.declared.Refusal.the-variants.{Stray, UnknownKind, UnusedField, NoSecondWord}
-use Rattle.calls.specs.declared.Second.{Second}
-use Rattle.calls.specs.declared.Second.the-variants.{Nothing, Word}
-
--- the machine's call of a first word and what comes second
-abbrev pub callOf : ℕ → Second → machine.Call
-callOf w Nothing = machine.one w
-callOf w (Word v) = machine.two w v
+use Rattle.cutting.specs.Cutting.{callOf}
+use Rattle.cutting.specs.declared.Second.{Second}
 
 -- the places 13 and 14, which every known kind has
 unfoldable pub whole : ℕ → Second → machine.Kind → Call → Call

@@ -2,4 +2,3 @@
 pub mod Number
 pub mod Apart
 pub mod Decide
-pub mod Cutting

@@ -3,11 +3,11 @@
 // zero when bits 21–0 are, two of them when their sum is.
 use crate::Call;
 use crate::Refusal;
-use crate::Second;
+use cutting::Second;
 ghost use mathlib.Core.Path.{_≡_};
 ghost use Rattle.machine.specs.Word.{kind};
 ghost use Rattle.machine.specs.Call.{Kind.lookUp, Kind.send, Kind.receive, Kind.myEndpoints, Kind.myRights, Kind.grant, Kind.remove};
-ghost use Rattle.calls.specs.declared.Second.{Second as AnySecond};
+ghost use Rattle.cutting.specs.declared.Second.{Second as AnySecond};
 ghost use Rattle.calls.specs.Apart.{ofKind};
 
 pub fn look_up(first: u32, second: Second) -> Call

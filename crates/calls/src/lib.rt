@@ -1,8 +1,8 @@
 // The calls of document 01, taken apart without a table: what a call asks for, as one choice among its kinds, or the refusal
 // by a place that needs no table (10, 11, 13 and 14). Crate decide puts 12, which needs one, between 11 and 13.
-pub mod cutting;
 mod kinds;
 
+use cutting::Second;
 use kinds::grant;
 use kinds::look_up;
 use kinds::my_endpoints;
@@ -30,12 +30,6 @@ pub enum Refusal {
     BadRights, // 21
     LacksRight, // 22
     MayNotGive, // 23
-}
-
-// A call's second word, if it has one.
-pub enum Second {
-    Nothing,
-    Word(u32),
 }
 
 // A call taken apart: its caller and the fields that its kind uses, as found. A refused one has the kind and the caller that

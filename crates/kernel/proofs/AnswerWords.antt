@@ -18,9 +18,9 @@ use Rattle.machine.specs.Below.{sumBelow}
 use Rattle.machine.proofs.Bools.{cond-elim}
 use Rattle.machine.proofs.Below.{sum-same}
 use Rattle.machine.proofs.Step.{rights-held}
-use Rattle.calls.specs.Apart.{callOf}
-use Rattle.calls.specs.declared.Second.{Second}
-use Rattle.calls.specs.declared.Second.the-variants.{Nothing, Word}
+use Rattle.cutting.specs.Cutting.{callOf}
+use Rattle.cutting.specs.declared.Second.{Second}
+use Rattle.cutting.specs.declared.Second.the-variants.{Nothing, Word}
 use Rattle.kernel.specs.Ready.{Ready}
 use Rattle.kernel.specs.Answer.{headOf, answerWith, Eight}
 use Rattle.kernel.proofs.Digits.{digitSum, digits-below, digits-end}

@@ -9,10 +9,10 @@ use Rattle.machine.specs.Table as table
 use Rattle.machine.specs.Call.{cut}
 use Rattle.machine.proofs.Cut.{Running, running-start, running-next, running-end}
 use Rattle.machine.proofs.Step.{stays-accepted}
-use Rattle.calls.specs.Apart.{callOf}
-use Rattle.calls.specs.Cutting.{secondAt, widthOf}
-use Rattle.calls.specs.declared.Second.{Second}
-use Rattle.calls.proofs.CutAt.{CutAt, cut-at}
+use Rattle.cutting.specs.Cutting.{callOf}
+use Rattle.cutting.specs.Cutting.{secondAt, widthOf}
+use Rattle.cutting.specs.declared.Second.{Second}
+use Rattle.cutting.proofs.CutAt.{CutAt, cut-at}
 use Rattle.kernel.specs.Ready.{Ready}
 use Rattle.kernel.specs.Step.{Served}
 use Rattle.kernel.specs.Run.{AllRun}

@@ -5,7 +5,7 @@ mod list;
 mod perform;
 mod serve;
 
-use calls::Second;
+use cutting::Second;
 use entry::EntryRefusal;
 use entry::Ran;
 use layout::domains;
@@ -17,7 +17,7 @@ use table::Checked;
 use table::TableRefusal;
 use table::check;
 ghost use Rattle.machine.specs.Promise.{RunPromise};
-ghost use Rattle.calls.specs.Apart.{callOf};
+ghost use Rattle.cutting.specs.Cutting.{callOf};
 ghost use Rattle.kernel.specs.Step.{StepPromise};
 ghost use Rattle.entry.specs.Entry.{ranCode, ranCalls};
 

@@ -1,9 +1,9 @@
 // The calls of a list one after the other, and the answer space that they need.
 use crate::Answer;
 use crate::serve::serve;
-use calls::cutting::count;
-use calls::cutting::second_at;
-use calls::cutting::width;
+use cutting::count;
+use cutting::second_at;
+use cutting::width;
 ghost use mathlib.Core.Path.{_≡_};
 ghost use mathlib.Core.Bool.{not};
 ghost use mathlib.Core.List.{_++_};

@@ -3,9 +3,9 @@ use Prim.Native.Nat.{_+_, _*_, _-_, _≤_}
 use native.Mathlib.Omega.{arith}
 use lib.ListN.{length}
 use borrow.Author.Needs.{needs}
-use Rattle.calls.specs.Cutting.{widthOf}
-use Rattle.calls.specs.declared.Second.{Second}
-use Rattle.calls.specs.declared.Second.the-variants.{Nothing, Word}
+use Rattle.cutting.specs.Cutting.{widthOf}
+use Rattle.cutting.specs.declared.Second.{Second}
+use Rattle.cutting.specs.declared.Second.the-variants.{Nothing, Word}
 use Rattle.kernel.proofs.Underway.{Underway, underway-start, room, underway-next, underway-end}
 use Rattle.kernel.proofs.list.run_calls.Statement.{statement}
 use Rattle.kernel.proofs.list.run_calls.Tie as tie

@@ -4,7 +4,7 @@ use mathlib.Core.Path.{_≡_, sym, ap, ap₂, subst, _∙_}
 use native.Mathlib.Omega.{arith}
 use borrow.Author.Needs.{needs}
 use Rattle.machine.specs.Machine as machine
-use Rattle.calls.specs.Apart.{callOf}
+use Rattle.cutting.specs.Cutting.{callOf}
 use Rattle.calls.specs.Decide.{decideCall}
 use Rattle.calls.proofs.Decide.{decided}
 use Rattle.decide.specs.Decision.{decisionOf}

@@ -1,9 +1,9 @@
--- `calls::cutting::wants_second` meets its contract: its tests are those of `wantsSecond`, in their order.
+-- `cutting::wants_second` meets its contract: its tests are those of `wantsSecond`, in their order.
 -- Assumes nothing.
 use borrow.Author.Tests.{eq-eqb, ne-eqb}
 use Rattle.machine.specs.Call.{wantsSecond}
-use Rattle.calls.proofs.cutting.wants_second.Statement.{statement}
-use Rattle.calls.proofs.cutting.wants_second.Tie as tie
+use Rattle.cutting.proofs.wants_second.Statement.{statement}
+use Rattle.cutting.proofs.wants_second.Tie as tie
 
 returns : tie.Need-returns
 unfolding wantsSecond

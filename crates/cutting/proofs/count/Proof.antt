@@ -1,4 +1,4 @@
--- `calls::cutting::count` meets its contract. The invariant says what remains (proofs/Counted).
+-- `cutting::count` meets its contract. The invariant says what remains (proofs/Counted).
 -- Assumes nothing.
 use Prim.Native.Nat.{_≤_, _-_}
 use native.Mathlib.Omega.{arith}
@@ -6,9 +6,9 @@ use borrow.Author.Needs.{needs}
 use denote.Ref.{now}
 use lib.ListN.{length, getD}
 use Rattle.machine.specs.Call.{pairs}
-use Rattle.calls.proofs.Counted.{Counted, counted-none, counted-next, counted-all, one-at-most}
-use Rattle.calls.proofs.cutting.count.Statement.{statement}
-use Rattle.calls.proofs.cutting.count.Tie as tie
+use Rattle.cutting.proofs.Counted.{Counted, counted-none, counted-next, counted-all, one-at-most}
+use Rattle.cutting.proofs.count.Statement.{statement}
+use Rattle.cutting.proofs.count.Tie as tie
 
 abbrev Inv-loop : tie.InvT-loop
 Inv-loop list calls₀ before₀ i₀ calls before i = (i ≤ length list) × (calls ≤ i) × Counted list calls before i

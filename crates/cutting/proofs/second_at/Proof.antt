@@ -1,4 +1,4 @@
--- `calls::cutting::second_at` meets its contract: each return rewrites `secondAt` with the tests that led there.
+-- `cutting::second_at` meets its contract: each return rewrites `secondAt` with the tests that led there.
 -- Assumes nothing.
 use Prim.Native.Nat.{_+_, _<_, _≤_}
 use mathlib.Core.Path.{_∙_, sym}
@@ -7,9 +7,9 @@ use borrow.Author.Needs.{needs}
 use borrow.Author.Tests.{lt-ltb, le-ltb}
 use denote.Ref.{now}
 use lib.ListN.{length}
-use Rattle.calls.specs.Cutting.{secondAt}
-use Rattle.calls.proofs.cutting.second_at.Statement.{statement}
-use Rattle.calls.proofs.cutting.second_at.Tie as tie
+use Rattle.cutting.specs.Cutting.{secondAt}
+use Rattle.cutting.proofs.second_at.Statement.{statement}
+use Rattle.cutting.proofs.second_at.Tie as tie
 
 returns : tie.Need-returns
 unfolding secondAt

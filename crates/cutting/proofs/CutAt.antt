@@ -13,10 +13,10 @@ use lib.Seq.{drop-cons}
 use Rattle.machine.specs.Call as machine
 use Rattle.machine.specs.Call.{pairs, cut}
 use Rattle.machine.proofs.Cut.{cut-last, cut-one, cut-two}
-use Rattle.calls.specs.Apart.{callOf}
-use Rattle.calls.specs.Cutting.{secondAt, widthOf}
-use Rattle.calls.specs.declared.Second.{Second}
-use Rattle.calls.specs.declared.Second.the-variants.{Nothing, Word}
+use Rattle.cutting.specs.Cutting.{callOf}
+use Rattle.cutting.specs.Cutting.{secondAt, widthOf}
+use Rattle.cutting.specs.declared.Second.{Second}
+use Rattle.cutting.specs.declared.Second.the-variants.{Nothing, Word}
 
 pub record CutAt (ws : List ℕ) (i : ℕ) (s : Second) : Type 0 where
   pub within : i + widthOf s ≤ length ws

@@ -1,4 +1,4 @@
--- `calls::cutting::make_one_call` meets its contract: the two tests are those of `pairs`, the other way round.
+-- `cutting::make_one_call` meets its contract: the two tests are those of `pairs`, the other way round.
 -- Assumes nothing.
 use borrow.Author.Needs.{needs}
 use borrow.Author.Tests.{eq-eqb, ne-eqb}
@@ -6,8 +6,8 @@ use mathlib.Core.Path.{_∙_, sym}
 use mathlib.Core.Bool.{and-true, and-false}
 use Rattle.machine.specs.Word.{kind}
 use Rattle.machine.specs.Call.{pairs, wantsSecond}
-use Rattle.calls.proofs.cutting.make_one_call.Statement.{statement}
-use Rattle.calls.proofs.cutting.make_one_call.Tie as tie
+use Rattle.cutting.proofs.make_one_call.Statement.{statement}
+use Rattle.cutting.proofs.make_one_call.Tie as tie
 
 wants-second-requires : tie.Need-wants-second-requires
 wants-second-requires c κs = search needs

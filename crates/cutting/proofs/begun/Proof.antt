@@ -1,10 +1,10 @@
--- `calls::cutting::begun` meets its contract: the choice is that of `make_one_call`'s answer.
+-- `cutting::begun` meets its contract: the choice is that of `make_one_call`'s answer.
 -- Assumes nothing.
 use mathlib.Core.Path.{_∙_, sym, ap}
 use mathlib.Core.Bool.{Bool, cond}
 use borrow.Author.Needs.{needs}
-use Rattle.calls.proofs.cutting.begun.Statement.{statement}
-use Rattle.calls.proofs.cutting.begun.Tie as tie
+use Rattle.cutting.proofs.begun.Statement.{statement}
+use Rattle.cutting.proofs.begun.Tie as tie
 
 make-one-call-requires : tie.Need-make-one-call-requires
 make-one-call-requires c κs = search needs

@@ -1,10 +1,15 @@
 // The cutting of a list into calls. It looks at kinds only, so it can't depend on a table: no function here is lent one.
-use crate::Second;
 ghost use mathlib.Core.Path.{_≡_};
 ghost use mathlib.Core.Bool.{cond};
 ghost use lib.ListN.{length};
 ghost use Rattle.machine.specs.Call.{wantsSecond, pairs, cut};
-ghost use Rattle.calls.specs.Cutting.{secondAt, widthOf};
+ghost use Rattle.cutting.specs.Cutting.{secondAt, widthOf};
+
+// A call's second word, if it has one.
+pub enum Second {
+    Nothing,
+    Word(u32),
+}
 
 // Kinds 1 and 2 want a second word.
 fn wants_second(kind: u32) -> bool

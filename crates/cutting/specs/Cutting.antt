@@ -5,9 +5,15 @@ use mathlib.Core.Bool.{cond, _&&_}
 use mathlib.Core.List.{List}
 use lib.ListN.{length, getD}
 use lib.Dec.{ltb}
+use Rattle.machine.specs.Call as machine
 use Rattle.machine.specs.Call.{pairs}
-use Rattle.calls.specs.declared.Second.{Second}
-use Rattle.calls.specs.declared.Second.the-variants.{Nothing, Word}
+use Rattle.cutting.specs.declared.Second.{Second}
+use Rattle.cutting.specs.declared.Second.the-variants.{Nothing, Word}
+
+-- the machine's call of a first word and what comes second
+abbrev pub callOf : ℕ → Second → machine.Call
+callOf w Nothing = machine.one w
+callOf w (Word v) = machine.two w v
 
 -- the word behind the one at place i, where the two make one call
 unfoldable pub secondAt : List ℕ → ℕ → Second

@@ -1,0 +1,3 @@
+-- What is proved of the cutting.
+pub mod Counted
+pub mod CutAt
