@@ -14,7 +14,7 @@ use lib.ListN.{length, getD}
 use Rattle.machine.specs.Table.{domains, endpoints, lengthFor}
 use Rattle.machine.specs.Check.{headerOk, lengthOk, tableCode}
 use Rattle.table.proofs.Places.{code-2, code-3}
-use Rattle.text.specs.Bytes.{wordOf, wordsOf}
+use Rattle.reading.specs.Bytes.{wordOf, wordsOf}
 use Rattle.balkwizu.specs.Bytes.{bytesOf, bytesFor, bytesCode}
 use Rattle.balkwizu.proofs.Places.{bytes-2, bytes-3, bytes-words}
 

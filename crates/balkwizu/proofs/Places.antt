@@ -17,9 +17,9 @@ use Rattle.machine.proofs.Bools.{and-left}
 use Rattle.table.specs.Checked.{Headed}
 use Rattle.table.proofs.Places.{empty-header, word-header, headed-most, headed-size}
 use Rattle.table.proofs.Gather.{part-name}
-use Rattle.text.specs.Bytes.{wordsOf}
+use Rattle.reading.specs.Bytes.{wordsOf}
 use Rattle.balkwizu.specs.Bytes.{bytesFor, bytesCode, Fitting}
-use Rattle.text.proofs.WordLaws.{length-wordsOf}
+use Rattle.reading.proofs.WordLaws.{length-wordsOf}
 
 -- What a first word x of a table says of it: its n domains and m endpoints, the first endpoint at `from`, and that the bytes
 -- hold them all.

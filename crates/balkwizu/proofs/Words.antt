@@ -1,8 +1,8 @@
--- The words of bytes (specs/Bytes of crate text): where the bytes of each stand. Assumes nothing.
+-- The words of bytes (specs/Bytes of crate reading): where the bytes of each stand. Assumes nothing.
 use mathlib.Core.Path.{_≡_, refl, sym, ap, _∙_}
 use mathlib.Core.Bool.{Bool, _&&_}
 use mathlib.Core.List.{List, [], _∷_}
-use Prim.Native.Nat.{ℕ, zero, suc, _+_, _*_, _/_, _%_, _<_, _≤_}
+use Prim.Native.Nat.{ℕ, zero, suc, _+_, _*_, _%_, _<_, _≤_}
 use native.Mathlib.Omega.{arith}
 use lib.ListN.{length, getD, take, drop}
 use lib.Seq.{getD-take, getD-drop}
@@ -10,7 +10,7 @@ use Rattle.machine.specs.Below.{allBelow}
 use Rattle.machine.specs.Queue.{capacity, waiting}
 use Rattle.machine.specs.Check.{nameWordOk, infoWordOk, waitingWordOk, lostWordOk, slotWordOk, identityOk, queueOk, endpointOk}
 use Rattle.machine.proofs.Below.{all-same}
-use Rattle.text.specs.Bytes.{wordOf, wordsOf}
+use Rattle.reading.specs.Bytes.{wordOf, wordsOf}
 
 -- behind the first four bytes
 past : (a b c d : ℕ) (rest : List ℕ) (j k : ℕ) → j ≡ suc (suc (suc (suc k))) → getD (a ∷ b ∷ c ∷ d ∷ rest) j 0 ≡ getD rest k 0

@@ -19,7 +19,7 @@ ghost use lib.ListN.{length, getD, take, drop};
 ghost use Rattle.machine.specs.Below.{allBelow};
 ghost use Rattle.machine.specs.Check.{slotWordOk, endpointOk, headerOk, rightsOk, endpointsOk};
 ghost use Rattle.table.specs.Checked.{checkedCode};
-ghost use Rattle.text.specs.Bytes.{wordOf, wordsOf};
+ghost use Rattle.reading.specs.Bytes.{wordOf, wordsOf};
 ghost use Rattle.balkwizu.specs.Bytes.{bytesFor, bytesCode, Fitting};
 
 // The word of four bytes, the lowest first.

@@ -1,9 +1,10 @@
 -- The rows hold, each by computation. Assumes nothing.
 use mathlib.Core.Path.{refl}
 use Rattle.machine.specs.Everything.{everything}
-use Rattle.text.specs.Bytes.{ascii, wordsOf}
+use Rattle.text.specs.Ascii.{ascii}
+use Rattle.reading.specs.Bytes.{wordsOf}
 use Rattle.text.specs.Decimal.{digitsWithin, decimal, labelled}
-use Rattle.text.specs.TableInput.{noTable, tableOf, afterTable}
+use Rattle.reading.specs.TableInput.{noTable, tableOf, afterTable}
 use Rattle.linerun_text.specs.Input.{listOf, leftOver, unreadable}
 use Rattle.linerun_text.specs.Lines.{firstLine, callLine}
 use Rattle.linerun.specs.Lines.{callLines, allLines}

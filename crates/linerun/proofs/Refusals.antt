@@ -14,10 +14,10 @@ use Rattle.machine.specs.Entry.{longestList, spaceCode, entryCode, refusal, ent
 use Rattle.machine.proofs.Bools.{cond-elim}
 use Rattle.machine.proofs.Cut.{cut-few}
 use Rattle.machine.proofs.Promise.{entry-code, entry-refused, code-long}
-use Rattle.text.specs.Bytes.{wordsOf}
-use Rattle.text.specs.TableInput.{tableOf, afterTable}
-use Rattle.text.proofs.WordLaws.{length-wordsOf}
-use Rattle.text.proofs.TableLaws.{Whole, whole-table}
+use Rattle.reading.specs.Bytes.{wordsOf}
+use Rattle.reading.specs.TableInput.{tableOf, afterTable}
+use Rattle.reading.proofs.WordLaws.{length-wordsOf}
+use Rattle.reading.proofs.TableLaws.{Whole, whole-table}
 use Rattle.linerun_text.specs.Input.{listWordsRead, listOf, unreadable}
 use Rattle.linerun_text.specs.Lines.{firstLine}
 use Rattle.linerun.specs.Lines.{callLines, allLines}

@@ -9,8 +9,8 @@ use lib.ListN.{length, length-append}
 use Rattle.machine.specs.Entry.{longestList}
 use Rattle.machine.specs.Promise.{RunPromise}
 use Rattle.machine.proofs.Promise.{calls-few}
-use Rattle.text.specs.TableInput.{noTable, tableOf, afterTable}
-use Rattle.text.proofs.TableLaws.{Whole, whole, whole-table, no-more, no-table-more, whole-more, tableOf-more, afterTable-more}
+use Rattle.reading.specs.TableInput.{noTable, tableOf, afterTable}
+use Rattle.reading.proofs.TableLaws.{Whole, whole, whole-table, no-more, no-table-more, whole-more, tableOf-more, afterTable-more}
 use Rattle.linerun_text.specs.Input.{listWordsRead, listOf, unreadable, wanted}
 use Rattle.linerun_text.specs.Lines.{firstLine}
 use Rattle.linerun_text.proofs.InputLaws.{no-left-over, listOf-more}

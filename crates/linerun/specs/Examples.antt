@@ -6,7 +6,7 @@ use mathlib.Core.Path.{_≡_}
 use mathlib.Core.List.{List, [], _∷_, _++_}
 use lib.ListN.{take, replicate}
 use Rattle.machine.specs.Examples.{T, L}
-use Rattle.text.specs.Bytes.{ascii}
+use Rattle.text.specs.Ascii.{ascii}
 use Rattle.linerun.specs.Report.{report}
 
 -- words as bytes, the lowest byte first

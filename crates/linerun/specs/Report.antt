@@ -4,7 +4,7 @@ use mathlib.Core.Bool.{cond}
 use mathlib.Core.List.{List}
 use lib.ListN.{replicate}
 use Rattle.machine.specs.Entry.{Outcome, entry, longestList}
-use Rattle.text.specs.TableInput.{tableOf}
+use Rattle.reading.specs.TableInput.{tableOf}
 use Rattle.linerun_text.specs.Input.{listOf, unreadable}
 use Rattle.linerun_text.specs.Lines.{firstLine}
 use Rattle.linerun.specs.Lines.{allLines}

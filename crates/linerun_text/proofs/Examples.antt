@@ -1,6 +1,6 @@
 -- Rows that pin the lines, each by computation. Assumes nothing.
 use mathlib.Core.Path.{_≡_, refl}
-use Rattle.text.specs.Bytes.{ascii}
+use Rattle.text.specs.Ascii.{ascii}
 use Rattle.text.specs.Decimal.{digitsWithin, decimal, labelled}
 use Rattle.linerun_text.specs.Lines.{firstLine, callLine}
 

@@ -9,12 +9,12 @@ use native.Mathlib.Omega.{arith}
 use lib.Dec.{lit≤}
 use lib.ListN.{length, take, drop, length-take, length-drop}
 use Rattle.machine.proofs.Bools.{or-none-left}
-use Rattle.text.specs.Bytes.{wordsOf}
-use Rattle.text.specs.TableInput.{tableEnd, noTable, afterTable}
+use Rattle.reading.specs.Bytes.{wordsOf}
+use Rattle.reading.specs.TableInput.{tableEnd, noTable, afterTable}
 use Rattle.text.specs.Write.{Fills}
 use Rattle.text.proofs.WriteLaws.{fills-cut, fills-part}
-use Rattle.text.proofs.WordLaws.{take-wordsOf-append}
-use Rattle.text.proofs.TableLaws.{Whole, whole, table-within, afterTable-more}
+use Rattle.reading.proofs.WordLaws.{take-wordsOf-append}
+use Rattle.reading.proofs.TableLaws.{Whole, whole, table-within, afterTable-more}
 use Rattle.linerun_text.specs.Input.{listWordsRead, mostInput, listOf, leftOver, unreadable, wanted}
 
 -- the reading asks for no byte past the room for a longest table and a list one word too long

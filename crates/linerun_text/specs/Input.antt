@@ -5,8 +5,8 @@ use mathlib.Core.List.{List}
 use lib.ListN.{length, take}
 use lib.Dec.{eqb, ltb}
 use Rattle.machine.specs.Entry.{longestList}
-use Rattle.text.specs.Bytes.{wordsOf}
-use Rattle.text.specs.TableInput.{longestTable, noTable, afterTable, tableWanted}
+use Rattle.reading.specs.Bytes.{wordsOf}
+use Rattle.reading.specs.TableInput.{longestTable, noTable, afterTable, tableWanted}
 
 -- the reading stops at the first list word that is one too many
 abbrev pub listWordsRead : ℕ

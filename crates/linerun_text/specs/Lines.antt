@@ -2,7 +2,7 @@
 use Prim.Native.Nat.{ℕ, _%_}
 use mathlib.Core.List.{List, _++_}
 use Rattle.machine.specs.Word.{kind, caller}
-use Rattle.text.specs.Bytes.{ascii}
+use Rattle.text.specs.Ascii.{ascii}
 use Rattle.text.specs.Decimal.{labelled}
 
 -- bits 15–0 of an answer's first word: its code

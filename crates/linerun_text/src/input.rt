@@ -1,7 +1,7 @@
 // What linerun reads: the table, then the list's words up to word 4,097.
-use text::table_input::after_table;
-use text::table_input::no_table;
-use text::table_input::table_wanted;
+use reading::table_input::after_table;
+use reading::table_input::no_table;
+use reading::table_input::table_wanted;
 ghost use mathlib.Core.Path.{_≡_};
 ghost use Rattle.linerun_text.specs.Input.{unreadable, wanted};
 

@@ -1,13 +1,8 @@
 -- Rows that pin the definitions, each by computation. Assumes nothing.
 use mathlib.Core.Path.{_≡_, refl}
-use mathlib.Core.List.{[], _∷_}
-use Rattle.text.specs.Bytes.{ascii, wordsOf}
+use Rattle.text.specs.Ascii.{ascii}
 use Rattle.text.specs.Decimal.{digitsWithin, decimal}
 use Rattle.text.specs.Write.{overwrite}
-
-pub words-row : wordsOf (0x78 ∷ 0x56 ∷ 0x34 ∷ 0x12 ∷ 0xFF ∷ 0 ∷ 0 ∷ 0x80 ∷ 1 ∷ 2 ∷ 3 ∷ []) ≡ 0x1234_5678 ∷ 0x8000_00FF ∷ []
-unfolding wordsOf
-words-row = refl
 
 pub decimal-rows : (decimal 0 ≡ ascii "0")
     × (decimal 9 ≡ ascii "9")

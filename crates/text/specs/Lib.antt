@@ -1,5 +1,4 @@
--- What the contracts of `text` cite: bytes as words, numbers as text, and bytes laid over a lent buffer.
-pub mod Bytes
+-- What the contracts of `text` cite: a text as bytes, numbers as text, and bytes laid over a lent buffer.
+pub mod Ascii
 pub mod Decimal
 pub mod Write
-pub mod TableInput

@@ -1,5 +1,2 @@
-// Bytes as words and numbers as text, for the programs: what reading a table and printing numbers have in common.
-mod bounds;
-pub mod table_input;
-pub mod words;
+// Text and numbers into a lent buffer: what the programs' printing has in common.
 pub mod write;

@@ -5,7 +5,7 @@ use borrow.Author.Tests.{eqb-true, not-true, not-false}
 use denote.Ref.{now}
 use Rattle.machine.specs.Check.{headerOk, rightsOk}
 use Rattle.table.proofs.Places.{code-0, code-4, code-5}
-use Rattle.text.specs.Bytes.{wordsOf}
+use Rattle.reading.specs.Bytes.{wordsOf}
 use Rattle.balkwizu.specs.Bytes.{Fitting}
 use Rattle.balkwizu.proofs.Places.{fitting-headed, bytes-2, bytes-3, bytes-words}
 use Rattle.balkwizu.proofs.bytes.check.Statement.{statement}

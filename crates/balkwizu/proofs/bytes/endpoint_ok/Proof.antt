@@ -4,7 +4,7 @@ use mathlib.Core.Bool.{_&&_}
 use borrow.Author.Needs.{needs}
 use denote.Ref.{now}
 use Rattle.machine.specs.Check.{nameWordOk, lostWordOk}
-use Rattle.text.specs.Bytes.{wordsOf}
+use Rattle.reading.specs.Bytes.{wordsOf}
 use Rattle.balkwizu.proofs.Words.{endpoint-words}
 use Rattle.balkwizu.proofs.bytes.endpoint_ok.Statement.{statement}
 use Rattle.balkwizu.proofs.bytes.endpoint_ok.Tie as tie

@@ -10,7 +10,7 @@ use Rattle.table.proofs.Bounds.{count-fits, from-fits, words-fit, start-fits, n
 use Rattle.table.proofs.Scan.{scan-start, scan-next}
 use Rattle.table.proofs.Fill.{fill-start, fill-next}
 use Rattle.table.proofs.Gather.{Gathered, all-words-right, some-word-wrong}
-use Rattle.text.specs.Bytes.{wordsOf}
+use Rattle.reading.specs.Bytes.{wordsOf}
 use Rattle.balkwizu.proofs.Places.{Counted, counted-endpoint, counted-name, counted-within, counted-first, header-four, fitting-counted}
 use Rattle.balkwizu.proofs.bytes.endpoints_ok.Statement.{statement}
 use Rattle.balkwizu.proofs.bytes.endpoints_ok.Tie as tie

@@ -1,5 +1,5 @@
 -- `linerun_text::lines::call_line` meets its contract: the pieces of the line are written one after another (`then`). Assumes nothing.
-use Rattle.text.specs.Bytes.{ascii}
+use Rattle.text.specs.Ascii.{ascii}
 use Rattle.text.proofs.WriteLaws.{then, writes-length}
 use Rattle.linerun_text.specs.Lines.{callLine}
 use borrow.Author.Needs.{needs}

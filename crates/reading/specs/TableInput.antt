@@ -6,7 +6,7 @@ use mathlib.Core.List.{List}
 use lib.ListN.{length, take, drop}
 use lib.Dec.{ltb}
 use Rattle.machine.specs.Table.{lengthFor}
-use Rattle.text.specs.Bytes.{wordAt, wordsOf}
+use Rattle.reading.specs.Bytes.{wordAt, wordsOf}
 
 -- the most words that a table has: those of 16 domains and 32 endpoints, 641
 abbrev pub longestTable : ℕ

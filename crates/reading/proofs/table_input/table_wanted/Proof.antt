@@ -1,10 +1,10 @@
--- `text::table_input::table_wanted` meets its contract: each return rewrites by the tests that led there. Assumes nothing.
+-- `reading::table_input::table_wanted` meets its contract: each return rewrites by the tests that led there. Assumes nothing.
 use borrow.Author.Needs.{needs}
 use borrow.Author.Tests.{lt-ltb, le-ltb}
 use native.Mathlib.Omega.{arith}
-use Rattle.text.specs.TableInput.{tableWanted}
-use Rattle.text.proofs.table_input.table_wanted.Statement.{statement}
-use Rattle.text.proofs.table_input.table_wanted.Tie as tie
+use Rattle.reading.specs.TableInput.{tableWanted}
+use Rattle.reading.proofs.table_input.table_wanted.Statement.{statement}
+use Rattle.reading.proofs.table_input.table_wanted.Tie as tie
 
 sub-result : tie.Need-sub-result
 sub-result c = search needs

@@ -2,8 +2,8 @@
 use crate::bounds::least;
 ghost use mathlib.Core.Path.{_≡_};
 ghost use lib.ListN.{getD};
-ghost use Rattle.text.specs.Bytes.{wordOf, wordAt, wordsOf};
+ghost use Rattle.reading.specs.Bytes.{wordOf, wordAt, wordsOf};
 ghost use Rattle.text.specs.Write.{Fills};
 
 // The word of four bytes, the lowest first.
 fn word(a: u8, b: u8, c: u8, d: u8) -> u32

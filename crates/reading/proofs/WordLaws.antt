@@ -7,7 +7,7 @@ use native.Mathlib.Omega.{arith}
 use lib.Dec.{lit<}
 use lib.ListN.{length, getD, take, drop, List·getD-eq-default, List·getD-append}
 use lib.Seq.{getD-drop, take-append-le}
-use Rattle.text.specs.Bytes.{wordOf, wordAt, wordsOf}
+use Rattle.reading.specs.Bytes.{wordOf, wordAt, wordsOf}
 
 pub length-wordsOf : (bytes : List ℕ) → length (wordsOf bytes) ≡ length bytes / 4
 unfolding wordsOf

@@ -1,9 +1,9 @@
--- `text::words::word_at` meets its contract: past the end the word is 0 (`wordAt-past`). Assumes nothing.
+-- `reading::words::word_at` meets its contract: past the end the word is 0 (`wordAt-past`). Assumes nothing.
 use borrow.Author.Needs.{needs}
 use mathlib.Core.Path.{sym}
-use Rattle.text.proofs.WordLaws.{wordAt-past}
-use Rattle.text.proofs.words.word_at.Statement.{statement}
-use Rattle.text.proofs.words.word_at.Tie as tie
+use Rattle.reading.proofs.WordLaws.{wordAt-past}
+use Rattle.reading.proofs.words.word_at.Statement.{statement}
+use Rattle.reading.proofs.words.word_at.Tie as tie
 
 returns : tie.Need-returns
 returns c = sym (wordAt-past (c .before .before .args .bytes .now) (c .before .before .args .at) (c .if1 .taken))

@@ -1,8 +1,8 @@
--- `text::table_input::after_table` meets its contract (`rest-part`). Assumes nothing.
-use Rattle.text.proofs.TableLaws.{rest-part}
+-- `reading::table_input::after_table` meets its contract (`rest-part`). Assumes nothing.
+use Rattle.reading.proofs.TableLaws.{rest-part}
 use borrow.Author.Needs.{needs}
-use Rattle.text.proofs.table_input.after_table.Statement.{statement}
-use Rattle.text.proofs.table_input.after_table.Tie as tie
+use Rattle.reading.proofs.table_input.after_table.Statement.{statement}
+use Rattle.reading.proofs.table_input.after_table.Tie as tie
 
 table-end-requires : tie.Need-table-end-requires
 table-end-requires c κs = search needs

@@ -5,8 +5,8 @@ use crate::words::word_at;
 ghost use Prim.Native.Nat.{min};
 ghost use mathlib.Core.Path.{_≡_};
 ghost use lib.ListN.{length};
-ghost use Rattle.text.specs.TableInput.{noTable, tableEnd, tableOf, afterTable, tableWanted};
+ghost use Rattle.reading.specs.TableInput.{noTable, tableEnd, tableOf, afterTable, tableWanted};
 ghost use Rattle.text.specs.Write.{Fills};
 
 // The most words that a table has.
 const LONGEST_TABLE: usize = 641;

@@ -1,8 +1,8 @@
--- `text::table_input::read_table` meets its contract (`table-part`). Assumes nothing.
-use Rattle.text.proofs.TableLaws.{fills-none, table-part}
+-- `reading::table_input::read_table` meets its contract (`table-part`). Assumes nothing.
+use Rattle.reading.proofs.TableLaws.{fills-none, table-part}
 use borrow.Author.Needs.{needs}
-use Rattle.text.proofs.table_input.read_table.Statement.{statement}
-use Rattle.text.proofs.table_input.read_table.Tie as tie
+use Rattle.reading.proofs.table_input.read_table.Statement.{statement}
+use Rattle.reading.proofs.table_input.read_table.Tie as tie
 
 returns : tie.Need-returns
 returns c = fills-none (c .before .before .before .args .bytes .now) (c .before .before .before .args .table .now) (c .if1 .taken)

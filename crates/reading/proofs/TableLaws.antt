@@ -11,11 +11,11 @@ use lib.Dec.{ltb}
 use lib.ListN.{length, take, drop, length-append, length-take, length-drop, drop-of-length-le}
 use lib.Seq.{take-all, take-nil, drop-append-le}
 use Rattle.machine.proofs.Bools.{or-none-left, or-none-right}
-use Rattle.text.specs.Bytes.{wordsOf}
-use Rattle.text.specs.TableInput.{longestTable, tableLength, tableEnd, noTable, tableOf, afterTable, tableWanted}
+use Rattle.reading.specs.Bytes.{wordsOf}
+use Rattle.reading.specs.TableInput.{longestTable, tableLength, tableEnd, noTable, tableOf, afterTable, tableWanted}
 use Rattle.text.specs.Write.{Fills}
-use Rattle.text.proofs.WordLaws.{length-wordsOf, take-wordsOf, wordAt-append, take-wordsOf-append}
+use Rattle.reading.proofs.WordLaws.{length-wordsOf, take-wordsOf, wordAt-append, take-wordsOf-append}
 use Rattle.text.proofs.WriteLaws.{overwrite-none}
 
 -- the part of the input from its fifth byte to the table's end has the table's words
 pub table-part : (bytes : List ℕ) (end : ℕ) → end ≡ min (tableEnd bytes) (length bytes)

@@ -1,14 +1,7 @@
--- Bytes as text and bytes as words (document 01, 'Into firmware and onto the bench': little-endian words).
+-- Bytes as words (document 01, 'Into firmware and onto the bench': little-endian words).
 use Prim.Native.Nat.{ℕ, _+_, _*_}
-use Prim.Native.Char.{code}
-use Prim.Native.String.{String, [] as []ᵗ, _∷_ as _∷ᵗ_}
 use mathlib.Core.List.{List, [], _∷_}
 use lib.ListN.{getD}
-
--- the bytes of a text in ASCII
-unfoldable pub ascii : String → List ℕ
-ascii []ᵗ = []
-ascii (c ∷ᵗ s) = code c ∷ ascii s
 
 -- the word of four bytes, the lowest first
 abbrev pub wordOf : ℕ → ℕ → ℕ → ℕ → ℕ

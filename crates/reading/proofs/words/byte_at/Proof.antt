@@ -1,9 +1,9 @@
--- `text::words::byte_at` meets its contract. Assumes nothing.
+-- `reading::words::byte_at` meets its contract. Assumes nothing.
 use borrow.Author.Needs.{needs}
 use mathlib.Core.Path.{sym}
 use lib.ListN.{List·getD-eq-default}
-use Rattle.text.proofs.words.byte_at.Statement.{statement}
-use Rattle.text.proofs.words.byte_at.Tie as tie
+use Rattle.reading.proofs.words.byte_at.Statement.{statement}
+use Rattle.reading.proofs.words.byte_at.Tie as tie
 
 shared-slice-read-result : tie.Need-shared-slice-read-result
 shared-slice-read-result c = search needs

@@ -1,9 +1,9 @@
--- `text::table_input::no_table` meets its contract: each return rewrites by the tests that led there. Assumes nothing.
+-- `reading::table_input::no_table` meets its contract: each return rewrites by the tests that led there. Assumes nothing.
 use borrow.Author.Needs.{needs}
 use borrow.Author.Tests.{lt-ltb, le-ltb}
-use Rattle.text.specs.TableInput.{noTable}
-use Rattle.text.proofs.table_input.no_table.Statement.{statement}
-use Rattle.text.proofs.table_input.no_table.Tie as tie
+use Rattle.reading.specs.TableInput.{noTable}
+use Rattle.reading.proofs.table_input.no_table.Statement.{statement}
+use Rattle.reading.proofs.table_input.no_table.Tie as tie
 
 returns : tie.Need-returns
 unfolding noTable

@@ -1,15 +1,15 @@
--- `text::words::fill` meets its contract: after i turns the first i words stand at the front. Assumes nothing.
+-- `reading::words::fill` meets its contract: after i turns the first i words stand at the front. Assumes nothing.
 use borrow.Author.Needs.{needs}
 use Prim.Native.Nat.{_-_, _/_, _<_, _≤_, min}
 use mathlib.Core.Path.{_≡_, refl, sym, _∙_}
 use native.Mathlib.Omega.{arith}
 use lib.ListN.{length, take, length-set}
-use Rattle.text.specs.Bytes.{wordsOf}
+use Rattle.reading.specs.Bytes.{wordsOf}
 use Rattle.text.specs.Write.{overwrite}
 use Rattle.text.proofs.WriteLaws.{overwrite-none, write-next, write-all}
-use Rattle.text.proofs.WordLaws.{length-wordsOf, getD-wordsOf}
-use Rattle.text.proofs.words.fill.Statement.{statement}
-use Rattle.text.proofs.words.fill.Tie as tie
+use Rattle.reading.proofs.WordLaws.{length-wordsOf, getD-wordsOf}
+use Rattle.reading.proofs.words.fill.Statement.{statement}
+use Rattle.reading.proofs.words.fill.Tie as tie
 
 abbrev Inv-loop : tie.InvT-loop
 Inv-loop bytes words₀ count i₀ words i = (i ≤ count) × (words ≡ overwrite 0 (take i (wordsOf bytes)) words₀) × (length words ≡ length words₀)

@@ -1,0 +1,3 @@
+-- What the contracts of `reading` cite: bytes as words, and a table out of a program's input.
+pub mod Bytes
+pub mod TableInput
