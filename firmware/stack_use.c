@@ -39,7 +39,7 @@ static void make_table(void)
     }
 }
 
-/* Sends that fill queues and receives that move them up, then every other kind. */
+/* Sends that fill queues, receives that move them up, and every other kind. */
 static void make_list(void)
 {
     for (uint32_t i = 0; i < BALKWIZU_LIST_WORDS_MAX; i += 16) {
@@ -56,7 +56,7 @@ static void make_list(void)
         *word++ = BALKWIZU_MY_ENDPOINTS(u);
         *word++ = BALKWIZU_MY_RIGHTS(u);
         *word++ = BALKWIZU_GRANT(u, u, (u + 1) % DOMAINS, BALKWIZU_RIGHT_SEND);
-        *word++ = BALKWIZU_MY_RIGHTS(DOMAINS);
+        *word++ = BALKWIZU_REMOVE(u, u, BALKWIZU_RIGHT_SEND);
     }
 }
 
