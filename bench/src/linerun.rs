@@ -39,10 +39,13 @@ pub fn command(line: &[String]) -> Result<bool, String> {
     let program = options.file().map_err(|why| format!("PROGRAM: {why}"))?;
     let cases = options.number("--cases")?.unwrap_or(2000);
     let seed = options.number("--seed")?.unwrap_or(1);
-    let from = options.number("--from")?.unwrap_or(0);
+    if cases == 0 {
+        return Err("--cases 0 leaves nothing to compare".to_string());
+    }
+    let numbers = options.numbers("--cases", cases)?;
     let mut met = [0u64; 8];
-    let mut progress = Progress::new("inputs", cases);
-    for number in from..from.saturating_add(cases) {
+    let mut progress = Progress::new("inputs", &numbers);
+    for number in numbers {
         let input = input_of(seed, number);
         let expected = reference::linerun(&input);
         let printed = print_of(program, &input)?;

@@ -59,6 +59,11 @@ fn bad_usage_ends_with_2_and_says_why() {
     assert_eq!(status(&["commission"]), 2);
     assert!(told(&["commission", "/no/such/file"]).contains("cannot read /no/such/file"));
     assert_eq!(status(&["speed", "more"]), 2);
+    assert_eq!(status(&["speed", "--rounds", "0"]), 2);
+    assert_eq!(status(&["fuzz", "--cases", "0"]), 2);
+    assert!(told(&["fuzz", "--cases", "0"]).contains("leaves nothing to compare"));
+    let beyond = ["fuzz", "--from", "18446744073709551615", "--cases", "2"];
+    assert!(told(&beyond).contains("go beyond 2^64 - 1"));
     assert_eq!(status(&["linerun", "/no/such/program"]), 2);
 }
 
@@ -122,9 +127,9 @@ fn fuzz_meets_every_code_and_shows_no_progress_in_a_pipe() {
     let line = [
         "fuzz",
         "--cases",
-        "1000",
+        "10,000",
         "--table-checks",
-        "1000",
+        "10,000",
         "--seed",
         "3",
     ];
@@ -136,9 +141,15 @@ fn fuzz_meets_every_code_and_shows_no_progress_in_a_pipe() {
         text.ends_with("fuzz of balkwizu with seed 3: passed\n"),
         "{text}"
     );
-    let few = ["fuzz", "--cases", "2", "--table-checks", "0"];
-    assert_eq!(status(&few), 1);
-    assert!(printed(&few).contains("never met"));
+}
+
+#[test]
+fn one_run_can_be_tried_again_by_itself() {
+    let again = "fuzz --seed 3 --from 4 --cases 1 --table-checks 0";
+    let again: Vec<&str> = again.split(' ').collect();
+    assert_eq!(status(&again), 0);
+    assert!(printed(&again).ends_with("too few cases to ask that every code is met\n"));
+    assert_eq!(status(&["fuzz", "--cases", "0", "--table-checks", "1"]), 0);
 }
 
 #[test]
