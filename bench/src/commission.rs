@@ -10,7 +10,7 @@ use crate::boundary::{kernel, Kernel};
 use crate::compare::{difference, isolation, kept_calls, kernel_run, separate_run, Ran};
 use crate::counts;
 use crate::explain::{call_in_words, meaning, table_fault};
-use crate::input::{read_bytes, Input};
+use crate::input::{read_input, shown, Input};
 use crate::output::{self, say};
 use crate::variants::{case_of, damaged_tables, scrambled_lists, Variant};
 
@@ -57,10 +57,14 @@ pub fn command(options: &[String]) -> Result<bool, String> {
     let seed = options.number("--seed")?.unwrap_or(1);
     let struck = options.number("--struck")?;
     let file = options.file()?;
-    let input = match commissionable(&read_bytes(file)?) {
+    let input = match commissionable(&read_input(file)?) {
         Ok(input) => input,
         Err((code, fault)) => {
-            say!("{file} cannot be commissioned: refused with {code}, {fault}");
+            say!(
+                "{} cannot be commissioned: refused with {code} ({}): {fault}",
+                shown(file),
+                meaning(code)
+            );
             return Ok(false);
         }
     };
@@ -68,7 +72,12 @@ pub fn command(options: &[String]) -> Result<bool, String> {
     if let Some(domain) = struck.filter(|&domain| domain >= n as u64) {
         return Err(format!("no domain {domain}: the table has 0 to {}", n - 1));
     }
-    say!("commissioning {file} on {}: {}", kernel.title, size(&input));
+    say!(
+        "commissioning {} on {}: {}",
+        shown(file),
+        kernel.title,
+        size(&input)
+    );
     if let Some(domain) = struck {
         output::write(struck_calls(&case_of(&input), domain as usize).as_bytes());
     }

@@ -1,6 +1,8 @@
 //! The kernel's words in plain ones: what a number means, what a call asks for,
 //! what stands at a place of a table, and what is wrong with a refused one.
 
+use std::fmt::Display;
+
 use reference::calls::{
     Call, GRANT, LOOK_UP, MY_ENDPOINTS, MY_RIGHTS, RECEIVE, REMOVE, SEND, STRAY,
 };
@@ -10,6 +12,12 @@ use reference::table::{
     INFO_PLACE, LOST_PLACE, NAME_PLACE, SLOTS, SLOTS_PLACE, WAITING_PLACE,
 };
 use reference::words::{bits, content, EMPTY_SLOT};
+
+/// A number of things, as `1 call` or `3 calls`.
+pub fn counted<N: Display + PartialEq + From<u8>>(number: N, one: &str) -> String {
+    let many = if number == N::from(1) { "" } else { "s" };
+    format!("{number} {one}{many}")
+}
 
 /// What a number of the kernel means.
 pub fn meaning(code: u32) -> &'static str {
@@ -197,6 +205,13 @@ mod tests {
     use super::*;
     use reference::cut;
     use reference::example::{LIST_L, TABLE_T};
+
+    #[test]
+    fn one_thing_is_not_several() {
+        assert_eq!(counted(1usize, "domain"), "1 domain");
+        assert_eq!(counted(0u64, "call"), "0 calls");
+        assert_eq!(counted(12u32, "table image"), "12 table images");
+    }
 
     #[test]
     fn calls_of_the_worked_example() {

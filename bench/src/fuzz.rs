@@ -69,7 +69,7 @@ pub fn command(line: &[String]) -> Result<bool, String> {
     let images = options.number("--table-checks")?;
     let images = images.unwrap_or(cases.saturating_mul(4));
     if cases == 0 && images == 0 {
-        return Err("--cases 0 without --table-checks leaves nothing to compare".to_string());
+        return Err("no runs and no table checks leave nothing to compare".to_string());
     }
     let plan = Plan {
         kernel: kernel(options.text("--kernel").unwrap_or("balkwizu"))?,

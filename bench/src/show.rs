@@ -9,7 +9,7 @@ use reference::words::content;
 
 use crate::args::Options;
 use crate::explain::{call_in_words, letters, meaning, table_fault};
-use crate::input::{read_bytes, Input};
+use crate::input::{read_input, Input};
 use crate::output::{self, say};
 use crate::picture;
 
@@ -34,7 +34,7 @@ pub fn command(line: &[String]) -> Result<bool, String> {
     let options = Options::parse(line, &["--svg", "--calls"], &[])?;
     let file = options.file()?;
     let calls = options.number("--calls")?.map(|calls| calls as usize);
-    let input = match Input::parse(&read_bytes(file)?) {
+    let input = match Input::parse(&read_input(file)?) {
         Ok(input) => input,
         Err((code, why)) => {
             say!("refused with {code} ({}): {why}", meaning(code));

@@ -61,7 +61,7 @@ fn bad_usage_ends_with_2_and_says_why() {
     assert_eq!(status(&["speed", "more"]), 2);
     assert_eq!(status(&["speed", "--rounds", "0"]), 2);
     assert_eq!(status(&["fuzz", "--cases", "0"]), 2);
-    assert!(told(&["fuzz", "--cases", "0"]).contains("leaves nothing to compare"));
+    assert!(told(&["fuzz", "--cases", "0"]).contains("leave nothing to compare"));
     let beyond = ["fuzz", "--from", "18446744073709551615", "--cases", "2"];
     assert!(told(&beyond).contains("go beyond 2^64 - 1"));
     assert_eq!(status(&["linerun", "/no/such/program"]), 2);
@@ -81,6 +81,11 @@ fn the_worked_example_is_typed_in_and_run() {
     let wrong = file("wrong.txt", b"table\n1000030");
     assert_eq!(status(&["words", &wrong]), 2);
     assert!(told(&["words", &wrong]).contains("line 2: `1000030` is no word"));
+    let nothing = file("nothing.txt", b"# no word\n");
+    assert_eq!(status(&["words", &nothing]), 2);
+    assert!(told(&["words", &nothing]).contains("there is no word in it"));
+    assert!(told(&["words", "/dev/zero"]).contains("is above 1,000,000 bytes"));
+    assert!(told(&["words", &input]).contains("`bench words --back FILE`"));
 }
 
 #[test]
@@ -101,14 +106,27 @@ fn what_is_refused_is_not_commissioned_nor_shown() {
     let mut table = TABLE_T;
     table[9] = 0x2000_0008;
     let input = file("refused.bin", &to_bytes(&[&[34], &table[..]].concat()));
-    let word = "refused with 4, word 9, the rights of domain 2 on domain 2 is 20000008";
+    let word = "refused with 4 (a rights word breaks its layout): word 9, the rights of domain 2";
     assert!(printed(&["commission", &input]).contains(word));
     assert_eq!(status(&["commission", &input]), 1);
     assert_eq!(status(&["show", &input]), 1);
     assert!(printed(&["show", &input]).starts_with("table refused with 4"));
     let short = file("short.bin", &example()[..50]);
-    assert!(printed(&["commission", &short]).contains("refused with 7, its table should have 34"));
+    assert!(printed(&["commission", &short]).contains("its table should have 34 words, it has 11"));
     assert_eq!(status(&["show", &short]), 1);
+    let endless = printed(&["show", "/dev/zero"]);
+    assert!(endless.starts_with("refused with 1 "), "{endless}");
+}
+
+#[test]
+fn a_text_in_the_place_of_an_input_is_pointed_to_words() {
+    let typed = file("typed-not-made.txt", b"table\n10000100\n");
+    for command in ["commission", "show"] {
+        assert!(printed(&[command, &typed]).contains("is this a text? `bench words FILE`"));
+        assert_eq!(status(&[command, &typed]), 1);
+    }
+    assert!(told(&["words", "--back", &typed]).contains("is this a text?"));
+    assert_eq!(status(&["words", "--back", &typed]), 1);
 }
 
 #[test]
