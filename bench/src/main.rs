@@ -19,6 +19,7 @@ mod linerun;
 mod output;
 mod panics;
 mod picture;
+mod program;
 mod progress;
 mod show;
 mod shrink;

@@ -65,6 +65,7 @@ fn bad_usage_ends_with_2_and_says_why() {
     let beyond = ["fuzz", "--from", "18446744073709551615", "--cases", "2"];
     assert!(told(&beyond).contains("go beyond 2^64 - 1"));
     assert_eq!(status(&["linerun", "/no/such/program"]), 2);
+    assert!(told(&["linerun", "Cargo.toml"]).contains("write ./Cargo.toml"));
 }
 
 #[test]
@@ -175,6 +176,25 @@ fn a_program_that_is_no_linerun_differs() {
     let line = ["linerun", "/bin/cat", "--cases", "3"];
     assert_eq!(status(&line), 1);
     assert!(printed(&line).starts_with("DIFFERENCE in input 0 of seed 1"));
+    let silent = printed(&["linerun", "/bin/true", "--cases", "3"]);
+    assert!(silent.contains("it prints nothing"), "{silent}");
+    let failing = printed(&["linerun", "/bin/false", "--cases", "3"]);
+    assert!(failing.contains("it ended with status 1, it should be 0"));
+    let endless = printed(&["linerun", "/usr/bin/yes", "--cases", "3"]);
+    assert!(endless.contains("it was stopped: it printed more than 270364 bytes"));
+}
+
+#[test]
+fn an_input_that_differs_comes_back_through_words() {
+    let report = printed(&["linerun", "/bin/true", "--from", "1", "--cases", "1"]);
+    let (_, words) = report
+        .split_once("as `bench words` takes them:\n")
+        .expect("the words are given");
+    let input = bench(&["words", &file("differs.txt", words.as_bytes())]);
+    assert_eq!(input.status.code(), Some(0), "{report}");
+    let first = String::from_utf8(reference::linerun(&input.stdout)).expect("text");
+    let first = first.lines().next().expect("a line");
+    assert!(report.contains(&format!("line 1 should be: {first}")));
 }
 
 #[test]
