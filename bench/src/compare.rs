@@ -220,7 +220,7 @@ fn own_rights_difference(case: &Case, whole: &View, again: &View, domain: usize)
     let target = first_unequal(&whole.rights, &again.rights)?;
     let place = rights_place(&case.table, domain, target);
     Some(format!(
-        "{} is {:08X} after the whole list, {:08X} without the struck calls",
+        "{}, is {:08X} after the whole list, {:08X} without the struck calls",
         place_in_words(&case.table, place),
         whole.rights[target],
         again.rights[target]
