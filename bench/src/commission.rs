@@ -76,7 +76,7 @@ pub fn command(options: &[String]) -> Result<bool, String> {
         "commissioning {} on {}: {}",
         shown(file),
         kernel.title,
-        size(&input)
+        input.size()
     );
     if let Some(domain) = struck {
         output::write(struck_calls(&case_of(&input), domain as usize).as_bytes());
@@ -91,16 +91,6 @@ fn commissionable(bytes: &[u8]) -> Result<Input, (u32, String)> {
         Some(fault) => Err(fault),
         None => Ok(input),
     }
-}
-
-fn size(input: &Input) -> String {
-    format!(
-        "{} domains, {} endpoints, {} calls in {} words",
-        domains(&input.table),
-        endpoints(&input.table),
-        cut(&input.list).len(),
-        input.list.len()
-    )
 }
 
 /// The calls that are struck for a domain, each in words.

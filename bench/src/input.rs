@@ -4,8 +4,8 @@
 use std::fs::File;
 use std::io::{self, Read};
 
-use reference::calls::LIST_WORDS_MAX;
-use reference::table::TABLE_WORDS_MAX;
+use reference::calls::{cut, LIST_WORDS_MAX};
+use reference::table::{domains, endpoints, TABLE_WORDS_MAX};
 use reference::words::{from_bytes, to_bytes};
 
 use crate::explain::counted;
@@ -58,6 +58,17 @@ impl Input {
         let table = from_bytes(&bytes[4..4 + 4 * length]);
         let list = from_bytes(list);
         Ok(Input { table, list })
+    }
+
+    /// How much there is of an accepted table and a list.
+    pub fn size(&self) -> String {
+        format!(
+            "{}, {}, {} in {}",
+            counted(domains(&self.table), "domain"),
+            counted(endpoints(&self.table), "endpoint"),
+            counted(cut(&self.list).len(), "call"),
+            counted(self.list.len(), "word")
+        )
     }
 
     /// The bytes that `linerun` reads.
@@ -150,6 +161,11 @@ mod tests {
         assert_eq!(left, "1 byte left over after the last whole word");
         let short = why(&to_bytes(&[34, 1]));
         assert_eq!(short, "its table should have 34 words, it has 1");
+        let small = Input {
+            table: vec![0x1000_0100, 0x2000_0000],
+            list: vec![0x2000_0000, 0xF000_0000],
+        };
+        assert_eq!(small.size(), "1 domain, 0 endpoints, 1 call in 2 words");
     }
 
     #[test]

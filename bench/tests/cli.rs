@@ -138,7 +138,24 @@ fn an_input_is_shown_in_words_and_as_a_picture() {
     assert!(shown.contains("domain 1 grants domain 0 SEND on domain 2"));
     let picture = fs::read_to_string(&out).expect("the picture is there");
     assert!(picture.starts_with("<svg ") && picture.ends_with("</svg>\n"));
-    assert_eq!(status(&["show", &input, "--svg", "/no/such/place.svg"]), 2);
+}
+
+#[test]
+fn a_picture_that_cannot_be_written_leaves_everything_as_it_was() {
+    let input = file("kept.bin", &example());
+    let nowhere = bench(&["show", &input, "--svg", "/no/such/place.svg"]);
+    assert_eq!(nowhere.status.code(), Some(2));
+    assert!(nowhere.stdout.is_empty(), "nothing is shown before");
+    assert!(told(&["show", &input, "--svg", "--calls"]).contains("write ./--calls"));
+    let link = format!("{input}.link");
+    let _ = fs::remove_file(&link);
+    fs::hard_link(&input, &link).expect("a link can be made");
+    for same in [&input, &link] {
+        let line = ["show", &input, "--svg", same];
+        assert_eq!(status(&line), 2);
+        assert!(told(&line).contains("is the input"), "{}", told(&line));
+    }
+    assert_eq!(fs::read(&input).expect("it is still there"), example());
 }
 
 #[test]
