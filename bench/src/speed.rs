@@ -230,8 +230,10 @@ fn rate(seconds: f64, unit: &str) -> String {
 fn head(rounds: usize) -> String {
     let mut titles = vec!["What".to_string()];
     titles.extend(KERNELS.iter().map(|kernel| kernel.title.to_string()));
+    // Its title's first word: proved, where it is.
+    let first = KERNELS[0].title.split(' ').next().unwrap_or_default();
     let others = KERNELS[1..].iter();
-    titles.extend(others.map(|other| format!("time, proved over {}", other.name)));
+    titles.extend(others.map(|other| format!("time, {first} over {}", other.name)));
     format!(
         "Processor: {}. Plain C by {}. Medians of {rounds} interleaved rounds.\n\n| {} |\n|---|{}\n",
         processor(),

@@ -37,6 +37,17 @@ fn example() -> Vec<u8> {
     to_bytes(&[&[34], &TABLE_T[..], &LIST_L[..]].concat())
 }
 
+/// What an archive is called: only that of the repository is known to be proved.
+fn archive_title() -> String {
+    match option_env!("BALKWIZU_ARCHIVE") {
+        None => "proved archive".to_string(),
+        Some(named) => {
+            let path = fs::canonicalize(named).expect("the archive is there");
+            format!("archive {}", path.display())
+        }
+    }
+}
+
 #[test]
 fn help_is_given_for_every_command() {
     assert_eq!(status(&["--help"]), 0);
@@ -94,6 +105,7 @@ fn the_worked_example_is_commissioned() {
     let input = file("commission.bin", &example());
     let list = printed(&["commission", &input, "--struck", "1"]);
     assert!(list.contains("struck for domain 1: 4 of 9 calls"), "{list}");
+    assert!(list.contains(&format!(" on {}: 3 domains", archive_title())));
     for line in 1..=4 {
         assert!(list.contains(&format!("line {line} passed")), "{list}");
     }
@@ -222,5 +234,6 @@ fn speed_prints_a_table() {
         let rows = table.lines().filter(|line| line.starts_with("| ")).count();
         assert_eq!(rows, wanted, "{table}");
         assert!(table.contains("reset outside the timed part"), "{table}");
+        assert!(table.contains(&format!("| What | {} |", archive_title())));
     }
 }
