@@ -240,9 +240,7 @@ fn slot_fault(word: u32, slot: usize, waiting: usize) -> Option<String> {
         return kind_fault(word, MESSAGE);
     }
     let filled = word != EMPTY_SLOT;
-    filled.then(|| {
-        format!("{waiting} wait, and a slot from the waiting count on must be {EMPTY_SLOT:08X}")
-    })
+    filled.then(|| format!("a slot from the waiting count {waiting} on must be {EMPTY_SLOT:08X}"))
 }
 
 /// The place of the first name that another endpoint has already.
@@ -353,7 +351,7 @@ mod tests {
         assert_eq!(why(11, 0x4001_0202), "bits 27 to 16 aren't zero");
         assert_eq!(why(24, 0x5000_0002), "2 wait and the capacity is 1");
         assert_eq!(why(25, 0x4000_0000), "kind 4 where 6 is wanted");
-        let empty = "0 wait, and a slot from the waiting count on must be F0000000";
+        let empty = "a slot from the waiting count 0 on must be F0000000";
         assert_eq!(why(27, 0xF000_0001), empty);
         let mut table = TABLE_T;
         (table[24], table[26]) = (0x5000_0001, 0xE000_0000);

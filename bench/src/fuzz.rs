@@ -12,6 +12,7 @@ use crate::boundary::{kernel, Kernel};
 use crate::cases::{image, run_case};
 use crate::compare::{difference, isolation, kernel_run, separate_run};
 use crate::counts;
+use crate::explain::counted;
 use crate::input::Input;
 use crate::output::{self, say};
 use crate::progress::Progress;
@@ -197,14 +198,14 @@ fn case_report(plan: &Plan, number: u64, case: &Case, told: &str) -> String {
         "DIFFERENCE in run {number} of seed {seed}:\n  {told}\n\
          To see it again: bench fuzz --kernel {kernel} --seed {seed} --from {number} --cases 1 \
          --table-checks 0\n\
-         Cut down to {calls} calls:\n  {told_smaller}\n\
+         Cut down to {calls}:\n  {told_smaller}\n\
          Its words, as `bench words` takes them:\n{words}\
-         # answer space: {space} words\n",
+         # answer space: {space}\n",
         seed = plan.seed,
         kernel = plan.kernel.name,
-        calls = cut(&smaller.list).len(),
+        calls = counted(cut(&smaller.list).len(), "call"),
         words = text::write(&input),
-        space = smaller.answers.len(),
+        space = counted(smaller.answers.len(), "word"),
     )
 }
 
@@ -237,13 +238,13 @@ fn image_report(plan: &Plan, number: u64, bytes: &[u8], code: u32, separate: u32
         format!("{:04X}  {}\n", 16 * row, hex.join(" "))
     });
     format!(
-        "DIFFERENCE in table image {number} of seed {seed}, {len} bytes:\n  \
+        "DIFFERENCE in table image {number} of seed {seed}, {len}:\n  \
          the kernel's check answers {code}, the separate one {separate}\n\
          To see it again: bench fuzz --kernel {kernel} --seed {seed} --from {number} --cases 0 \
          --table-checks 1\n{rows}",
         seed = plan.seed,
         kernel = plan.kernel.name,
-        len = bytes.len(),
+        len = counted(bytes.len(), "byte"),
         rows = rows.collect::<String>(),
     )
 }

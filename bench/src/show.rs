@@ -134,7 +134,7 @@ fn queues_in_words(table: &[u32]) -> String {
     }
     for e in 0..endpoints(table) {
         text += &format!(
-            "  {} ==> endpoint {e} (name {}) [{}] ==> domain {}; {} of {} wait, {} lost\n",
+            "  {} ==> endpoint {e} (name {}) [{}] ==> domain {}; {} of {} waiting, {} lost\n",
             senders_in_words(table, e),
             name(table, e),
             slots_in_words(table, e),
@@ -200,7 +200,9 @@ mod tests {
         let told = in_words(&Input::example(), 2);
         assert!(told.starts_with("Table: 3 domains, 2 endpoints, 34 words\n"));
         assert!(told.contains("domain  1    S   . SGR\n"), "{told}");
-        assert!(told.contains("from 0 1 ==> endpoint 0 (name 17) [- -] ==> domain 1; 0 of 2 wait"));
+        assert!(
+            told.contains("from 0 1 ==> endpoint 0 (name 17) [- -] ==> domain 1; 0 of 2 waiting")
+        );
         assert!(told.contains("   0  20000100 F0000005  domain 0 sends 5 to endpoint 1\n"));
         assert!(told.ends_with("  and 7 more\n"), "{told}");
     }
@@ -213,7 +215,7 @@ mod tests {
         (table[14], table[15]) = (0xF000_0007, 0xF000_0008);
         let told = queues_in_words(&table);
         assert!(
-            told.contains("[- 8 7] ==> domain 1; 2 of 3 wait, 0 lost"),
+            told.contains("[- 8 7] ==> domain 1; 2 of 3 waiting, 0 lost"),
             "{told}"
         );
         let legend = told.lines().next().unwrap();

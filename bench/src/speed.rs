@@ -10,6 +10,7 @@ use reference::words::to_bytes;
 use crate::args::Options;
 use crate::boundary::{Kernel, KERNELS};
 use crate::compare::{difference, kernel_run, separate_run};
+use crate::explain::counted;
 use crate::output::{self, say};
 use crate::workloads::{by_kind, largest_table, workloads, Workload};
 
@@ -20,10 +21,10 @@ Measures the proved kernel beside the plain C kernel of bench/c as gcc -O3 and,
 where there is one, clang -O3 make it, and prints a Markdown table: table checks,
 and calls on four lists of 4,096 words. With --by-kind the lists have one kind of
 call each, on a small table and on the largest. All kernels take turns in each of
-N rounds (1 to 100,000, default 301); a figure is the median of the rounds, a ratio
-the median of the rounds' ratios, the proved kernel's time over the other's: above 1
-the proved kernel is slower. Every kernel's run is first compared with the separate
-machine.
+N rounds (1 to 100,000, default 301); a figure is the median of the rounds, a
+ratio the median of the rounds' ratios, the proved kernel's time over the other's:
+above 1 the proved kernel is slower. Every kernel's run is first compared with the
+separate machine.
 
 Exit status: 0 measured; 1 a kernel's run differs; 2 bad usage.
 ";
@@ -235,9 +236,10 @@ fn head(rounds: usize) -> String {
     let others = KERNELS[1..].iter();
     titles.extend(others.map(|other| format!("time, {first} over {}", other.name)));
     format!(
-        "Processor: {}. Plain C by {}. Medians of {rounds} interleaved rounds.\n\n| {} |\n|---|{}\n",
+        "Processor: {}. Plain C by {}. Medians of {}.\n\n| {} |\n|---|{}\n",
         processor(),
         env!("PLAIN_COMPILERS"),
+        counted(rounds, "interleaved round"),
         titles.join(" | "),
         "---:|".repeat(titles.len() - 1)
     )

@@ -21,17 +21,18 @@ the text of an input. `-` is standard input. A text looks like this:
   20000000 F0000005               # domain 0 sends 5 to endpoint 0
   30400000                        # domain 1 receives from it
 
-Words are eight hexadecimal digits, with 0x before them or not; F0000000*8 is the
-same word eight times, and 4,097 times is the most. Spaces, new lines, `;` and `,`
-separate words; a comment goes from # to the end of its line. The table's length
-is counted. `list` may be left out: then there are no calls.
+Words are eight hexadecimal digits, with 0x before them or not; F0000000*8 is
+the same word eight times, and 4,097 times is the most. Spaces, new lines, `;`
+and `,` separate words; a comment goes from # to the end of its line. The table's
+length is counted. `list` may be left out: then there are no calls.
 
-A text without `table` and `list` is written as it stands. Its first word must then
-be the table's length, hexadecimal like the rest: 00000022 for 34 words. Up to three
-bytes of two digits each may stand at its end, for an input that has bytes left over.
+A text without `table` and `list` is written as it stands. Its first word must
+then be the table's length, hexadecimal like the rest: 00000022 for 34 words. Up
+to three bytes of two digits each may stand at its end, for an input that has
+bytes left over.
 
-Exit status: 0 written; 1 the input given with --back is refused; 2 bad usage, or
-what is given is no such text.
+Exit status: 0 written; 1 the input given with --back is refused; 2 bad usage,
+or what is given is no such text.
 ";
 
 /// The longest text that is read: far more than any input needs.

@@ -2,7 +2,7 @@
 
 use std::fs;
 use std::path::PathBuf;
-use std::process::{Command, Output};
+use std::process::{Command, Output, Stdio};
 
 use reference::example::{LIST_L, PRINTED, TABLE_T};
 use reference::words::{hex, to_bytes};
@@ -51,12 +51,30 @@ fn archive_title() -> String {
 #[test]
 fn help_is_given_for_every_command() {
     assert_eq!(status(&["--help"]), 0);
+    assert!(printed(&["--help"]).contains("or a closed pipe"));
     for command in ["commission", "fuzz", "linerun", "speed", "show", "words"] {
         let help = printed(&[command, "--help"]);
         assert!(help.starts_with(&format!("bench {command}")), "{help}");
         assert!(help.contains("Exit status:"), "{help}");
         assert!(printed(&["--help"]).contains(&format!("bench {command}")));
     }
+}
+
+#[test]
+fn a_closed_pipe_ends_with_2_and_without_a_word() {
+    let calls = vec![0x5000_0000; 4096];
+    let long = to_bytes(&[&[34], &TABLE_T[..], &calls[..]].concat());
+    // What is shown is more than a pipe holds, so that it can't all be written before.
+    let mut child = Command::new(env!("CARGO_BIN_EXE_bench"))
+        .args(["show", &file("pipe.bin", &long)])
+        .stdout(Stdio::piped())
+        .stderr(Stdio::piped())
+        .spawn()
+        .expect("the program starts");
+    drop(child.stdout.take());
+    let ended = child.wait_with_output().expect("it ends");
+    assert_eq!(ended.status.code(), Some(2));
+    assert!(ended.stderr.is_empty());
 }
 
 #[test]
