@@ -25,12 +25,11 @@ impl Input {
     /// Takes bytes apart; the code 7 or 1, with what is wrong, where `linerun`
     /// would print it.
     pub fn parse(bytes: &[u8]) -> Result<Input, (u32, String)> {
-        Input::of_words(bytes).map_err(|(code, why)| match is_text(bytes) {
-            true => (
-                code,
-                why + "; is this a text? `bench words FILE` makes the input of it",
-            ),
-            false => (code, why),
+        Input::of_words(bytes).map_err(|(code, mut why)| {
+            if is_text(bytes) {
+                why += "; is this a text? `bench words FILE` makes the input of it";
+            }
+            (code, why)
         })
     }
 

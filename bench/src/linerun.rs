@@ -8,7 +8,7 @@ use reference::words::{from_bytes, to_bytes};
 use crate::args::Options;
 use crate::cases::rng_for;
 use crate::explain::counted;
-use crate::output::say;
+use crate::output::{self, say};
 use crate::program::{run, End, Ran};
 use crate::progress::Progress;
 use crate::shrink::fewest;
@@ -68,7 +68,7 @@ pub fn command(line: &[String]) -> Result<bool, String> {
             say!(
                 "To see it again: bench linerun {program} --seed {seed} --from {number} --cases 1"
             );
-            say!("{}", shorter(program, &input, &ran));
+            output::write(shorter(program, &input, &ran).as_bytes());
             return Ok(false);
         }
         met[code_of(&expected)] += 1;
@@ -198,21 +198,19 @@ fn shorter(program: &str, input: &[u8], ran: &Ran) -> String {
         End::TooLong => input.to_vec(),
         _ => with_fewer_words(input, |input| differs(input).is_some()),
     };
-    let cut_down = match smaller != input {
-        true => format!(
-            "Cut down to {}:\n  {}\n",
-            counted(smaller.len(), "byte"),
-            differs(&smaller).unwrap_or_default()
+    let mut told = String::new();
+    if smaller != input {
+        let size = counted(smaller.len(), "byte");
+        let why = differs(&smaller).unwrap_or_default();
+        told += &format!("Cut down to {size}:\n  {why}\n");
+    }
+    told + &match smaller.as_slice() {
+        [] => "The input is empty.\n".to_string(),
+        _ => format!(
+            "Its words, as `bench words` takes them:\n{}",
+            text::write_bytes(&smaller)
         ),
-        false => String::new(),
-    };
-    let words = match smaller.as_slice() {
-        [] => "(the input is empty)".to_string(),
-        _ => text::write_bytes(&smaller),
-    };
-    format!("{cut_down}Its words, as `bench words` takes them:\n{words}")
-        .trim_end()
-        .to_string()
+    }
 }
 
 /// An input with the plainest and shortest list that still differs.
