@@ -2,8 +2,9 @@
 //! against: by gcc, and by clang where there is one.
 //!
 //! The archive is target/staticlib/libbalkwizu.a of the repository, or the file
-//! that BALKWIZU_ARCHIVE names. Each compiler's functions get a prefix of their
-//! own, so that all of them stand in one program.
+//! that BALKWIZU_ARCHIVE names; the program then calls it by that name, since nobody
+//! knows here whether it is the proved one. Each compiler's functions get a prefix of
+//! their own, so that all of them stand in one program.
 
 use std::env;
 use std::error::Error;
@@ -61,8 +62,9 @@ fn version(compiler: &str) -> Option<String> {
 /// Copies the archive beside the others, so that it has the name to link by
 /// wherever it came from.
 fn link_archive(out: &Path) -> Result<(), Box<dyn Error>> {
-    let archive = archive_path()?;
+    let (archive, title) = archive()?;
     println!("cargo::rerun-if-changed={}", archive.display());
+    println!("cargo::rustc-env=ARCHIVE_TITLE={title}");
     let shown = archive.display();
     let bytes = fs::read(&archive).map_err(|_| {
         format!("no proved archive at {shown}: make it with `rt staticlib balkwizu`")
@@ -80,13 +82,17 @@ fn link_archive(out: &Path) -> Result<(), Box<dyn Error>> {
     Ok(())
 }
 
-fn archive_path() -> Result<PathBuf, Box<dyn Error>> {
+/// The archive, and what the program calls it.
+fn archive() -> Result<(PathBuf, String), Box<dyn Error>> {
     if let Some(named) = env::var_os("BALKWIZU_ARCHIVE") {
-        return Ok(PathBuf::from(named));
+        let named = PathBuf::from(named);
+        let path = fs::canonicalize(&named).unwrap_or(named);
+        let title = format!("archive {}", path.display());
+        return Ok((path, title));
     }
     let package = PathBuf::from(env::var("CARGO_MANIFEST_DIR")?);
     let repository = package.parent().ok_or("the package stands nowhere")?;
-    Ok(repository.join(ARCHIVE))
+    Ok((repository.join(ARCHIVE), "proved archive".to_string()))
 }
 
 /// Compiles bench/c with one compiler into libplain_COMPILER.a, each function

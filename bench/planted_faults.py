@@ -24,7 +24,7 @@ sys.path.insert(0, str(Path(__file__).resolve().parent.parent / "reference"))
 from edits import ROOT, Copy, Wrong, edit_files, try_all  # noqa: E402
 
 ARCHIVE = ROOT / "target" / "staticlib" / "libbalkwizu.a"
-FUZZ = ["fuzz", "--seed", "20", "--cases", "4000", "--table-checks", "4000"]
+FUZZ = ["fuzz", "--seed", "20", "--cases", "10000", "--table-checks", "10000"]
 LEAST = 20
 
 # Faults that no comparison with the kernel can show, by name, each with why. They

@@ -1,5 +1,7 @@
 //! The command line: options, their values and what else is given.
 
+use std::ops::Range;
+
 /// A command's line taken apart.
 #[derive(Debug, Clone, PartialEq, Eq)]
 pub struct Options {
@@ -61,6 +63,18 @@ impl Options {
         }
     }
 
+    /// The numbers of what is to be tried: `count` of them, which `name` asks for,
+    /// from `--from` on.
+    pub fn numbers(&self, name: &str, count: u64) -> Result<Range<u64>, String> {
+        let from = self.number("--from")?.unwrap_or(0);
+        match from.checked_add(count) {
+            Some(end) => Ok(from..end),
+            None => Err(format!(
+                "--from {from} and {name} {count} together go beyond 2^64 - 1"
+            )),
+        }
+    }
+
     /// The one file that a command is about.
     pub fn file(&self) -> Result<&str, String> {
         match self.files.as_slice() {
@@ -85,7 +99,7 @@ mod tests {
 
     fn parsed(line: &str) -> Result<Options, String> {
         let words: Vec<String> = line.split_whitespace().map(str::to_string).collect();
-        Options::parse(&words, &["--seed", "--cases"], &["--quiet"])
+        Options::parse(&words, &["--seed", "--cases", "--from"], &["--quiet"])
     }
 
     #[test]
@@ -115,6 +129,17 @@ mod tests {
         );
         let wrong = parsed("--seed x").unwrap().number("--seed");
         assert_eq!(wrong, Err("--seed needs a whole number, not `x`".into()));
+    }
+
+    #[test]
+    fn numbers_beyond_the_largest_are_refused() {
+        let numbers = |line: &str, count| parsed(line).unwrap().numbers("--cases", count);
+        assert_eq!(numbers("", 3), Ok(0..3));
+        assert_eq!(numbers("--from 7", 3), Ok(7..10));
+        let last = u64::MAX - 3;
+        assert_eq!(numbers(&format!("--from {last}"), 3), Ok(last..u64::MAX));
+        let wrong = numbers(&format!("--from {last}"), 4).unwrap_err();
+        assert!(wrong.contains("--cases 4 together go beyond"), "{wrong}");
     }
 
     #[test]

@@ -75,7 +75,7 @@ impl Kernel {
 ///                       const uint32_t *list, size_t list_len,
 ///                       uint32_t *answers, size_t answers_len);
 macro_rules! kernel {
-    ($name:literal, $title:literal, $table_check:ident, $run:ident) => {{
+    ($name:literal, $title:expr, $table_check:ident, $run:ident) => {{
         extern "C" {
             fn $table_check(bytes: *const u8, len: usize) -> u32;
             fn $run(
@@ -106,10 +106,10 @@ macro_rules! kernel {
     }};
 }
 
-/// The proved kernel.
+/// The proved kernel, or what the program was built over in its place.
 pub const PROVED: Kernel = kernel!(
     "balkwizu",
-    "proved archive",
+    env!("ARCHIVE_TITLE"),
     balkwizu_table_check,
     balkwizu_run
 );

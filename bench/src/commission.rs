@@ -9,8 +9,8 @@ use crate::args::Options;
 use crate::boundary::{kernel, Kernel};
 use crate::compare::{difference, isolation, kept_calls, kernel_run, separate_run, Ran};
 use crate::counts;
-use crate::explain::{call_in_words, meaning, table_fault};
-use crate::input::{read_bytes, Input};
+use crate::explain::{call_in_words, counted, meaning, table_fault};
+use crate::input::{read_input, shown, Input};
 use crate::output::{self, say};
 use crate::variants::{case_of, damaged_tables, scrambled_lists, Variant};
 
@@ -57,10 +57,14 @@ pub fn command(options: &[String]) -> Result<bool, String> {
     let seed = options.number("--seed")?.unwrap_or(1);
     let struck = options.number("--struck")?;
     let file = options.file()?;
-    let input = match commissionable(&read_bytes(file)?) {
+    let input = match commissionable(&read_input(file)?) {
         Ok(input) => input,
         Err((code, fault)) => {
-            say!("{file} cannot be commissioned: refused with {code}, {fault}");
+            say!(
+                "{} cannot be commissioned: refused with {code} ({}): {fault}",
+                shown(file),
+                meaning(code)
+            );
             return Ok(false);
         }
     };
@@ -68,7 +72,12 @@ pub fn command(options: &[String]) -> Result<bool, String> {
     if let Some(domain) = struck.filter(|&domain| domain >= n as u64) {
         return Err(format!("no domain {domain}: the table has 0 to {}", n - 1));
     }
-    say!("commissioning {file} on {}: {}", kernel.title, size(&input));
+    say!(
+        "commissioning {} on {}: {}",
+        shown(file),
+        kernel.title,
+        input.size()
+    );
     if let Some(domain) = struck {
         output::write(struck_calls(&case_of(&input), domain as usize).as_bytes());
     }
@@ -84,16 +93,6 @@ fn commissionable(bytes: &[u8]) -> Result<Input, (u32, String)> {
     }
 }
 
-fn size(input: &Input) -> String {
-    format!(
-        "{} domains, {} endpoints, {} calls in {} words",
-        domains(&input.table),
-        endpoints(&input.table),
-        cut(&input.list).len(),
-        input.list.len()
-    )
-}
-
 /// The calls that are struck for a domain, each in words.
 fn struck_calls(case: &Case, domain: usize) -> String {
     let calls = kept_calls(case, domain);
@@ -104,9 +103,9 @@ fn struck_calls(case: &Case, domain: usize) -> String {
         .map(|(number, (call, _))| format!("  call {number}: {}\n", call_in_words(call)))
         .collect();
     format!(
-        "struck for domain {domain}: {} of {} calls\n{}",
+        "struck for domain {domain}: {} of {}\n{}",
         struck.len(),
-        calls.len(),
+        counted(calls.len(), "call"),
         struck.concat()
     )
 }
@@ -179,8 +178,8 @@ impl Checklist {
             ran_to_the_end += usize::from(ran.outcome.code == 0);
         }
         Ok(format!(
-            "every word equal to the separate machine's, on this list and {} variants that ran",
-            ran_to_the_end - 1
+            "every word equal to the separate machine's, on this list and {} that ran",
+            counted(ran_to_the_end - 1, "variant")
         ))
     }
 
@@ -193,8 +192,8 @@ impl Checklist {
             struck.push(isolation(&self.case, &ran, domain)?.to_string());
         }
         Ok(format!(
-            "each of {n} domains sees the same without the calls struck for it; calls struck, \
-             from domain 0 on: {}",
+            "every domain sees the same without the calls struck for it; calls struck, from \
+             domain 0 on: {}",
             struck.join(", ")
         ))
     }
@@ -205,8 +204,8 @@ impl Checklist {
         let calls = cut(&self.case.list);
         if ran.outcome.calls as usize != calls.len() {
             return Err(format!(
-                "the list has {} calls and the kernel says {}",
-                calls.len(),
+                "the list has {} and the kernel says {}",
+                counted(calls.len(), "call"),
                 ran.outcome.calls
             ));
         }
@@ -214,9 +213,9 @@ impl Checklist {
         match counts::difference(before, &ran.table, &calls, &ran.answers) {
             Some(why) => Err(why),
             None => Ok(format!(
-                "{} calls, and at each of {} endpoints what was sent is received, lost or waiting",
-                calls.len(),
-                endpoints(before)
+                "{}, {}: what was sent to each is received, lost or waiting",
+                counted(calls.len(), "call"),
+                counted(endpoints(before), "endpoint")
             )),
         }
     }
@@ -237,8 +236,8 @@ fn refusal_difference(case: &Case, ran: &Ran) -> Option<String> {
     let changed = ran.table != case.table || ran.answers != case.answers;
     if expected != 0 && (changed || ran.outcome.calls != 0) {
         return Some(format!(
-            "refused with {expected}, and yet {} calls are counted or a word was changed",
-            ran.outcome.calls
+            "refused with {expected}, and yet it counts {} or a word was changed",
+            counted(ran.outcome.calls, "call")
         ));
     }
     None

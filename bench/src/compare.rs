@@ -10,7 +10,7 @@ use reference::words::bits;
 use reference::{purge, step, view};
 
 use crate::boundary::{Kernel, Outcome};
-use crate::explain::{call_in_words, meaning, place_in_words};
+use crate::explain::{call_in_words, counted, meaning, place_in_words};
 use crate::panics::or_panic;
 
 /// What a run returned and left.
@@ -101,8 +101,9 @@ fn outcome_difference(kernel: Outcome, separate: Outcome) -> Option<String> {
     }
     (kernel.calls != separate.calls).then(|| {
         format!(
-            "the kernel counts {} calls, the separate machine {}",
-            kernel.calls, separate.calls
+            "the kernel counts {}, the separate machine {}",
+            counted(kernel.calls, "call"),
+            separate.calls
         )
     })
 }
@@ -178,8 +179,8 @@ pub fn isolation(case: &Case, kernel: &Ran, domain: usize) -> Result<usize, Stri
     match view_difference(case, &all, &whole, &again, domain) {
         None => Ok(struck),
         Some(told) => Err(format!(
-            "domain {domain}, with {struck} of {} calls struck: {told}",
-            all.len()
+            "domain {domain}, with {struck} of {} struck: {told}",
+            counted(all.len(), "call")
         )),
     }
 }
@@ -220,7 +221,7 @@ fn own_rights_difference(case: &Case, whole: &View, again: &View, domain: usize)
     let target = first_unequal(&whole.rights, &again.rights)?;
     let place = rights_place(&case.table, domain, target);
     Some(format!(
-        "{} is {:08X} after the whole list, {:08X} without the struck calls",
+        "{}, is {:08X} after the whole list, {:08X} without the struck calls",
         place_in_words(&case.table, place),
         whole.rights[target],
         again.rights[target]

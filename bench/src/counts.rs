@@ -97,8 +97,8 @@ fn endpoint_difference(before: &[u32], after: &[u32], e: usize, run: &Queue) -> 
     let stays = u64::from(CONTENT_MAX);
     if start + run.sent != run.received + (run.lost - u64::from(lost(before, e))) + end {
         return Some(format!(
-            "endpoint {e}: {start} waited, {} were sent, {} received, {} dropped, so {} should \
-             wait; the table says {end}",
+            "endpoint {e}: waiting before {start}, sent {}, received {}, dropped {}; waiting \
+             should be {}, the table says {end}",
             run.sent,
             run.received,
             run.lost - u64::from(lost(before, e)),
@@ -155,6 +155,7 @@ mod tests {
         );
         after[24] = 0x5000_0001;
         let told = difference(&TABLE_T, &after, &calls, &answers).unwrap();
-        assert!(told.starts_with("endpoint 1: 0 waited, 2 were sent, 1 received, 1 dropped"));
+        let should = "endpoint 1: waiting before 0, sent 2, received 1, dropped 1; waiting should";
+        assert!(told.starts_with(should), "{told}");
     }
 }

@@ -1,15 +1,24 @@
 //! The kernel's words in plain ones: what a number means, what a call asks for,
 //! what stands at a place of a table, and what is wrong with a refused one.
 
+use std::fmt::Display;
+
 use reference::calls::{
     Call, GRANT, LOOK_UP, MY_ENDPOINTS, MY_RIGHTS, RECEIVE, REMOVE, SEND, STRAY,
 };
 use reference::check_table;
 use reference::table::{
-    domains, endpoint_place, endpoints, header_is_right, length, name, right, ENDPOINT_WORDS,
-    INFO_PLACE, LOST_PLACE, NAME_PLACE, SLOTS, SLOTS_PLACE, WAITING_PLACE,
+    capacity, domains, endpoint_place, endpoint_words, endpoints, header_is_right, length, name,
+    right, waiting, ENDPOINT_WORDS, INFO, INFO_PLACE, LOST, LOST_PLACE, MESSAGE, NAME, NAME_PLACE,
+    RIGHTS, SLOTS, SLOTS_PLACE, WAITING, WAITING_PLACE,
 };
-use reference::words::{bits, content, EMPTY_SLOT};
+use reference::words::{bits, content, kind, EMPTY_SLOT};
+
+/// A number of things, as `1 call` or `3 calls`.
+pub fn counted<N: Display + PartialEq + From<u8>>(number: N, one: &str) -> String {
+    let many = if number == N::from(1) { "" } else { "s" };
+    format!("{number} {one}{many}")
+}
 
 /// What a number of the kernel means.
 pub fn meaning(code: u32) -> &'static str {
@@ -131,8 +140,8 @@ pub fn table_fault(table: &[u32]) -> Option<(u32, String)> {
         2 if table.is_empty() => "the table is empty".to_string(),
         2 => format!("word 0 is {:08X}: {}", table[0], header_fault(table[0])),
         3 => format!(
-            "word 0 asks for {} words and there are {}",
-            length(table[0]),
+            "word 0 asks for {}, the table has {}",
+            counted(length(table[0]), "word"),
             table.len()
         ),
         _ => word_fault(table, code),
@@ -148,48 +157,99 @@ fn header_fault(header: u32) -> &'static str {
     }
 }
 
-/// The word that 4 or 5 is about, or the two names that are equal.
+/// The word that 4 or 5 is about, and what is wrong with it.
 fn word_fault(table: &[u32], code: u32) -> String {
-    let place = if code == 4 {
-        let mut rights = 1..=domains(table) * domains(table);
-        rights.find(|&place| table[place] & !right::ALL != 0x2000_0000)
+    let rights = 1..=domains(table) * domains(table);
+    let found = if code == 4 {
+        rights
+            .into_iter()
+            .find_map(|place| Some((place, rights_fault(table[place])?)))
     } else {
-        (0..endpoints(table)).find_map(|e| endpoint_fault(table, e))
+        (0..endpoints(table))
+            .find_map(|e| endpoint_fault(table, e))
+            .or_else(|| repeated_name(table))
     };
-    match place {
-        Some(place) => format!("{} is {:08X}", place_in_words(table, place), table[place]),
-        None => repeated_name(table),
-    }
-}
-
-/// The place of an endpoint's first wrong word. The check is asked about a table
-/// of one endpoint, which gets more and more of these words and has sound ones
-/// for the rest.
-fn endpoint_fault(table: &[u32], endpoint: usize) -> Option<usize> {
-    let start = endpoint_place(table, endpoint);
-    let mut alone = vec![0x1000_0001 | (domains(table) as u32) << 8];
-    alone.extend(vec![0x2000_0000; domains(table) * domains(table)]);
-    let first = alone.len();
-    alone.extend([0x3000_0001, 0x4000_0001, 0x5000_0000, 0x6000_0000]);
-    alone.extend([EMPTY_SLOT; SLOTS]);
-    (0..ENDPOINT_WORDS)
-        .find(|at| {
-            alone[first + at] = table[start + at];
-            check_table(&alone) != 0
-        })
-        .map(|at| start + at)
-}
-
-fn repeated_name(table: &[u32]) -> String {
-    let pairs = (0..endpoints(table)).flat_map(|e| (0..e).map(move |first| (first, e)));
-    let repeats = |&(first, e): &(usize, usize)| name(table, first) == name(table, e);
-    match pairs.into_iter().find(repeats) {
-        Some((first, e)) => format!(
-            "endpoints {first} and {e} have the same name {}",
-            name(table, e)
+    match found {
+        Some((place, why)) => format!(
+            "{}, is {:08X}: {why}",
+            place_in_words(table, place),
+            table[place]
         ),
-        None => "an endpoint is wrong".to_string(),
+        None => meaning(code).to_string(),
     }
+}
+
+/// What is wrong where a word has another kind than its place asks for.
+fn kind_fault(word: u32, wanted: u32) -> Option<String> {
+    (kind(word) != wanted).then(|| format!("kind {} where {wanted} is wanted", kind(word)))
+}
+
+fn rights_fault(word: u32) -> Option<String> {
+    let spare = || (bits(word, 27, 3) != 0).then(|| "bits 27 to 3 aren't zero".to_string());
+    kind_fault(word, RIGHTS).or_else(spare)
+}
+
+/// The place of an endpoint's first wrong word, and what is wrong with it.
+fn endpoint_fault(table: &[u32], endpoint: usize) -> Option<(usize, String)> {
+    let start = endpoint_place(table, endpoint);
+    let words = endpoint_words(table, endpoint);
+    (0..ENDPOINT_WORDS).find_map(|at| {
+        let word = words[at];
+        let why = match at {
+            NAME_PLACE => name_fault(word),
+            INFO_PLACE => info_fault(word, domains(table)),
+            WAITING_PLACE => waiting_fault(word, capacity(table, endpoint)),
+            LOST_PLACE => kind_fault(word, LOST),
+            slot => slot_fault(word, slot - SLOTS_PLACE, waiting(table, endpoint)),
+        };
+        Some((start + at, why?))
+    })
+}
+
+fn name_fault(word: u32) -> Option<String> {
+    let zero = || (content(word) == 0).then(|| "the name is 0".to_string());
+    kind_fault(word, NAME).or_else(zero)
+}
+
+fn info_fault(word: u32, n: usize) -> Option<String> {
+    let (owner, capacity) = (bits(word, 15, 8), bits(word, 7, 0));
+    if let Some(wrong) = kind_fault(word, INFO) {
+        return Some(wrong);
+    }
+    if bits(word, 27, 16) != 0 {
+        return Some("bits 27 to 16 aren't zero".to_string());
+    }
+    if owner as usize >= n {
+        return Some(format!("owner {owner} isn't below n {n}"));
+    }
+    let fits = (1..=SLOTS as u32).contains(&capacity);
+    (!fits).then(|| format!("capacity {capacity} isn't 1 to {SLOTS}"))
+}
+
+fn waiting_fault(word: u32, capacity: usize) -> Option<String> {
+    let waits = content(word);
+    let too_many = || {
+        let above = waits as usize > capacity;
+        above.then(|| format!("{waits} wait and the capacity is {capacity}"))
+    };
+    kind_fault(word, WAITING).or_else(too_many)
+}
+
+fn slot_fault(word: u32, slot: usize, waiting: usize) -> Option<String> {
+    if slot < waiting {
+        return kind_fault(word, MESSAGE);
+    }
+    let filled = word != EMPTY_SLOT;
+    filled.then(|| format!("a slot from the waiting count {waiting} on must be {EMPTY_SLOT:08X}"))
+}
+
+/// The place of the first name that another endpoint has already.
+fn repeated_name(table: &[u32]) -> Option<(usize, String)> {
+    (0..endpoints(table)).find_map(|e| {
+        let first = (0..e).find(|&first| name(table, first) == name(table, e))?;
+        let why = format!("the name {} is that of endpoint {first}", name(table, e));
+        Some((endpoint_place(table, e) + NAME_PLACE, why))
+    })
 }
 
 #[cfg(test)]
@@ -197,6 +257,14 @@ mod tests {
     use super::*;
     use reference::cut;
     use reference::example::{LIST_L, TABLE_T};
+    use reference::generate::{damaged_table, Rng};
+
+    #[test]
+    fn one_thing_is_not_several() {
+        assert_eq!(counted(1usize, "domain"), "1 domain");
+        assert_eq!(counted(0u64, "call"), "0 calls");
+        assert_eq!(counted(12u32, "table image"), "12 table images");
+    }
 
     #[test]
     fn calls_of_the_worked_example() {
@@ -246,31 +314,64 @@ mod tests {
     }
 
     #[test]
-    fn faults_are_told_with_their_place() {
+    fn faults_of_the_whole_table_are_told() {
         assert_eq!(table_fault(&TABLE_T), None);
         assert_eq!(table_fault(&[]), Some((2, "the table is empty".into())));
-        let (code, told) = fault(9, 0x2000_0008);
-        assert_eq!(code, 4);
-        assert_eq!(
-            told,
-            "word 9, the rights of domain 2 on domain 2 is 20000008"
-        );
-        let (code, told) = fault(24, 0x5000_0002);
-        assert_eq!(code, 5);
-        assert_eq!(told, "word 24, endpoint 1's waiting count is 50000002");
-        let (_, told) = fault(27, 0xF000_0001);
-        assert_eq!(told, "word 27, endpoint 1's message slot 1 is F0000001");
-        let (_, told) = fault(11, 0x4000_0302);
-        assert_eq!(told, "word 11, endpoint 0's owner and capacity is 40000302");
-        let (code, told) = fault(22, 0x3000_0011);
-        assert_eq!(code, 5);
-        assert_eq!(told, "endpoints 0 and 1 have the same name 17");
         let (code, told) = table_fault(&TABLE_T[..33]).unwrap();
         assert_eq!(code, 3);
-        assert_eq!(told, "word 0 asks for 34 words and there are 33");
+        assert_eq!(told, "word 0 asks for 34 words, the table has 33");
         let (code, told) = fault(0, 0x1001_0302);
         assert_eq!(code, 2);
         assert!(told.ends_with("its bits 27 to 16 must be zero"), "{told}");
+    }
+
+    #[test]
+    fn faults_of_a_rights_word_are_told() {
+        let (code, told) = fault(9, 0x2000_0008);
+        assert_eq!(code, 4);
+        let rights = "word 9, the rights of domain 2 on domain 2, is 20000008";
+        assert_eq!(told, format!("{rights}: bits 27 to 3 aren't zero"));
+        let (code, told) = fault(6, 0x3000_0007);
+        assert_eq!(code, 4);
+        assert!(told.ends_with("is 30000007: kind 3 where 2 is wanted"));
+    }
+
+    #[test]
+    fn faults_of_an_endpoint_word_are_told() {
+        let (code, told) = fault(10, 0x3000_0000);
+        assert_eq!(code, 5);
+        let name = "word 10, endpoint 0's name, is 30000000: the name is 0";
+        assert_eq!(told, name);
+        let why = |place, word| fault(place, word).1.split_once(": ").unwrap().1.to_string();
+        let repeats = "the name 17 is that of endpoint 0";
+        assert_eq!(why(22, 0x3000_0011), repeats);
+        assert_eq!(why(11, 0x4000_0302), "owner 3 isn't below n 3");
+        assert_eq!(why(11, 0x4000_0200), "capacity 0 isn't 1 to 8");
+        assert_eq!(why(11, 0x4000_0209), "capacity 9 isn't 1 to 8");
+        assert_eq!(why(11, 0x4001_0202), "bits 27 to 16 aren't zero");
+        assert_eq!(why(24, 0x5000_0002), "2 wait and the capacity is 1");
+        assert_eq!(why(25, 0x4000_0000), "kind 4 where 6 is wanted");
+        let empty = "a slot from the waiting count 0 on must be F0000000";
+        assert_eq!(why(27, 0xF000_0001), empty);
+        let mut table = TABLE_T;
+        (table[24], table[26]) = (0x5000_0001, 0xE000_0000);
+        let (_, told) = table_fault(&table).unwrap();
+        assert!(told.ends_with("is E0000000: kind 14 where 15 is wanted"));
+    }
+
+    #[test]
+    fn every_table_refused_with_4_or_5_has_its_word() {
+        let mut rng = Rng::new(8);
+        let mut met = [0; 6];
+        for _ in 0..4000 {
+            let (table, code) = damaged_table(&mut rng, 4, 4);
+            let told = table_fault(&table).map(|(_, told)| told);
+            let told = told.unwrap_or_default();
+            met[code as usize] += 1;
+            let named = told.starts_with("word ") && told.contains(": ");
+            assert!(named || code < 4, "{code}: {told}");
+        }
+        assert!(met[4] > 100 && met[5] > 100, "{met:?}");
     }
 
     #[test]

@@ -1,6 +1,8 @@
 //! `bench fuzz`: random runs of a kernel beside the separate machine, and its
 //! check of table images beside the separate one.
 
+use std::ops::Range;
+
 use reference::generate::Case;
 use reference::table::domains;
 use reference::{check_bytes, cut};
@@ -10,6 +12,7 @@ use crate::boundary::{kernel, Kernel};
 use crate::cases::{image, run_case};
 use crate::compare::{difference, isolation, kernel_run, separate_run};
 use crate::counts;
+use crate::explain::counted;
 use crate::input::Input;
 use crate::output::{self, say};
 use crate::progress::Progress;
@@ -27,45 +30,53 @@ kernel's run with the separate machine's run of the calls kept for it; then the
 counts of every queue. Compares the check of table images too: sound, damaged,
 cut short, too long, of odd lengths, any bytes.
 
-  --cases N         runs to try (default 20,000; some hundreds meet every code)
+  --cases N         runs to try (default 20,000)
   --table-checks N  table images to try (default 4 for each run)
   --seed S          the seed that everything is drawn from (default 1)
   --from K          the number of the first run and image (default 0)
   --kernel NAME     balkwizu (default), plain-gcc or plain-clang
 
 The first difference ends it, with the words that show it as `bench words` takes
-them. A code that was never met is a failure too. A line of progress is shown on
-a terminal only.
+them. From 10,000 runs on, a code that no run was answered with is a failure too,
+and likewise from 10,000 table images on; fewer may miss one by chance. A line of
+progress is shown on a terminal only.
 
-Exit status: 0 nothing differs and every code was met; 1 otherwise; 2 bad usage.
+Exit status: 0 nothing differs, and every code was met where that is asked; 1
+otherwise; 2 bad usage.
 ";
 
 /// Runs with no more words to look at than this are looked at for every domain,
 /// others for one of them.
 const WORDS_FOR_EVERY_DOMAIN: usize = 40_000;
 
-/// What is to be tried.
+/// From so many runs or images on every code must be met.
+const ENOUGH: u64 = 10_000;
+
+/// What is to be tried: runs and images by their numbers.
 struct Plan {
     kernel: Kernel,
     seed: u64,
-    from: u64,
-    cases: u64,
-    images: u64,
+    cases: Range<u64>,
+    images: Range<u64>,
 }
 
-/// The command: whether nothing differs and every code was met.
+/// The command: whether nothing differs, and every code was met where that is
+/// asked.
 pub fn command(line: &[String]) -> Result<bool, String> {
     let valued = ["--cases", "--seed", "--table-checks", "--from", "--kernel"];
     let options = Options::parse(line, &valued, &[])?;
     options.no_file()?;
     let cases = options.number("--cases")?.unwrap_or(20_000);
     let images = options.number("--table-checks")?;
+    let images = images.unwrap_or(cases.saturating_mul(4));
+    if cases == 0 && images == 0 {
+        return Err("no runs and no table checks leave nothing to compare".to_string());
+    }
     let plan = Plan {
         kernel: kernel(options.text("--kernel").unwrap_or("balkwizu"))?,
         seed: options.number("--seed")?.unwrap_or(1),
-        from: options.number("--from")?.unwrap_or(0),
-        cases,
-        images: images.unwrap_or(cases.saturating_mul(4)),
+        cases: options.numbers("--cases", cases)?,
+        images: options.numbers("--table-checks", images)?,
     };
     Ok(fuzz(&plan))
 }
@@ -74,37 +85,54 @@ fn fuzz(plan: &Plan) -> bool {
     let mut tally = Tally::default();
     let found = try_cases(plan, &mut tally).and_then(|()| try_images(plan, &mut tally));
     output::write(tally.in_words().as_bytes());
-    if let Err(told) = found {
-        say!("{told}");
-        say!(
-            "fuzz of {} with seed {}: FAILED",
-            plan.kernel.name,
-            plan.seed
-        );
-        return false;
-    }
-    let missing = tally.never_met(plan.cases > 0, plan.images > 0);
-    if !missing.is_empty() {
-        say!("never met, so not compared: {}", missing.join(", "));
-        say!("give more to try: --cases 2000 --table-checks 2000 meets all of them");
-    }
-    let ended = if missing.is_empty() {
-        "passed"
-    } else {
-        "FAILED"
+    let verdict = found.and_then(|()| verdict(plan, &tally));
+    let ended = match &verdict {
+        Ok(passed) => passed,
+        Err(told) => {
+            say!("{told}");
+            "FAILED"
+        }
     };
     say!(
         "fuzz of {} with seed {}: {ended}",
         plan.kernel.name,
         plan.seed
     );
-    missing.is_empty()
+    verdict.is_ok()
+}
+
+/// How a fuzz that found no difference ends; an error where enough was tried and
+/// yet something was never met.
+fn verdict(plan: &Plan, tally: &Tally) -> Result<String, String> {
+    let tried = [
+        ("cases", plan.cases.end - plan.cases.start),
+        ("table checks", plan.images.end - plan.images.start),
+    ];
+    let [runs, images] = tried.map(|(_, count)| count >= ENOUGH);
+    let missing = tally.never_met(runs, images);
+    if !missing.is_empty() {
+        return Err(format!(
+            "never met, so not compared: {}",
+            missing.join(", ")
+        ));
+    }
+    let few = tried
+        .iter()
+        .filter(|(_, count)| (1..ENOUGH).contains(count));
+    let few: Vec<&str> = few.map(|(name, _)| *name).collect();
+    if few.is_empty() {
+        return Ok("passed".to_string());
+    }
+    Ok(format!(
+        "nothing differs; too few {} to ask that every code is met",
+        few.join(" and ")
+    ))
 }
 
 /// Tries the runs; the first difference, in words and with its own words.
 fn try_cases(plan: &Plan, tally: &mut Tally) -> Result<(), String> {
-    let mut progress = Progress::new("runs", plan.cases);
-    for number in plan.from..plan.from.saturating_add(plan.cases) {
+    let mut progress = Progress::new("runs", &plan.cases);
+    for number in plan.cases.clone() {
         let case = run_case(plan.seed, number);
         match try_case(&plan.kernel, &case, number) {
             Ok(tried) => tally.add_run(&case, &tried),
@@ -170,21 +198,21 @@ fn case_report(plan: &Plan, number: u64, case: &Case, told: &str) -> String {
         "DIFFERENCE in run {number} of seed {seed}:\n  {told}\n\
          To see it again: bench fuzz --kernel {kernel} --seed {seed} --from {number} --cases 1 \
          --table-checks 0\n\
-         Cut down to {calls} calls:\n  {told_smaller}\n\
+         Cut down to {calls}:\n  {told_smaller}\n\
          Its words, as `bench words` takes them:\n{words}\
-         # answer space: {space} words\n",
+         # answer space: {space}\n",
         seed = plan.seed,
         kernel = plan.kernel.name,
-        calls = cut(&smaller.list).len(),
+        calls = counted(cut(&smaller.list).len(), "call"),
         words = text::write(&input),
-        space = smaller.answers.len(),
+        space = counted(smaller.answers.len(), "word"),
     )
 }
 
 fn try_images(plan: &Plan, tally: &mut Tally) -> Result<(), String> {
-    let mut progress = Progress::new("table images", plan.images);
+    let mut progress = Progress::new("table images", &plan.images);
     let mut space = Vec::new();
-    for number in plan.from..plan.from.saturating_add(plan.images) {
+    for number in plan.images.clone() {
         let bytes = image(plan.seed, number);
         // The image is lent at each alignment in turn.
         let start = (number / 8 % 4) as usize;
@@ -210,13 +238,13 @@ fn image_report(plan: &Plan, number: u64, bytes: &[u8], code: u32, separate: u32
         format!("{:04X}  {}\n", 16 * row, hex.join(" "))
     });
     format!(
-        "DIFFERENCE in table image {number} of seed {seed}, {len} bytes:\n  \
+        "DIFFERENCE in table image {number} of seed {seed}, {len}:\n  \
          the kernel's check answers {code}, the separate one {separate}\n\
          To see it again: bench fuzz --kernel {kernel} --seed {seed} --from {number} --cases 0 \
          --table-checks 1\n{rows}",
         seed = plan.seed,
         kernel = plan.kernel.name,
-        len = bytes.len(),
+        len = counted(bytes.len(), "byte"),
         rows = rows.collect::<String>(),
     )
 }
@@ -231,16 +259,19 @@ mod tests {
         Plan {
             kernel,
             seed: 1,
-            from: 0,
-            cases: 1500,
-            images: 2000,
+            cases: 0..1500,
+            images: 0..2000,
         }
     }
 
     #[test]
-    fn every_kernel_passes_and_every_code_is_met() {
+    fn no_kernel_differs_and_every_code_is_met() {
         for kernel in KERNELS {
-            assert!(fuzz(&plan(*kernel)), "{}", kernel.name);
+            let mut tally = Tally::default();
+            let plan = plan(*kernel);
+            assert_eq!(try_cases(&plan, &mut tally), Ok(()), "{}", kernel.name);
+            assert_eq!(try_images(&plan, &mut tally), Ok(()), "{}", kernel.name);
+            assert_eq!(tally.never_met(true, true), Vec::<String>::new());
         }
     }
 
@@ -275,9 +306,25 @@ mod tests {
     }
 
     #[test]
-    fn too_few_runs_fail_because_codes_are_missing() {
-        let mut few = plan(KERNELS[0]);
-        few.cases = 3;
-        assert!(!fuzz(&few));
+    fn a_code_never_met_is_a_failure_only_where_enough_was_tried() {
+        assert!(HELP.contains("From 10,000 runs on"));
+        let of = |cases: u64, images: u64| Plan {
+            cases: 5..5 + cases,
+            images: 5..5 + images,
+            ..plan(KERNELS[0])
+        };
+        let nothing_met = Tally::default();
+        let missing = verdict(&of(ENOUGH, 1), &nothing_met).unwrap_err();
+        assert!(missing.contains("run code 6, call code 10"), "{missing}");
+        assert!(!missing.contains("image code"), "{missing}");
+        let missing = verdict(&of(0, ENOUGH), &nothing_met).unwrap_err();
+        assert!(missing.ends_with("image code 4, image code 5"), "{missing}");
+        let few = verdict(&of(ENOUGH - 1, 0), &nothing_met).unwrap();
+        assert_eq!(
+            few,
+            "nothing differs; too few cases to ask that every code is met"
+        );
+        let few = verdict(&of(1, 1), &nothing_met).unwrap();
+        assert!(few.contains("too few cases and table checks to"), "{few}");
     }
 }

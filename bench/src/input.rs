@@ -1,12 +1,18 @@
 //! What `linerun` reads, and the bench with it: little-endian words, the table's
 //! length in words, the table, then the list to the end.
 
-use std::fs;
+use std::fs::File;
 use std::io::{self, Read};
 
-use reference::calls::LIST_WORDS_MAX;
-use reference::table::TABLE_WORDS_MAX;
+use reference::calls::{cut, LIST_WORDS_MAX};
+use reference::table::{domains, endpoints, TABLE_WORDS_MAX};
 use reference::words::{from_bytes, to_bytes};
+
+use crate::explain::counted;
+
+/// The most bytes that can matter: the length word, the longest table, and a list
+/// that is one word too long.
+pub const INPUT_BYTES_MAX: usize = 4 * (1 + TABLE_WORDS_MAX + LIST_WORDS_MAX + 1);
 
 /// A table and a list.
 #[derive(Debug, Clone, PartialEq, Eq)]
@@ -16,40 +22,52 @@ pub struct Input {
 }
 
 impl Input {
-    /// Reads a file; `-` is standard input.
-    pub fn read(path: &str) -> Result<Input, String> {
-        let bytes = read_bytes(path)?;
-        Input::parse(&bytes).map_err(|(code, why)| format!("{path} is refused with {code}: {why}"))
-    }
-
     /// Takes bytes apart; the code 7 or 1, with what is wrong, where `linerun`
     /// would print it.
     pub fn parse(bytes: &[u8]) -> Result<Input, (u32, String)> {
+        Input::of_words(bytes).map_err(|(code, mut why)| {
+            if is_text(bytes) {
+                why += "; is this a text? `bench words FILE` makes the input of it";
+            }
+            (code, why)
+        })
+    }
+
+    fn of_words(bytes: &[u8]) -> Result<Input, (u32, String)> {
         let Some(first) = bytes.get(..4) else {
-            return Err((7, format!("{} bytes are under one word", bytes.len())));
+            let there = counted(bytes.len(), "byte");
+            return Err((7, format!("it has {there}, less than one word")));
         };
         let length = from_bytes(first)[0] as usize;
         if length > TABLE_WORDS_MAX {
             return Err((7, format!("its first word {length} is above 641")));
         }
         let Some(list) = bytes.get(4 + 4 * length..) else {
-            let there = bytes.len() / 4 - 1;
-            let why = format!("its table should have {length} words and {there} follow");
+            let (there, length) = (bytes.len() / 4 - 1, counted(length, "word"));
+            let why = format!("its table should have {length}, it has {there}");
             return Err((7, why));
         };
         if list.len() / 4 > LIST_WORDS_MAX {
-            return Err((1, format!("its list has {} words", list.len() / 4)));
+            return Err((1, "its list has 4,097 words or more".to_string()));
         }
         if list.len() % 4 != 0 {
-            let why = format!(
-                "{} bytes are left after the last whole word",
-                list.len() % 4
-            );
-            return Err((7, why));
+            let left = counted(list.len() % 4, "byte");
+            return Err((7, format!("{left} left over after the last whole word")));
         }
         let table = from_bytes(&bytes[4..4 + 4 * length]);
         let list = from_bytes(list);
         Ok(Input { table, list })
+    }
+
+    /// How much there is of an accepted table and a list.
+    pub fn size(&self) -> String {
+        format!(
+            "{}, {}, {} in {}",
+            counted(domains(&self.table), "domain"),
+            counted(endpoints(&self.table), "endpoint"),
+            counted(cut(&self.list).len(), "call"),
+            counted(self.list.len(), "word")
+        )
     }
 
     /// The bytes that `linerun` reads.
@@ -73,17 +91,37 @@ impl Input {
     }
 }
 
-/// The bytes of a file, or of standard input where the path is `-`.
-pub fn read_bytes(path: &str) -> Result<Vec<u8>, String> {
+/// Whether bytes could be typed text: an input of linerun has zero bytes instead.
+fn is_text(bytes: &[u8]) -> bool {
+    let typed = |byte: &u8| !byte.is_ascii_control() || byte.is_ascii_whitespace();
+    !bytes.is_empty() && bytes.iter().all(typed)
+}
+
+/// The bytes of a file that can matter to `linerun`.
+pub fn read_input(path: &str) -> Result<Vec<u8>, String> {
+    read_at_most(path, INPUT_BYTES_MAX)
+}
+
+/// The first bytes of a file, or of standard input where the path is `-`. What
+/// never ends is read no further than that.
+pub fn read_at_most(path: &str, most: usize) -> Result<Vec<u8>, String> {
     let mut bytes = Vec::new();
-    let read = if path == "-" {
-        io::stdin().lock().read_to_end(&mut bytes).map(|_| ())
-    } else {
-        fs::read(path).map(|all| bytes = all)
+    let most = most as u64;
+    let read = match path {
+        "-" => io::stdin().lock().take(most).read_to_end(&mut bytes),
+        _ => File::open(path).and_then(|file| file.take(most).read_to_end(&mut bytes)),
     };
     match read {
-        Ok(()) => Ok(bytes),
-        Err(wrong) => Err(format!("cannot read {path}: {wrong}")),
+        Ok(_) => Ok(bytes),
+        Err(wrong) => Err(format!("cannot read {}: {wrong}", shown(path))),
+    }
+}
+
+/// What a path is called in messages.
+pub fn shown(path: &str) -> &str {
+    match path {
+        "-" => "standard input",
+        _ => path,
     }
 }
 
@@ -112,6 +150,40 @@ mod tests {
         assert_eq!(code(&long), 1);
         assert_eq!(code(&[&long[..], &[9]].concat()), 1);
         assert!(Input::parse(&long[..4 + 4 * 4096]).is_ok());
+    }
+
+    #[test]
+    fn what_is_wrong_is_said_in_the_right_number() {
+        let why = |bytes: &[u8]| Input::parse(bytes).unwrap_err().1;
+        assert_eq!(why(&[7]), "it has 1 byte, less than one word");
+        let left = why(&[Input::example().to_bytes(), vec![0]].concat());
+        assert_eq!(left, "1 byte left over after the last whole word");
+        let short = why(&to_bytes(&[34, 1]));
+        assert_eq!(short, "its table should have 34 words, it has 1");
+        let small = Input {
+            table: vec![0x1000_0100, 0x2000_0000],
+            list: vec![0x2000_0000, 0xF000_0000],
+        };
+        assert_eq!(small.size(), "1 domain, 0 endpoints, 1 call in 2 words");
+    }
+
+    #[test]
+    fn a_text_is_told_from_an_input() {
+        let why = |bytes: &[u8]| Input::parse(bytes).unwrap_err().1;
+        let typed = why(b"table\n10000302 # \xC3\xA9\r\n");
+        assert!(typed.ends_with("is this a text? `bench words FILE` makes the input of it"));
+        assert!(why(b"ab").contains("is this a text?"));
+        assert!(!why(b"").contains("text"));
+        assert!(!why(b"table\0").contains("text"));
+    }
+
+    #[test]
+    fn what_never_ends_is_read_as_far_as_it_can_matter() {
+        assert_eq!(INPUT_BYTES_MAX, 18_956);
+        let read = read_input("/dev/zero").unwrap();
+        assert_eq!(read.len(), INPUT_BYTES_MAX);
+        assert_eq!(Input::parse(&read).unwrap_err().0, 1);
+        assert_eq!(reference::linerun(&read), b"calls 0 code 1\n");
     }
 
     #[test]

@@ -1,8 +1,6 @@
 //! `bench`: commissioning, differential runs and benchmarks of the proved kernel,
-//! and tools to write and look at its inputs.
-//!
-//! Exit status: 0 all is well; 1 something failed, was refused or differs; 2 bad
-//! usage, or a file that can't be read.
+//! and tools to write and look at its inputs. Its help says what each command is
+//! for.
 
 mod args;
 mod boundary;
@@ -19,6 +17,7 @@ mod linerun;
 mod output;
 mod panics;
 mod picture;
+mod program;
 mod progress;
 mod show;
 mod shrink;
@@ -32,28 +31,80 @@ mod workloads;
 
 use std::process::ExitCode;
 
-const HELP: &str = "\
+/// The help before the list of commands, and after it.
+const HEAD: &str = "\
 bench: commissioning, differential runs and benchmarks of the proved kernel
 
-  bench commission FILE   the checklist on an input of linerun
-  bench fuzz              random runs beside the separate machine
-  bench linerun PROGRAM   the program linerun beside the separate one
-  bench speed             the proved kernel's speed beside plain C
-  bench show FILE         an input in words and as a picture
-  bench words FILE        hexadecimal words as text to an input, and back
-  bench COMMAND --help    what a command takes and what it answers
-
+";
+const FOOT: &str = "
 FILE is an input of linerun: little-endian words, the table's length in words,
 the table, then the list to the end. `-` is standard input.
 
 Exit status: 0 all is well; 1 something failed, was refused or differs; 2 bad
-usage, or a file that can't be read.
+usage, a file that can't be read or written, or a closed pipe: nobody reads what
+is printed any more.
 ";
+
+/// A command of the program.
+struct Command {
+    name: &'static str,
+    /// What it is given, and what it is for, in the list of commands.
+    given: &'static str,
+    purpose: &'static str,
+    help: &'static str,
+    /// Whether all is well, or why it couldn't be done.
+    act: fn(&[String]) -> Result<bool, String>,
+}
+
+const COMMANDS: [Command; 6] = [
+    Command {
+        name: "commission",
+        given: "FILE",
+        purpose: "the checklist on an input of linerun",
+        help: commission::HELP,
+        act: commission::command,
+    },
+    Command {
+        name: "fuzz",
+        given: "",
+        purpose: "random runs beside the separate machine",
+        help: fuzz::HELP,
+        act: fuzz::command,
+    },
+    Command {
+        name: "linerun",
+        given: "PROGRAM",
+        purpose: "the program linerun beside the separate one",
+        help: linerun::HELP,
+        act: linerun::command,
+    },
+    Command {
+        name: "speed",
+        given: "",
+        purpose: "the proved kernel's speed beside plain C",
+        help: speed::HELP,
+        act: speed::command,
+    },
+    Command {
+        name: "show",
+        given: "FILE",
+        purpose: "an input in words and as a picture",
+        help: show::HELP,
+        act: show::command,
+    },
+    Command {
+        name: "words",
+        given: "FILE",
+        purpose: "hexadecimal words as text to an input, and back",
+        help: words::HELP,
+        act: words::command,
+    },
+];
 
 fn main() -> ExitCode {
     let line: Vec<String> = std::env::args().skip(1).collect();
     let Some((command, rest)) = line.split_first() else {
-        eprint!("{HELP}");
+        eprint!("{}", help());
         return ExitCode::from(2);
     };
     match perform(command, rest) {
@@ -66,26 +117,26 @@ fn main() -> ExitCode {
     }
 }
 
-/// A command: whether all is well, or why it couldn't be done.
-type Act = fn(&[String]) -> Result<bool, String>;
+fn help() -> String {
+    let row = |line: &str, purpose| format!("  bench {line:<17} {purpose}\n");
+    let listed = COMMANDS.iter().map(|command| {
+        let line = format!("{} {}", command.name, command.given);
+        row(&line, command.purpose)
+    });
+    let more = row("COMMAND --help", "what a command takes and what it answers");
+    format!("{HEAD}{}{more}{FOOT}", listed.collect::<String>())
+}
 
 fn perform(command: &str, rest: &[String]) -> Result<bool, String> {
-    let (help, act): (&str, Act) = match command {
-        "commission" => (commission::HELP, commission::command),
-        "fuzz" => (fuzz::HELP, fuzz::command),
-        "linerun" => (linerun::HELP, linerun::command),
-        "show" => (show::HELP, show::command),
-        "speed" => (speed::HELP, speed::command),
-        "words" => (words::HELP, words::command),
-        "help" | "--help" | "-h" => {
-            output::write(HELP.as_bytes());
-            return Ok(true);
-        }
-        _ => return Err("there is no such command; `bench --help` lists them".to_string()),
-    };
-    if rest.iter().any(|word| word == "--help" || word == "-h") {
-        output::write(help.as_bytes());
+    if matches!(command, "help" | "--help" | "-h") {
+        output::write(help().as_bytes());
         return Ok(true);
     }
-    act(rest)
+    let found = COMMANDS.iter().find(|known| known.name == command);
+    let found = found.ok_or("there is no such command; `bench --help` lists them")?;
+    if rest.iter().any(|word| word == "--help" || word == "-h") {
+        output::write(found.help.as_bytes());
+        return Ok(true);
+    }
+    (found.act)(rest)
 }

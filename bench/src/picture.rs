@@ -12,7 +12,7 @@ use reference::table::{
 };
 use reference::words::{content, hex};
 
-use crate::explain::call_in_words;
+use crate::explain::{call_in_words, counted};
 use crate::input::Input;
 use crate::svg::{Drawing, Style, INK, LINE, QUIET};
 
@@ -21,10 +21,17 @@ const MARGIN: f64 = 32.0;
 const INNER: f64 = WIDTH - 2.0 * MARGIN;
 const GAP: f64 = 20.0;
 
+/// The highest picture that programs draw.
+const HIGHEST: f64 = 32_767.0;
+
 /// Arrows are drawn up to so many domains and so many rights; beyond that only
 /// the grid can be read.
 const DOMAINS_WITH_ARROWS: usize = 6;
 const ARROWS: usize = 14;
+const NO_ARROWS: &str = "No arrows: they are drawn for up to 6 domains and 14 sets of rights.";
+
+/// A domain's disc among the arrows.
+const DISC: f64 = 20.0;
 
 /// The least height of a row of the grid, and the most.
 const ROW: f64 = 28.0;
@@ -61,20 +68,13 @@ const RIGHTS: [(u32, &str, &str); 3] = [
 pub fn svg(input: &Input, calls: usize) -> String {
     let table = &input.table;
     let mut drawing = Drawing::default();
-    let listed = cut(&input.list);
-    let told = format!(
-        "{} domains, {} endpoints, {} calls in {} words",
-        domains(table),
-        endpoints(table),
-        listed.len(),
-        input.list.len()
-    );
+    let told = input.size();
     drawing.text(MARGIN, 40.0, TITLE, "Capability table of the line");
     drawing.text(MARGIN, 66.0, SUBTITLE, &told);
     let mut y = 92.0;
     y = rights_panels(&mut drawing, table, y) + GAP;
     y = queues_panel(&mut drawing, table, y) + GAP;
-    y = calls_panel(&mut drawing, &listed, calls, y) + MARGIN;
+    y = calls_panel(&mut drawing, &cut(&input.list), calls, y) + MARGIN;
     drawing.finish(WIDTH, y, &format!("Capability table: {told}"))
 }
 
@@ -115,12 +115,20 @@ fn pill(drawing: &mut Drawing, x: f64, y: f64, set: u32) {
 
 // Rights.
 
-fn rights_panels(drawing: &mut Drawing, table: &[u32], y: f64) -> f64 {
+/// Why the picture of a table has no arrows, where it has none.
+pub fn without_arrows(table: &[u32]) -> Option<&'static str> {
     let n = domains(table);
     let held = (0..n * n).filter(|i| rights(table, i / n, i % n) != 0);
-    let grid_height = PANEL_HEAD + 26.0 + ROW * n as f64 + 40.0;
-    if n > DOMAINS_WITH_ARROWS || held.count() > ARROWS {
+    let few = n <= DOMAINS_WITH_ARROWS && held.count() <= ARROWS;
+    (!few).then_some(NO_ARROWS)
+}
+
+fn rights_panels(drawing: &mut Drawing, table: &[u32], y: f64) -> f64 {
+    let grid_height = PANEL_HEAD + 26.0 + ROW * domains(table) as f64 + 40.0;
+    if let Some(why) = without_arrows(table) {
         grid_panel(drawing, table, (MARGIN, y), (INNER, grid_height));
+        let right = WIDTH - MARGIN - 18.0;
+        drawing.text(right, y + grid_height - 22.0, SMALL.end(), why);
         return y + grid_height;
     }
     let height = grid_height.max(400.0);
@@ -132,11 +140,11 @@ fn rights_panels(drawing: &mut Drawing, table: &[u32], y: f64) -> f64 {
 
 /// Where the domains stand: round a circle, the first on top.
 fn places(n: usize, at: (f64, f64), size: (f64, f64)) -> Vec<(f64, f64, f64)> {
-    let (cx, cy) = (at.0 + size.0 / 2.0, at.1 + size.1 / 2.0 + 10.0);
+    let (cx, cy) = (at.0 + size.0 / 2.0, at.1 + size.1 / 2.0 + 16.0);
     let radius = if n == 1 {
         0.0
     } else {
-        size.1.min(size.0) / 2.0 - 96.0
+        size.1.min(size.0) / 2.0 - 104.0
     };
     let first = if n == 2 { PI } else { -PI / 2.0 };
     (0..n)
@@ -174,7 +182,7 @@ fn arrows_panel(drawing: &mut Drawing, table: &[u32], at: (f64, f64), size: (f64
         taken.push((x, y));
     }
     for (domain, &(x, y, angle)) in places.iter().enumerate() {
-        chip(drawing, x, y, 20.0, domain);
+        chip(drawing, x, y, DISC, domain);
         owned_text(drawing, table, domain, (x, y, angle));
     }
 }
@@ -182,6 +190,8 @@ fn arrows_panel(drawing: &mut Drawing, table: &[u32], at: (f64, f64), size: (f64
 /// An arrow's way from one domain to another, or back to itself.
 struct Curve {
     points: [(f64, f64); 4],
+    /// How far along it its label may stand, the best first.
+    labels: &'static [f64],
 }
 
 impl Curve {
@@ -198,13 +208,16 @@ impl Curve {
                 from.1 + part * dy - 0.14 * dx,
             )
         };
-        let start = towards((from.0, from.1), bend(0.3), 22.0);
-        let end = towards((to.0, to.1), bend(0.7), 24.0);
+        let start = towards((from.0, from.1), bend(0.3), DISC + 2.0);
+        let end = towards((to.0, to.1), bend(0.7), DISC + 4.0);
         Curve {
             points: [start, bend(0.3), bend(0.7), end],
+            labels: &[0.5, 0.42, 0.58, 0.34, 0.66, 0.28, 0.72],
         }
     }
 
+    /// The label goes where the loop is farthest out: it must cover neither the disc
+    /// nor the arrow's head.
     fn around((x, y, angle): (f64, f64, f64)) -> Curve {
         let at = |turn: f64, far: f64| {
             let angle = angle + turn;
@@ -212,11 +225,12 @@ impl Curve {
         };
         Curve {
             points: [
-                at(-0.5, 21.0),
-                at(-0.65, 68.0),
-                at(0.65, 68.0),
-                at(0.5, 23.0),
+                at(-0.6, DISC + 1.0),
+                at(-0.7, 92.0),
+                at(0.7, 92.0),
+                at(0.6, DISC + 3.0),
             ],
+            labels: &[0.5],
         }
     }
 
@@ -245,9 +259,9 @@ impl Curve {
                 .map(|other| (x - other.0).hypot((y - other.1) * 1.6));
             gaps.fold(60.0, f64::min)
         };
-        let tried = [0.5, 0.42, 0.58, 0.34, 0.66, 0.28, 0.72].map(|t| self.at(t));
+        let tried = self.labels.iter().map(|&t| self.at(t));
         let best = |a: (f64, f64), b: (f64, f64)| if room(&b) > room(&a) + 1.0 { b } else { a };
-        tried.into_iter().reduce(best).unwrap_or(self.points[1])
+        tried.reduce(best).unwrap_or(self.points[1])
     }
 }
 
@@ -272,8 +286,11 @@ fn owned_text(drawing: &mut Drawing, table: &[u32], domain: usize, place: (f64, 
     };
     // Outside, and beyond the loop where there is one.
     let up_or_down = place.2.sin();
-    let has_loop = rights(table, domain, domain) != 0 && up_or_down.abs() > 0.3;
-    let far = if has_loop { 66.0 } else { 32.0 };
+    let beyond = match rights(table, domain, domain) {
+        0 => 0.0,
+        _ => 46.0 * up_or_down.abs(),
+    };
+    let far = DISC + 12.0 + beyond;
     let below = if up_or_down < -0.3 { -far } else { far };
     drawing.text(place.0, place.1 + below, SMALL.middle(), &told);
 }
@@ -412,11 +429,13 @@ fn queue_boxes(drawing: &mut Drawing, table: &[u32], e: usize, at: (f64, f64)) {
 // Calls.
 
 fn calls_panel(drawing: &mut Drawing, calls: &[Call], most: usize, y: f64) -> f64 {
-    let shown = calls.len().min(most);
+    let fixed = PANEL_HEAD + 8.0;
+    let room = (HIGHEST - MARGIN - y - fixed) / CALL_ROW - 1.0;
+    let shown = calls.len().min(most).min(room as usize);
     let more = calls.len() - shown;
     let lines = shown.max(1) + usize::from(more > 0 && shown > 0);
-    let height = PANEL_HEAD + CALL_ROW * lines as f64 + 8.0;
-    let heading = format!("List: {} calls", calls.len());
+    let height = fixed + CALL_ROW * lines as f64;
+    let heading = format!("List: {}", counted(calls.len(), "call"));
     let top = panel(drawing, (MARGIN, y), (INNER, height), &heading);
     for (number, call) in calls.iter().take(shown).enumerate() {
         let line = top + CALL_ROW * (number as f64 + 0.5) - 6.0;
@@ -468,6 +487,55 @@ mod tests {
         assert_eq!(bent, 3, "three rights words are not empty");
         assert!(picture.contains("domain 0 sends 5 to endpoint 1"));
         assert!(picture.contains("name 18"));
+    }
+
+    #[test]
+    fn the_label_of_a_loop_covers_neither_the_disc_nor_the_head() {
+        for turn in 0..24 {
+            let angle = turn as f64 * PI / 12.0;
+            let curve = Curve::around((0.0, 0.0, angle));
+            let (x, y) = curve.label(&[(0.0, 0.0)]);
+            // How far a point is from the label's box, which has three letters.
+            let gap = |(px, py): (f64, f64)| {
+                let across = ((px - x).abs() - 27.0).max(0.0);
+                across.hypot(((py - y).abs() - 9.5).max(0.0))
+            };
+            assert!(gap((0.0, 0.0)) > DISC + 5.0, "angle {angle}");
+            let head = towards(curve.points[3], curve.points[2], 8.0);
+            assert!(gap(curve.points[3]) > 5.0, "angle {angle}");
+            assert!(gap(head) > 5.0, "angle {angle}");
+        }
+    }
+
+    #[test]
+    fn no_picture_is_higher_than_programs_draw() {
+        let table = table_of(&mut Rng::new(1), 16, 32);
+        let list = vec![0x5000_0000; 4096];
+        let picture = svg(&Input { table, list }, 4096);
+        let (_, height) = picture.split_once("height=\"").unwrap();
+        let (height, _) = height.split_once('"').unwrap();
+        let height: f64 = height.parse().unwrap();
+        assert!((HIGHEST - CALL_ROW..HIGHEST).contains(&height), "{height}");
+        let shown = picture.matches("domain 0 asks for its rights").count();
+        assert!(picture.contains(&format!(">and {} more<", 4096 - shown)));
+    }
+
+    #[test]
+    fn a_picture_without_arrows_says_so() {
+        let mut rng = Rng::new(1);
+        let larger = table_of(&mut rng, 7, 0);
+        assert_eq!(without_arrows(&larger), Some(NO_ARROWS));
+        let picture = svg(
+            &Input {
+                table: larger,
+                list: vec![],
+            },
+            24,
+        );
+        assert!(picture.contains(NO_ARROWS));
+        assert!(!svg(&Input::example(), 24).contains(NO_ARROWS));
+        let told = format!("{DOMAINS_WITH_ARROWS} domains and {ARROWS} sets");
+        assert!(NO_ARROWS.contains(&told));
     }
 
     #[test]

@@ -1,6 +1,7 @@
 //! One line of progress, on a terminal only: in a pipe or a log nothing is shown.
 
 use std::io::{self, IsTerminal, Write};
+use std::ops::Range;
 use std::time::{Duration, Instant};
 
 pub struct Progress {
@@ -13,12 +14,12 @@ pub struct Progress {
 const EVERY: Duration = Duration::from_millis(200);
 
 impl Progress {
-    pub fn new(what: &'static str, of: u64) -> Progress {
+    pub fn new(what: &'static str, numbers: &Range<u64>) -> Progress {
         let shown = io::stderr().is_terminal().then(Instant::now);
         Progress {
             what,
             done: 0,
-            of,
+            of: numbers.end - numbers.start,
             shown,
         }
     }

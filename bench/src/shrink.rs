@@ -1,32 +1,38 @@
-//! A run that differs, cut down: as few calls as still show it.
+//! What differs, cut down: as few parts of it as still show it.
 
 use std::time::{Duration, Instant};
 
 use reference::calls::{cut, Call};
 use reference::generate::Case;
 
-/// How long shorter runs are tried.
+/// How long fewer parts are tried.
 const TIME: Duration = Duration::from_secs(2);
 
-/// Leaves out calls, many at a time and then one by one, as long as the rest still
-/// differs. A run that doesn't differ as it stands is given back as it is.
+/// A run with as few calls as still differ.
 pub fn shrink(case: &Case, differs: impl Fn(&Case) -> bool) -> Case {
-    let mut calls = cut(&case.list);
+    let calls = fewest(&cut(&case.list), |calls| differs(&with_calls(case, calls)));
+    with_calls(case, &calls)
+}
+
+/// Leaves out parts, many at a time and then one by one, as long as the rest still
+/// differs. What doesn't differ as it stands is given back as it is.
+pub fn fewest<T: Clone>(all: &[T], differs: impl Fn(&[T]) -> bool) -> Vec<T> {
+    let mut parts = all.to_vec();
     let began = Instant::now();
-    let mut at_a_time = calls.len().div_ceil(2).max(1);
+    let mut at_a_time = parts.len().div_ceil(2).max(1);
     loop {
         let mut start = 0;
-        while start < calls.len() && began.elapsed() < TIME {
-            let end = (start + at_a_time).min(calls.len());
-            let rest = [&calls[..start], &calls[end..]].concat();
-            if differs(&with_calls(case, &rest)) {
-                calls = rest;
+        while start < parts.len() && began.elapsed() < TIME {
+            let end = (start + at_a_time).min(parts.len());
+            let rest = [&parts[..start], &parts[end..]].concat();
+            if differs(&rest) {
+                parts = rest;
             } else {
                 start = end;
             }
         }
         if at_a_time == 1 || began.elapsed() >= TIME {
-            return with_calls(case, &calls);
+            return parts;
         }
         at_a_time = at_a_time.div_ceil(2);
     }

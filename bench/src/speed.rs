@@ -10,6 +10,7 @@ use reference::words::to_bytes;
 use crate::args::Options;
 use crate::boundary::{Kernel, KERNELS};
 use crate::compare::{difference, kernel_run, separate_run};
+use crate::explain::counted;
 use crate::output::{self, say};
 use crate::workloads::{by_kind, largest_table, workloads, Workload};
 
@@ -20,12 +21,15 @@ Measures the proved kernel beside the plain C kernel of bench/c as gcc -O3 and,
 where there is one, clang -O3 make it, and prints a Markdown table: table checks,
 and calls on four lists of 4,096 words. With --by-kind the lists have one kind of
 call each, on a small table and on the largest. All kernels take turns in each of
-N rounds (default 301); a figure is the median of the rounds, a ratio the median of
-the rounds' ratios, the proved kernel's time over the other's: above 1 the proved
-kernel is slower. Every kernel's run is first compared with the separate machine.
+N rounds (1 to 100,000, default 301); a figure is the median of the rounds, a
+ratio the median of the rounds' ratios, the proved kernel's time over the other's:
+above 1 the proved kernel is slower. Every kernel's run is first compared with the
+separate machine.
 
 Exit status: 0 measured; 1 a kernel's run differs; 2 bad usage.
 ";
+
+const ROUNDS_MAX: u64 = 100_000;
 
 /// How long one kernel is timed in one round, about.
 const TURN: Duration = Duration::from_micros(300);
@@ -46,7 +50,7 @@ struct Subject<'a> {
 pub fn command(line: &[String]) -> Result<bool, String> {
     let options = Options::parse(line, &["--rounds"], &["--by-kind"])?;
     options.no_file()?;
-    let rounds = options.number("--rounds")?.unwrap_or(301).clamp(1, 100_000) as usize;
+    let rounds = rounds(options.number("--rounds")?)?;
     let apart = options.has("--by-kind");
     let workloads = if apart { by_kind() } else { workloads() };
     if let Some(told) = workloads.iter().find_map(first_wrong) {
@@ -69,6 +73,14 @@ pub fn command(line: &[String]) -> Result<bool, String> {
     };
     output::write(foot(&sizes).as_bytes());
     Ok(true)
+}
+
+/// The number of rounds that is asked for, where it is one that can be run.
+fn rounds(asked: Option<u64>) -> Result<usize, String> {
+    match asked.unwrap_or(301) {
+        rounds @ 1..=ROUNDS_MAX => Ok(rounds as usize),
+        other => Err(format!("--rounds takes 1 to 100,000, not {other}")),
+    }
 }
 
 /// What differs between a kernel's run of a workload and the separate machine's.
@@ -219,12 +231,15 @@ fn rate(seconds: f64, unit: &str) -> String {
 fn head(rounds: usize) -> String {
     let mut titles = vec!["What".to_string()];
     titles.extend(KERNELS.iter().map(|kernel| kernel.title.to_string()));
+    // Its title's first word: proved, where it is.
+    let first = KERNELS[0].title.split(' ').next().unwrap_or_default();
     let others = KERNELS[1..].iter();
-    titles.extend(others.map(|other| format!("time, proved over {}", other.name)));
+    titles.extend(others.map(|other| format!("time, {first} over {}", other.name)));
     format!(
-        "Processor: {}. Plain C by {}. Medians of {rounds} interleaved rounds.\n\n| {} |\n|---|{}\n",
+        "Processor: {}. Plain C by {}. Medians of {}.\n\n| {} |\n|---|{}\n",
         processor(),
         env!("PLAIN_COMPILERS"),
+        counted(rounds, "interleaved round"),
         titles.join(" | "),
         "---:|".repeat(titles.len() - 1)
     )
@@ -266,6 +281,14 @@ mod tests {
     fn the_median_is_the_one_in_the_middle() {
         assert_eq!(median([5.0, 1.0, 3.0].into_iter()), 3.0);
         assert_eq!(median([2.0].into_iter()), 2.0);
+    }
+
+    #[test]
+    fn rounds_that_cannot_be_run_are_refused() {
+        assert_eq!(rounds(None), Ok(301));
+        assert_eq!(rounds(Some(ROUNDS_MAX)), Ok(100_000));
+        assert!(rounds(Some(0)).unwrap_err().ends_with("not 0"));
+        assert!(rounds(Some(ROUNDS_MAX + 1)).is_err());
     }
 
     #[test]

@@ -8,7 +8,7 @@ use reference::words::bits;
 
 use crate::compare::Ran;
 use crate::counts::Counts;
-use crate::explain::meaning;
+use crate::explain::{counted, meaning};
 
 /// The codes that a run ends with, and those that a call is answered with.
 const ENTRY_CODES: std::ops::RangeInclusive<u32> = 0..=6;
@@ -85,8 +85,12 @@ impl Tally {
 
     /// What was met, one line for each code.
     pub fn in_words(&self) -> String {
-        let mut text = format!("{} runs, {} calls", self.runs, self.calls);
-        text += &format!(", {} table images\n", self.images);
+        let mut text = format!(
+            "{}, {}, {}\n",
+            counted(self.runs, "run"),
+            counted(self.calls, "call"),
+            counted(self.images, "table image")
+        );
         text += &row("run", 0, self.entry[0], "run to the end");
         for code in ENTRY_CODES.skip(1) {
             text += &row("run", code, self.entry[code as usize], meaning(code));
@@ -104,18 +108,18 @@ impl Tally {
 
     fn facts_in_words(&self) -> String {
         format!(
-            "  {} views of domains compared, {} calls struck for them\n  \
-             {} sends found the queue full, {} with the lost count at its top; {} receives left \
-             the queue empty\n  \
-             lists of up to {} words, {} numbers of domains, {} numbers of endpoints\n",
-            self.views,
-            self.struck,
-            self.full,
+            "  {} of domains compared, {} struck for them\n  \
+             {} found the queue full, {} with the lost count at its top; {} left the queue \
+             empty\n  \
+             lists of up to {}, {} of domains, {} of endpoints\n",
+            counted(self.views, "view"),
+            counted(self.struck, "call"),
+            counted(self.full, "send"),
             self.at_top,
-            self.emptied,
-            self.longest,
-            self.domains_met.count_ones(),
-            self.endpoints_met.count_ones()
+            counted(self.emptied, "receive"),
+            counted(self.longest, "word"),
+            counted(self.domains_met.count_ones(), "number"),
+            counted(self.endpoints_met.count_ones(), "number")
         )
     }
 
@@ -157,4 +161,26 @@ fn image_codes() -> impl Iterator<Item = u32> {
 
 fn row(what: &str, code: u32, count: u64, meaning: &str) -> String {
     format!("  {what:5} code {code:2} {count:>12}  {meaning}\n")
+}
+
+#[cfg(test)]
+mod tests {
+    use super::*;
+
+    #[test]
+    fn one_of_each_is_told_as_one() {
+        let tally = Tally {
+            runs: 1,
+            calls: 1,
+            images: 1,
+            views: 1,
+            longest: 1,
+            domains_met: 1 << 3,
+            ..Tally::default()
+        };
+        let told = tally.in_words();
+        assert!(told.starts_with("1 run, 1 call, 1 table image\n"), "{told}");
+        assert!(told.contains("1 view of domains compared, 0 calls struck"));
+        assert!(told.contains("up to 1 word, 1 number of domains, 0 numbers of"));
+    }
 }

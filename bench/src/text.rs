@@ -1,17 +1,25 @@
 //! Words as text, the way document 01 writes them, and back.
 //!
-//! A word is eight hexadecimal digits; `F0000000*8` is the same word eight times.
-//! Spaces, new lines, `;` and `,` separate words; a comment goes from `#` to the
-//! end of its line. `table` and `list` stand before the words of each; where
-//! neither is written, the words are taken as they stand, the table's length
-//! first.
+//! The help of `bench words` says what a text looks like.
 
 use crate::input::Input;
 
-/// The words that one text stands for, in three parts as they were labelled.
+/// How often a word may be repeated: once for each word of a list that is too long.
+const REPEATS_MAX: usize = 4097;
+
+/// The most words of one part, so that a few repetitions too many can't take all
+/// memory.
+const PART_WORDS_MAX: usize = 100_000;
+
+/// How many words stand in a line where no layout says it.
+const WORDS_IN_A_LINE: usize = 8;
+
+/// What one text stands for, in parts as they were labelled.
 #[derive(Default)]
 struct Parts {
     unlabelled: Vec<u32>,
+    /// Single bytes behind the unlabelled words.
+    left_over: Vec<u8>,
     table: Option<Vec<u32>>,
     list: Option<Vec<u32>>,
 }
@@ -30,15 +38,24 @@ pub fn write(input: &Input) -> String {
     text
 }
 
+/// The text of any bytes as they stand, in few lines.
+pub fn write_bytes(bytes: &[u8]) -> String {
+    let mut items = items(&reference::words::from_bytes(bytes));
+    let left_over = bytes.chunks_exact(4).remainder();
+    items.extend(left_over.iter().map(|byte| format!("{byte:02X}")));
+    let lines = items.chunks(WORDS_IN_A_LINE);
+    lines.map(|items| items.join(" ") + "\n").collect()
+}
+
 /// The rows that a table is written in: by its layout where its length is right,
-/// otherwise eight words to a line.
+/// otherwise the same number of words in each.
 fn table_rows(table: &[u32]) -> Vec<&[u32]> {
     let Some(&header) = table.first() else {
         return Vec::new();
     };
     if !reference::table::header_is_right(header) || reference::table::length(header) != table.len()
     {
-        return table.chunks(8).collect();
+        return table.chunks(WORDS_IN_A_LINE).collect();
     }
     let n = reference::table::domains(table);
     let (rights, endpoints) = table[1..].split_at(n * n);
@@ -48,13 +65,18 @@ fn table_rows(table: &[u32]) -> Vec<&[u32]> {
     rows
 }
 
-/// One line of words; a word that stands three times or more in a row is written
-/// once, with how often.
 fn line(words: &[u32]) -> String {
+    items(words).join(" ") + "\n"
+}
+
+/// Words one by one; one that stands three times or more in a row is written once,
+/// with how often.
+fn items(words: &[u32]) -> Vec<String> {
     let mut written = Vec::new();
     let mut rest = words;
     while let Some(&word) = rest.first() {
-        let same = rest.iter().take_while(|&&next| next == word).count();
+        let most = rest.iter().take(REPEATS_MAX);
+        let same = most.take_while(|&&next| next == word).count();
         if same >= 3 {
             written.push(format!("{word:08X}*{same}"));
         } else {
@@ -62,30 +84,27 @@ fn line(words: &[u32]) -> String {
         }
         rest = &rest[same..];
     }
-    written.join(" ") + "\n"
+    written
 }
 
 /// The bytes for `linerun` that a text stands for, or what is wrong with it and
 /// in which line.
 pub fn read(text: &str) -> Result<Vec<u8>, String> {
+    // Some editors put a byte-order mark before a text.
+    let text = text.strip_prefix('\u{FEFF}').unwrap_or(text);
     let mut parts = Parts::default();
     for (number, line) in text.lines().enumerate() {
         read_line(line, &mut parts).map_err(|why| format!("line {}: {why}", number + 1))?;
     }
-    match parts {
-        Parts {
-            unlabelled,
-            table: None,
-            list: None,
-        } => Ok(reference::words::to_bytes(&unlabelled)),
-        Parts {
-            unlabelled, table, ..
-        } if !unlabelled.is_empty() || table.is_none() => {
-            Err("words stand before `table`, or `table` is missing".to_string())
+    match parts.table {
+        None if parts.is_empty() => Err("there is no word in it".to_string()),
+        None => {
+            let words = reference::words::to_bytes(&parts.unlabelled);
+            Ok([words, parts.left_over].concat())
         }
-        Parts { table, list, .. } => Ok(Input {
-            table: table.unwrap_or_default(),
-            list: list.unwrap_or_default(),
+        Some(table) => Ok(Input {
+            table,
+            list: parts.list.unwrap_or_default(),
         }
         .to_bytes()),
     }
@@ -96,44 +115,90 @@ fn read_line(line: &str, parts: &mut Parts) -> Result<(), String> {
     for item in code.split(|c: char| c.is_whitespace() || c == ';' || c == ',') {
         match item {
             "" => {}
-            "table" | "table:" if parts.table.is_none() => parts.table = Some(Vec::new()),
-            "list" | "list:" if parts.list.is_none() && parts.table.is_some() => {
-                parts.list = Some(Vec::new())
-            }
-            "table" | "table:" | "list" | "list:" => {
-                return Err(format!("`{item}` is written twice, or before `table`"))
-            }
-            _ => last_part(parts).extend(words_of(item)?),
+            "table" | "table:" => parts.start_table()?,
+            "list" | "list:" => parts.start_list()?,
+            _ => parts.add(item)?,
         }
     }
     Ok(())
 }
 
-/// Where the words that are read now go.
-fn last_part(parts: &mut Parts) -> &mut Vec<u32> {
-    match parts {
-        Parts {
-            list: Some(list), ..
-        } => list,
-        Parts {
-            table: Some(table), ..
-        } => table,
-        Parts { unlabelled, .. } => unlabelled,
+impl Parts {
+    /// Whether nothing stands outside `table` and `list`.
+    fn is_empty(&self) -> bool {
+        self.unlabelled.is_empty() && self.left_over.is_empty()
     }
+
+    fn start_table(&mut self) -> Result<(), String> {
+        if self.table.is_some() {
+            return Err("`table` is written a second time".to_string());
+        }
+        if !self.is_empty() {
+            return Err("words stand before `table`".to_string());
+        }
+        self.table = Some(Vec::new());
+        Ok(())
+    }
+
+    fn start_list(&mut self) -> Result<(), String> {
+        if self.list.is_some() {
+            return Err("`list` is written a second time".to_string());
+        }
+        if self.table.is_none() {
+            return Err("`list` is written without `table` before it".to_string());
+        }
+        self.list = Some(Vec::new());
+        Ok(())
+    }
+
+    /// Adds a word, the same one several times, or a byte, to the part that is read
+    /// now.
+    fn add(&mut self, item: &str) -> Result<(), String> {
+        if let Some(byte) = byte_of(item).filter(|_| self.table.is_none()) {
+            self.left_over.push(byte);
+            return match self.left_over.len() {
+                4.. => Err("four bytes at the end make a word".to_string()),
+                _ => Ok(()),
+            };
+        }
+        let words = words_of(item)?;
+        if !self.left_over.is_empty() {
+            return Err(format!("the word `{item}` stands behind single bytes"));
+        }
+        let labelled = self.list.as_mut().or(self.table.as_mut());
+        let part = labelled.unwrap_or(&mut self.unlabelled);
+        if part.len() + words.len() > PART_WORDS_MAX {
+            return Err("more than 100,000 words: linerun reads 4,739 at most".to_string());
+        }
+        part.extend(words);
+        Ok(())
+    }
+}
+
+/// A byte of two hexadecimal digits.
+fn byte_of(item: &str) -> Option<u8> {
+    hexadecimal(item, 2).map(|byte| byte as u8)
 }
 
 /// One word, or the same one several times.
 fn words_of(item: &str) -> Result<Vec<u32>, String> {
     let (digits, times) = item.split_once('*').unwrap_or((item, "1"));
-    let eight = digits.len() == 8 && digits.bytes().all(|digit| digit.is_ascii_hexdigit());
-    let word = u32::from_str_radix(digits, 16);
-    let times: Result<usize, _> = times.parse();
-    match (eight, word, times) {
-        (true, Ok(word), Ok(times @ 0..=4097)) => Ok(vec![word; times]),
-        _ => Err(format!(
+    let prefixed = digits.strip_prefix("0x").or(digits.strip_prefix("0X"));
+    let Some(word) = hexadecimal(prefixed.unwrap_or(digits), 8) else {
+        return Err(format!(
             "`{item}` is no word: eight hexadecimal digits, as F0000005 or F0000000*8"
-        )),
+        ));
+    };
+    match times.parse() {
+        Ok(times @ 1..=REPEATS_MAX) => Ok(vec![word; times]),
+        _ => Err(format!("`{item}`: a word can stand 1 to 4,097 times")),
     }
+}
+
+/// The number that just so many hexadecimal digits are.
+fn hexadecimal(digits: &str, count: usize) -> Option<u32> {
+    let right = digits.len() == count && digits.bytes().all(|digit| digit.is_ascii_hexdigit());
+    u32::from_str_radix(digits, 16).ok().filter(|_| right)
 }
 
 #[cfg(test)]
@@ -181,8 +246,29 @@ mod tests {
     #[test]
     fn words_without_labels_stand_as_they_are() {
         assert_eq!(read("00000001 10000100"), Ok(vec![1, 0, 0, 0, 0, 1, 0, 16]));
-        assert_eq!(read(""), Ok(vec![]));
+        assert_eq!(read("00000001 F0 a1"), Ok(vec![1, 0, 0, 0, 0xF0, 0xA1]));
         assert_eq!(read("table\nlist"), Ok(vec![0, 0, 0, 0]));
+        assert_eq!(read("table"), read("table list"));
+    }
+
+    #[test]
+    fn a_prefix_and_a_byte_order_mark_are_taken() {
+        let plain = read("table 10000100 F0000000*2");
+        assert_eq!(read("\u{FEFF}table 0x10000100 0XF0000000*2"), plain);
+    }
+
+    #[test]
+    fn any_bytes_come_back_from_few_lines() {
+        let mut rng = Rng::new(12);
+        for _ in 0..500 {
+            let bytes = linerun_input(&mut rng, 5, 4, 60);
+            if !bytes.is_empty() {
+                assert_eq!(read(&write_bytes(&bytes)), Ok(bytes));
+            }
+        }
+        let long = [9, 0, 0, 0x50].repeat(REPEATS_MAX + 2);
+        assert_eq!(write_bytes(&long), "50000009*4097 50000009 50000009\n");
+        assert_eq!(read(&write_bytes(&long)), Ok(long));
     }
 
     #[test]
@@ -190,9 +276,39 @@ mod tests {
         let wrong = |text: &str| read(text).unwrap_err();
         assert!(wrong("table\n2000010").starts_with("line 2: `2000010` is no word"));
         assert!(wrong("+2345678").starts_with("line 1:"));
-        assert!(wrong("F0000000*x").starts_with("line 1:"));
-        assert!(wrong("list\ntable").starts_with("line 1: `list`"));
-        assert!(wrong("table table").contains("twice"));
-        assert!(wrong("20000100\ntable\n10000100").starts_with("words stand before"));
+        for times in ["x", "", "0", "4098", "99999999999999999999"] {
+            let told = wrong(&format!("F0000000*{times}"));
+            assert!(told.ends_with("can stand 1 to 4,097 times"), "{told}");
+        }
+        for nothing in ["", "# nothing\n\n"] {
+            assert_eq!(wrong(nothing), "there is no word in it");
+        }
+    }
+
+    #[test]
+    fn labels_out_of_place_are_told_apart() {
+        let wrong = |text: &str| read(text).unwrap_err();
+        let twice = wrong("table table");
+        assert_eq!(twice, "line 1: `table` is written a second time");
+        let twice = wrong("table list\nlist");
+        assert_eq!(twice, "line 2: `list` is written a second time");
+        let alone = wrong("list 20000100");
+        assert_eq!(alone, "line 1: `list` is written without `table` before it");
+        let before = wrong("20000100\ntable\n10000100");
+        assert_eq!(before, "line 2: words stand before `table`");
+    }
+
+    #[test]
+    fn single_bytes_stand_at_the_end_of_unlabelled_words() {
+        let wrong = |text: &str| read(text).unwrap_err();
+        assert!(wrong("table 10000100 F0").contains("`F0` is no word"));
+        assert!(wrong("00000001 F0 F0 F0 F0").contains("make a word"));
+        assert!(wrong("00000001 F0\n10000100").starts_with("line 2: the word"));
+    }
+
+    #[test]
+    fn repetitions_take_no_more_memory_than_there_should_be() {
+        let told = read(&"F0000000*4097 ".repeat(25)).unwrap_err();
+        assert!(told.contains("more than 100,000 words"), "{told}");
     }
 }

@@ -5,6 +5,7 @@ use reference::calls::{cut, Call, LIST_WORDS_MAX};
 use reference::entry::ANSWER_WORDS;
 use reference::generate::{Case, Rng};
 
+use crate::explain::counted;
 use crate::input::Input;
 
 /// One variant, with what was done to make it.
@@ -57,7 +58,7 @@ pub fn damaged_tables(input: &Input, rng: &mut Rng) -> Vec<Variant> {
     }
     for length in [0, 1, input.table.len().saturating_sub(1)] {
         let cut = input.table[..length].to_vec();
-        add(format!("the table cut to {length} words"), cut);
+        add(format!("the table cut to {}", counted(length, "word")), cut);
     }
     let longer = [&input.table[..], &[0xF000_0000]].concat();
     add("a word behind the table".to_string(), longer);

@@ -1,7 +1,8 @@
 //! `bench words`: words as text into an input of linerun, and back.
 
 use crate::args::Options;
-use crate::input::{read_bytes, Input};
+use crate::explain::meaning;
+use crate::input::{read_at_most, read_input, shown, Input};
 use crate::output;
 use crate::text;
 
@@ -20,25 +21,62 @@ the text of an input. `-` is standard input. A text looks like this:
   20000000 F0000005               # domain 0 sends 5 to endpoint 0
   30400000                        # domain 1 receives from it
 
-Words are eight hexadecimal digits; F0000000*8 is the same word eight times.
-Spaces, new lines, `;` and `,` separate words; a comment goes from # to the end
-of its line. The table's length is counted. A text without `table` and `list` is
-written as it stands: its first word must then be the table's length.
+Words are eight hexadecimal digits, with 0x before them or not; F0000000*8 is
+the same word eight times, and 4,097 times is the most. Spaces, new lines, `;`
+and `,` separate words; a comment goes from # to the end of its line. The table's
+length is counted. `list` may be left out: then there are no calls.
 
-Exit status: 0 written; 2 bad usage, or what is given is no such text or input.
+A text without `table` and `list` is written as it stands. Its first word must
+then be the table's length, hexadecimal like the rest: 00000022 for 34 words. Up
+to three bytes of two digits each may stand at its end, for an input that has
+bytes left over.
+
+Exit status: 0 written; 1 the input given with --back is refused; 2 bad usage,
+or what is given is no such text.
 ";
 
-/// The command: always well where there is something to write.
+/// The longest text that is read: far more than any input needs.
+const TEXT_BYTES_MAX: usize = 1_000_000;
+
+/// The command: whether there was something to write.
 pub fn command(line: &[String]) -> Result<bool, String> {
     let options = Options::parse(line, &[], &["--back"])?;
     let file = options.file()?;
-    let written = if options.has("--back") {
-        text::write(&Input::read(file)?).into_bytes()
-    } else {
-        let bytes = read_bytes(file)?;
-        let typed = String::from_utf8(bytes).map_err(|_| format!("{file} is no text"))?;
-        text::read(&typed).map_err(|why| format!("{file}, {why}"))?
-    };
-    output::write(&written);
+    if options.has("--back") {
+        return back(file);
+    }
+    let written = text::read(&typed(file)?);
+    output::write(&written.map_err(|why| format!("{}: {why}", shown(file)))?);
     Ok(true)
+}
+
+/// Writes the text of an input, unless the input is refused.
+fn back(file: &str) -> Result<bool, String> {
+    match Input::parse(&read_input(file)?) {
+        Ok(input) => output::write(text::write(&input).as_bytes()),
+        Err((code, why)) => {
+            // Standard output is for the text alone.
+            eprintln!(
+                "bench words: {} is refused with {code} ({}): {why}",
+                shown(file),
+                meaning(code)
+            );
+            return Ok(false);
+        }
+    }
+    Ok(true)
+}
+
+/// The text of a file.
+fn typed(file: &str) -> Result<String, String> {
+    let bytes = read_at_most(file, TEXT_BYTES_MAX + 1)?;
+    if bytes.len() > TEXT_BYTES_MAX {
+        return Err(format!("{} is above 1,000,000 bytes", shown(file)));
+    }
+    String::from_utf8(bytes).map_err(|_| {
+        format!(
+            "{} is no text; `bench words --back FILE` makes the text of an input",
+            shown(file)
+        )
+    })
 }

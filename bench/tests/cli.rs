@@ -2,7 +2,7 @@
 
 use std::fs;
 use std::path::PathBuf;
-use std::process::{Command, Output};
+use std::process::{Command, Output, Stdio};
 
 use reference::example::{LIST_L, PRINTED, TABLE_T};
 use reference::words::{hex, to_bytes};
@@ -37,15 +37,44 @@ fn example() -> Vec<u8> {
     to_bytes(&[&[34], &TABLE_T[..], &LIST_L[..]].concat())
 }
 
+/// What an archive is called: only that of the repository is known to be proved.
+fn archive_title() -> String {
+    match option_env!("BALKWIZU_ARCHIVE") {
+        None => "proved archive".to_string(),
+        Some(named) => {
+            let path = fs::canonicalize(named).expect("the archive is there");
+            format!("archive {}", path.display())
+        }
+    }
+}
+
 #[test]
 fn help_is_given_for_every_command() {
     assert_eq!(status(&["--help"]), 0);
+    assert!(printed(&["--help"]).contains("or a closed pipe"));
     for command in ["commission", "fuzz", "linerun", "speed", "show", "words"] {
         let help = printed(&[command, "--help"]);
         assert!(help.starts_with(&format!("bench {command}")), "{help}");
         assert!(help.contains("Exit status:"), "{help}");
         assert!(printed(&["--help"]).contains(&format!("bench {command}")));
     }
+}
+
+#[test]
+fn a_closed_pipe_ends_with_2_and_without_a_word() {
+    let calls = vec![0x5000_0000; 4096];
+    let long = to_bytes(&[&[34], &TABLE_T[..], &calls[..]].concat());
+    // What is shown is more than a pipe holds, so that it can't all be written before.
+    let mut child = Command::new(env!("CARGO_BIN_EXE_bench"))
+        .args(["show", &file("pipe.bin", &long)])
+        .stdout(Stdio::piped())
+        .stderr(Stdio::piped())
+        .spawn()
+        .expect("the program starts");
+    drop(child.stdout.take());
+    let ended = child.wait_with_output().expect("it ends");
+    assert_eq!(ended.status.code(), Some(2));
+    assert!(ended.stderr.is_empty());
 }
 
 #[test]
@@ -59,7 +88,13 @@ fn bad_usage_ends_with_2_and_says_why() {
     assert_eq!(status(&["commission"]), 2);
     assert!(told(&["commission", "/no/such/file"]).contains("cannot read /no/such/file"));
     assert_eq!(status(&["speed", "more"]), 2);
+    assert_eq!(status(&["speed", "--rounds", "0"]), 2);
+    assert_eq!(status(&["fuzz", "--cases", "0"]), 2);
+    assert!(told(&["fuzz", "--cases", "0"]).contains("leave nothing to compare"));
+    let beyond = ["fuzz", "--from", "18446744073709551615", "--cases", "2"];
+    assert!(told(&beyond).contains("go beyond 2^64 - 1"));
     assert_eq!(status(&["linerun", "/no/such/program"]), 2);
+    assert!(told(&["linerun", "Cargo.toml"]).contains("write ./Cargo.toml"));
 }
 
 #[test]
@@ -76,6 +111,11 @@ fn the_worked_example_is_typed_in_and_run() {
     let wrong = file("wrong.txt", b"table\n1000030");
     assert_eq!(status(&["words", &wrong]), 2);
     assert!(told(&["words", &wrong]).contains("line 2: `1000030` is no word"));
+    let nothing = file("nothing.txt", b"# no word\n");
+    assert_eq!(status(&["words", &nothing]), 2);
+    assert!(told(&["words", &nothing]).contains("there is no word in it"));
+    assert!(told(&["words", "/dev/zero"]).contains("is above 1,000,000 bytes"));
+    assert!(told(&["words", &input]).contains("`bench words --back FILE`"));
 }
 
 #[test]
@@ -83,6 +123,7 @@ fn the_worked_example_is_commissioned() {
     let input = file("commission.bin", &example());
     let list = printed(&["commission", &input, "--struck", "1"]);
     assert!(list.contains("struck for domain 1: 4 of 9 calls"), "{list}");
+    assert!(list.contains(&format!(" on {}: 3 domains", archive_title())));
     for line in 1..=4 {
         assert!(list.contains(&format!("line {line} passed")), "{list}");
     }
@@ -96,14 +137,27 @@ fn what_is_refused_is_not_commissioned_nor_shown() {
     let mut table = TABLE_T;
     table[9] = 0x2000_0008;
     let input = file("refused.bin", &to_bytes(&[&[34], &table[..]].concat()));
-    let word = "refused with 4, word 9, the rights of domain 2 on domain 2 is 20000008";
+    let word = "refused with 4 (a rights word breaks its layout): word 9, the rights of domain 2";
     assert!(printed(&["commission", &input]).contains(word));
     assert_eq!(status(&["commission", &input]), 1);
     assert_eq!(status(&["show", &input]), 1);
     assert!(printed(&["show", &input]).starts_with("table refused with 4"));
     let short = file("short.bin", &example()[..50]);
-    assert!(printed(&["commission", &short]).contains("refused with 7, its table should have 34"));
+    assert!(printed(&["commission", &short]).contains("its table should have 34 words, it has 11"));
     assert_eq!(status(&["show", &short]), 1);
+    let endless = printed(&["show", "/dev/zero"]);
+    assert!(endless.starts_with("refused with 1 "), "{endless}");
+}
+
+#[test]
+fn a_text_in_the_place_of_an_input_is_pointed_to_words() {
+    let typed = file("typed-not-made.txt", b"table\n10000100\n");
+    for command in ["commission", "show"] {
+        assert!(printed(&[command, &typed]).contains("is this a text? `bench words FILE`"));
+        assert_eq!(status(&[command, &typed]), 1);
+    }
+    assert!(told(&["words", "--back", &typed]).contains("is this a text?"));
+    assert_eq!(status(&["words", "--back", &typed]), 1);
 }
 
 #[test]
@@ -114,7 +168,24 @@ fn an_input_is_shown_in_words_and_as_a_picture() {
     assert!(shown.contains("domain 1 grants domain 0 SEND on domain 2"));
     let picture = fs::read_to_string(&out).expect("the picture is there");
     assert!(picture.starts_with("<svg ") && picture.ends_with("</svg>\n"));
-    assert_eq!(status(&["show", &input, "--svg", "/no/such/place.svg"]), 2);
+}
+
+#[test]
+fn a_picture_that_cannot_be_written_leaves_everything_as_it_was() {
+    let input = file("kept.bin", &example());
+    let nowhere = bench(&["show", &input, "--svg", "/no/such/place.svg"]);
+    assert_eq!(nowhere.status.code(), Some(2));
+    assert!(nowhere.stdout.is_empty(), "nothing is shown before");
+    assert!(told(&["show", &input, "--svg", "--calls"]).contains("write ./--calls"));
+    let link = format!("{input}.link");
+    let _ = fs::remove_file(&link);
+    fs::hard_link(&input, &link).expect("a link can be made");
+    for same in [&input, &link] {
+        let line = ["show", &input, "--svg", same];
+        assert_eq!(status(&line), 2);
+        assert!(told(&line).contains("is the input"), "{}", told(&line));
+    }
+    assert_eq!(fs::read(&input).expect("it is still there"), example());
 }
 
 #[test]
@@ -122,9 +193,9 @@ fn fuzz_meets_every_code_and_shows_no_progress_in_a_pipe() {
     let line = [
         "fuzz",
         "--cases",
-        "1000",
+        "10,000",
         "--table-checks",
-        "1000",
+        "10,000",
         "--seed",
         "3",
     ];
@@ -136,9 +207,15 @@ fn fuzz_meets_every_code_and_shows_no_progress_in_a_pipe() {
         text.ends_with("fuzz of balkwizu with seed 3: passed\n"),
         "{text}"
     );
-    let few = ["fuzz", "--cases", "2", "--table-checks", "0"];
-    assert_eq!(status(&few), 1);
-    assert!(printed(&few).contains("never met"));
+}
+
+#[test]
+fn one_run_can_be_tried_again_by_itself() {
+    let again = "fuzz --seed 3 --from 4 --cases 1 --table-checks 0";
+    let again: Vec<&str> = again.split(' ').collect();
+    assert_eq!(status(&again), 0);
+    assert!(printed(&again).ends_with("too few cases to ask that every code is met\n"));
+    assert_eq!(status(&["fuzz", "--cases", "0", "--table-checks", "1"]), 0);
 }
 
 #[test]
@@ -146,6 +223,25 @@ fn a_program_that_is_no_linerun_differs() {
     let line = ["linerun", "/bin/cat", "--cases", "3"];
     assert_eq!(status(&line), 1);
     assert!(printed(&line).starts_with("DIFFERENCE in input 0 of seed 1"));
+    let silent = printed(&["linerun", "/bin/true", "--cases", "3"]);
+    assert!(silent.contains("it prints nothing"), "{silent}");
+    let failing = printed(&["linerun", "/bin/false", "--cases", "3"]);
+    assert!(failing.contains("it ended with status 1, it should be 0"));
+    let endless = printed(&["linerun", "/usr/bin/yes", "--cases", "3"]);
+    assert!(endless.contains("it was stopped: it printed more than 270364 bytes"));
+}
+
+#[test]
+fn an_input_that_differs_comes_back_through_words() {
+    let report = printed(&["linerun", "/bin/true", "--from", "1", "--cases", "1"]);
+    let (_, words) = report
+        .split_once("as `bench words` takes them:\n")
+        .expect("the words are given");
+    let input = bench(&["words", &file("differs.txt", words.as_bytes())]);
+    assert_eq!(input.status.code(), Some(0), "{report}");
+    let first = String::from_utf8(reference::linerun(&input.stdout)).expect("text");
+    let first = first.lines().next().expect("a line");
+    assert!(report.contains(&format!("line 1 should be: {first}")));
 }
 
 #[test]
@@ -156,5 +252,6 @@ fn speed_prints_a_table() {
         let rows = table.lines().filter(|line| line.starts_with("| ")).count();
         assert_eq!(rows, wanted, "{table}");
         assert!(table.contains("reset outside the timed part"), "{table}");
+        assert!(table.contains(&format!("| What | {} |", archive_title())));
     }
 }

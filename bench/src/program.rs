@@ -1,0 +1,250 @@
+//! Another program run on an input, whatever it does: within a time, and with no
+//! more kept of what it prints than `linerun` can print.
+
+use std::io::{self, ErrorKind, Read, Write};
+use std::os::unix::process::ExitStatusExt;
+use std::path::Path;
+use std::process::{Child, ChildStdin, Command, ExitStatus, Stdio};
+use std::sync::mpsc::{channel, sync_channel, Receiver, RecvTimeoutError};
+use std::thread;
+use std::time::{Duration, Instant};
+
+/// How long a program may take for an input.
+const TIME: Duration = Duration::from_secs(10);
+
+/// The most bytes that `linerun` prints: for a list of 4,096 calls.
+const PRINTED_MAX: usize = 270_364;
+
+/// How many bytes of standard error are kept, and how long to wait for them once
+/// the program has ended: something that it started may still hold it open.
+const SAID_MAX: u64 = 500;
+const WAIT_FOR_SAID: Duration = Duration::from_millis(200);
+
+/// What a program did with an input.
+#[derive(Debug, Clone, PartialEq, Eq)]
+pub struct Ran {
+    pub printed: Vec<u8>,
+    /// What it wrote to standard error, the start of it.
+    pub said: Vec<u8>,
+    pub end: End,
+}
+
+#[derive(Debug, Clone, Copy, PartialEq, Eq)]
+pub enum End {
+    /// By itself, with a status.
+    Status(i32),
+    Signal(i32),
+    /// Stopped from here, for printing too much or for taking too long.
+    TooMuch,
+    TooLong,
+}
+
+impl End {
+    /// What is wrong with how it ended.
+    pub fn fault(self) -> Option<String> {
+        Some(match self {
+            End::Status(0) => return None,
+            End::Status(status) => format!("it ended with status {status}, it should be 0"),
+            End::Signal(signal) => format!("it was ended by signal {signal}{}", known(signal)),
+            End::TooMuch => format!("it was stopped: it printed more than {PRINTED_MAX} bytes"),
+            End::TooLong => format!(
+                "it was stopped: it had not ended after {} seconds",
+                TIME.as_secs()
+            ),
+        })
+    }
+}
+
+/// The signals that a faulty program ends by, in words.
+fn known(signal: i32) -> &'static str {
+    match signal {
+        4 => " (illegal instruction)",
+        6 => " (aborted)",
+        7 => " (bus error)",
+        8 => " (arithmetic error)",
+        9 => " (killed)",
+        11 => " (segmentation fault)",
+        15 => " (terminated)",
+        _ => "",
+    }
+}
+
+/// Runs a program on an input; an error where it can't be started.
+pub fn run(program: &str, input: &[u8]) -> Result<Ran, String> {
+    run_for(program, input, TIME)
+}
+
+fn run_for(program: &str, input: &[u8], time: Duration) -> Result<Ran, String> {
+    let mut child = start(program)?;
+    let deadline = Instant::now() + time;
+    feed(child.stdin.take(), input.to_vec());
+    let said = first_bytes(child.stderr.take());
+    let (printed, stopped) = collect(parts(child.stdout.take()), deadline);
+    let stopped = stopped.or_else(|| wait(&mut child, deadline));
+    if stopped.is_some() {
+        // It may have ended meanwhile.
+        let _ = child.kill();
+    }
+    let status = child.wait();
+    let status = status.map_err(|why| format!("cannot wait for {program}: {why}"))?;
+    Ok(Ran {
+        printed,
+        said: said.recv_timeout(WAIT_FOR_SAID).unwrap_or_default(),
+        end: stopped.unwrap_or_else(|| ended(status)),
+    })
+}
+
+fn start(program: &str) -> Result<Child, String> {
+    let mut command = Command::new(program);
+    command.stdin(Stdio::piped());
+    command.stdout(Stdio::piped()).stderr(Stdio::piped());
+    command.spawn().map_err(|why| {
+        let bare = why.kind() == ErrorKind::NotFound && !program.contains('/');
+        if bare && Path::new(program).exists() {
+            return format!(
+                "no program {program} is installed: for the one here write ./{program}"
+            );
+        }
+        format!("cannot start {program}: {why}")
+    })
+}
+
+/// Gives the program its input, which it may stop reading before the end.
+fn feed(stdin: Option<ChildStdin>, input: Vec<u8>) {
+    thread::spawn(move || stdin.map(|mut stdin| stdin.write_all(&input)));
+}
+
+/// What is read from a program, part by part; one part at most waits to be taken.
+fn parts(stream: Option<impl Read + Send + 'static>) -> Receiver<Vec<u8>> {
+    let (give, take) = sync_channel(1);
+    thread::spawn(move || {
+        let Some(mut stream) = stream else { return };
+        let mut space = vec![0; 65_536];
+        while let Ok(count @ 1..) = stream.read(&mut space) {
+            if give.send(space[..count].to_vec()).is_err() {
+                return;
+            }
+        }
+    });
+    take
+}
+
+/// The first bytes that are read from a program. What follows is read too, so that
+/// the program never waits for that, and left out.
+fn first_bytes(stream: Option<impl Read + Send + 'static>) -> Receiver<Vec<u8>> {
+    let (give, take) = channel();
+    thread::spawn(move || {
+        let mut first = Vec::new();
+        let mut stream = stream?;
+        let _ = stream.by_ref().take(SAID_MAX).read_to_end(&mut first);
+        let _ = give.send(first);
+        io::copy(&mut stream, &mut io::sink()).ok()
+    });
+    take
+}
+
+/// All that is printed, and why it was stopped where it was.
+fn collect(parts: Receiver<Vec<u8>>, deadline: Instant) -> (Vec<u8>, Option<End>) {
+    let mut printed = Vec::new();
+    loop {
+        let left = deadline.saturating_duration_since(Instant::now());
+        match parts.recv_timeout(left) {
+            Ok(part) => printed.extend(part),
+            Err(RecvTimeoutError::Disconnected) => return (printed, None),
+            Err(RecvTimeoutError::Timeout) => return (printed, Some(End::TooLong)),
+        }
+        if printed.len() > PRINTED_MAX {
+            printed.truncate(PRINTED_MAX + 1);
+            return (printed, Some(End::TooMuch));
+        }
+    }
+}
+
+/// Waits for a program that prints no more; that it took too long, where it did.
+fn wait(child: &mut Child, deadline: Instant) -> Option<End> {
+    while let Ok(None) = child.try_wait() {
+        if Instant::now() >= deadline {
+            return Some(End::TooLong);
+        }
+        thread::sleep(Duration::from_micros(20));
+    }
+    None
+}
+
+fn ended(status: ExitStatus) -> End {
+    match (status.code(), status.signal()) {
+        (Some(status), _) => End::Status(status),
+        (None, signal) => End::Signal(signal.unwrap_or_default()),
+    }
+}
+
+#[cfg(test)]
+mod tests {
+    use super::*;
+
+    /// What a shell does with a script that it is given as its input.
+    fn shell(script: &str) -> Ran {
+        run("/bin/sh", script.as_bytes()).unwrap()
+    }
+
+    /// The same with a script that never ends by itself.
+    fn endless(script: &str) -> Ran {
+        run_for("/bin/sh", script.as_bytes(), Duration::from_secs(1)).unwrap()
+    }
+
+    #[test]
+    fn what_is_printed_and_said_is_kept() {
+        let ran = shell("echo abc; echo wrong >&2; exit 3");
+        assert_eq!(ran.printed, b"abc\n");
+        assert_eq!(ran.said, b"wrong\n");
+        assert_eq!(ran.end, End::Status(3));
+        let told = ran.end.fault().unwrap();
+        assert_eq!(told, "it ended with status 3, it should be 0");
+        assert_eq!(shell("echo abc").end.fault(), None);
+    }
+
+    #[test]
+    fn a_signal_is_told() {
+        let ran = shell("echo abc; kill -SEGV $$");
+        assert_eq!(ran.printed, b"abc\n");
+        let told = ran.end.fault().unwrap();
+        assert_eq!(told, "it was ended by signal 11 (segmentation fault)");
+    }
+
+    #[test]
+    fn what_prints_without_end_is_stopped() {
+        let ran = run("/usr/bin/yes", b"").unwrap();
+        assert_eq!(ran.end, End::TooMuch);
+        assert_eq!(ran.printed.len(), PRINTED_MAX + 1);
+        let said = endless("yes no >&2");
+        assert_eq!(said.end, End::TooLong);
+        assert_eq!(said.said.len(), SAID_MAX as usize);
+    }
+
+    #[test]
+    fn what_waits_without_end_is_stopped() {
+        let waits = endless("echo abc; exec sleep 30");
+        assert_eq!(waits.end, End::TooLong);
+        assert_eq!(waits.printed, b"abc\n");
+        let closes = endless("echo abc; exec sleep 30 >&- 2>&-");
+        assert_eq!(closes.end, End::TooLong);
+        assert!(closes.end.fault().unwrap().contains("after 10 seconds"));
+    }
+
+    #[test]
+    fn what_a_stopped_program_leaves_running_is_not_waited_for() {
+        let began = Instant::now();
+        assert_eq!(endless("sleep 20; echo late").end, End::TooLong);
+        assert!(began.elapsed() < Duration::from_secs(15));
+    }
+
+    #[test]
+    fn a_program_that_cannot_be_started_is_told() {
+        assert!(run("/no/such/program", b"").is_err());
+        // Tests run in the folder of the package.
+        let here = run("Cargo.toml", b"").unwrap_err();
+        assert!(here.ends_with("write ./Cargo.toml"), "{here}");
+        let nowhere = run("no-such-program", b"").unwrap_err();
+        assert!(nowhere.starts_with("cannot start"), "{nowhere}");
+    }
+}
