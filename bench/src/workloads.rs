@@ -40,36 +40,39 @@ struct Drawn {
     owner: usize,
 }
 
+type Calls = fn(&Drawn) -> Vec<u32>;
+
+/// A few calls of one kind, which leave the table as it was.
+const KINDS: [(&str, Calls); 6] = [
+    ("look up", |it| {
+        let name = second(101 + it.endpoint as u32);
+        vec![call_word(LOOK_UP, it.caller, 0, 0, 0), name]
+    }),
+    ("send and receive", |it| {
+        vec![
+            call_word(SEND, it.caller, 0, it.endpoint, 0),
+            second(7),
+            call_word(RECEIVE, it.owner, 0, it.endpoint, 0),
+        ]
+    }),
+    ("my endpoints", |it| {
+        vec![call_word(MY_ENDPOINTS, it.caller, 0, 0, 0)]
+    }),
+    ("my rights", |it| {
+        vec![call_word(MY_RIGHTS, it.caller, 0, 0, 0)]
+    }),
+    ("remove and grant", |it| {
+        vec![
+            call_word(REMOVE, it.caller, it.owner, 0, 1),
+            call_word(GRANT, it.other, it.owner, it.caller, 1),
+        ]
+    }),
+    ("unknown kind", |it| vec![call_word(9, it.caller, 0, 0, 0)]),
+];
+
 /// Every domain has every right on every domain, and the endpoints' owners go
 /// round.
 fn of_each_kind(n: usize, m: usize) -> Vec<Workload> {
-    type Calls = fn(&Drawn) -> Vec<u32>;
-    let kinds: [(&str, Calls); 6] = [
-        ("look up", |it| {
-            let name = second(101 + it.endpoint as u32);
-            vec![call_word(LOOK_UP, it.caller, 0, 0, 0), name]
-        }),
-        ("send and receive", |it| {
-            vec![
-                call_word(SEND, it.caller, 0, it.endpoint, 0),
-                second(7),
-                call_word(RECEIVE, it.owner, 0, it.endpoint, 0),
-            ]
-        }),
-        ("my endpoints", |it| {
-            vec![call_word(MY_ENDPOINTS, it.caller, 0, 0, 0)]
-        }),
-        ("my rights", |it| {
-            vec![call_word(MY_RIGHTS, it.caller, 0, 0, 0)]
-        }),
-        ("remove and grant", |it| {
-            vec![
-                call_word(REMOVE, it.caller, it.owner, 0, 1),
-                call_word(GRANT, it.other, it.owner, it.caller, 1),
-            ]
-        }),
-        ("unknown kind", |it| vec![call_word(9, it.caller, 0, 0, 0)]),
-    ];
     let owners: Vec<usize> = (0..m).map(|e| e % n).collect();
     let table = table_with(&vec![7; n * n], n, &owners);
     let mut rng = Rng::new(6);
@@ -86,7 +89,7 @@ fn of_each_kind(n: usize, m: usize) -> Vec<Workload> {
             })
         }),
     };
-    kinds.iter().map(|kind| workload(kind)).collect()
+    KINDS.iter().map(&mut workload).collect()
 }
 
 /// A table with the given rights, row by row, and endpoints of capacity 8, empty,
@@ -169,7 +172,8 @@ fn all_seven() -> Workload {
     }
 }
 
-/// (iii) Every call is refused, each code 10 to 23 as often as another.
+/// (iii) Each code 10 to 23 as often as another; only the call that stands before
+/// a stray is done.
 fn refusals() -> Workload {
     let grant =
         |caller, target, recipient, set| vec![call_word(GRANT, caller, target, recipient, set)];
