@@ -66,8 +66,8 @@ fn link_archive(out: &Path) -> Result<(), Box<dyn Error>> {
     println!("cargo::rerun-if-changed={}", archive.display());
     println!("cargo::rustc-env=ARCHIVE_TITLE={title}");
     let shown = archive.display();
-    let bytes = fs::read(&archive).map_err(|_| {
-        format!("no proved archive at {shown}: make it with `rt staticlib balkwizu`")
+    let bytes = fs::read(&archive).map_err(|why| {
+        format!("no archive {shown} ({why}): `rt staticlib balkwizu` makes {ARCHIVE}")
     })?;
     for name in EXPORTS {
         if !bytes

@@ -44,7 +44,7 @@ pub fn meaning(code: u32) -> &'static str {
         20 => "a domain named is not in the table",
         21 => "the rights named cannot be asked for",
         22 => "the caller lacks a right that the call needs",
-        23 => "the caller has no right on the recipient",
+        23 => "the caller isn't the recipient and has no right on it",
         _ => "not a number of the kernel",
     }
 }

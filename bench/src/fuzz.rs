@@ -70,7 +70,7 @@ pub fn command(line: &[String]) -> Result<bool, String> {
     let images = options.number("--table-checks")?;
     let images = images.unwrap_or(cases.saturating_mul(4));
     if cases == 0 && images == 0 {
-        return Err("no runs and no table checks leave nothing to compare".to_string());
+        return Err("no runs and no table images leave nothing to compare".to_string());
     }
     let plan = Plan {
         kernel: kernel(options.text("--kernel").unwrap_or("balkwizu"))?,
@@ -105,8 +105,8 @@ fn fuzz(plan: &Plan) -> bool {
 /// yet something was never met.
 fn verdict(plan: &Plan, tally: &Tally) -> Result<String, String> {
     let tried = [
-        ("cases", plan.cases.end - plan.cases.start),
-        ("table checks", plan.images.end - plan.images.start),
+        ("runs", plan.cases.end - plan.cases.start),
+        ("table images", plan.images.end - plan.images.start),
     ];
     let [runs, images] = tried.map(|(_, count)| count >= ENOUGH);
     let missing = tally.never_met(runs, images);
@@ -322,9 +322,9 @@ mod tests {
         let few = verdict(&of(ENOUGH - 1, 0), &nothing_met).unwrap();
         assert_eq!(
             few,
-            "nothing differs; too few cases to ask that every code is met"
+            "nothing differs; too few runs to ask that every code is met"
         );
         let few = verdict(&of(1, 1), &nothing_met).unwrap();
-        assert!(few.contains("too few cases and table checks to"), "{few}");
+        assert!(few.contains("too few runs and table images to"), "{few}");
     }
 }

@@ -42,8 +42,9 @@ const ENOUGH: u64 = 1000;
 /// How much of a line is shown.
 const SHOWN_MAX: usize = 120;
 
-/// A word that is a whole call: what the list of an input that differs is filled
-/// with where it differs all the same, since it is short to write.
+/// A word that is a whole call. A list of it is written in a few letters, as
+/// 50000000*4097, so the list of an input that differs is made of it where the input
+/// differs all the same.
 const PLAIN_CALL: u32 = 0x5000_0000;
 
 /// The command: whether nothing differs.
@@ -98,6 +99,7 @@ fn code_of(printed: &[u8]) -> usize {
     let text = String::from_utf8_lossy(printed);
     let first = text.lines().next().unwrap_or("");
     let code = first.rsplit(' ').next().and_then(|code| code.parse().ok());
+    // What is no code counts as 6, which no input has: an answer space is never too small here.
     code.filter(|&code: &usize| code < 8).unwrap_or(6)
 }
 
@@ -121,7 +123,7 @@ fn at_the_limit(rng: &mut Rng) -> Vec<u8> {
     }
     let mut words = vec![table.len() as u32];
     words.extend(table);
-    words.extend(vec![0x5000_0000; rng.between(4095, 4097)]);
+    words.extend(vec![PLAIN_CALL; rng.between(4095, 4097)]);
     let mut input = to_bytes(&words);
     input.extend(vec![0xF0; rng.below(4)]);
     input
@@ -195,7 +197,7 @@ fn shorter(program: &str, input: &[u8], ran: &Ran) -> String {
     };
     let smaller = match ran.end {
         // Each of them would take as long.
-        End::TooLong => input.to_vec(),
+        End::TooLong(_) => input.to_vec(),
         _ => with_fewer_words(input, |input| differs(input).is_some()),
     };
     let mut told = String::new();

@@ -1,8 +1,9 @@
 //! Another program run on an input, whatever it does: within a time, and with no
-//! more kept of what it prints than `linerun` can print.
+//! more kept of what it prints than `linerun` can print. It runs in a group of
+//! processes of its own, so that what it started ends with it.
 
 use std::io::{self, ErrorKind, Read, Write};
-use std::os::unix::process::ExitStatusExt;
+use std::os::unix::process::{CommandExt, ExitStatusExt};
 use std::path::Path;
 use std::process::{Child, ChildStdin, Command, ExitStatus, Stdio};
 use std::sync::mpsc::{channel, sync_channel, Receiver, RecvTimeoutError};
@@ -36,7 +37,7 @@ pub enum End {
     Signal(i32),
     /// Stopped from here, for printing too much or for taking too long.
     TooMuch,
-    TooLong,
+    TooLong(Duration),
 }
 
 impl End {
@@ -47,9 +48,9 @@ impl End {
             End::Status(status) => format!("it ended with status {status}, it should be 0"),
             End::Signal(signal) => format!("it was ended by signal {signal}{}", known(signal)),
             End::TooMuch => format!("it was stopped: it printed more than {PRINTED_MAX} bytes"),
-            End::TooLong => format!(
-                "it was stopped: it had not ended after {} seconds",
-                TIME.as_secs()
+            End::TooLong(time) => format!(
+                "it was stopped: it had not ended after {} s",
+                time.as_secs()
             ),
         })
     }
@@ -79,11 +80,15 @@ fn run_for(program: &str, input: &[u8], time: Duration) -> Result<Ran, String> {
     let deadline = Instant::now() + time;
     feed(child.stdin.take(), input.to_vec());
     let said = first_bytes(child.stderr.take());
-    let (printed, stopped) = collect(parts(child.stdout.take()), deadline);
-    let stopped = stopped.or_else(|| wait(&mut child, deadline));
-    if stopped.is_some() {
-        // It may have ended meanwhile.
-        let _ = child.kill();
+    let (printed, gathered) = collect(parts(child.stdout.take()), deadline);
+    let stopped = match gathered {
+        Gathered::All => wait(&mut child, deadline).then_some(End::TooLong(time)),
+        Gathered::TooMuch => Some(End::TooMuch),
+        // Something that it started may hold what it prints open.
+        Gathered::InTime => wait(&mut child, deadline).then_some(End::TooLong(time)),
+    };
+    if stopped.is_some() || gathered != Gathered::All {
+        kill_group(&child);
     }
     let status = child.wait();
     let status = status.map_err(|why| format!("cannot wait for {program}: {why}"))?;
@@ -94,10 +99,22 @@ fn run_for(program: &str, input: &[u8], time: Duration) -> Result<Ran, String> {
     })
 }
 
+/// Ends a program and whatever it started. Nothing is asked of the outcome: they may
+/// have ended meanwhile.
+fn kill_group(child: &Child) {
+    extern "C" {
+        fn kill(process: i32, signal: i32) -> i32;
+    }
+    const SIGKILL: i32 = 9;
+    // SAFETY: it takes two numbers and touches no memory of this program.
+    unsafe { kill(-(child.id() as i32), SIGKILL) };
+}
+
 fn start(program: &str) -> Result<Child, String> {
     let mut command = Command::new(program);
     command.stdin(Stdio::piped());
     command.stdout(Stdio::piped()).stderr(Stdio::piped());
+    command.process_group(0);
     command.spawn().map_err(|why| {
         let bare = why.kind() == ErrorKind::NotFound && !program.contains('/');
         if bare && Path::new(program).exists() {
@@ -143,32 +160,42 @@ fn first_bytes(stream: Option<impl Read + Send + 'static>) -> Receiver<Vec<u8>> 
     take
 }
 
-/// All that is printed, and why it was stopped where it was.
-fn collect(parts: Receiver<Vec<u8>>, deadline: Instant) -> (Vec<u8>, Option<End>) {
+/// How much of what a program prints was gathered.
+#[derive(Debug, Clone, Copy, PartialEq, Eq)]
+enum Gathered {
+    All,
+    /// What came until the deadline.
+    InTime,
+    /// It is more than is kept.
+    TooMuch,
+}
+
+/// What is printed.
+fn collect(parts: Receiver<Vec<u8>>, deadline: Instant) -> (Vec<u8>, Gathered) {
     let mut printed = Vec::new();
     loop {
         let left = deadline.saturating_duration_since(Instant::now());
         match parts.recv_timeout(left) {
             Ok(part) => printed.extend(part),
-            Err(RecvTimeoutError::Disconnected) => return (printed, None),
-            Err(RecvTimeoutError::Timeout) => return (printed, Some(End::TooLong)),
+            Err(RecvTimeoutError::Disconnected) => return (printed, Gathered::All),
+            Err(RecvTimeoutError::Timeout) => return (printed, Gathered::InTime),
         }
         if printed.len() > PRINTED_MAX {
             printed.truncate(PRINTED_MAX + 1);
-            return (printed, Some(End::TooMuch));
+            return (printed, Gathered::TooMuch);
         }
     }
 }
 
-/// Waits for a program that prints no more; that it took too long, where it did.
-fn wait(child: &mut Child, deadline: Instant) -> Option<End> {
+/// Waits for a program to end; whether it takes too long.
+fn wait(child: &mut Child, deadline: Instant) -> bool {
     while let Ok(None) = child.try_wait() {
         if Instant::now() >= deadline {
-            return Some(End::TooLong);
+            return true;
         }
         thread::sleep(Duration::from_micros(20));
     }
-    None
+    false
 }
 
 fn ended(status: ExitStatus) -> End {
@@ -187,9 +214,11 @@ mod tests {
         run("/bin/sh", script.as_bytes()).unwrap()
     }
 
+    const SOON: Duration = Duration::from_secs(1);
+
     /// The same with a script that never ends by itself.
     fn endless(script: &str) -> Ran {
-        run_for("/bin/sh", script.as_bytes(), Duration::from_secs(1)).unwrap()
+        run_for("/bin/sh", script.as_bytes(), SOON).unwrap()
     }
 
     #[test]
@@ -217,24 +246,28 @@ mod tests {
         assert_eq!(ran.end, End::TooMuch);
         assert_eq!(ran.printed.len(), PRINTED_MAX + 1);
         let said = endless("yes no >&2");
-        assert_eq!(said.end, End::TooLong);
+        assert_eq!(said.end, End::TooLong(SOON));
         assert_eq!(said.said.len(), SAID_MAX as usize);
     }
 
     #[test]
     fn what_waits_without_end_is_stopped() {
         let waits = endless("echo abc; exec sleep 30");
-        assert_eq!(waits.end, End::TooLong);
+        assert_eq!(waits.end, End::TooLong(SOON));
         assert_eq!(waits.printed, b"abc\n");
         let closes = endless("echo abc; exec sleep 30 >&- 2>&-");
-        assert_eq!(closes.end, End::TooLong);
-        assert!(closes.end.fault().unwrap().contains("after 10 seconds"));
+        let told = closes.end.fault().unwrap();
+        assert_eq!(told, "it was stopped: it had not ended after 1 s");
     }
 
     #[test]
-    fn what_a_stopped_program_leaves_running_is_not_waited_for() {
+    fn what_a_program_started_ends_with_it() {
         let began = Instant::now();
-        assert_eq!(endless("sleep 20; echo late").end, End::TooLong);
+        assert_eq!(endless("sleep 20; echo late").end, End::TooLong(SOON));
+        // It ends by itself, and leaves another that holds its output open.
+        let ran = endless("echo abc; sleep 20 &");
+        assert_eq!(ran.end, End::Status(0));
+        assert_eq!(ran.printed, b"abc\n");
         assert!(began.elapsed() < Duration::from_secs(15));
     }
 

@@ -20,7 +20,7 @@ bench speed [--by-kind] [--rounds N]
 Measures the proved kernel beside the plain C kernel of bench/c as gcc -O3 and,
 where there is one, clang -O3 make it, and prints a Markdown table: table checks,
 and calls on four lists of 4,096 words. With --by-kind the lists have one kind of
-call each, on a small table and on the largest. All kernels take turns in each of
+call each, or two that undo each other, on a small table and on the largest. All kernels take turns in each of
 N rounds (1 to 100,000, default 301); a figure is the median of the rounds, a
 ratio the median of the rounds' ratios, the proved kernel's time over the other's:
 above 1 the proved kernel is slower. Every kernel's run is first compared with the
@@ -66,12 +66,7 @@ pub fn command(line: &[String]) -> Result<bool, String> {
     for subject in subjects {
         say!("{}", row(&subject, rounds));
     }
-    let sizes = if apart {
-        String::new()
-    } else {
-        sizes(&workloads)
-    };
-    output::write(foot(&sizes).as_bytes());
+    output::write(foot(&workloads, apart).as_bytes());
     Ok(true)
 }
 
@@ -262,14 +257,19 @@ fn sizes(workloads: &[Workload]) -> String {
             format!("{} ({calls} calls)", workload.name)
         })
         .collect();
-    format!(": {}", sizes.join("; "))
+    sizes.join("; ")
 }
 
-fn foot(sizes: &str) -> String {
+fn foot(workloads: &[Workload], apart: bool) -> String {
+    let reset =
+        "Before each run of a list the table and the answers are reset outside the timed part";
+    if apart {
+        return format!("\nLists of 4,096 words. {reset}.\n");
+    }
     format!(
-        "\nLists of 4,096 words{sizes}. Before each run of a list the table and the answers are \
-         reset outside the timed part; checks and entries write nothing and are not reset. An \
-         entry alone is a run of the empty list.\n"
+        "\nLists of 4,096 words: {}. {reset}; checks and entries write nothing and are not reset. \
+         An entry alone is a run of the empty list.\n",
+        sizes(workloads)
     )
 }
 

@@ -189,8 +189,9 @@ fn words_of(item: &str) -> Result<Vec<u32>, String> {
             "`{item}` is no word: eight hexadecimal digits, as F0000005 or F0000000*8"
         ));
     };
+    let digits_only = times.bytes().all(|digit| digit.is_ascii_digit());
     match times.parse() {
-        Ok(times @ 1..=REPEATS_MAX) => Ok(vec![word; times]),
+        Ok(times @ 1..=REPEATS_MAX) if digits_only => Ok(vec![word; times]),
         _ => Err(format!("`{item}`: a word can stand 1 to 4,097 times")),
     }
 }

@@ -73,7 +73,8 @@ fn typed(file: &str) -> Result<String, String> {
     if bytes.len() > TEXT_BYTES_MAX {
         return Err(format!("{} is above 1,000,000 bytes", shown(file)));
     }
-    String::from_utf8(bytes).map_err(|_| {
+    let text = String::from_utf8(bytes).ok();
+    text.filter(|text| !text.contains('\0')).ok_or_else(|| {
         format!(
             "{} is no text; `bench words --back FILE` makes the text of an input",
             shown(file)

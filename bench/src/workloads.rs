@@ -22,8 +22,8 @@ pub fn workloads() -> Vec<Workload> {
     vec![send_and_receive(), all_seven(), refusals(), largest()]
 }
 
-/// The largest and a small table, each with lists of one kind of call, done or
-/// refused: what a call costs by itself.
+/// A small table and the largest, each with lists of one kind of call, or of two that
+/// undo each other, done or refused: what a call costs by itself.
 pub fn by_kind() -> Vec<Workload> {
     let sizes = [(4, 4), (16, 32)];
     sizes
@@ -42,7 +42,7 @@ struct Drawn {
 
 type Calls = fn(&Drawn) -> Vec<u32>;
 
-/// A few calls of one kind, which leave the table as it was.
+/// A few calls of one kind or of two, which leave the table as it was.
 const KINDS: [(&str, Calls); 6] = [
     ("look up", |it| {
         let name = second(101 + it.endpoint as u32);

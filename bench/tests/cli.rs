@@ -214,7 +214,7 @@ fn one_run_can_be_tried_again_by_itself() {
     let again = "fuzz --seed 3 --from 4 --cases 1 --table-checks 0";
     let again: Vec<&str> = again.split(' ').collect();
     assert_eq!(status(&again), 0);
-    assert!(printed(&again).ends_with("too few cases to ask that every code is met\n"));
+    assert!(printed(&again).ends_with("too few runs to ask that every code is met\n"));
     assert_eq!(status(&["fuzz", "--cases", "0", "--table-checks", "1"]), 0);
 }
 

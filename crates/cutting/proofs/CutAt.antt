@@ -13,8 +13,7 @@ use lib.Seq.{drop-cons}
 use Rattle.machine.specs.Call as machine
 use Rattle.machine.specs.Call.{pairs, cut}
 use Rattle.machine.proofs.Cut.{cut-last, cut-one, cut-two}
-use Rattle.cutting.specs.Cutting.{callOf}
-use Rattle.cutting.specs.Cutting.{secondAt, widthOf}
+use Rattle.cutting.specs.Cutting.{callOf, secondAt, widthOf}
 use Rattle.cutting.specs.declared.Second.{Second}
 use Rattle.cutting.specs.declared.Second.the-variants.{Nothing, Word}
 

@@ -9,8 +9,7 @@ use Rattle.machine.specs.Table as table
 use Rattle.machine.specs.Call.{cut}
 use Rattle.machine.proofs.Cut.{Running, running-start, running-next, running-end}
 use Rattle.machine.proofs.Step.{stays-accepted}
-use Rattle.cutting.specs.Cutting.{callOf}
-use Rattle.cutting.specs.Cutting.{secondAt, widthOf}
+use Rattle.cutting.specs.Cutting.{callOf, secondAt, widthOf}
 use Rattle.cutting.specs.declared.Second.{Second}
 use Rattle.cutting.proofs.CutAt.{CutAt, cut-at}
 use Rattle.kernel.specs.Ready.{Ready}

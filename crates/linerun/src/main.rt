@@ -56,8 +56,8 @@ fn read_input(input: &mut [u8]) -> usize
 // At most 28 bytes in the first line and 66 in that of each of 4,096 calls.
 const MOST_BYTES: usize = 270364;
 
-// Prints the report of the bytes read, by way of the lent buffer. A program has no exit status to give, so lines that standard
-// output didn't take are told of on standard error.
+// Prints the report of the bytes read, by way of the lent buffer. A program has no exit status to give, so lines that can't be
+// written are told of on standard error.
 fn print(bytes: &[u8], out: &mut [u8; MOST_BYTES]) {
     let printed = report(bytes, out);
     let lines = &out[..];

@@ -170,7 +170,7 @@ module _ (t : List ℕ) (u : ℕ) where
   unfolding mayGive influences reaches
   by-gift h m = m
 
--- what a known caller influences isn't a domain that it doesn't
+-- v, which a known caller doesn't influence, is none of those that it influences
 not-influenced : (t : List ℕ) (c : Call) (v x : ℕ) → callerInfluences t (callerOf c) v ≡ false → Known t c → influences t (caller (first c)) x ≡ true → x ≡ v → ⊥
 not-influenced t c v x n k h w =
     let u = caller (first c) in
