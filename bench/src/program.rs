@@ -82,10 +82,12 @@ fn run_for(program: &str, input: &[u8], time: Duration) -> Result<Ran, String> {
     let said = first_bytes(child.stderr.take());
     let (printed, gathered) = collect(parts(child.stdout.take()), deadline);
     let stopped = match gathered {
-        Gathered::All => wait(&mut child, deadline).then_some(End::TooLong(time)),
         Gathered::TooMuch => Some(End::TooMuch),
-        // Something that it started may hold what it prints open.
-        Gathered::InTime => wait(&mut child, deadline).then_some(End::TooLong(time)),
+        // It may have ended in time all the same, and left something that holds its
+        // output open.
+        Gathered::All | Gathered::InTime => {
+            wait(&mut child, deadline).then_some(End::TooLong(time))
+        }
     };
     if stopped.is_some() || gathered != Gathered::All {
         kill_group(&child);
