@@ -124,13 +124,13 @@ fn answers_difference(case: &Case, kernel: &Ran, separate: &Ran) -> Option<Strin
     Some(format!(
         "call {number} ({}): the kernel answers {}, the separate machine {}",
         call_in_words(&cut(&case.list)[number]),
-        answer_in_words(&kernel.answers[number * ANSWER_WORDS..]),
-        answer_in_words(&separate.answers[number * ANSWER_WORDS..])
+        answer_as_printed(&kernel.answers[number * ANSWER_WORDS..]),
+        answer_as_printed(&separate.answers[number * ANSWER_WORDS..])
     ))
 }
 
 /// An answer's three words, as `linerun` prints them.
-pub fn answer_in_words(answer: &[u32]) -> String {
+pub fn answer_as_printed(answer: &[u32]) -> String {
     let (kind, caller) = (bits(answer[0], 31, 28), bits(answer[0], 27, 22));
     let code = bits(answer[0], 15, 0);
     let rest = match bits(answer[0], 21, 16) {
@@ -212,8 +212,8 @@ fn own_answer_difference(
     Some(format!(
         "its call {number} ({}) is answered {} in the whole list, {} without the struck calls",
         call_in_words(call),
-        answer_in_words(&whole.answers[place]),
-        answer_in_words(&again.answers[place])
+        answer_as_printed(&whole.answers[place]),
+        answer_as_printed(&again.answers[place])
     ))
 }
 

@@ -110,6 +110,37 @@ pub fn call_in_words(call: &Call) -> String {
     }
 }
 
+/// What an answer's three words say.
+pub fn answer_in_words(answer: &[u32]) -> String {
+    let (code, x, y) = (bits(answer[0], 15, 0), answer[1], answer[2]);
+    if code != 0 {
+        return format!("refused with {code}: {}", meaning(code));
+    }
+    match bits(answer[0], 31, 28) {
+        LOOK_UP => format!("endpoint {x}"),
+        RECEIVE => format!("message {x}; {y} lost so far"),
+        MY_ENDPOINTS => {
+            let owned = (0..32).filter(|e| x >> e & 1 != 0);
+            some_or_none(owned.map(|e| format!("endpoint {e}")))
+        }
+        MY_RIGHTS => {
+            let both = u64::from(y) << 32 | u64::from(x);
+            let sets = (0..16).map(|target| (target, (both >> (4 * target)) as u32 & 15));
+            let held = sets.filter(|&(_, set)| set != 0);
+            some_or_none(held.map(|(target, set)| format!("{} on domain {target}", letters(set))))
+        }
+        _ => "done".to_string(),
+    }
+}
+
+fn some_or_none(items: impl Iterator<Item = String>) -> String {
+    let items: Vec<String> = items.collect();
+    match items.is_empty() {
+        true => "none".to_string(),
+        false => items.join(", "),
+    }
+}
+
 /// What stands at a place of a table whose word 0 and length are right.
 pub fn place_in_words(table: &[u32], place: usize) -> String {
     let n = domains(table);
@@ -258,6 +289,24 @@ mod tests {
     use reference::cut;
     use reference::example::{LIST_L, TABLE_T};
     use reference::generate::{damaged_table, Rng};
+
+    #[test]
+    fn an_answer_in_words() {
+        let told = |first, x, y| answer_in_words(&[first, x, y]);
+        assert_eq!(told(0x10C0_0000, 2, 0), "endpoint 2");
+        assert_eq!(told(0x2000_0000, 0, 0), "done");
+        assert_eq!(told(0x3040_0000, 9, 1), "message 9; 1 lost so far");
+        assert_eq!(
+            told(0x3040_0012, 0, 0),
+            format!("refused with 18: {}", meaning(18))
+        );
+        assert_eq!(told(0x4000_0000, 0x8000_0001, 0), "endpoint 0, endpoint 31");
+        assert_eq!(told(0x5000_0000, 0, 0), "none");
+        assert_eq!(
+            told(0x5000_0000, 7, 0x5000_0000),
+            "SGR on domain 0, SR on domain 15"
+        );
+    }
 
     #[test]
     fn one_thing_is_not_several() {

@@ -5,23 +5,29 @@ use std::fs;
 use std::os::unix::fs::MetadataExt;
 
 use reference::cut;
+use reference::entry::ANSWER_WORDS;
+use reference::generate::Case;
 use reference::table::{
     capacity, domains, endpoint_words, endpoints, lost, name, owner, rights, waiting, SLOTS_PLACE,
 };
 use reference::words::content;
 
 use crate::args::Options;
-use crate::explain::{call_in_words, counted, letters, meaning, table_fault};
+use crate::boundary::PROVED;
+use crate::compare::{kernel_run, Ran};
+use crate::explain::{answer_in_words, call_in_words, counted, letters, meaning, table_fault};
 use crate::input::{read_input, Input};
 use crate::output::{self, say};
 use crate::picture;
 
 pub const HELP: &str = "\
-bench show FILE [--svg OUT] [--calls N]
+bench show FILE [--run] [--svg OUT] [--calls N]
 
 Shows an input of linerun in words: who has which right on whom, the queues with
 what waits in them, and the calls of the list.
 
+  --run       run the list on the kernel: each call with its answer, and the rights
+              and queues that it leaves
   --svg OUT   write the same as a picture to OUT: small tables with arrows
   --calls N   show the first N calls only (default: all; in a picture 24, and about
               1,300 at most)
@@ -35,7 +41,7 @@ const CALLS_IN_PICTURE: usize = 24;
 
 /// The command: whether the input is one that runs.
 pub fn command(line: &[String]) -> Result<bool, String> {
-    let options = Options::parse(line, &["--svg", "--calls"], &[])?;
+    let options = Options::parse(line, &["--svg", "--calls"], &["--run"])?;
     let file = options.file()?;
     let calls = options.number("--calls")?.map(|calls| calls as usize);
     let out = options.text("--svg");
@@ -55,7 +61,8 @@ pub fn command(line: &[String]) -> Result<bool, String> {
     let written = out
         .map(|out| write_picture(out, &input, calls))
         .transpose()?;
-    output::write(in_words(&input, calls.unwrap_or(usize::MAX)).as_bytes());
+    let left = options.has("--run").then(|| ran(&input)).transpose()?;
+    output::write(in_words(&input, left.as_ref(), calls.unwrap_or(usize::MAX)).as_bytes());
     if let Some(written) = written {
         say!("{written}");
     }
@@ -92,17 +99,40 @@ fn write_picture(out: &str, input: &Input, calls: Option<usize>) -> Result<Strin
     })
 }
 
-/// An accepted table and a list in words.
-fn in_words(input: &Input, calls: usize) -> String {
+/// What the kernel leaves of an input that is not refused.
+fn ran(input: &Input) -> Result<Ran, String> {
+    let case = Case {
+        table: input.table.clone(),
+        list: input.list.clone(),
+        answers: vec![0; ANSWER_WORDS * cut(&input.list).len()],
+    };
+    let ran = kernel_run(&PROVED, &case)?;
+    match ran.outcome.code {
+        0 => Ok(ran),
+        code => Err(format!(
+            "the kernel refuses it with {code}: {}",
+            meaning(code)
+        )),
+    }
+}
+
+/// An accepted table and a list in words, and what was left where it was run.
+fn in_words(input: &Input, left: Option<&Ran>, calls: usize) -> String {
     let table = &input.table;
+    let answers = left.map(|left| left.answers.as_slice());
+    let after = left.map(|left| {
+        let (rights, queues) = (rights_in_words(&left.table), queues_in_words(&left.table));
+        format!("\nAfter the list\n\n{rights}\n{queues}")
+    });
     format!(
-        "Table: {}, {}, {}\n\n{}\n{}\n{}",
+        "Table: {}, {}, {}\n\n{}\n{}\n{}{}",
         counted(domains(table), "domain"),
         counted(endpoints(table), "endpoint"),
         counted(table.len(), "word"),
         rights_in_words(table),
         queues_in_words(table),
-        calls_in_words(&input.list, calls)
+        calls_in_words(&input.list, answers, calls),
+        after.unwrap_or_default()
     )
 }
 
@@ -173,7 +203,8 @@ fn slots_in_words(table: &[u32], endpoint: usize) -> String {
     places.join(" ")
 }
 
-fn calls_in_words(list: &[u32], most: usize) -> String {
+/// The calls, each with its answer where the list was run.
+fn calls_in_words(list: &[u32], answers: Option<&[u32]>, most: usize) -> String {
     let calls = cut(list);
     let mut text = format!(
         "List: {} in {}\n",
@@ -183,6 +214,10 @@ fn calls_in_words(list: &[u32], most: usize) -> String {
     for (number, call) in calls.iter().enumerate().take(most) {
         let words = reference::words::hex(&call.words());
         text += &format!("  {number:>4}  {words:<17}  {}\n", call_in_words(call));
+        if let Some(answers) = answers {
+            let answer = answer_in_words(&answers[ANSWER_WORDS * number..]);
+            text += &format!("  {:>4}  {:<17}  -> {answer}\n", "", "");
+        }
     }
     if calls.len() > most {
         text += &format!("  and {} more\n", calls.len() - most);
@@ -197,7 +232,7 @@ mod tests {
 
     #[test]
     fn the_worked_example_in_words() {
-        let told = in_words(&Input::example(), 2);
+        let told = in_words(&Input::example(), None, 2);
         assert!(told.starts_with("Table: 3 domains, 2 endpoints, 34 words\n"));
         assert!(told.contains("domain  1    S   . SGR\n"), "{told}");
         assert!(
@@ -205,6 +240,31 @@ mod tests {
         );
         assert!(told.contains("   0  20000100 F0000005  domain 0 sends 5 to endpoint 1\n"));
         assert!(told.ends_with("  and 7 more\n"), "{told}");
+    }
+
+    #[test]
+    fn the_worked_example_with_its_answers() {
+        let input = Input::example();
+        let told = in_words(&input, Some(&ran(&input).unwrap()), usize::MAX);
+        let answers: Vec<&str> = told
+            .lines()
+            .filter_map(|line| line.trim().strip_prefix("-> "))
+            .collect();
+        let wanted = [
+            "refused with 17: the caller neither owns the endpoint nor has SEND on its owner",
+            "done",
+            "done",
+            "done",
+            "message 5; 1 lost so far",
+            "refused with 19: nothing waits",
+            "refused with 10: a word of kind 15 stands alone",
+            "S on domain 1, S on domain 2",
+            "endpoint 1",
+        ];
+        assert_eq!(answers, wanted, "{told}");
+        let after = told.split("After the list").nth(1).unwrap();
+        assert!(after.contains("domain  0    .   S   S\n"), "{after}");
+        assert!(after.contains("0 of 1 waiting, 1 lost"), "{after}");
     }
 
     #[test]
