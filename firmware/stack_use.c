@@ -25,17 +25,19 @@ static uint32_t answers[BALKWIZU_ANSWER_WORDS * BALKWIZU_LIST_WORDS_MAX];
 /* The largest table: every right for everybody, and empty queues of eight. */
 static void make_table(void)
 {
-    uint32_t *word = table;
-    *word++ = 0x10000000u | DOMAINS << 8 | ENDPOINTS;
-    for (int i = 0; i < DOMAINS * DOMAINS; i++)
-        *word++ = 0x20000007u;
-    for (uint32_t e = 0; e < ENDPOINTS; e++) {
-        *word++ = 0x30000001u + e;
-        *word++ = 0x40000008u | (e % DOMAINS) << 8;
-        *word++ = 0x50000000u;
-        *word++ = 0x60000000u;
+    table[0] = BALKWIZU_TABLE_HEADER(DOMAINS, ENDPOINTS);
+    for (int holder = 0; holder < DOMAINS; holder++)
+        for (int target = 0; target < DOMAINS; target++)
+            table[BALKWIZU_RIGHTS_AT(DOMAINS, holder, target)] =
+                BALKWIZU_TABLE_RIGHTS(7);
+    for (int e = 0; e < ENDPOINTS; e++) {
+        uint32_t *word = table + BALKWIZU_ENDPOINT_AT(DOMAINS, e);
+        *word++ = BALKWIZU_TABLE_NAME(1 + e);
+        *word++ = BALKWIZU_TABLE_INFO(e % DOMAINS, 8);
+        *word++ = BALKWIZU_TABLE_WAITING(0);
+        *word++ = BALKWIZU_TABLE_LOST(0);
         for (int slot = 0; slot < 8; slot++)
-            *word++ = 0xF0000000u;
+            *word++ = BALKWIZU_EMPTY_SLOT;
     }
 }
 

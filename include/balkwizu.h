@@ -86,6 +86,38 @@ enum balkwizu_right {
 };
 
 /*
+ * A table's words, in this order. A word's kind is in bits 31-28, and bits that
+ * are not named are zero:
+ *
+ *   word 0       kind 1: the number of domains n in bits 15-8 (1 to 16), that of
+ *                endpoints m in bits 7-0 (0 to 32)
+ *   n * n words  kind 2: the rights of a holder on a target in bits 2-0
+ *   then 12 words for each endpoint:
+ *     name       kind 3: bits 27-0, not zero, no two endpoints the same
+ *     info       kind 4: the owner in bits 15-8 (below n), the capacity in bits
+ *                7-0 (1 to 8)
+ *     waiting    kind 5: how many messages wait, at most the capacity
+ *     lost       kind 6: how many messages found the queue full
+ *     8 slots    kind 15: the messages that wait, oldest first, and
+ *                BALKWIZU_EMPTY_SLOT from the waiting count on
+ *
+ * Words as constants: every field must be within its bits.
+ */
+#define BALKWIZU_TABLE_HEADER(n, m)                                            \
+    (0x10000000u | ((uint32_t)(n) << 8) | (uint32_t)(m))
+#define BALKWIZU_TABLE_RIGHTS(rights) (0x20000000u | (uint32_t)(rights))
+#define BALKWIZU_TABLE_NAME(name) (0x30000000u | (uint32_t)(name))
+#define BALKWIZU_TABLE_INFO(owner, capacity)                                   \
+    (0x40000000u | ((uint32_t)(owner) << 8) | (uint32_t)(capacity))
+#define BALKWIZU_TABLE_WAITING(count) (0x50000000u | (uint32_t)(count))
+#define BALKWIZU_TABLE_LOST(count) (0x60000000u | (uint32_t)(count))
+#define BALKWIZU_EMPTY_SLOT 0xF0000000u
+
+/* Where the rights of a holder on a target stand, and an endpoint's 12 words. */
+#define BALKWIZU_RIGHTS_AT(n, holder, target) (1 + (holder) * (n) + (target))
+#define BALKWIZU_ENDPOINT_AT(n, endpoint) (1 + (n) * (n) + 12 * (endpoint))
+
+/*
  * Words of a call list, as constants: every field must be within its bits
  * (caller and target 6, endpoint, recipient and rights 8, name and message 28).
  * A look up and a send are directly followed by BALKWIZU_SECOND of their name or
