@@ -1,31 +1,15 @@
--- The words of bytes (specs/Bytes of crate reading): where the bytes of each stand. Assumes nothing.
+-- An endpoint's twelve words, tested where they stand among a table's. Assumes nothing.
 use mathlib.Core.Path.{_≡_, refl, sym, ap, _∙_}
 use mathlib.Core.Bool.{Bool, _&&_}
-use mathlib.Core.List.{List, [], _∷_}
-use Prim.Native.Nat.{ℕ, zero, suc, _+_, _*_, _%_, _<_, _≤_}
+use mathlib.Core.List.{List}
+use Prim.Native.Nat.{ℕ, _+_, _%_, _<_}
 use native.Mathlib.Omega.{arith}
-use lib.ListN.{length, getD, take, drop}
+use lib.ListN.{getD, take, drop}
 use lib.Seq.{getD-take, getD-drop}
 use Rattle.machine.specs.Below.{allBelow}
 use Rattle.machine.specs.Queue.{capacity, waiting}
 use Rattle.machine.specs.Check.{nameWordOk, infoWordOk, waitingWordOk, lostWordOk, slotWordOk, identityOk, queueOk, endpointOk}
 use Rattle.machine.proofs.Below.{all-same}
-use Rattle.reading.specs.Bytes.{wordOf, wordsOf}
-
--- behind the first four bytes
-past : (a b c d : ℕ) (rest : List ℕ) (j k : ℕ) → j ≡ suc (suc (suc (suc k))) → getD (a ∷ b ∷ c ∷ d ∷ rest) j 0 ≡ getD rest k 0
-past a b c d rest j k e = ap (λ (x : ℕ). getD (a ∷ b ∷ c ∷ d ∷ rest) x 0) e
-
-pub word-at : (b : List ℕ) (i : ℕ) → 4 * i + 4 ≤ length b → wordOf (getD b (4 * i) 0) (getD b (4 * i + 1) 0) (getD b (4 * i + 2) 0) (getD b (4 * i + 3) 0) ≡ getD (wordsOf b) i 0
-unfolding wordsOf
-word-at [] i h = absurd (omega arith)
-word-at (a ∷ []) i h = absurd (omega arith)
-word-at (a ∷ b ∷ []) i h = absurd (omega arith)
-word-at (a ∷ b ∷ c ∷ []) i h = absurd (omega arith)
-word-at (a ∷ b ∷ c ∷ d ∷ rest) zero h = refl
-word-at (a ∷ b ∷ c ∷ d ∷ rest) (suc i) h =
-    rw (past a b c d rest (4 * suc i) (4 * i) (omega arith), past a b c d rest (4 * suc i + 1) (4 * i + 1) (omega arith), past a b c d rest (4 * suc i + 2) (4 * i + 2) (omega arith), past a b c d rest (4 * suc i + 3) (4 * i + 3) (omega arith))
-    (word-at rest i (omega arith))
 
 -- the words of a part of twelve, by their place
 part-word : (t : List ℕ) (start k i : ℕ) → k < 12 → start + k ≡ i → getD (take 12 (drop start t)) k 0 ≡ getD t i 0

@@ -3,7 +3,7 @@
 -- p a domain, o an ok, x a same, i an influence or its absence, a an agreement, k a closed group or a choice of struck calls.
 use Prim.Native.Nat.{ℕ}
 use mathlib.Core.Path.{_≡_, refl, sym, ap, ap₂, _∙_, subst}
-use mathlib.Core.Bool.{Bool, true, false, cond, _||_, or-true, true≢false, false≢true}
+use mathlib.Core.Bool.{Bool, true, false, cond, _||_, true≢false, false≢true}
 use mathlib.Core.List.{List, [], _∷_, _++_}
 use mathlib.Core.Option.{Option, none, some}
 use lib.Dec.{eqb}
@@ -13,6 +13,7 @@ use Rattle.machine.specs.Unwinding.{StateMachine, run, outputs, reachesA
 use Rattle.machine.specs.Unwinding.{Keeps, Keeps.done, Keeps.keep, Keeps.strike, Closed, fromGroup, groupCalls}
 use Rattle.machine.specs.Unwinding.{SameFor, Unwinding, Agree}
 use Rattle.machine.specs.Unwinding.{UnwindingTheorem, Noninfluence, Noninterference, Nonleakage, SameSources}
+use Rattle.machine.proofs.Bools.{or-right}
 
 -- Tests.
 either : {P : Type 0} (b : Bool) → (b ≡ true → P) → (b ≡ false → P) → P
@@ -22,9 +23,6 @@ either false f g = g refl
 or-elim : {P : Type 0} (a b : Bool) → (a ≡ true → P) → (b ≡ true → P) → (a || b) ≡ true → P
 or-elim true b f g e = f refl
 or-elim false b f g e = g e
-
-or-right : (a b : Bool) → b ≡ true → (a || b) ≡ true
-or-right a b e = ap (λ x. a || x) e ∙ or-true a
 
 contra : (a b : Bool) → (a ≡ true → b ≡ true) → b ≡ false → a ≡ false
 contra true b f e = absurd (true≢false (sym (f refl) ∙ e))

@@ -1,12 +1,13 @@
 -- `word_at` is a word of the bytes. Assumes nothing.
-use mathlib.Core.Path.{_∙_}
+use mathlib.Core.Path.{sym, _∙_}
+use native.Mathlib.Omega.{arith}
 use borrow.Author.Needs.{needs}
-use Rattle.balkwizu.proofs.Words.{word-at}
+use Rattle.reading.proofs.WordLaws.{getD-wordsOf}
 use Rattle.balkwizu.proofs.bytes.word_at.Statement.{statement}
 use Rattle.balkwizu.proofs.bytes.word_at.Tie as tie
 
 returns : tie.Need-returns
-returns c = c .word .ensures ∙ word-at _ _ (c .before .before .before .before .before .before .pre)
+returns c = c .word .ensures ∙ sym (getD-wordsOf _ _ (omega (arith, c .before .before .before .before .before .before .pre)))
 
 pub word-at-spec : {M : Type 1} → statement M
 word-at-spec =
