@@ -1,9 +1,12 @@
--- The rows hold, each by computation: L and P1 to P12, every code, those that pin sources, purge and view, and the counts.
+-- The rows hold, each by computation: L and P1 to P12, every code, every word of a table, every field of a call, those that
+-- pin sources, purge and view, and the counts.
 -- Assumes nothing.
 use mathlib.Core.Path.{refl}
 use Rattle.machine.specs.Everything.{everything}
 use Rattle.machine.specs.Examples.{EveryRow, rows}
 use Rattle.machine.specs.CodeExamples.{codeRows}
+use Rattle.machine.specs.TableExamples.{EveryTable, tableRows, altered, namedCodes, foundCodes, endpointsNamed}
+use Rattle.machine.specs.FieldExamples.{fieldRows, each}
 use Rattle.machine.specs.CountExamples.{CountRowHolds, counted}
 use Rattle.machine.specs.PurgeExamples.{EveryPurgeRow, purgeRows, bitsOf, setsAt, purged}
 
@@ -19,6 +22,14 @@ every-purge-row = (refl, (refl, (refl, (refl, (refl, (refl, (refl, (refl, (refl,
 pub every-code-row : EveryRow codeRows
 unfolding everything
 every-code-row = (refl, (refl, (refl, (refl, (refl, (refl, tt))))))
+
+pub every-table : EveryTable tableRows
+unfolding everything altered namedCodes foundCodes endpointsNamed
+every-table = refl
+
+pub every-field-row : EveryRow fieldRows
+unfolding everything each endpointsNamed
+every-field-row = (refl, (refl, (refl, (refl, (refl, (refl, (refl, tt)))))))
 
 pub count-row : CountRowHolds
 unfolding everything counted

@@ -19,5 +19,7 @@ pub mod Promise
 pub mod Everything
 pub mod Examples
 pub mod CodeExamples
+pub mod TableExamples
+pub mod FieldExamples
 pub mod PurgeExamples
 pub mod CountExamples

@@ -1,0 +1,201 @@
+-- Rows that pin the fields of a call and what each call reads and writes by them: every bit of a spare field and of the caller,
+-- every unknown kind, which words make one call, which right each call asks for, the sets that a grant and a
+-- remove take, a queue through all its slots, and both ends of the largest table. Worked out by hand from document 01.
+use Prim.Native.Nat.{ℕ}
+use mathlib.Core.List.{List, [], _∷_, _++_}
+use lib.ListN.{set, replicate}
+use Rattle.machine.specs.Examples.{Row, Row.leaves, spaceOf, unchanged, T}
+use Rattle.machine.specs.CodeExamples.{Answered, Answered.answered, callWords, callAnswers, fourDomains}
+use Rattle.machine.specs.TableExamples.{largest}
+
+-- calls of one word each that are all answered alike, with no data
+unfoldable pub each : List ℕ → ℕ → List Answered
+each [] a = []
+each (w ∷ ws) a = answered (w ∷ []) (a ∷ 0 ∷ 0 ∷ []) ∷ each ws a
+
+-- 13: each bit of each spare field of a look up; the lowest and the highest bit of each of the other calls'
+abbrev pub spareFields : List Answered
+spareFields =
+    each
+    (0x1000_0001 ∷ 0x1000_0002 ∷ 0x1000_0004 ∷ 0x1000_0008 ∷ 0x1000_0010 ∷ 0x1000_0020 ∷ 0x1000_0040 ∷ 0x1000_0080
+    ∷ 0x1000_0100 ∷ 0x1000_0200 ∷ 0x1000_0400 ∷ 0x1000_0800 ∷ 0x1000_1000 ∷ 0x1000_2000 ∷ 0x1000_4000 ∷ 0x1000_8000
+    ∷ 0x1001_0000 ∷ 0x1002_0000 ∷ 0x1004_0000 ∷ 0x1008_0000 ∷ 0x1010_0000 ∷ 0x1020_0000 ∷ [])
+    0x1000_000D
+    ++ each (0x2001_0000 ∷ 0x2020_0000 ∷ 0x2000_0001 ∷ 0x2000_0080 ∷ []) 0x2000_000D
+    ++ each (0x3001_0000 ∷ 0x3020_0000 ∷ 0x3000_0001 ∷ 0x3000_0080 ∷ []) 0x3000_000D
+    ++ each (0x4001_0000 ∷ 0x4020_0000 ∷ 0x4000_0100 ∷ 0x4000_8000 ∷ 0x4000_0001 ∷ 0x4000_0080 ∷ []) 0x4000_000D
+    ++ each (0x5001_0000 ∷ 0x5020_0000 ∷ 0x5000_0100 ∷ 0x5000_8000 ∷ 0x5000_0001 ∷ 0x5000_0080 ∷ []) 0x5000_000D
+    ++ each (0x7001_0101 ∷ 0x7001_8001 ∷ []) 0x7000_000D
+
+-- 11, for every unknown kind, with a stray behind it; and 12, for callers that differ in one bit from domain 0
+abbrev pub unknowns : List Answered
+unknowns =
+    answered (0x0000_0000 ∷ 0xF000_0001 ∷ []) (0x0000_000B ∷ 0 ∷ 0 ∷ 0xF000_000A ∷ 0 ∷ 0 ∷ [])
+    ∷ answered (0x8000_0000 ∷ 0xF000_0001 ∷ []) (0x8000_000B ∷ 0 ∷ 0 ∷ 0xF000_000A ∷ 0 ∷ 0 ∷ [])
+    ∷ answered (0x9000_0000 ∷ 0xF000_0001 ∷ []) (0x9000_000B ∷ 0 ∷ 0 ∷ 0xF000_000A ∷ 0 ∷ 0 ∷ [])
+    ∷ answered (0xA000_0000 ∷ 0xF000_0001 ∷ []) (0xA000_000B ∷ 0 ∷ 0 ∷ 0xF000_000A ∷ 0 ∷ 0 ∷ [])
+    ∷ answered (0xB000_0000 ∷ 0xF000_0001 ∷ []) (0xB000_000B ∷ 0 ∷ 0 ∷ 0xF000_000A ∷ 0 ∷ 0 ∷ [])
+    ∷ answered (0xC000_0000 ∷ 0xF000_0001 ∷ []) (0xC000_000B ∷ 0 ∷ 0 ∷ 0xF000_000A ∷ 0 ∷ 0 ∷ [])
+    ∷ answered (0xD000_0000 ∷ 0xF000_0001 ∷ []) (0xD000_000B ∷ 0 ∷ 0 ∷ 0xF000_000A ∷ 0 ∷ 0 ∷ [])
+    ∷ answered (0xE000_0000 ∷ 0xF000_0001 ∷ []) (0xE000_000B ∷ 0 ∷ 0 ∷ 0xF000_000A ∷ 0 ∷ 0 ∷ [])
+    ∷ answered (0x4100_0000 ∷ []) (0x4100_000C ∷ 0 ∷ 0 ∷ [])
+    ∷ answered (0x4200_0000 ∷ []) (0x4200_000C ∷ 0 ∷ 0 ∷ [])
+    ∷ answered (0x4400_0000 ∷ []) (0x4400_000C ∷ 0 ∷ 0 ∷ [])
+    ∷ answered (0x4800_0000 ∷ []) (0x4800_000C ∷ 0 ∷ 0 ∷ [])
+    ∷ []
+
+-- the cutting: a stray behind each known kind that takes no second word, and behind another stray; a look up and a send
+-- with another word than kind 15 behind them have no second word
+abbrev pub cutting : List Answered
+cutting =
+    answered (0x3080_0000 ∷ 0xF000_0001 ∷ []) (0x3080_0012 ∷ 0 ∷ 0 ∷ 0xF000_000A ∷ 0 ∷ 0 ∷ [])
+    ∷ answered (0x40C0_0000 ∷ 0xF000_0001 ∷ []) (0x40C0_0000 ∷ 0 ∷ 0 ∷ 0xF000_000A ∷ 0 ∷ 0 ∷ [])
+    ∷ answered (0x50C0_0000 ∷ 0xF000_0001 ∷ []) (0x50C0_0000 ∷ 0x7040 ∷ 0 ∷ 0xF000_000A ∷ 0 ∷ 0 ∷ [])
+    ∷ answered (0x6000_0000 ∷ 0xF000_0001 ∷ []) (0x6000_0015 ∷ 0 ∷ 0 ∷ 0xF000_000A ∷ 0 ∷ 0 ∷ [])
+    ∷ answered (0x7000_0000 ∷ 0xF000_0001 ∷ []) (0x7000_0015 ∷ 0 ∷ 0 ∷ 0xF000_000A ∷ 0 ∷ 0 ∷ [])
+    ∷ answered (0xFFC0_0000 ∷ 0xF000_0001 ∷ []) (0xF000_000A ∷ 0 ∷ 0 ∷ 0xF000_000A ∷ 0 ∷ 0 ∷ [])
+    ∷ answered (0x1000_0000 ∷ 0xE000_0006 ∷ []) (0x1000_000E ∷ 0 ∷ 0 ∷ 0xE000_000B ∷ 0 ∷ 0 ∷ [])
+    ∷ answered (0x1000_0000 ∷ 0x7000_0000 ∷ []) (0x1000_000E ∷ 0 ∷ 0 ∷ 0x7000_0015 ∷ 0 ∷ 0 ∷ [])
+    ∷ answered (0x2000_0000 ∷ 0x1000_0000 ∷ 0xF000_0005 ∷ []) (0x2000_000E ∷ 0 ∷ 0 ∷ 0x1000_0000 ∷ 1 ∷ 0 ∷ [])
+    ∷ []
+
+-- four domains in which 3 has REMOVE alone on 1 and every right on itself, 1 has GRANT alone on 0, and 0 has SEND on 3
+abbrev pub oneRight : List ℕ
+oneRight = set (set (set fourDomains 4 0x2000_0001) 14 0x2000_0004) 16 0x2000_0007
+
+-- which right a call asks for: calls on that table
+abbrev pub rightAsked : List Answered
+rightAsked =
+    -- 17: GRANT on the owner, or REMOVE on it, is not SEND
+    answered (0x2040_0100 ∷ 0xF000_0001 ∷ []) (0x2040_0011 ∷ 0 ∷ 0 ∷ [])
+    ∷ answered (0x20C0_0000 ∷ 0xF000_0001 ∷ []) (0x20C0_0011 ∷ 0 ∷ 0 ∷ [])
+    -- a look up by a name in all of its bits, and 15 where one of them differs
+    ∷ answered (0x1040_0000 ∷ 0xFFFF_FFFF ∷ []) (0x1040_0000 ∷ 0 ∷ 0 ∷ [])
+    ∷ answered (0x1040_0000 ∷ 0xF7FF_FFFF ∷ []) (0x1040_000F ∷ 0 ∷ 0 ∷ [])
+    ∷ answered (0x1040_0000 ∷ 0xF000_0105 ∷ []) (0x1040_000F ∷ 0 ∷ 0 ∷ [])
+    -- 16: endpoints that differ in one bit from 0
+    ∷ answered (0x3040_0400 ∷ []) (0x3040_0010 ∷ 0 ∷ 0 ∷ [])
+    ∷ answered (0x3040_0800 ∷ []) (0x3040_0010 ∷ 0 ∷ 0 ∷ [])
+    ∷ answered (0x3040_1000 ∷ []) (0x3040_0010 ∷ 0 ∷ 0 ∷ [])
+    ∷ answered (0x3040_2000 ∷ []) (0x3040_0010 ∷ 0 ∷ 0 ∷ [])
+    ∷ answered (0x3040_4000 ∷ []) (0x3040_0010 ∷ 0 ∷ 0 ∷ [])
+    ∷ answered (0x3040_8000 ∷ []) (0x3040_0010 ∷ 0 ∷ 0 ∷ [])
+    -- 18: SEND on the owner is not enough to receive
+    ∷ answered (0x3000_0000 ∷ []) (0x3000_0012 ∷ 0 ∷ 0 ∷ [])
+    -- 20: a target that differs in one bit from 0, for a grant and for a remove
+    ∷ answered (0x6060_0001 ∷ []) (0x6040_0014 ∷ 0 ∷ 0 ∷ [])
+    ∷ answered (0x70E0_0001 ∷ []) (0x70C0_0014 ∷ 0 ∷ 0 ∷ [])
+    -- 21: a grant of a set that has one bit more
+    ∷ answered (0x60C3_030F ∷ []) (0x60C0_0015 ∷ 0 ∷ 0 ∷ [])
+    ∷ answered (0x60C3_0311 ∷ []) (0x60C0_0015 ∷ 0 ∷ 0 ∷ [])
+    ∷ answered (0x60C3_0381 ∷ []) (0x60C0_0015 ∷ 0 ∷ 0 ∷ [])
+    -- 23: no right on the recipient, which has some on the caller
+    ∷ answered (0x60C3_0001 ∷ []) (0x60C0_0017 ∷ 0 ∷ 0 ∷ [])
+    -- a grant to oneself, by one with no right on itself; GRANT alone and REMOVE alone on the recipient are enough;
+    -- every right at once
+    ∷ answered (0x6040_0102 ∷ []) (0x6040_0000 ∷ 0 ∷ 0 ∷ [])
+    ∷ answered (0x6040_0002 ∷ []) (0x6040_0000 ∷ 0 ∷ 0 ∷ [])
+    ∷ answered (0x60C3_0107 ∷ []) (0x60C0_0000 ∷ 0 ∷ 0 ∷ [])
+    ∷ answered (0x60C3_0307 ∷ []) (0x60C0_0000 ∷ 0 ∷ 0 ∷ [])
+    ∷ []
+
+-- a remove of each set there is, by one that holds them all: SEND and GRANT go, and then REMOVE
+abbrev pub removes : List Answered
+removes =
+    each
+    (0x70C3_0000 ∷ 0x70C3_0003 ∷ 0x70C3_0005 ∷ 0x70C3_0006 ∷ 0x70C3_0007 ∷ 0x70C3_0008 ∷ 0x70C3_0009 ∷ 0x70C3_0011
+    ∷ 0x70C3_0010 ∷ 0x70C3_0022 ∷ 0x70C3_0044 ∷ 0x70C3_0081 ∷ 0x70C3_0080 ∷ [])
+    0x70C0_0015
+    ++ (answered (0x70C3_0002 ∷ []) (0x70C0_0000 ∷ 0 ∷ 0 ∷ [])
+    ∷ answered (0x50C0_0000 ∷ []) (0x50C0_0000 ∷ 0x5040 ∷ 0 ∷ [])
+    ∷ answered (0x70C3_0001 ∷ []) (0x70C0_0000 ∷ 0 ∷ 0 ∷ [])
+    ∷ answered (0x5040_0000 ∷ []) (0x5040_0000 ∷ 0x7002 ∷ 0 ∷ [])
+    ∷ answered (0x70C3_0004 ∷ []) (0x70C0_0000 ∷ 0 ∷ 0 ∷ [])
+    ∷ [])
+
+-- an endpoint of capacity 8 in which two wait: six more fill it, two are lost and the lost count stays at its largest, then
+-- four go out in turn, and one comes in behind the first of them
+abbrev pub wholeQueue : List Answered
+wholeQueue =
+    answered (0x2000_0200 ∷ 0xFFFF_FFFF ∷ []) (0x2000_0000 ∷ 0 ∷ 0 ∷ [])
+    ∷ answered (0x2000_0200 ∷ 0xF800_0000 ∷ []) (0x2000_0000 ∷ 0 ∷ 0 ∷ [])
+    ∷ answered (0x2000_0200 ∷ 0xF001_0000 ∷ []) (0x2000_0000 ∷ 0 ∷ 0 ∷ [])
+    ∷ answered (0x2000_0200 ∷ 0xF000_0100 ∷ []) (0x2000_0000 ∷ 0 ∷ 0 ∷ [])
+    ∷ answered (0x2000_0200 ∷ 0xF000_0000 ∷ []) (0x2000_0000 ∷ 0 ∷ 0 ∷ [])
+    ∷ answered (0x2000_0200 ∷ 0xF000_0008 ∷ []) (0x2000_0000 ∷ 0 ∷ 0 ∷ [])
+    ∷ answered (0x2000_0200 ∷ 0xF000_0009 ∷ []) (0x2000_0000 ∷ 0 ∷ 0 ∷ [])
+    ∷ answered (0x2000_0200 ∷ 0xF000_000A ∷ []) (0x2000_0000 ∷ 0 ∷ 0 ∷ [])
+    ∷ answered (0x3000_0200 ∷ []) (0x3000_0000 ∷ 1 ∷ 0x0FFF_FFFF ∷ [])
+    ∷ answered (0x2000_0200 ∷ 0xF000_000B ∷ []) (0x2000_0000 ∷ 0 ∷ 0 ∷ [])
+    ∷ answered (0x3000_0200 ∷ []) (0x3000_0000 ∷ 2 ∷ 0x0FFF_FFFF ∷ [])
+    ∷ answered (0x3000_0200 ∷ []) (0x3000_0000 ∷ 0x0FFF_FFFF ∷ 0x0FFF_FFFF ∷ [])
+    ∷ answered (0x3000_0200 ∷ []) (0x3000_0000 ∷ 0x0800_0000 ∷ 0x0FFF_FFFF ∷ [])
+    ∷ []
+
+-- calls at both ends of the largest table
+abbrev pub bothEnds : List Answered
+bothEnds =
+    -- my rights on targets 0 to 7 and 8 to 15; domain 15 has none
+    answered (0x5000_0000 ∷ []) (0x5000_0000 ∷ 0x5765_4321 ∷ 0x3123_4567 ∷ [])
+    ∷ answered (0x53C0_0000 ∷ []) (0x53C0_0000 ∷ 0 ∷ 0 ∷ [])
+    -- my endpoints: all thirty-two
+    ∷ answered (0x43C0_0000 ∷ []) (0x43C0_0000 ∷ 0xFFFF_FFFF ∷ 0 ∷ [])
+    -- the name of the last endpoint, and a message to it by domain 0, which has SEND on domain 15
+    ∷ answered (0x13C0_0000 ∷ 0xF800_0008 ∷ []) (0x13C0_0000 ∷ 31 ∷ 0 ∷ [])
+    ∷ answered (0x2000_1F00 ∷ 0xF000_0005 ∷ []) (0x2000_0000 ∷ 0 ∷ 0 ∷ [])
+    -- 16, and 12
+    ∷ answered (0x33C0_2000 ∷ []) (0x33C0_0010 ∷ 0 ∷ 0 ∷ [])
+    ∷ answered (0x4400_0000 ∷ []) (0x4400_000C ∷ 0 ∷ 0 ∷ [])
+    -- 20, for the target and for the recipient; then a grant of SEND and GRANT on 15 to 15
+    ∷ answered (0x6010_0F01 ∷ []) (0x6000_0014 ∷ 0 ∷ 0 ∷ [])
+    ∷ answered (0x600F_1001 ∷ []) (0x6000_0014 ∷ 0 ∷ 0 ∷ [])
+    ∷ answered (0x600F_0F03 ∷ []) (0x6000_0000 ∷ 0 ∷ 0 ∷ [])
+    ∷ answered (0x53C0_0000 ∷ []) (0x53C0_0000 ∷ 0 ∷ 0x3000_0000 ∷ [])
+    ∷ []
+
+abbrev pub fieldRows : List Row
+fieldRows =
+    leaves fourDomains (callWords spareFields) (spaceOf 132)
+    (record { code = 0; calls = 44; table = fourDomains; answers = callAnswers spareFields })
+    ∷ leaves oneRight (callWords (unknowns ++ cutting)) (spaceOf 114)
+    (record { code = 0; calls = 38; table = oneRight; answers = callAnswers (unknowns ++ cutting) })
+    -- what was given: GRANT on 0 to 0, and every right on 3 to 1
+    ∷ leaves oneRight (callWords rightAsked) (spaceOf 66)
+    (record {
+      code = 0;
+      calls = 22;
+      table = set (set oneRight 1 0x2000_0002) 8 0x2000_0007;
+      answers = callAnswers rightAsked;
+    })
+    ∷ leaves (set oneRight 8 0x2000_0007) (callWords removes) (spaceOf 54)
+    (record {
+      code = 0;
+      calls = 18;
+      table = set (set oneRight 8 0x2000_0007) 16 0x2000_0000;
+      answers = callAnswers removes;
+    })
+    -- the queue has five left, from 0x0001_0000 on, and three free slots
+    ∷ leaves (set fourDomains 44 0x6FFF_FFFE) (callWords wholeQueue) (spaceOf 39)
+    (record {
+      code = 0;
+      calls = 13;
+      table =
+          set
+          (set
+          (set
+          (set (set (set (set fourDomains 44 0x6FFF_FFFF) 43 0x5000_0005) 45 0xF001_0000) 46 0xF000_0100)
+          47 0xF000_0000)
+          48 0xF000_0008)
+          49 0xF000_000B;
+      answers = callAnswers wholeQueue;
+    })
+    ∷ leaves largest (callWords bothEnds) (spaceOf 33)
+    (record {
+      code = 0;
+      calls = 11;
+      table = set (set (set largest 256 0x2000_0003) 631 0x5000_0001) 633 0xF000_0005;
+      answers = callAnswers bothEnds;
+    })
+    -- 4,097 words are no list though they make 4,096 calls, and nothing is changed
+    ∷ leaves T (0x1000_0000 ∷ 0xF000_0011 ∷ replicate 4095 0x4080_0000) (spaceOf 3) (unchanged 1 T (spaceOf 3))
+    ∷ []
