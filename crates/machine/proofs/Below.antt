@@ -1,15 +1,20 @@
--- Laws of the tests, searches and sums over the numbers below k (specs/Below).
+-- Laws of the tests, searches, sums, lists and sets of bits over the numbers below k (specs/Below).
 -- Assumes nothing.
 use mathlib.Core.Path.{_≡_, refl, sym, ap, ap₂, _∙_}
-use mathlib.Core.Bool.{Bool, true, false, cond, _&&_, false≢true}
+use mathlib.Core.Bool.{Bool, true, false, cond, not, _&&_, _||_, false≢true}
+use mathlib.Core.List.{List, [], _∷_, _++_}
 use mathlib.Core.Logic.{_⊎_, _⊎_.inl, _⊎_.inr, ⊎-elim}
 use mathlib.Core.Option.{Option, none, some}
-use Prim.Native.Nat.{ℕ, zero, suc, _+_, _<_}
-use native.Mathlib.Nat.{not-suc-le-zero}
+use Prim.Native.Nat.{ℕ, zero, suc, _+_, _-_, _*_, _/_, _%_, _^_, _<_, _≤_}
+use native.Mathlib.Nat.{not-suc-le-zero, add-mul-div-right, add-mul-mod-self-right, div-eq-of-lt, lt-of-lt-of-le, pow-suc}
 use native.Mathlib.Decide.{decLt}
 use native.Mathlib.Omega.{arith}
-use Rattle.machine.specs.Below.{allBelow, firstBelow, sumBelow}
-use Rattle.machine.proofs.Bools.{and-left, and-right, and-intro}
+use lib.Dec.{eqb}
+use lib.ListN.{length, getD, length-append, List·getD-append, List·getD-eq-default}
+use lib.Seq.{getD-at}
+use lib.Pow.{pow-pos, pow-mono, pow-add, high}
+use Rattle.machine.specs.Below.{allBelow, anyBelow, firstBelow, sumBelow, wordsBelow, bitsBelow, hasBit}
+use Rattle.machine.proofs.Bools.{and-left, and-right, and-intro, or-cases, or-right, or-none-left, or-none-right}
 
 -- a number below suc k is below k or is k
 pub below-or-last : (k i : ℕ) → i < suc k → (i < k) ⊎ (i ≡ k)
@@ -58,3 +63,143 @@ first-same (suc k) p q e =
     ap₂ (λ (o : Option ℕ) (b : Bool). elim o [ none ↦ cond b (some k) none | some i ↦ some i ])
     (first-same k p q (λ i l. e i (omega arith)))
     (e k (omega arith))
+
+-- ---- some number below k
+
+-- a test that any passes is passed by one
+pub any-at : (k : ℕ) (p : ℕ → Bool) → anyBelow k p ≡ true → (i : ℕ) × (i < k) × (p i ≡ true)
+unfolding anyBelow
+any-at zero p h = absurd (false≢true h)
+any-at (suc k) p h =
+    ⊎-elim (λ b. let (i, l, e) = any-at k p b in (i, omega arith, e)) (λ e. (k, omega arith, e))
+    (or-cases (anyBelow k p) (p k) h)
+
+pub any-of : (k : ℕ) (p : ℕ → Bool) (i : ℕ) → i < k → p i ≡ true → anyBelow k p ≡ true
+unfolding anyBelow
+any-of zero p i l e = absurd (not-suc-le-zero l)
+any-of (suc k) p i l e =
+    ⊎-elim (λ b. rw (any-of k p i b e)) (λ is. or-right (anyBelow k p) (p k) (ap p (sym is) ∙ e)) (below-or-last k i l)
+
+-- a test that none passes
+pub none-at : (k : ℕ) (p : ℕ → Bool) → anyBelow k p ≡ false → (i : ℕ) → i < k → p i ≡ false
+unfolding anyBelow
+none-at zero p h i l = absurd (not-suc-le-zero l)
+none-at (suc k) p h i l =
+    ⊎-elim (λ b. none-at k p (or-none-left (anyBelow k p) (p k) h) i b)
+    (λ e. ap p e ∙ or-none-right (anyBelow k p) (p k) h)
+    (below-or-last k i l)
+
+pub none-of : (k : ℕ) (p : ℕ → Bool) → ((i : ℕ) → i < k → p i ≡ false) → anyBelow k p ≡ false
+unfolding anyBelow
+none-of zero p f = refl
+none-of (suc k) p f = rw (none-of k p (λ i l. f i (omega arith)), f k (omega arith))
+
+pub any-same : (k : ℕ) (p q : ℕ → Bool) → ((i : ℕ) → i < k → p i ≡ q i) → anyBelow k p ≡ anyBelow k q
+unfolding anyBelow
+any-same zero p q f = refl
+any-same (suc k) p q f = ap₂ _||_ (any-same k p q (λ i l. f i (omega arith))) (f k (omega arith))
+
+-- some pass where not all fail
+pub any-not-all : (k : ℕ) (p : ℕ → Bool) → anyBelow k p ≡ not (allBelow k (λ i. not (p i)))
+unfolding anyBelow allBelow
+any-not-all zero p = refl
+any-not-all (suc k) p = rw (any-not-all k p) (go (allBelow k (λ i. not (p i))) (p k))
+  where
+    go : (a b : Bool) → (not a || b) ≡ not (a && not b)
+    go true true = refl
+    go true false = refl
+    go false b = refl
+
+-- all pass where none fails
+pub all-not-any : (k : ℕ) (p : ℕ → Bool) → allBelow k p ≡ not (anyBelow k (λ i. not (p i)))
+unfolding anyBelow allBelow
+all-not-any zero p = refl
+all-not-any (suc k) p = rw (all-not-any k p) (go (anyBelow k (λ i. not (p i))) (p k))
+  where
+    go : (a b : Bool) → (not a && b) ≡ not (a || not b)
+    go true b = refl
+    go false true = refl
+    go false false = refl
+
+-- ---- the list of f below k
+
+pub words-length : (k : ℕ) (f : ℕ → ℕ) → length (wordsBelow k f) ≡ k
+unfolding wordsBelow
+words-length zero f = refl
+words-length (suc k) f = length-append (wordsBelow k f) (f k ∷ []) ∙ rw (words-length k f) (omega arith)
+
+pub words-at : (k : ℕ) (f : ℕ → ℕ) (i d : ℕ) → i < k → getD (wordsBelow k f) i d ≡ f i
+unfolding wordsBelow
+words-at zero f i d l = absurd (not-suc-le-zero l)
+words-at (suc k) f i d l =
+    ⊎-elim
+    (λ b. List·getD-append (wordsBelow k f) (f k ∷ []) d i (omega (arith, words-length k f)) ∙ words-at k f i d b)
+    (λ e. getD-at (wordsBelow k f) (f k) [] d i (words-length k f ∙ sym e) ∙ ap f (sym e))
+    (below-or-last k i l)
+
+pub words-past : (k : ℕ) (f : ℕ → ℕ) (i d : ℕ) → k ≤ i → getD (wordsBelow k f) i d ≡ d
+words-past k f i d l = List·getD-eq-default (wordsBelow k f) d (omega (arith, words-length k f))
+
+pub words-same : (k : ℕ) (f g : ℕ → ℕ) → ((i : ℕ) → i < k → f i ≡ g i) → wordsBelow k f ≡ wordsBelow k g
+unfolding wordsBelow
+words-same zero f g e = refl
+words-same (suc k) f g e =
+    ap₂ (λ (ws : List ℕ) (w : ℕ). ws ++ (w ∷ [])) (words-same k f g (λ i l. e i (omega arith))) (e k (omega arith))
+
+-- ---- the set of bits below k
+
+-- one more bit, as a digit before the others
+bits-suc : (k : ℕ) (p : ℕ → Bool) → bitsBelow (suc k) p ≡ cond (p k) 1 0 * 2 ^ k + bitsBelow k p
+unfolding bitsBelow sumBelow
+bits-suc k p = go (p k) (bitsBelow k p)
+  where
+    go : (b : Bool) (x : ℕ) → x + cond b (2 ^ k) 0 ≡ cond b 1 0 * 2 ^ k + x
+    go true x = omega arith
+    go false x = omega arith
+
+pub bits-lt : (k : ℕ) (p : ℕ → Bool) → bitsBelow k p < 2 ^ k
+unfolding bitsBelow sumBelow
+bits-lt zero p = omega arith
+bits-lt (suc k) p = go (p k) (bits-lt k p)
+  where
+    go : (b : Bool) {x : ℕ} → x < 2 ^ k → x + cond b (2 ^ k) 0 < 2 ^ suc k
+    go true h = omega (arith, pow-suc 2 k)
+    go false h = omega (arith, pow-suc 2 k)
+
+pub bits-same : (k : ℕ) (p q : ℕ → Bool) → ((i : ℕ) → i < k → p i ≡ q i) → bitsBelow k p ≡ bitsBelow k q
+unfolding bitsBelow
+bits-same k p q e = sum-same k _ _ (λ i l. ap (λ (b : Bool). cond b (2 ^ i) 0) (e i l))
+
+-- a digit above bit i leaves it as it is
+bit-below : (a x i j : ℕ) → hasBit (a * 2 ^ (suc j + i) + x) i ≡ hasBit x i
+unfolding hasBit
+bit-below a x i j =
+    let shape : a * 2 ^ (suc j + i) + x ≡ x + (a * 2 ^ j * 2) * 2 ^ i = rw (pow-add 2 (suc j) i, pow-suc 2 j) (omega arith) in
+    rw (shape, add-mul-div-right x (a * 2 ^ j * 2) (pow-pos i), add-mul-mod-self-right (x / 2 ^ i) (a * 2 ^ j) 2)
+
+-- the digit at k is bit k
+bit-last : (b : Bool) (k : ℕ) {x : ℕ} → x < 2 ^ k → hasBit (cond b 1 0 * 2 ^ k + x) k ≡ b
+unfolding hasBit
+bit-last b k h = rw (high (cond b 1 0) k h) (go b)
+  where
+    go : (b : Bool) → eqb (cond b 1 0 % 2) 1 ≡ b
+    go true = refl
+    go false = refl
+
+pub bits-at : (k : ℕ) (p : ℕ → Bool) (i : ℕ) → i < k → hasBit (bitsBelow k p) i ≡ p i
+bits-at zero p i l = absurd (not-suc-le-zero l)
+bits-at (suc k) p i l =
+    ap (λ (w : ℕ). hasBit w i) (bits-suc k p)
+    ∙ ⊎-elim
+    (λ b.
+    let past : k ≡ suc (k - suc i) + i = omega arith in
+    ap (λ (m : ℕ). hasBit (cond (p k) 1 0 * 2 ^ m + bitsBelow k p) i) past
+    ∙ bit-below (cond (p k) 1 0) (bitsBelow k p) i (k - suc i)
+    ∙ bits-at k p i b)
+    (λ e. ap (hasBit (cond (p k) 1 0 * 2 ^ k + bitsBelow k p)) e ∙ bit-last (p k) k (bits-lt k p) ∙ ap p (sym e))
+    (below-or-last k i l)
+
+-- no bit is set from k on
+pub bits-past : (k : ℕ) (p : ℕ → Bool) (i : ℕ) → k ≤ i → hasBit (bitsBelow k p) i ≡ false
+unfolding hasBit
+bits-past k p i l = rw (div-eq-of-lt (lt-of-lt-of-le (bits-lt k p) (pow-mono l)))

@@ -1,12 +1,19 @@
--- For each number below k: a test of all of them, the first that passes one, and a sum over them.
-use Prim.Native.Nat.{ℕ, zero, suc, _+_}
-use mathlib.Core.Bool.{Bool, true, cond, _&&_}
+-- For each number below k: a test of all of them or of any, the first that passes one, a sum, a list and a set of bits over them.
+use Prim.Native.Nat.{ℕ, zero, suc, _+_, _/_, _%_, _^_}
+use mathlib.Core.Bool.{Bool, true, false, cond, _&&_, _||_}
+use mathlib.Core.List.{List, [], _∷_, _++_}
 use mathlib.Core.Option.{Option, none, some}
+use lib.Dec.{eqb}
 
 -- p holds of every number below k
 unfoldable pub allBelow : ℕ → (ℕ → Bool) → Bool
 allBelow zero p = true
 allBelow (suc k) p = allBelow k p && p k
+
+-- p holds of some number below k
+unfoldable pub anyBelow : ℕ → (ℕ → Bool) → Bool
+anyBelow zero p = false
+anyBelow (suc k) p = anyBelow k p || p k
 
 -- the lowest number below k of which p holds
 unfoldable pub firstBelow : ℕ → (ℕ → Bool) → Option ℕ
@@ -17,3 +24,16 @@ firstBelow (suc k) p = elim (firstBelow k p) [ none ↦ cond (p k) (some k) none
 unfoldable pub sumBelow : ℕ → (ℕ → ℕ) → ℕ
 sumBelow zero f = 0
 sumBelow (suc k) f = sumBelow k f + f k
+
+-- f 0, f 1, .., f (k - 1)
+unfoldable pub wordsBelow : ℕ → (ℕ → ℕ) → List ℕ
+wordsBelow zero f = []
+wordsBelow (suc k) f = wordsBelow k f ++ (f k ∷ [])
+
+-- the number in which bit i is set for each i below k of which p holds, and no other bit
+unfoldable pub bitsBelow : ℕ → (ℕ → Bool) → ℕ
+bitsBelow k p = sumBelow k (λ i. cond (p i) (2 ^ i) 0)
+
+-- bit i of a number is set
+unfoldable pub hasBit : ℕ → ℕ → Bool
+hasBit w i = eqb (w / 2 ^ i % 2) 1
