@@ -25,7 +25,7 @@ every-code-row = (refl, (refl, (refl, (refl, (refl, (refl, tt))))))
 
 pub every-table : EveryTable tableRows
 unfolding everything altered namedCodes foundCodes endpointsNamed
-every-table = refl
+every-table = (refl, (refl, (refl, (refl, (refl, (refl, (refl, (refl, (refl, tt)))))))))
 
 pub every-field-row : EveryRow fieldRows
 unfolding everything each endpointsNamed

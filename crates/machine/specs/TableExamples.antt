@@ -27,9 +27,10 @@ unfoldable pub foundCodes : List Coded → List ℕ
 foundCodes [] = []
 foundCodes (coded t c ∷ rest) = tableCode t ∷ foundCodes rest
 
--- the single claim about a list of such rows: each table has its code
-abbrev pub EveryTable : List Coded → Type 0
-EveryTable rs = foundCodes rs ≡ namedCodes rs
+-- the single claim about lists of such rows: each table has its code
+abbrev pub EveryTable : List (List Coded) → Type 0
+EveryTable [] = Unit {0}
+EveryTable (rs ∷ rest) = (foundCodes rs ≡ namedCodes rs) × EveryTable rest
 
 -- word 0: its kind, bits 27–16 one by one, n from 1 to 16 and m to 32 in all eight bits (where they are in range but not
 -- the table's own, the length is what differs)
@@ -152,7 +153,6 @@ sizeRows =
     ∷ coded (0x1000_0121 ∷ 0x2000_0000 ∷ endpointsNamed (0x3000_0009 ∷ names32)) 2
     ∷ []
 
--- all of them, as one list
-abbrev pub tableRows : List Coded
+abbrev pub tableRows : List (List Coded)
 tableRows =
-    headerRows ++ rightsRows ++ nameRows ++ infoRows ++ waitingRows ++ lostRows ++ slotRows ++ orderRows ++ sizeRows
+    headerRows ∷ rightsRows ∷ nameRows ∷ infoRows ∷ waitingRows ∷ lostRows ∷ slotRows ∷ orderRows ∷ sizeRows ∷ []
