@@ -1,5 +1,6 @@
--- The counts of an endpoint are borne out by a run, and its messages are received in turn (specs/MachineClaims:
--- EveryRunCountsBorneOut, EveryRunInTurn); counts add up over lists that are run one after another.
+-- The counts of an endpoint are borne out by a run, its messages are received in turn, and each call is answered by three words
+-- (specs/MachineClaims: EveryRunCountsBorneOut, EveryRunInTurn, EveryRunAnswered); counts add up over lists that are run one
+-- after another.
 -- Assumes nothing.
 use mathlib.Core.Path.{_≡_, refl, sym, ap, subst, _∙_}
 use mathlib.Core.Logic.{_≢_, ⊎-elim}
@@ -20,7 +21,7 @@ use Rattle.machine.specs.Machine.{Decision, decide, effect, after, step,
 use Rattle.machine.specs.Machine.{Decision.refused}
 use Rattle.machine.specs.Run.{run, answers}
 use Rattle.machine.specs.Counts.{isSend, isReceive, doneOn, countDone, messagesFrom, sendsTo, fullSends, messagesTo, messages}
-use Rattle.machine.specs.MachineClaims.{EveryRunCountsBorneOut, EveryRunInTurn}
+use Rattle.machine.specs.MachineClaims.{EveryRunAnswered, EveryRunCountsBorneOut, EveryRunInTurn}
 use Rattle.machine.proofs.Table as table
 use Rattle.machine.proofs.Table.{Sized}
 use Rattle.machine.proofs.Accepted.{accepted-sized, accepted-endpoint, info-of}
@@ -180,6 +181,12 @@ unfolding run messagesFrom messagesTo sendsTo doneOn answers answer answerTo
 in-turn t [] rest a e l = sym (append-nil (messages (endpoint t e)))
 in-turn t (c ∷ cs) rest a e l =
     served t e c a l .inTurn _ _ _ (in-turn (step t c) cs rest (stays-accepted t c a .accepted) e (still-below t c a e l))
+
+-- ---- the call total
+pub answers-length : EveryRunAnswered
+unfolding answers answer answerTo
+answers-length t [] = refl
+answers-length t (c ∷ cs) = let later = answers-length (step t c) cs in omega arith
 
 -- ---- lists run one after another
 pub run-append : (t : List ℕ) (cs ds : List Call) → run t (cs ++ ds) ≡ run (run t cs) ds

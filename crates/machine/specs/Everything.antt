@@ -32,5 +32,6 @@ unfolding allBelow firstBelow sumBelow
     reaches influences
     purge.member purge.reachesAny purge.joinedBy purge.sources purge.callerIn purge.purge purge.calledBy
     purge.answersOf purge.rightsOf purge.ofOwned purge.queuesOf purge.lostOf purge.view
-    counts.isSend counts.isReceive counts.doneOn counts.countDone counts.messagesFrom counts.sendsTo counts.fullSends counts.messagesTo counts.messages
+    counts.doneOn counts.countDone counts.messagesFrom counts.sendsTo counts.fullSends counts.messagesTo counts.messages
+    counts.isSend counts.isReceive
 everything = tt

@@ -1,12 +1,14 @@
--- What is claimed of the machine itself, each claim a closed statement about all accepted tables and all calls: first of a
--- single call (document 01, 'Influence'), then of runs of any number of calls. A theorem of proofs/ has each for its type.
-use Prim.Native.Nat.{ℕ, _<_, _≤_, _^_}
+-- What is claimed of the machine itself, in closed statements about all accepted tables: `EveryCall..` says it of each single
+-- call (document 01, 'Influence'), `EveryRun..` of calls of any number run one after another. Each is the type of a theorem in
+-- proofs/.
+use Prim.Native.Nat.{ℕ, _*_, _<_, _≤_, _^_}
 use mathlib.Core.Path.{_≡_}
 use mathlib.Core.Bool.{Bool, true, false, _&&_}
 use mathlib.Core.Logic.{_⊎_}
 use mathlib.Core.List.{List, _++_}
 use mathlib.Core.Option.{Option, none, some}
 use lib.Dec.{ltb}
+use lib.ListN.{length}
 use Rattle.machine.specs.Right.{holds}
 use Rattle.machine.specs.Table.{domains, endpoints, rights}
 use Rattle.machine.specs.Check.{Accepted}
@@ -76,6 +78,10 @@ EveryCallEachRight =
 -- A run leaves an accepted table, with the same unchanging parts.
 abbrev pub EveryRunStaysAccepted : Type 0
 EveryRunStaysAccepted = (t : List ℕ) (cs : List Call) → Accepted t → StaysAccepted t (run t cs)
+
+-- Each call is answered by three words, on any table.
+abbrev pub EveryRunAnswered : Type 0
+EveryRunAnswered = (t : List ℕ) (cs : List Call) → length (answers t cs) ≡ 3 * length cs
 
 -- Noninterference (document 01: the striking rule).
 abbrev pub EveryRunNoninterference : Type 0
