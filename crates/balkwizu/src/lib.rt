@@ -35,7 +35,7 @@ pub extern "C" fn balkwizu_table_check(bytes: &[u8]) -> u32
 // It is defined for any words in slices of any length. Table, list and answers may not overlap.
 #[no_mangle]
 pub extern "C" fn balkwizu_run(table: &mut [u32], list: &[u32], answers: &mut [u32]) -> u32
-    ensures { λ r. ⌜ RunPromise (now (table .entry)) (now (list .entry)) (now (answers .entry)) (r % 65536) (r / 65536) (now (table .exit)) (now (answers .exit)) ⌝ }
+    ensures { λ r. ⌜ RunPromise (now (table .entry)) (now (list .entry)) (now (answers .entry)) (r % 65536) (r / 65536) (now (answers .exit)) (now (table .exit)) ⌝ }
 {
     let ran = kernel::run(table, list, answers);
     let code = ran.code();

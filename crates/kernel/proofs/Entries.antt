@@ -62,20 +62,20 @@ module _ (t ws : List ℕ) (size : ℕ) where
 
 -- what a refusal leaves, and what a run leaves
 module _ (t ws space : List ℕ) where
-  pub refused-promise : (n : ℕ) → n ≡ entryCode t ws (length space) → (n ≡ 0 → ⊥) → RunPromise t ws space n 0 t space
+  pub refused-promise : (n : ℕ) → n ≡ entryCode t ws (length space) → (n ≡ 0 → ⊥) → RunPromise t ws space n 0 space t
   unfolding refusal
   refused-promise n is some =
       let e : entry t ws space ≡ refusal (entryCode t ws (length space)) t space = entry-refused t ws space (λ none. some (is ∙ none)) in
-      promise-of t ws space n 0 t space (is ∙ sym (ap (λ (o : Outcome). o .code) e))
+      promise-of t ws space n 0 space t (is ∙ sym (ap (λ (o : Outcome). o .code) e))
       (sym (ap (λ (o : Outcome). o .calls) e))
-      (sym (ap (λ (o : Outcome). o .table) e))
       (sym (ap (λ (o : Outcome). o .answers) e))
+      (sym (ap (λ (o : Outcome). o .table) e))
 
-  pub ran-promise : (k : ℕ) (t′ space′ : List ℕ) → 0 ≡ entryCode t ws (length space) → AllRun t ws space k t′ space′ → RunPromise t ws space 0 k t′ space′
+  pub ran-promise : (k : ℕ) (t′ space′ : List ℕ) → 0 ≡ entryCode t ws (length space) → AllRun t ws space k t′ space′ → RunPromise t ws space 0 k space′ t′
   unfolding ran
   ran-promise k t′ space′ is all =
       let e : entry t ws space ≡ ran t ws space = entry-ran t ws space (sym is) in
-      promise-of t ws space 0 k t′ space′ (sym (ap (λ (o : Outcome). o .code) e))
+      promise-of t ws space 0 k space′ t′ (sym (ap (λ (o : Outcome). o .code) e))
       (all .count ∙ sym (ap (λ (o : Outcome). o .calls) e))
-      (all .table ∙ sym (ap (λ (o : Outcome). o .table) e))
       (all .answers ∙ sym (ap (λ (o : Outcome). o .answers) e))
+      (all .table ∙ sym (ap (λ (o : Outcome). o .table) e))

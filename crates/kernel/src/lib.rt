@@ -50,7 +50,7 @@ pub fn step(table: &mut [u32], first: u32, second: Second) -> Stepped
 
 // A list of calls on any table, with any answer space.
 pub fn run(table: &mut [u32], list: &[u32], answers: &mut [u32]) -> Ran
-    ensures { λ r. ⌜ RunPromise (now (table .entry)) (now (list .entry)) (now (answers .entry)) (ranCode r) (ranCalls r) (now (table .exit)) (now (answers .exit)) ⌝ }
+    ensures { λ r. ⌜ RunPromise (now (table .entry)) (now (list .entry)) (now (answers .entry)) (ranCode r) (ranCalls r) (now (answers .exit)) (now (table .exit)) ⌝ }
 {
     if 4096 < list.len() {
         return Ran::Refused(EntryRefusal::ListTooLong);

@@ -22,9 +22,9 @@ unfolding report
 report-unreadable bytes e = simp e
 
 -- where what ran is the input's table and list, the lines of its answers are the report
-pub report-ran : (bytes : List ℕ) {table list : List ℕ} {code calls c k : ℕ} {end after : List ℕ} → unreadable bytes ≡ false
-    → table ≡ tableOf bytes → list ≡ listOf bytes → RunPromise table list answerSpace code calls end after → k ≡ calls → c ≡ code
-    → report bytes ≡ allLines k c after
+pub report-ran : (bytes : List ℕ) {table list : List ℕ} {code calls c k : ℕ} {answers end : List ℕ} → unreadable bytes ≡ false
+    → table ≡ tableOf bytes → list ≡ listOf bytes → RunPromise table list answerSpace code calls answers end → k ≡ calls → c ≡ code
+    → report bytes ≡ allLines k c answers
 unfolding report outcomeLines
 report-ran bytes e t l p same-calls same-code =
     let q = rw (t, l) at p in
@@ -34,8 +34,8 @@ report-ran bytes e t l p same-calls same-code =
     simp e (cc)
 
 -- a run has no more calls than the longest list has words
-pub ran-few : {table list space : List ℕ} {code calls : ℕ} {end after : List ℕ}
-    → RunPromise table list space code calls end after → calls ≤ longestList
+pub ran-few : {table list space : List ℕ} {code calls : ℕ} {answers end : List ℕ}
+    → RunPromise table list space code calls answers end → calls ≤ longestList
 ran-few {table} {list} {space} p = omega (arith, p .sameCalls, calls-few table list space)
 
 -- where the reading asks for nothing more, what follows makes no difference

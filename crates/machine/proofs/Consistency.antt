@@ -1,5 +1,5 @@
 -- Output consistency: what a call comes to, and its answer, depend only on its own words, its caller's part and the
--- unchanging parts (specs/Claims: AnswerDepends).
+-- unchanging parts (specs/MachineClaims: EveryCallAnswerDepends).
 -- Assumes nothing.
 use mathlib.Core.Path.{_≡_, refl, sym, ap, ap₂, subst, _∙_}
 use mathlib.Core.Bool.{Bool, true, false, cond, not, _&&_, _||_}
@@ -16,7 +16,8 @@ use Rattle.machine.specs.Check.{Accepted}
 use Rattle.machine.specs.Call.{Call, Kind, first, callKind, secondPayload}
 use Rattle.machine.specs.Call.{Kind.lookUp, Kind.send, Kind.receive, Kind.myEndpoints, Kind.myRights, Kind.grant, Kind.remove}
 use Rattle.machine.specs.Machine.{Decision, place, maySend, mayGive, named, lookUpPlaces, sendPlaces, receivePlaces, grantPlaces, removePlaces, framed, places, decide, ownedBits, rightsBits, code, firstData, secondData, answerWord, answerTo, answer}
-use Rattle.machine.specs.Claims.{SameFrame, SamePart, AnswerDepends}
+use Rattle.machine.specs.SameParts.{SameFrame, SamePart}
+use Rattle.machine.specs.MachineClaims.{EveryCallAnswerDepends}
 use Rattle.machine.proofs.Bools.{cond-same, and-left, and-right}
 use Rattle.machine.proofs.Below.{first-same, sum-same}
 use Rattle.machine.proofs.Accepted.{accepted-owner}
@@ -173,5 +174,5 @@ module _ (s t : List ℕ) (f : SameFrame s t) where
         })
 
 -- A call's answer depends only on its own words, its caller's part and the unchanging parts.
-pub answer-depends : (s t : List ℕ) (c : Call) → Accepted t → AnswerDepends s t c
+pub answer-depends : EveryCallAnswerDepends
 answer-depends s t c a f mine = answer-same s t f a c (λ k. mine (caller (first c)) (k .calledBy) (k .below))

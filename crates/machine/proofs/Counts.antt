@@ -1,25 +1,27 @@
--- The counts of an endpoint are borne out by a run, and its messages are received in turn (specs/Claims: CountsBorneOut,
--- InTurn); counts add up over lists that are run one after another.
+-- The counts of an endpoint are borne out by a run, its messages are received in turn, and each call is answered by three words
+-- (specs/MachineClaims: EveryRunCountsBorneOut, EveryRunInTurn, EveryRunAnswered); counts add up over lists that are run one
+-- after another.
 -- Assumes nothing.
 use mathlib.Core.Path.{_≡_, refl, sym, ap, subst, _∙_}
 use mathlib.Core.Logic.{_≢_, ⊎-elim}
 use mathlib.Core.Bool.{Bool, true, false, cond, not, _&&_, and-false}
 use mathlib.Core.List.{List, [], _∷_, _++_, append-assoc, append-nil}
-use Prim.Native.Nat.{ℕ, _+_, _%_, _<_, _≤_, min}
+use Prim.Native.Nat.{ℕ, _+_, _<_, _≤_, min}
 use native.Mathlib.Omega.{arith}
 use borrow.Author.Tests.{ltb-true, eq-eqb, ne-eqb}
 use lib.Dec.{eqb}
 use lib.ListN.{length}
-use Rattle.machine.specs.Word.{kind, fieldB}
+use Rattle.machine.specs.Word.{kind, fieldB, answerCode}
 use Rattle.machine.specs.Table.{domains, endpoints, endpoint, setEndpoint}
 use Rattle.machine.specs.Queue.{capacity, waiting, lost, oldest, mostLost, hasSpace, sent, received}
 use Rattle.machine.specs.Check.{endpointOk, Accepted}
-use Rattle.machine.specs.Call.{Call, first, secondPayload}
+use Rattle.machine.specs.Call.{Call, Kind, first, kindOf, callKind, secondPayload}
+use Rattle.machine.specs.Call.{Kind.lookUp, Kind.send, Kind.receive, Kind.myEndpoints, Kind.myRights, Kind.grant, Kind.remove}
 use Rattle.machine.specs.Machine.{Decision, decide, effect, after, step, code, firstData, answerWord, answerTo, answer}
 use Rattle.machine.specs.Machine.{Decision.refused}
 use Rattle.machine.specs.Run.{run, answers}
-use Rattle.machine.specs.Counts.{doneOn, countDone, messagesFrom, sendsTo, fullSends, messagesTo, messages}
-use Rattle.machine.specs.Claims.{CountsBorneOut, InTurn}
+use Rattle.machine.specs.Counts.{isSend, isReceive, doneOn, countDone, messagesFrom, sendsTo, fullSends, messagesTo, messages}
+use Rattle.machine.specs.MachineClaims.{EveryRunAnswered, EveryRunCountsBorneOut, EveryRunInTurn}
 use Rattle.machine.proofs.Table as table
 use Rattle.machine.proofs.Table.{Sized}
 use Rattle.machine.proofs.Accepted.{accepted-sized, accepted-endpoint, info-of}
@@ -79,35 +81,40 @@ module _ (n : ℕ) (q : List ℕ) (twelve : length q ≡ 12) (ok : endpointOk n 
 -- ---- which calls are done on the endpoint e, by their answers
 
 -- an answer's code can be read back
-answer-code : (c : Call) (n : ℕ) → n < 65536 → answerWord c n % 65536 ≡ n
+answer-code : (c : Call) (n : ℕ) → n < 65536 → answerCode (answerWord c n) ≡ n
 unfolding answerWord
 answer-code c n h = omega arith
 
 module _ (t : List ℕ) (e : ℕ) (c : Call) where
   -- a call is done on e when its kind, its field B and its code say so
-  done-by : (d : Decision) (k : ℕ) (here zero : Bool) → kind (first c) ≡ k → eqb (fieldB (first c)) e ≡ here → code d < 65536 → eqb (code d) 0 ≡ zero → (j : ℕ) → doneOn j e c (answerTo t c d) ≡ (eqb k j && here && zero)
+  done-by : (d : Decision) (k : Kind) (here zero : Bool) → callKind c ≡ k → eqb (fieldB (first c)) e ≡ here → code d < 65536 → eqb (code d) 0 ≡ zero → (is : Kind → Bool) → doneOn is e c (answerTo t c d) ≡ (is k && here && zero)
   unfolding doneOn answerTo
-  done-by d k here zero p q l r j = cc (answer-code c (code d) l)
+  done-by d k here zero p q l r is = cc (answer-code c (code d) l)
 
-  not-done : (n : ℕ) → Number n → (j : ℕ) → doneOn j e c (answerTo t c (refused n)) ≡ false
+  not-done : (n : ℕ) → Number n → (is : Kind → Bool) → doneOn is e c (answerTo t c (refused n)) ≡ false
   unfolding code
-  not-done n r j =
-      done-by (refused n) _ _ false refl refl (omega arith) (ne-eqb n 0 (omega arith)) j
-      ∙ and-false (eqb (kind (first c)) j && eqb (fieldB (first c)) e)
+  not-done n r is =
+      done-by (refused n) _ _ false refl refl (omega arith) (ne-eqb n 0 (omega arith)) is
+      ∙ and-false (is (callKind c) && eqb (fieldB (first c)) e)
+
+  -- a call's kind, by its number
+  by-number : {i : ℕ} → kind (first c) ≡ i → callKind c ≡ kindOf i
+  unfolding callKind
+  by-number k = ap kindOf k
 
   -- what the call does to e's queue where it comes to d
   abbrev ServedBy : Decision → List ℕ → Type 0
   ServedBy d q′ =
-      Served (doneOn 2 e c (answerTo t c d)) (doneOn 3 e c (answerTo t c d)) (secondPayload c) (firstData t d) (endpoint t e) q′
+      Served (doneOn isSend e c (answerTo t c d)) (doneOn isReceive e c (answerTo t c d)) (secondPayload c) (firstData t d) (endpoint t e) q′
 
-  served-by : (d : Decision) (k : ℕ) (here : Bool) {q′ : List ℕ} → kind (first c) ≡ k → eqb (fieldB (first c)) e ≡ here → code d ≡ 0 → Served (eqb k 2 && here && true) (eqb k 3 && here && true) (secondPayload c) (firstData t d) (endpoint t e) q′ → ServedBy d q′
+  served-by : (d : Decision) (k : Kind) (here : Bool) {q′ : List ℕ} → callKind c ≡ k → eqb (fieldB (first c)) e ≡ here → code d ≡ 0 → Served (isSend k && here && true) (isReceive k && here && true) (secondPayload c) (firstData t d) (endpoint t e) q′ → ServedBy d q′
   served-by d k here p q r s =
       let l : code d < 65536 = omega arith in
-      rw (done-by d k here true p q l (eq-eqb _ _ r) 2, done-by d k here true p q l (eq-eqb _ _ r) 3) s
+      rw (done-by d k here true p q l (eq-eqb _ _ r) isSend, done-by d k here true p q l (eq-eqb _ _ r) isReceive) s
 
   -- a call that is neither a send nor a receive, and leaves e's queue
-  idle : (d : Decision) (k : ℕ) {q′ : List ℕ} → kind (first c) ≡ k → eqb k 2 ≡ false → eqb k 3 ≡ false → code d ≡ 0 → q′ ≡ endpoint t e → ServedBy d q′
-  idle d k p n2 n3 r same = served-by d k _ p refl r (rw (n2, n3, same) (untouched (endpoint t e)))
+  idle : (d : Decision) (k : Kind) {q′ : List ℕ} → callKind c ≡ k → isSend k ≡ false → isReceive k ≡ false → code d ≡ 0 → q′ ≡ endpoint t e → ServedBy d q′
+  idle d k p noSend noReceive r same = served-by d k _ p refl r (rw (noSend, noReceive, same) (untouched (endpoint t e)))
 
   module _ (a : Accepted t) (le : e < endpoints t) where
     sized : Sized t
@@ -117,63 +124,69 @@ module _ (t : List ℕ) (e : ℕ) (c : Call) where
     twelve f l = table.endpoint-length t sized f l
 
     -- twelve words are written to the endpoint of field B: e is served if it is that one
-    served-at : (d : Decision) (k : ℕ) (w : List ℕ) → kind (first c) ≡ k → code d ≡ 0 → fieldB (first c) < endpoints t → length w ≡ 12 → Served (eqb k 2 && true && true) (eqb k 3 && true && true) (secondPayload c) (firstData t d) (endpoint t (fieldB (first c))) w → ServedBy d (endpoint (setEndpoint t (fieldB (first c)) w) e)
+    served-at : (d : Decision) (k : Kind) (w : List ℕ) → callKind c ≡ k → code d ≡ 0 → fieldB (first c) < endpoints t → length w ≡ 12 → Served (isSend k && true && true) (isReceive k && true && true) (secondPayload c) (firstData t d) (endpoint t (fieldB (first c))) w → ServedBy d (endpoint (setEndpoint t (fieldB (first c)) w) e)
     served-at d k w p r l long s =
         ⊎-elim
         (λ x.
         served-by d k true p (eq-eqb f e x) r
-        (subst (λ (i : ℕ). Served (eqb k 2 && true && true) (eqb k 3 && true && true) (secondPayload c) (firstData t d) (endpoint t i) (endpoint (setEndpoint t f w) i)) x
+        (subst (λ (i : ℕ). Served (isSend k && true && true) (isReceive k && true && true) (secondPayload c) (firstData t d) (endpoint t i) (endpoint (setEndpoint t f w) i)) x
         (rw (table.setEndpoint-same t sized f w l long) s)))
         (λ x.
         served-by d k false p (ne-eqb f e x) r
-        (rw (and-false (eqb k 2), and-false (eqb k 3), table.setEndpoint-other t sized f w l long e le (λ y. x (sym y))) (untouched (endpoint t e))))
+        (rw (and-false (isSend k), and-false (isReceive k), table.setEndpoint-other t sized f w l long e le (λ y. x (sym y))) (untouched (endpoint t e))))
         (table.equal-either f e)
       where
         f : ℕ
         f = fieldB (first c)
 
     served : ServedBy (decide t c) (endpoint (step t c) e)
-    unfolding step effect after code firstData
+    unfolding step effect after code firstData kindOf isSend isReceive
     served =
         decide-elim t c (λ d. ServedBy d (endpoint (after t (effect t d)) e))
         (record {
-          refuses = λ n r. rw (not-done n r 2, not-done n r 3) (untouched (endpoint t e));
-          looksUp = λ _ k _ _. idle _ 1 k refl refl refl refl;
+          refuses = λ n r. rw (not-done n r isSend, not-done n r isReceive) (untouched (endpoint t e));
+          looksUp = λ _ k _ _. idle _ lookUp (by-number k) refl refl refl refl;
           sending =
               λ _ k l _.
-              served-at _ 2 _ k refl l (queue.sent-length _ (twelve _ l) _)
+              served-at _ send _ (by-number k) refl l (queue.sent-length _ (twelve _ l) _)
               (served-send (domains t) _ (twelve _ l) (accepted-endpoint t a _ l) (secondPayload c) (queue.message-small c));
           receiving =
               λ _ k l _ some.
               let ok = accepted-endpoint t a (fieldB (first c)) l in
-              served-at _ 3 _ k refl l (queue.received-length _ (twelve _ l) some (queue.waiting-most (domains t) _ ok))
+              served-at _ receive _ (by-number k) refl l (queue.received-length _ (twelve _ l) some (queue.waiting-most (domains t) _ ok))
               (served-receive (domains t) _ (twelve _ l) ok some);
-          endpointsListed = λ _ k. idle _ 4 k refl refl refl refl;
-          rightsListed = λ _ k. idle _ 5 k refl refl refl refl;
-          granting = λ _ k g h _ _ _ _. idle _ 6 k refl refl refl (table.setRights-endpoint t sized _ _ _ h g e le);
-          removing = λ u k g _ _. idle _ 7 k refl refl refl (table.setRights-endpoint t sized _ _ _ (u .below) g e le);
+          endpointsListed = λ _ k. idle _ myEndpoints (by-number k) refl refl refl refl;
+          rightsListed = λ _ k. idle _ myRights (by-number k) refl refl refl refl;
+          granting = λ _ k g h _ _ _ _. idle _ grant (by-number k) refl refl refl (table.setRights-endpoint t sized _ _ _ h g e le);
+          removing = λ u k g _ _. idle _ remove (by-number k) refl refl refl (table.setRights-endpoint t sized _ _ _ (u .below) g e le);
         })
 
 -- ---- the run of a list, call by call
 still-below : (t : List ℕ) (c : Call) → Accepted t → (e : ℕ) → e < endpoints t → e < endpoints (step t c)
 still-below t c a e l = rw (stays-accepted t c a .frame .sameEndpoints) l
 
-pub counts-borne-out : (t : List ℕ) (cs : List Call) → Accepted t → (e : ℕ) → e < endpoints t → CountsBorneOut e t cs (answers t cs) (run t cs)
+pub counts-borne-out : EveryRunCountsBorneOut
 unfolding run countDone fullSends sendsTo doneOn answers answer answerTo
-counts-borne-out t [] a e l = record { balance = omega arith; raised = omega (arith, queue.lost-small (endpoint t e)) }
-counts-borne-out t (c ∷ cs) a e l =
+counts-borne-out t [] rest a e l = record { balance = omega arith; raised = omega (arith, queue.lost-small (endpoint t e)) }
+counts-borne-out t (c ∷ cs) rest a e l =
     let s = served t e c a l in
-    let rest = counts-borne-out (step t c) cs (stays-accepted t c a .accepted) e (still-below t c a e l) in
+    let later = counts-borne-out (step t c) cs rest (stays-accepted t c a .accepted) e (still-below t c a e l) in
     record {
-      balance = omega (arith, s .balance, rest .balance);
-      raised = omega (arith, s .raised, rest .raised);
+      balance = omega (arith, s .balance, later .balance);
+      raised = omega (arith, s .raised, later .raised);
     }
 
-pub in-turn : (t : List ℕ) (cs : List Call) → Accepted t → (e : ℕ) → e < endpoints t → InTurn e t cs (answers t cs) (run t cs)
+pub in-turn : EveryRunInTurn
 unfolding run messagesFrom messagesTo sendsTo doneOn answers answer answerTo
-in-turn t [] a e l = sym (append-nil (messages (endpoint t e)))
-in-turn t (c ∷ cs) a e l =
-    served t e c a l .inTurn _ _ _ (in-turn (step t c) cs (stays-accepted t c a .accepted) e (still-below t c a e l))
+in-turn t [] rest a e l = sym (append-nil (messages (endpoint t e)))
+in-turn t (c ∷ cs) rest a e l =
+    served t e c a l .inTurn _ _ _ (in-turn (step t c) cs rest (stays-accepted t c a .accepted) e (still-below t c a e l))
+
+-- ---- the call total
+pub answers-length : EveryRunAnswered
+unfolding answers answer answerTo
+answers-length t [] = refl
+answers-length t (c ∷ cs) = let later = answers-length (step t c) cs in omega arith
 
 -- ---- lists run one after another
 pub run-append : (t : List ℕ) (cs ds : List Call) → run t (cs ++ ds) ≡ run (run t cs) ds
@@ -188,10 +201,10 @@ answers-append t (c ∷ cs) ds =
     ap (λ (x : List ℕ). answer t c ++ x) (answers-append (step t c) cs ds)
     ∙ sym (append-assoc (answer t c) (answers (step t c) cs) (answers (run (step t c) cs) ds))
 
-pub count-append : (k e : ℕ) (t : List ℕ) (cs ds : List Call) (ws : List ℕ) → countDone k e (cs ++ ds) (answers t cs ++ ws) ≡ countDone k e cs (answers t cs) + countDone k e ds ws
+pub count-append : (is : Kind → Bool) (e : ℕ) (t : List ℕ) (cs ds : List Call) (rest : List ℕ) → countDone is e (cs ++ ds) (answers t cs ++ rest) ≡ countDone is e cs (answers t cs) + countDone is e ds rest
 unfolding countDone doneOn answers answer answerTo
-count-append k e t [] ds ws = omega arith
-count-append k e t (c ∷ cs) ds ws = let rest = count-append k e (step t c) cs ds ws in omega arith
+count-append is e t [] ds rest = omega arith
+count-append is e t (c ∷ cs) ds rest = let later = count-append is e (step t c) cs ds rest in omega arith
 
 pub full-append : (e : ℕ) (t : List ℕ) (cs ds : List Call) → fullSends e t (cs ++ ds) ≡ fullSends e t cs + fullSends e (run t cs) ds
 unfolding fullSends run

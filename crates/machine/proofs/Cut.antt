@@ -81,14 +81,6 @@ pub answer-length : (t : List ℕ) (c : Call) → length (answer t c) ≡ 3
 unfolding answer answerTo
 answer-length t c = refl
 
-pub answers-length : (t : List ℕ) (cs : List Call) → length (answers t cs) ≡ 3 * length cs
-unfolding answers
-answers-length t [] = refl
-answers-length t (c ∷ cs) =
-    length-append (answer t c) (answers (step t c) cs)
-    ∙ ap₂ _+_ (answer-length t c) (answers-length (step t c) cs)
-    ∙ omega arith
-
 -- three words written one after the other
 pub three-sets : (xs : List ℕ) (at a b d : ℕ) → at + 3 ≤ length xs → set (set (set xs at a) (at + 1) b) (at + 2) d ≡ take at xs ++ (a ∷ (b ∷ (d ∷ drop (at + 3) xs)))
 three-sets xs at a b d h =

@@ -1,4 +1,4 @@
--- Two tables with the same unchanging parts (specs/Claims: SameFrame), and a domain's rights in both.
+-- Two tables with the same unchanging parts (specs/SameParts: SameFrame), and a domain's rights in both.
 -- Assumes nothing.
 use mathlib.Core.Path.{_≡_, refl, sym, ap, ap₂, subst, _∙_}
 use mathlib.Core.List.{List, _++_}
@@ -9,7 +9,7 @@ use lib.ListN.{length, getD, take, drop, length-drop, take-append-drop}
 use lib.Seq.{getD-take, getD-drop, ext-getD, length-take-le}
 use Rattle.machine.specs.Table.{domains, rightsAt, rightsWord}
 use Rattle.machine.specs.Purge.{rightsOf}
-use Rattle.machine.specs.Claims.{SameFrame}
+use Rattle.machine.specs.SameParts.{SameFrame}
 use Rattle.machine.proofs.Table.{Sized}
 
 -- the two halves of an endpoint make it whole

@@ -1,5 +1,5 @@
 -- The striking rule (noninterference): accepted tables meet the unwinding conditions, so for every domain d the view of a
--- whole list is the view of the machine fed the kept calls alone (specs/Claims: Noninterference).
+-- whole run is the view of the machine fed the kept calls alone (specs/MachineClaims: EveryRunNoninterference).
 -- Assumes nothing.
 use mathlib.Core.Path.{_≡_, refl, sym, ap, subst, _∙_}
 use mathlib.Core.Bool.{Bool, true, false, cond, _&&_}
@@ -16,12 +16,13 @@ use Rattle.machine.specs.Right.{hasAny}
 use Rattle.machine.specs.Table.{domains, endpoints, rights, endpoint}
 use Rattle.machine.specs.Queue.{owner}
 use Rattle.machine.specs.Check.{Accepted}
-use Rattle.machine.specs.Call.{Call, first, callerOf, cut}
+use Rattle.machine.specs.Call.{Call, first, callerOf}
 use Rattle.machine.specs.Machine.{step}
-use Rattle.machine.specs.Run.{run, answers}
+use Rattle.machine.specs.Run.{answers}
 use Rattle.machine.specs.Influence.{reaches}
 use Rattle.machine.specs.Purge.{purge, answersOf, ofOwned, queuesOf, lostOf, view}
-use Rattle.machine.specs.Claims.{SameFrame, SamePart, Agree, Noninterference}
+use Rattle.machine.specs.SameParts.{SameFrame, SamePart, Agree}
+use Rattle.machine.specs.MachineClaims.{EveryRunNoninterference}
 use Rattle.machine.specs.Unwinding.{Unwinding}
 use Rattle.machine.proofs.Bools.{and-left, cond-same}
 use Rattle.machine.proofs.Frame.{frame-refl, frame-sym, frame-trans}
@@ -144,13 +145,9 @@ same-view {n} {d} {s} {t} o a cs ks ws vs e =
     all : (part : List ℕ → List ℕ) → ofOwned d s part (endpoints s) ≡ ofOwned d t part (endpoints t)
     all part = ap (ofOwned d s part) (o .frame .sameEndpoints) ∙ owned-words o a part (endpoints t) (le-refl _)
 
--- The striking rule, for calls of any number run from an accepted table; further words may follow the answers.
-pub struck : (t : List ℕ) (cs : List Call) (d : ℕ) (rest : List ℕ) → Accepted t → d < domains t → view d cs (answers t cs ++ rest) (run t cs) ≡ view d (purge t cs d) (answers t (purge t cs d)) (run t (purge t cs d))
-struck t cs d rest a l =
+-- The striking rule.
+pub noninterference : EveryRunNoninterference
+noninterference t cs rest a d l =
     let self : Alike (domains t) t t = record { first = a; second = a; frame = frame-refl t; count = refl } in
     let seen = observes-purge (conditions (domains t)) d t cs l self in
     same-view (seen .proper) (seen .state) cs (purge t cs d) (answers t cs ++ rest) (answers t (purge t cs d)) (seen .answered rest)
-
--- The striking rule, for the words of a list.
-pub noninterference : (t ws rest : List ℕ) → Accepted t → Noninterference t ws (run t (cut ws)) (answers t (cut ws) ++ rest)
-noninterference t ws rest a d l = struck t (cut ws) d rest a l

@@ -1,27 +1,24 @@
--- Whoever leaves what the entry leaves keeps the whole promise: noninterference and the counts hold of the words it left
--- (specs/Promise). Assumes nothing.
+-- Whoever leaves what the entry leaves keeps the whole promise (specs/Promise): what is claimed of every run holds of the words
+-- it left. Assumes nothing.
 use mathlib.Core.Path.{_≡_, refl, sym, ap, subst, _∙_}
-use mathlib.Core.Bool.{cond, not}
-use mathlib.Core.List.{List, [], _∷_, _++_, append-nil}
+use mathlib.Core.Bool.{not}
+use mathlib.Core.List.{List, _++_}
 use Prim.Native.Nat.{ℕ, _*_, _<_, _≤_, zero-le}
-use native.Mathlib.Nat.{add-zero, le-trans}
+use native.Mathlib.Nat.{le-trans}
 use native.Mathlib.Omega.{arith}
 use borrow.Author.Tests.{eqb-true, eq-eqb, ne-eqb, lt-ltb, le-ltb, ltb-false}
 use lib.Dec.{eqb, ltb}
-use lib.ListN.{length, getD, drop}
+use lib.ListN.{length, drop}
 use Rattle.machine.specs.Table.{endpoints}
 use Rattle.machine.specs.Check.{headerOk, lengthOk, rightsOk, endpointsOk, tableCode, Accepted}
-use Rattle.machine.specs.Call.{Call, cut}
-use Rattle.machine.specs.Machine.{step, answer, answerTo}
-use Rattle.machine.specs.Run.{run, answers}
+use Rattle.machine.specs.Call.{cut}
+use Rattle.machine.specs.Run as machine
 use Rattle.machine.specs.Entry.{Outcome, longestList, spaceCode, entryCode, Runs, refusal, ran, entry}
-use Rattle.machine.specs.Counts.{doneOn, countDone, messagesFrom}
-use Rattle.machine.specs.Claims.{Noninterference, CountsBorneOut, InTurn}
-use Rattle.machine.specs.Trail.{NoRightFromNowhere}
+use Rattle.machine.specs.RunClaims.{Noninterference, NoRightFromNowhere, CountsBorneOut, InTurn}
 use Rattle.machine.specs.Promise.{RunPromise}
 use Rattle.machine.proofs.Bools.{cond-elim}
 use Rattle.machine.proofs.Cut.{cut-few}
-use Rattle.machine.proofs.Counts.{counts-borne-out, in-turn, count-append}
+use Rattle.machine.proofs.Counts.{counts-borne-out, in-turn}
 use Rattle.machine.proofs.Trail.{no-right-from-nowhere}
 use Rattle.machine.proofs.Noninterference.{noninterference}
 
@@ -53,54 +50,34 @@ entry-code t ws space =
     (λ e. sym (eqb-true _ _ e))
     (λ _. refl)
 
--- words behind the answers are not looked at
-messages-behind : (e : ℕ) (t : List ℕ) (cs : List Call) (rest : List ℕ) → messagesFrom e cs (answers t cs ++ rest) ≡ messagesFrom e cs (answers t cs)
-unfolding messagesFrom answers answer answerTo doneOn
-messages-behind e t [] rest = refl
-messages-behind e t (c ∷ cs) rest =
-    ap (λ (r : List ℕ). cond (doneOn 3 e c (answer t c)) (getD (answer t c) 1 0 ∷ r) r) (messages-behind e (step t c) cs rest)
-
-counts-behind : (k e : ℕ) (t : List ℕ) (cs : List Call) (rest : List ℕ) → countDone k e cs (answers t cs ++ rest) ≡ countDone k e cs (answers t cs)
-unfolding countDone
-counts-behind k e t cs rest =
-    ap (λ (x : List Call). countDone k e x (answers t cs ++ rest)) (sym (append-nil cs))
-    ∙ count-append k e t cs [] rest
-    ∙ add-zero (countDone k e cs (answers t cs))
-
+-- a list that runs left what is claimed of every run
 module _ (t ws space : List ℕ) (r : Runs t ws (length space)) where
-  ran-counts : (e : ℕ) → e < endpoints t → CountsBorneOut e t (cut ws) (ran t ws space .answers) (ran t ws space .table)
+  ran-noninterference : Noninterference t (cut ws) (ran t ws space .answers) (ran t ws space .table)
   unfolding ran
-  ran-counts e l =
-      let b = counts-borne-out t (cut ws) (runs-accepted t ws _ r) e l in
-      record {
-        balance = rw (counts-behind 2 e t (cut ws) (drop (3 * length (cut ws)) space), counts-behind 3 e t (cut ws) (drop (3 * length (cut ws)) space)) (b .balance);
-        raised = b .raised;
-      }
-
-  ran-in-turn : (e : ℕ) → e < endpoints t → InTurn e t (cut ws) (ran t ws space .answers) (ran t ws space .table)
-  unfolding ran
-  ran-in-turn e l =
-      rw (messages-behind e t (cut ws) (drop (3 * length (cut ws)) space)) (in-turn t (cut ws) (runs-accepted t ws _ r) e l)
+  ran-noninterference = noninterference t (cut ws) (drop (3 * length (cut ws)) space) (runs-accepted t ws _ r)
 
   ran-rights : NoRightFromNowhere t (cut ws) (ran t ws space .table)
   unfolding ran
   ran-rights = no-right-from-nowhere t (cut ws) (runs-accepted t ws _ r)
 
-  ran-noninterference : Noninterference t ws (ran t ws space .table) (ran t ws space .answers)
+  ran-counts : (e : ℕ) → e < endpoints t → CountsBorneOut e t (cut ws) (ran t ws space .answers) (ran t ws space .table)
   unfolding ran
-  ran-noninterference = noninterference t ws (drop (3 * length (cut ws)) space) (runs-accepted t ws _ r)
+  ran-counts = counts-borne-out t (cut ws) (drop (3 * length (cut ws)) space) (runs-accepted t ws _ r)
+
+  ran-in-turn : (e : ℕ) → e < endpoints t → InTurn e t (cut ws) (ran t ws space .answers) (ran t ws space .table)
+  unfolding ran
+  ran-in-turn = in-turn t (cut ws) (drop (3 * length (cut ws)) space) (runs-accepted t ws _ r)
 
 -- What the entry leaves keeps the promise.
-pub promise-kept : (t ws space : List ℕ) → RunPromise t ws space (entry t ws space .code) (entry t ws space .calls) (entry t ws space .table) (entry t ws space .answers)
+pub promise-kept : (t ws space : List ℕ) → RunPromise t ws space (entry t ws space .code) (entry t ws space .calls) (entry t ws space .answers) (entry t ws space .table)
 promise-kept t ws space =
     record {
       sameCode = refl;
       sameCalls = refl;
-      sameTable = refl;
       sameAnswers = refl;
-      noninterference = λ z. from z (λ o. Noninterference t ws (o .table) (o .answers)) (ran-noninterference t ws space);
-      noRightFromNowhere =
-          λ z. from z (λ o. NoRightFromNowhere t (cut ws) (o .table)) (ran-rights t ws space);
+      sameTable = refl;
+      noninterference = λ z. from z (λ o. Noninterference t (cut ws) (o .answers) (o .table)) (ran-noninterference t ws space);
+      noRightFromNowhere = λ z. from z (λ o. NoRightFromNowhere t (cut ws) (o .table)) (ran-rights t ws space);
       counts = λ z. from z (λ o. (e : ℕ) → e < endpoints t → CountsBorneOut e t (cut ws) (o .answers) (o .table)) (ran-counts t ws space);
       inTurn = λ z. from z (λ o. (e : ℕ) → e < endpoints t → InTurn e t (cut ws) (o .answers) (o .table)) (ran-in-turn t ws space);
     }
@@ -111,8 +88,8 @@ promise-kept t ws space =
         subst P (sym (entry-ran t ws space r)) (f r)
 
 -- So does whoever leaves the same.
-pub promise-of : (t ws space : List ℕ) (code calls : ℕ) (end after : List ℕ) → code ≡ entry t ws space .code → calls ≡ entry t ws space .calls → end ≡ entry t ws space .table → after ≡ entry t ws space .answers → RunPromise t ws space code calls end after
-promise-of t ws space code calls end after p q r s = rw (p, q, r, s) (promise-kept t ws space)
+pub promise-of : (t ws space : List ℕ) (code calls : ℕ) (answers end : List ℕ) → code ≡ entry t ws space .code → calls ≡ entry t ws space .calls → answers ≡ entry t ws space .answers → end ≡ entry t ws space .table → RunPromise t ws space code calls answers end
+promise-of t ws space code calls answers end p q r s = rw (p, q, r, s) (promise-kept t ws space)
 
 -- ---- the entry place by place
 module _ (t ws : List ℕ) (size : ℕ) where
@@ -139,18 +116,18 @@ module _ (t ws : List ℕ) (size : ℕ) where
       code-runs h = accepted-so-far ∙ rw (le-ltb size (3 * length (cut ws)) h)
 
 -- Whoever refuses by the entry's code and changes nothing keeps the promise,
-pub promise-refused : (t ws space : List ℕ) (code : ℕ) → code ≡ entryCode t ws (length space) → (code ≡ 0 → ⊥) → RunPromise t ws space code 0 t space
+pub promise-refused : (t ws space : List ℕ) (code : ℕ) → code ≡ entryCode t ws (length space) → (code ≡ 0 → ⊥) → RunPromise t ws space code 0 space t
 unfolding refusal
 promise-refused t ws space code e n =
     let o = entry-refused t ws space (λ z. n (e ∙ z)) in
-    promise-of t ws space code 0 t space (e ∙ sym (ap (λ (x : Outcome). x .code) o)) (sym (ap (λ (x : Outcome). x .calls) o)) (sym (ap (λ (x : Outcome). x .table) o)) (sym (ap (λ (x : Outcome). x .answers) o))
+    promise-of t ws space code 0 space t (e ∙ sym (ap (λ (x : Outcome). x .code) o)) (sym (ap (λ (x : Outcome). x .calls) o)) (sym (ap (λ (x : Outcome). x .answers) o)) (sym (ap (λ (x : Outcome). x .table) o))
 
 -- and so does whoever runs a list that runs.
-pub promise-ran : (t ws space : List ℕ) (calls : ℕ) (end after : List ℕ) → Runs t ws (length space) → calls ≡ length (cut ws) → end ≡ run t (cut ws) → after ≡ answers t (cut ws) ++ drop (3 * length (cut ws)) space → RunPromise t ws space 0 calls end after
+pub promise-ran : (t ws space : List ℕ) (calls : ℕ) (answers end : List ℕ) → Runs t ws (length space) → calls ≡ length (cut ws) → answers ≡ machine.answers t (cut ws) ++ drop (3 * length (cut ws)) space → end ≡ machine.run t (cut ws) → RunPromise t ws space 0 calls answers end
 unfolding ran
-promise-ran t ws space calls end after r p q s =
+promise-ran t ws space calls answers end r p q s =
     let o = entry-ran t ws space r in
-    promise-of t ws space 0 calls end after (sym (ap (λ (x : Outcome). x .code) o)) (p ∙ sym (ap (λ (x : Outcome). x .calls) o)) (q ∙ sym (ap (λ (x : Outcome). x .table) o)) (s ∙ sym (ap (λ (x : Outcome). x .answers) o))
+    promise-of t ws space 0 calls answers end (sym (ap (λ (x : Outcome). x .code) o)) (p ∙ sym (ap (λ (x : Outcome). x .calls) o)) (q ∙ sym (ap (λ (x : Outcome). x .answers) o)) (s ∙ sym (ap (λ (x : Outcome). x .table) o))
 
 -- ---- a run has no more calls than the longest list has words, and its code is one of the entry's
 pub runs-short : (t ws : List ℕ) (size : ℕ) → Runs t ws size → length ws ≤ longestList

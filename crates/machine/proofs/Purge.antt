@@ -13,7 +13,7 @@ use Rattle.machine.specs.Machine.{step, answerTo, answer}
 use Rattle.machine.specs.Run.{run, answers}
 use Rattle.machine.specs.Influence.{reaches, influences}
 use Rattle.machine.specs.Purge.{reachesAny, joinedBy, sources, callerIn, purge, calledBy, answersOf}
-use Rattle.machine.specs.Claims.{callerInfluences}
+use Rattle.machine.specs.MachineClaims.{callerInfluences}
 use Rattle.machine.specs.Unwinding as unwinding
 use Rattle.machine.specs.Unwinding.{StateMachine, Unwinding, ObservEquivalent}
 use Rattle.machine.proofs.Unwinding.{noninterference}

@@ -1,5 +1,5 @@
 -- What a call does to a table: it keeps it accepted and its unchanging parts, and alters only what belongs to domains that
--- its caller influences (specs/Claims: StaysAccepted, AltersOnly). Local respect and step consistency stand here.
+-- its caller influences (specs/MachineClaims). Local respect and step consistency stand here.
 -- Assumes nothing.
 use mathlib.Core.Path.{_≡_, refl, sym, ap, ap₂, subst, _∙_}
 use mathlib.Core.Bool.{true, false, _&&_, true≢false}
@@ -22,7 +22,8 @@ use Rattle.machine.specs.Machine.{Decision, Effect, maySend, mayGive, de
 use Rattle.machine.specs.Machine.{Decision.refused, Effect.nothing, Effect.newRights, Effect.newEndpoint}
 use Rattle.machine.specs.Run.{run}
 use Rattle.machine.specs.Influence.{reaches, influences}
-use Rattle.machine.specs.Claims.{SameFrame, SamePart, Agree, StaysAccepted, callerInfluences, AltersOnly}
+use Rattle.machine.specs.SameParts.{SameFrame, SamePart, Agree}
+use Rattle.machine.specs.MachineClaims.{callerInfluences, EveryCallStaysAccepted, EveryCallAltersOnly, EveryRunStaysAccepted}
 use Rattle.machine.proofs.Bools.{and-intro, or-cases, or-right}
 use Rattle.machine.proofs.Table as table
 use Rattle.machine.proofs.Table.{Sized}
@@ -340,7 +341,7 @@ call-in-order t c a =
     held h g p q = rights-held t a h g p q
 
 -- Tables stay accepted.
-pub stays-accepted : (t : List ℕ) (c : Call) → Accepted t → StaysAccepted t (step t c)
+pub stays-accepted : EveryCallStaysAccepted
 unfolding step
 stays-accepted t c a =
     record {
@@ -374,7 +375,7 @@ unfolding step effect after
 refused-keeps t c n e = rw e
 
 -- A call alters only what belongs to domains that its caller influences.
-pub alters-only : (t : List ℕ) (c : Call) → Accepted t → AltersOnly t c
+pub alters-only : EveryCallAltersOnly
 alters-only t c a =
     record {
       parts = λ v lv n. local-respect t c a v lv n .part;
@@ -413,7 +414,7 @@ step-consistent s t c accS accT f mine v lv agree =
     same = decide-same s t f accT c mine
 
 -- And so does a run leave an accepted table.
-pub run-accepted : (t : List ℕ) (cs : List Call) → Accepted t → StaysAccepted t (run t cs)
+pub run-accepted : EveryRunStaysAccepted
 unfolding run
 run-accepted t [] a = record { accepted = a; frame = frame-refl t }
 run-accepted t (c ∷ cs) a =

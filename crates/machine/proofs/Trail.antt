@@ -1,5 +1,5 @@
--- No right from nowhere, and none lost but by its holder (specs/Trail): call by call, the first from there along every list of
--- calls.
+-- No right from nowhere, and none lost but by its holder (specs/MachineClaims: EveryCallEachRight), call by call; the first from
+-- there along every run (EveryRunNoRightFromNowhere).
 -- Assumes nothing.
 use mathlib.Core.Path.{_≡_, refl, sym, ap, ap₂, subst, _∙_}
 use mathlib.Core.Bool.{true, false, not, _&&_, or-true, and-false}
@@ -17,10 +17,10 @@ use Rattle.machine.specs.Call.{Call, Call.one, Call.two, callerOf, cut}
 use Rattle.machine.specs.Machine.{Decision, decide, effect, after, step, mayGive}
 use Rattle.machine.specs.Machine.{Decision.grants, Decision.removes, Effect.newRights, Effect.newEndpoint}
 use Rattle.machine.specs.Run.{run}
-use Rattle.machine.specs.Claims.{GivenBy, StaysAccepted}
 use Rattle.machine.specs.Everything.{everything}
 use Rattle.machine.specs.Examples.{T, L}
-use Rattle.machine.specs.Trail.{GivenAlong, NoRightFromNowhere, RemovedBy, EachRight}
+use Rattle.machine.specs.Trail.{GivenBy, GivenAlong, RemovedBy}
+use Rattle.machine.specs.MachineClaims.{StaysAccepted, EveryCallEachRight, EveryRunNoRightFromNowhere}
 use Rattle.machine.proofs.Bools.{and-left, or-cases, either}
 use Rattle.machine.proofs.Table as table
 use Rattle.machine.proofs.Right.{holds-adds, holds-without, holds-trans, rights-payload}
@@ -40,7 +40,7 @@ written t a h g s o =
 module _ (t : List ℕ) (c : Call) (a : Accepted t) (h g : ℕ) (ph : h < domains t) (pg : g < domains t)
     (P : ℕ → Type 0)
     (kept : P (rights t h g))
-    (granted : (u r : ℕ) → callerOf c ≡ some u → decide t c ≡ grants g h r → holds (rights t u g) GRANT ≡ true → holds (rights t u g) r ≡ true → mayGive t u h ≡ true → P (adds (rights t h g) r))
+    (granted : (u r : ℕ) → callerOf c ≡ some u → u < domains t → decide t c ≡ grants g h r → holds (rights t u g) GRANT ≡ true → holds (rights t u g) r ≡ true → mayGive t u h ≡ true → P (adds (rights t h g) r))
     (removed : (r : ℕ) → callerOf c ≡ some h → decide t c ≡ removes g h r → holds (rights t h g) REMOVE ≡ true → P (without (rights t h g) r)) where
   -- of a decision that the call came to
   Left : Decision → Type 0
@@ -69,7 +69,7 @@ module _ (t : List ℕ) (c : Call) (a : Accepted t) (h g : ℕ) (ph : h < domain
         granting =
             λ k _ _ _ _ may had toward comes o.
             write-left _ _ _ o
-            (λ p q. rw (← p, ← q) (granted _ _ (k .calledBy) (rw (p, q) comes) (rw q may) (rw q had) (rw p toward)));
+            (λ p q. rw (← p, ← q) (granted _ _ (k .calledBy) (k .below) (rw (p, q) comes) (rw q may) (rw q had) (rw p toward)));
         removing =
             λ k _ _ may _ comes o.
             write-left _ _ _ o
@@ -83,11 +83,11 @@ module _ (t : List ℕ) (c : Call) (a : Accepted t) (h g : ℕ) (ph : h < domain
 -- ---- a single right after one call
 
 module _ (t : List ℕ) (c : Call) (a : Accepted t) (h g k : ℕ) (ph : h < domains t) (pg : g < domains t) where
-  pub had-or-given : holds (rights (step t c) h g) (2 ^ k) ≡ true → (holds (rights t h g) (2 ^ k) ≡ true) ⊎ GivenBy t c h g (2 ^ k)
+  had-or-given : holds (rights (step t c) h g) (2 ^ k) ≡ true → (holds (rights t h g) (2 ^ k) ≡ true) ⊎ GivenBy h g (2 ^ k) t c
   had-or-given =
       rights-elim t c a h g ph pg
-      (λ s. holds s (2 ^ k) ≡ true → (holds (rights t h g) (2 ^ k) ≡ true) ⊎ GivenBy t c h g (2 ^ k)) inl
-      (λ u r by comes may had toward now.
+      (λ s. holds s (2 ^ k) ≡ true → (holds (rights t h g) (2 ^ k) ≡ true) ⊎ GivenBy h g (2 ^ k) t c) inl
+      (λ u r by below comes may had toward now.
       ⊎-elim inl
       (λ x.
       inr
@@ -97,6 +97,7 @@ module _ (t : List ℕ) (c : Call) (a : Accepted t) (h g k : ℕ) (ph : h < doma
         grant = comes;
         among = x;
         calledBy = by;
+        below = below;
         held = holds-trans (rights t u g) r (2 ^ k) had x;
         mayGrant = may;
         toward = toward;
@@ -104,11 +105,11 @@ module _ (t : List ℕ) (c : Call) (a : Accepted t) (h g k : ℕ) (ph : h < doma
       (or-cases (holds (rights t h g) (2 ^ k)) (holds r (2 ^ k)) (sym (holds-adds (rights t h g) r k) ∙ now)))
       (λ r _ _ _ now. inl (and-left (holds (rights t h g) (2 ^ k)) _ (sym (holds-without (rights t h g) r k) ∙ now)))
 
-  kept-or-removed : holds (rights t h g) (2 ^ k) ≡ true → (holds (rights (step t c) h g) (2 ^ k) ≡ true) ⊎ RemovedBy t c h g (2 ^ k)
+  kept-or-removed : holds (rights t h g) (2 ^ k) ≡ true → (holds (rights (step t c) h g) (2 ^ k) ≡ true) ⊎ RemovedBy h g (2 ^ k) t c
   kept-or-removed had =
       rights-elim t c a h g ph pg
-      (λ s. (holds s (2 ^ k) ≡ true) ⊎ RemovedBy t c h g (2 ^ k)) (inl had)
-      (λ u r _ _ _ _ _. inl (rw (holds-adds, had)))
+      (λ s. (holds s (2 ^ k) ≡ true) ⊎ RemovedBy h g (2 ^ k) t c) (inl had)
+      (λ u r _ _ _ _ _ _. inl (rw (holds-adds, had)))
       (λ r by comes may.
       ⊎-elim (λ x. inr (record { removed = r; remove = comes; among = x; calledBy = by; mayRemove = may }))
       (λ x. inl (holds-without (rights t h g) r k ∙ ap₂ (λ b d. b && not d) had x))
@@ -119,31 +120,36 @@ module _ (t : List ℕ) (c : Call) (a : Accepted t) (h g k : ℕ) (ph : h < doma
   unfolding step after
   now s e = ap (λ x. rights (after t x) h g) e ∙ written t a h g s (subst (InOrder t) e (call-in-order t c a))
 
-  given-now : GivenBy t c h g (2 ^ k) → holds (rights (step t c) h g) (2 ^ k) ≡ true
+  given-now : GivenBy h g (2 ^ k) t c → holds (rights (step t c) h g) (2 ^ k) ≡ true
   unfolding effect
   given-now x = rw (now (adds (rights t h g) (x .given)) (ap (effect t) (x .grant)), holds-adds, x .among, or-true)
 
-  removed-now : RemovedBy t c h g (2 ^ k) → holds (rights (step t c) h g) (2 ^ k) ≡ false
+  removed-now : RemovedBy h g (2 ^ k) t c → holds (rights (step t c) h g) (2 ^ k) ≡ false
   unfolding effect
   removed-now x =
       rw (now (without (rights t h g) (x .removed)) (ap (effect t) (x .remove)), holds-without, x .among, and-false)
 
-  pub each-right : EachRight t c h g (2 ^ k)
-  each-right =
-      record { hadOrGiven = had-or-given; keptOrRemoved = kept-or-removed; given = given-now; removed = removed-now }
+pub each-right : EveryCallEachRight
+each-right t c a h g k ph pg =
+    record {
+      hadOrGiven = had-or-given t c a h g k ph pg;
+      keptOrRemoved = kept-or-removed t c a h g k ph pg;
+      given = given-now t c a h g k ph pg;
+      removed = removed-now t c a h g k ph pg;
+    }
 
 -- ---- along calls
 
-first-gave : (t : List ℕ) (c : Call) (cs : List Call) (h g r : ℕ) → GivenBy t c h g r → GivenAlong t (c ∷ cs) h g r
+first-gave : (t : List ℕ) (c : Call) (cs : List Call) (h g r : ℕ) → GivenBy h g r t c → GivenAlong h g r t (c ∷ cs)
 unfolding run
 first-gave t c cs h g r by = record { before = []; call = c; later = cs; among = refl; given = by }
 
-later-gave : (t : List ℕ) (c : Call) (cs : List Call) (h g r : ℕ) → GivenAlong (step t c) cs h g r → GivenAlong t (c ∷ cs) h g r
+later-gave : (t : List ℕ) (c : Call) (cs : List Call) (h g r : ℕ) → GivenAlong h g r (step t c) cs → GivenAlong h g r t (c ∷ cs)
 unfolding run
 later-gave t c cs h g r x =
     record { before = c ∷ x .before; call = x .call; later = x .later; among = ap (_∷_ c) (x .among); given = x .given }
 
-pub no-right-from-nowhere : (t : List ℕ) (cs : List Call) → Accepted t → NoRightFromNowhere t cs (run t cs)
+pub no-right-from-nowhere : EveryRunNoRightFromNowhere
 unfolding run
 no-right-from-nowhere t [] a h g k ph pg held = inl held
 no-right-from-nowhere t (c ∷ cs) a h g k ph pg held =
@@ -155,7 +161,7 @@ no-right-from-nowhere t (c ∷ cs) a h g k ph pg held =
 
 -- ---- both come about: in L the second call gives domain 0 SEND on domain 2, and in P11 domain 1 gives up REMOVE on it
 
-pub given-in-L : GivenAlong T (cut L) 0 2 SEND
+pub given-in-L : GivenAlong 0 2 SEND T (cut L)
 unfolding everything
 given-in-L =
     record {
@@ -170,12 +176,13 @@ given-in-L =
             grant = refl;
             among = refl;
             calledBy = refl;
+            below = omega arith;
             held = refl;
             mayGrant = refl;
             toward = refl;
           };
     }
 
-pub removed-in-P11 : RemovedBy T (one 0x7042_0004) 1 2 REMOVE
+pub removed-in-P11 : RemovedBy 1 2 REMOVE T (one 0x7042_0004)
 unfolding everything
 removed-in-P11 = record { removed = REMOVE; remove = refl; among = refl; calledBy = refl; mayRemove = refl }

@@ -1,43 +1,69 @@
 -- What the fourth line of the checklist counts, and the messages of a queue in their order.
--- Sent and received are told by calls and their answer words alone; which sends found the queue full, by the run's tables.
-use Prim.Native.Nat.{ℕ, _+_, _%_}
-use mathlib.Core.Bool.{Bool, cond, not, _&&_}
+-- Sent and received are told by calls and their answers alone, three words for each call and perhaps others behind them; which
+-- sends found the queue full, by the run's tables.
+use Prim.Native.Nat.{ℕ, _+_}
+use mathlib.Core.Bool.{Bool, true, false, cond, not, _&&_}
 use mathlib.Core.List.{List, [], _∷_, map}
 use lib.ListN.{getD, take, drop}
 use lib.Dec.{eqb}
-use Rattle.machine.specs.Word.{kind, payload, fieldB}
+use Rattle.machine.specs.Word.{payload, fieldB, answerCode}
 use Rattle.machine.specs.Table.{endpoint}
 use Rattle.machine.specs.Queue.{waiting, hasSpace}
-use Rattle.machine.specs.Call.{Call, first, secondPayload}
+use Rattle.machine.specs.Call.{Call, Kind, first, callKind, secondPayload}
+use Rattle.machine.specs.Call.{Kind.lookUp, Kind.send, Kind.receive, Kind.myEndpoints, Kind.myRights, Kind.grant, Kind.remove, Kind.stray, Kind.unknown}
 use Rattle.machine.specs.Machine.{step, answer}
 
--- a call of kind k on the endpoint e, answered 0 by the words ws
-unfoldable pub doneOn : ℕ → ℕ → Call → List ℕ → Bool
-doneOn k e c ws = eqb (kind (first c)) k && eqb (fieldB (first c)) e && eqb (getD ws 0 0 % 65536) 0
+-- a kind is that of a send
+unfoldable pub isSend : Kind → Bool
+isSend lookUp = false
+isSend send = true
+isSend receive = false
+isSend myEndpoints = false
+isSend myRights = false
+isSend grant = false
+isSend remove = false
+isSend stray = false
+isSend unknown = false
 
--- how many calls of kind k on e were answered 0, three answer words for each call
-unfoldable pub countDone : ℕ → ℕ → List Call → List ℕ → ℕ
-countDone k e [] ws = 0
-countDone k e (c ∷ cs) ws = cond (doneOn k e c ws) 1 0 + countDone k e cs (drop 3 ws)
+-- a kind is that of a receive
+unfoldable pub isReceive : Kind → Bool
+isReceive lookUp = false
+isReceive send = false
+isReceive receive = true
+isReceive myEndpoints = false
+isReceive myRights = false
+isReceive grant = false
+isReceive remove = false
+isReceive stray = false
+isReceive unknown = false
+
+-- a call of a kind that passes a test, on the endpoint e, answered 0 by the first of the answers
+unfoldable pub doneOn : (Kind → Bool) → ℕ → Call → List ℕ → Bool
+doneOn is e c answers = is (callKind c) && eqb (fieldB (first c)) e && eqb (answerCode (getD answers 0 0)) 0
+
+-- how many calls of such a kind on e were answered 0
+unfoldable pub countDone : (Kind → Bool) → ℕ → List Call → List ℕ → ℕ
+countDone is e [] answers = 0
+countDone is e (c ∷ cs) answers = cond (doneOn is e c answers) 1 0 + countDone is e cs (drop 3 answers)
 
 -- sends to e answered 0
 abbrev pub sentTo : ℕ → List Call → List ℕ → ℕ
-sentTo e cs ws = countDone 2 e cs ws
+sentTo e cs answers = countDone isSend e cs answers
 
 -- messages received from e
 abbrev pub receivedFrom : ℕ → List Call → List ℕ → ℕ
-receivedFrom e cs ws = countDone 3 e cs ws
+receivedFrom e cs answers = countDone isReceive e cs answers
 
 -- the messages received from e, in order: the first data word of each
 unfoldable pub messagesFrom : ℕ → List Call → List ℕ → List ℕ
-messagesFrom e [] ws = []
-messagesFrom e (c ∷ cs) ws =
-    let rest = messagesFrom e cs (drop 3 ws) in
-    cond (doneOn 3 e c ws) (getD ws 1 0 ∷ rest) rest
+messagesFrom e [] answers = []
+messagesFrom e (c ∷ cs) answers =
+    let rest = messagesFrom e cs (drop 3 answers) in
+    cond (doneOn isReceive e c answers) (getD answers 1 0 ∷ rest) rest
 
 -- a call that is a send to e, answered 0, run on the table t
 unfoldable pub sendsTo : ℕ → List ℕ → Call → Bool
-sendsTo e t c = doneOn 2 e c (answer t c)
+sendsTo e t c = doneOn isSend e c (answer t c)
 
 -- how many sends to e, answered 0, found the queue full
 unfoldable pub fullSends : ℕ → List ℕ → List Call → ℕ

@@ -33,4 +33,5 @@ unfolding allBelow firstBelow sumBelow
     purge.member purge.reachesAny purge.joinedBy purge.sources purge.callerIn purge.purge purge.calledBy
     purge.answersOf purge.rightsOf purge.ofOwned purge.queuesOf purge.lostOf purge.view
     counts.doneOn counts.countDone counts.messagesFrom counts.sendsTo counts.fullSends counts.messagesTo counts.messages
+    counts.isSend counts.isReceive
 everything = tt

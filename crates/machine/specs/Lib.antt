@@ -13,9 +13,11 @@ pub mod Influence
 pub mod Purge
 pub mod Unwinding
 pub mod Counts
-pub mod Claims
 pub mod Trail
+pub mod RunClaims
 pub mod Promise
+pub mod SameParts
+pub mod MachineClaims
 pub mod Everything
 pub mod Examples
 pub mod CodeExamples

@@ -1,26 +1,25 @@
 -- What is promised of whoever runs a list: from the table t, the list ws and the answer space, it answered a code and a
--- number of calls and left the table end and the space after. The kernel's contract is this record.
+-- number of calls and left the space as answers and the table as end. The kernel's contract is this record.
 use Prim.Native.Nat.{ℕ, _<_}
 use mathlib.Core.Path.{_≡_}
 use mathlib.Core.List.{List}
 use Rattle.machine.specs.Table.{endpoints}
 use Rattle.machine.specs.Call.{cut}
 use Rattle.machine.specs.Entry.{entry}
-use Rattle.machine.specs.Claims.{Noninterference, CountsBorneOut, InTurn}
-use Rattle.machine.specs.Trail.{NoRightFromNowhere}
+use Rattle.machine.specs.RunClaims.{Noninterference, NoRightFromNowhere, CountsBorneOut, InTurn}
 
-pub record RunPromise (t ws space : List ℕ) (code calls : ℕ) (end after : List ℕ) : Type 0 where
-  -- demands 1 and 2: the code, the number of calls, every table word and every answer word are those of the machine of
+pub record RunPromise (t ws space : List ℕ) (code calls : ℕ) (answers end : List ℕ) : Type 0 where
+  -- demands 1 and 2: the code, the number of calls, every answer word and every table word are those of the machine of
   -- document 01, for any words at all; a refusal changes nothing
   pub sameCode : code ≡ entry t ws space .code
   pub sameCalls : calls ≡ entry t ws space .calls
+  pub sameAnswers : answers ≡ entry t ws space .answers
   pub sameTable : end ≡ entry t ws space .table
-  pub sameAnswers : after ≡ entry t ws space .answers
   -- demand 3, of the words that were left: where the list ran, what each domain sees of them is what it sees of the machine
   -- fed the kept calls alone
-  pub noninterference : code ≡ 0 → Noninterference t ws end after
-  -- lines 2 and 4 of the checklist, of the words that were left: no right comes from nowhere, messages go in turn, and the
-  -- counts are borne out by the queues
+  pub noninterference : code ≡ 0 → Noninterference t (cut ws) answers end
+  -- lines 2 and 4 of the checklist, of the words that were left: no right comes from nowhere, the counts are borne out by the
+  -- queues, and messages go in turn
   pub noRightFromNowhere : code ≡ 0 → NoRightFromNowhere t (cut ws) end
-  pub counts : code ≡ 0 → (e : ℕ) → e < endpoints t → CountsBorneOut e t (cut ws) after end
-  pub inTurn : code ≡ 0 → (e : ℕ) → e < endpoints t → InTurn e t (cut ws) after end
+  pub counts : code ≡ 0 → (e : ℕ) → e < endpoints t → CountsBorneOut e t (cut ws) answers end
+  pub inTurn : code ≡ 0 → (e : ℕ) → e < endpoints t → InTurn e t (cut ws) answers end

@@ -32,3 +32,7 @@ fieldB w = w / 256 % 256
 -- bits 7–0: field C
 abbrev pub fieldC : ℕ → ℕ
 fieldC w = w % 256
+
+-- bits 15–0 of an answer's first word: its code
+abbrev pub answerCode : ℕ → ℕ
+answerCode w = w % 65536

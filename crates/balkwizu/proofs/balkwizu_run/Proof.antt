@@ -59,7 +59,7 @@ returns : tie.Need-returns
 returns c =
     let a = c .before .before .before .before .before .before .before .before .before .before .before .before .args in
     let run = c .before .before .before .before .before .before .run in
-    subst₂ (λ (code calls : ℕ). RunPromise (now (a .table)) (now (a .list)) (now (a .answers)) code calls (run .last .0) (run .last .1 .1 .0))
+    subst₂ (λ (code calls : ℕ). RunPromise (now (a .table)) (now (a .list)) (now (a .answers)) code calls (run .last .1 .1 .0) (run .last .0))
     (sym (c .before .code .ensures) ∙ low (c .before .code .result) (c .calls .result) (small c))
     (sym (c .calls .ensures) ∙ high (c .before .code .result) (c .calls .result) (small c))
     (run .ensures)

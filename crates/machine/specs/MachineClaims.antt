@@ -1,0 +1,111 @@
+-- What is claimed of the machine itself, in closed statements about all accepted tables: `EveryCall..` says it of each single
+-- call (document 01, 'Influence'), `EveryRun..` of calls of any number run one after another. Each is the type of a theorem in
+-- proofs/.
+use Prim.Native.Nat.{ℕ, _*_, _<_, _≤_, _^_}
+use mathlib.Core.Path.{_≡_}
+use mathlib.Core.Bool.{Bool, true, false, _&&_}
+use mathlib.Core.Logic.{_⊎_}
+use mathlib.Core.List.{List, _++_}
+use mathlib.Core.Option.{Option, none, some}
+use lib.Dec.{ltb}
+use lib.ListN.{length}
+use Rattle.machine.specs.Right.{holds}
+use Rattle.machine.specs.Table.{domains, endpoints, rights}
+use Rattle.machine.specs.Check.{Accepted}
+use Rattle.machine.specs.Call.{Call, callerOf}
+use Rattle.machine.specs.Machine.{decide, step, answer, Decision.refused}
+use Rattle.machine.specs.Run.{run, answers}
+use Rattle.machine.specs.Influence.{influences}
+use Rattle.machine.specs.SameParts.{SameFrame, SamePart}
+use Rattle.machine.specs.Trail.{GivenBy, RemovedBy}
+use Rattle.machine.specs.RunClaims.{Noninterference, NoRightFromNowhere, CountsBorneOut, InTurn}
+
+-- ---- one call
+
+-- A table t′ that came of t is accepted, with the same unchanging parts.
+pub record StaysAccepted (t t′ : List ℕ) : Type 0 where
+  pub accepted : Accepted t′
+  pub frame : SameFrame t′ t
+
+-- A call on an accepted table leaves an accepted table, with the same unchanging parts.
+abbrev pub EveryCallStaysAccepted : Type 0
+EveryCallStaysAccepted = (t : List ℕ) (c : Call) → Accepted t → StaysAccepted t (step t c)
+
+-- a call's caller is known and influences v
+abbrev pub callerInfluences : List ℕ → Option ℕ → ℕ → Bool
+callerInfluences t none v = false
+callerInfluences t (some u) v = ltb u (domains t) && influences t u v
+
+-- The call c alters only what belongs to domains that its caller influences in the table t. A refused call alters nothing,
+-- nor does a stray or an unknown caller, which influence none.
+pub record AltersOnly (t : List ℕ) (c : Call) : Type 0 where
+  pub parts : (v : ℕ) → v < domains t → callerInfluences t (callerOf c) v ≡ false → SamePart v (step t c) t
+  pub refused : (n : ℕ) → decide t c ≡ refused n → step t c ≡ t
+  pub stray : callerOf c ≡ none → step t c ≡ t
+  pub unknown : (u : ℕ) → callerOf c ≡ some u → domains t ≤ u → step t c ≡ t
+
+-- Influence: on an accepted table, a call alters only what belongs to domains that its caller influences.
+abbrev pub EveryCallAltersOnly : Type 0
+EveryCallAltersOnly = (t : List ℕ) (c : Call) → Accepted t → AltersOnly t c
+
+-- On the tables s and t the call c is answered the same if they have the same unchanging parts and its caller, where that is a
+-- domain, the same part in both.
+abbrev pub AnswerDepends : List ℕ → List ℕ → Call → Type 0
+AnswerDepends s t c =
+    SameFrame s t → ((u : ℕ) → callerOf c ≡ some u → u < domains t → SamePart u s t) → answer s c ≡ answer t c
+
+-- A call's answer depends only on its own words, its caller's part and the unchanging parts, on an accepted table t and any
+-- other s.
+abbrev pub EveryCallAnswerDepends : Type 0
+EveryCallAnswerDepends = (s t : List ℕ) (c : Call) → Accepted t → AnswerDepends s t c
+
+-- What one call does to the single right 2 ^ k of h on g: one that h has after it, h had before it or the call gave; one that
+-- h had before it, h has after it or h's own remove cleared; and a grant and a remove do what they say.
+pub record EachRight (h g k : ℕ) (t : List ℕ) (c : Call) : Type 0 where
+  pub hadOrGiven : holds (rights (step t c) h g) (2 ^ k) ≡ true → (holds (rights t h g) (2 ^ k) ≡ true) ⊎ GivenBy h g (2 ^ k) t c
+  pub keptOrRemoved : holds (rights t h g) (2 ^ k) ≡ true → (holds (rights (step t c) h g) (2 ^ k) ≡ true) ⊎ RemovedBy h g (2 ^ k) t c
+  pub given : GivenBy h g (2 ^ k) t c → holds (rights (step t c) h g) (2 ^ k) ≡ true
+  pub removed : RemovedBy h g (2 ^ k) t c → holds (rights (step t c) h g) (2 ^ k) ≡ false
+
+-- No right comes from nowhere and none is lost but by its holder, call by call: on an accepted table, for any two domains and
+-- each single right.
+abbrev pub EveryCallEachRight : Type 0
+EveryCallEachRight =
+    (t : List ℕ) (c : Call) → Accepted t → (h g k : ℕ) → h < domains t → g < domains t → EachRight h g k t c
+
+-- ---- calls of any number, run from an accepted table; the words rest may follow the answers, as in a larger answer space
+
+-- A run leaves an accepted table, with the same unchanging parts.
+abbrev pub EveryRunStaysAccepted : Type 0
+EveryRunStaysAccepted = (t : List ℕ) (cs : List Call) → Accepted t → StaysAccepted t (run t cs)
+
+-- Each call is answered by three words, on any table.
+abbrev pub EveryRunAnswered : Type 0
+EveryRunAnswered = (t : List ℕ) (cs : List Call) → length (answers t cs) ≡ 3 * length cs
+
+-- Noninterference (document 01: the striking rule).
+abbrev pub EveryRunNoninterference : Type 0
+EveryRunNoninterference =
+    (t : List ℕ) (cs : List Call) (rest : List ℕ) → Accepted t → Noninterference t cs (answers t cs ++ rest) (run t cs)
+
+-- No right from nowhere.
+abbrev pub EveryRunNoRightFromNowhere : Type 0
+EveryRunNoRightFromNowhere = (t : List ℕ) (cs : List Call) → Accepted t → NoRightFromNowhere t cs (run t cs)
+
+-- The counts of every endpoint are borne out by its queue.
+abbrev pub EveryRunCountsBorneOut : Type 0
+EveryRunCountsBorneOut =
+    (t : List ℕ) (cs : List Call) (rest : List ℕ)
+    → Accepted t
+    → (e : ℕ)
+    → e < endpoints t
+    → CountsBorneOut e t cs (answers t cs ++ rest) (run t cs)
+
+-- Every queue goes in turn.
+abbrev pub EveryRunInTurn : Type 0
+EveryRunInTurn =
+    (t : List ℕ) (cs : List Call) (rest : List ℕ)
+    → Accepted t
+    → (e : ℕ)
+    → e < endpoints t
+    → InTurn e t cs (answers t cs ++ rest) (run t cs)

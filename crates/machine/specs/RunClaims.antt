@@ -1,0 +1,46 @@
+-- What is claimed of the words that a run left: the calls cs were run from the table t, and left the answers, three words for each
+-- call and perhaps others behind them, and the table end. Each claim is a field of the kernel's contract (specs/Promise);
+-- that the machine's own runs meet it stands in specs/MachineClaims.
+use Prim.Native.Nat.{ℕ, _+_, _<_, _^_, min}
+use mathlib.Core.Path.{_≡_}
+use mathlib.Core.Bool.{true}
+use mathlib.Core.Logic.{_⊎_}
+use mathlib.Core.List.{List, _++_}
+use Rattle.machine.specs.Right.{holds}
+use Rattle.machine.specs.Table.{domains, rights, endpoint}
+use Rattle.machine.specs.Queue.{waiting, lost, mostLost}
+use Rattle.machine.specs.Call.{Call}
+use Rattle.machine.specs.Run as machine
+use Rattle.machine.specs.Purge.{purge, view}
+use Rattle.machine.specs.Counts.{sentTo, receivedFrom, fullSends, messagesFrom, messagesTo, messages}
+use Rattle.machine.specs.Trail.{GivenAlong}
+
+-- Noninterference (document 01: the striking rule): for every domain d, what d sees of the run is what it sees of the machine
+-- fed the kept calls alone, from the same table.
+abbrev pub Noninterference : List ℕ → List Call → List ℕ → List ℕ → Type 0
+Noninterference t cs answers end =
+    (d : ℕ)
+    → d < domains t
+    → view d cs answers end
+    ≡ view d (purge t cs d) (machine.answers t (purge t cs d)) (machine.run t (purge t cs d))
+
+-- No right from nowhere: a single right that h has on g at the end it had at the start, or one of the calls gave it.
+abbrev pub NoRightFromNowhere : List ℕ → List Call → List ℕ → Type 0
+NoRightFromNowhere t cs end =
+    (h g k : ℕ)
+    → h < domains t
+    → g < domains t
+    → holds (rights end h g) (2 ^ k) ≡ true
+    → (holds (rights t h g) (2 ^ k) ≡ true) ⊎ GivenAlong h g (2 ^ k) t cs
+
+-- The counts of the endpoint e: sends answered 0 and what waited at the start are what was received, what found the queue
+-- full and what waits at the end; and the lost count rose by those that found it full, up to its largest.
+pub record CountsBorneOut (e : ℕ) (t : List ℕ) (cs : List Call) (answers end : List ℕ) : Type 0 where
+  pub balance : sentTo e cs answers + waiting (endpoint t e) ≡ receivedFrom e cs answers + fullSends e t cs + waiting (endpoint end e)
+  pub raised : lost (endpoint end e) ≡ min (lost (endpoint t e) + fullSends e t cs) mostLost
+
+-- Queues in turn: what was received from the endpoint e, followed by what waits at the end, is what waited at the start,
+-- followed by what was sent and found space, in order.
+abbrev pub InTurn : ℕ → List ℕ → List Call → List ℕ → List ℕ → Type 0
+InTurn e t cs answers end =
+    messagesFrom e cs answers ++ messages (endpoint end e) ≡ messages (endpoint t e) ++ messagesTo e t cs
