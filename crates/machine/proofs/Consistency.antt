@@ -15,7 +15,8 @@ use Rattle.machine.specs.Queue.{name, owner, waiting, lost, oldest}
 use Rattle.machine.specs.Check.{Accepted}
 use Rattle.machine.specs.Call.{Call, Kind, first, callKind, secondPayload}
 use Rattle.machine.specs.Call.{Kind.lookUp, Kind.send, Kind.receive, Kind.myEndpoints, Kind.myRights, Kind.grant, Kind.remove}
-use Rattle.machine.specs.Machine.{Decision, place, maySend, mayGive, named, lookUpPlaces, sendPlaces, receivePlaces, grantPlaces, removePlaces, framed, places, decide, ownedBits, rightsBits, code, firstData, secondData, answerWord, answerTo, answer}
+use Rattle.machine.specs.Machine.{Decision, place, maySend, named, lookUpPlaces, sendPlaces, receivePlaces, grantPlaces, removePlaces, framed, places, decide, ownedBits, rightsBits, code, firstData, secondData, answerWord, answerTo, answer}
+use Rattle.machine.specs.Influence.{reaches, influences}
 use Rattle.machine.specs.Claims.{SameFrame, SamePart, AnswerDepends}
 use Rattle.machine.proofs.Bools.{cond-same, and-left, and-right}
 use Rattle.machine.proofs.Below.{first-same, sum-same}
@@ -98,7 +99,7 @@ module _ (s t : List ℕ) (f : SameFrame s t) where
         (λ _. refl)))
 
     grant-same : Known t c → (g h r : ℕ) → grantPlaces s u g h r ≡ grantPlaces t u g h r
-    unfolding grantPlaces mayGive
+    unfolding grantPlaces influences reaches
     grant-same k g h r =
         place-same 20 (ap (λ (n : ℕ). not (ltb g n && ltb h n)) (f .sameDomains))
         (λ b.

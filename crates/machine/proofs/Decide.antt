@@ -15,8 +15,9 @@ use Rattle.machine.specs.Table.{domains, endpoints, rights, endpoint}
 use Rattle.machine.specs.Queue.{owner, waiting}
 use Rattle.machine.specs.Call.{Call, Kind, first, kindOf, callKind, callerOf, secondPayload}
 use Rattle.machine.specs.Call.{Kind.lookUp, Kind.send, Kind.receive, Kind.myEndpoints, Kind.myRights, Kind.grant, Kind.remove, Kind.stray, Kind.unknown}
-use Rattle.machine.specs.Machine.{Decision, place, maySend, mayGive, named, lookUpPlaces, sendPlaces, receivePlaces, grantPlaces, removePlaces, framed, places, decide}
+use Rattle.machine.specs.Machine.{Decision, place, maySend, named, lookUpPlaces, sendPlaces, receivePlaces, grantPlaces, removePlaces, framed, places, decide}
 use Rattle.machine.specs.Machine.{Decision.refused, Decision.lookedUp, Decision.sends, Decision.receives, Decision.listsEndpoints, Decision.listsRights, Decision.grants, Decision.removes}
+use Rattle.machine.specs.Influence.{influences}
 use Rattle.machine.proofs.Bools.{and-left, and-right, cond-elim, or-none-right}
 
 -- a number is the kind of one of the seven calls, of a stray, or unknown
@@ -56,7 +57,7 @@ pub record Rows (t : List ℕ) (c : Call) (P : Decision → Type 0) : Type 0 whe
   pub receiving : Known t c → kind (first c) ≡ 3 → fieldB (first c) < endpoints t → owner (endpoint t (fieldB (first c))) ≡ caller (first c) → (waiting (endpoint t (fieldB (first c))) ≡ 0 → ⊥) → P (receives (fieldB (first c)))
   pub endpointsListed : Known t c → kind (first c) ≡ 4 → P (listsEndpoints (caller (first c)))
   pub rightsListed : Known t c → kind (first c) ≡ 5 → P (listsRights (caller (first c)))
-  pub granting : Known t c → kind (first c) ≡ 6 → fieldA (first c) < domains t → fieldB (first c) < domains t → fieldC (first c) ≤ allRights → holds (rights t (caller (first c)) (fieldA (first c))) GRANT ≡ true → holds (rights t (caller (first c)) (fieldA (first c))) (fieldC (first c)) ≡ true → mayGive t (caller (first c)) (fieldB (first c)) ≡ true → P (grants (fieldA (first c)) (fieldB (first c)) (fieldC (first c)))
+  pub granting : Known t c → kind (first c) ≡ 6 → fieldA (first c) < domains t → fieldB (first c) < domains t → fieldC (first c) ≤ allRights → holds (rights t (caller (first c)) (fieldA (first c))) GRANT ≡ true → holds (rights t (caller (first c)) (fieldA (first c))) (fieldC (first c)) ≡ true → influences t (caller (first c)) (fieldB (first c)) ≡ true → P (grants (fieldA (first c)) (fieldB (first c)) (fieldC (first c)))
   pub removing : Known t c → kind (first c) ≡ 7 → fieldA (first c) < domains t → holds (rights t (caller (first c)) (fieldA (first c))) REMOVE ≡ true → holds (rights t (caller (first c)) (fieldA (first c))) (fieldC (first c)) ≡ true → P (removes (fieldA (first c)) (caller (first c)) (fieldC (first c)))
 
 number : (n : ℕ) → 10 ≤ n → n ≤ 23 → Number n

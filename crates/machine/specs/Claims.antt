@@ -11,7 +11,7 @@ use Rattle.machine.specs.Table.{domains, endpoints, rights, rightsWord, 
 use Rattle.machine.specs.Queue.{owner, waiting, lost, mostLost}
 use Rattle.machine.specs.Check.{Accepted}
 use Rattle.machine.specs.Call.{Call, callerOf, cut}
-use Rattle.machine.specs.Machine.{decide, step, answer, mayGive, Decision.refused, Decision.grants}
+use Rattle.machine.specs.Machine.{decide, step, answer, Decision.refused, Decision.grants}
 use Rattle.machine.specs.Run.{run, answers}
 use Rattle.machine.specs.Influence.{influences}
 use Rattle.machine.specs.Purge.{purge, view, rightsOf}
@@ -88,4 +88,4 @@ pub record GivenBy (t : List ℕ) (c : Call) (h g r : ℕ) : Type 0 where
   pub calledBy : callerOf c ≡ some caller
   pub held : holds (rights t caller g) r ≡ true
   pub mayGrant : holds (rights t caller g) GRANT ≡ true
-  pub toward : mayGive t caller h ≡ true
+  pub toward : influences t caller h ≡ true

@@ -23,7 +23,7 @@ unfolding allBelow firstBelow sumBelow
     call.unusedFields call.allZero call.hasSecond call.secondPayload
     queue.name queue.owner queue.capacity queue.waiting queue.lost queue.oldest queue.hasSpace queue.sendWithSpace
     queue.sendToFull queue.sent queue.movedUp queue.received
-    machine.place machine.maySend machine.mayGive machine.named machine.lookUpPlaces machine.sendPlaces
+    machine.place machine.maySend machine.named machine.lookUpPlaces machine.sendPlaces
     machine.receivePlaces machine.grantPlaces machine.removePlaces machine.framed machine.places machine.decide
     machine.effect machine.after machine.step machine.ownedBits machine.rightsBits machine.code machine.firstData
     machine.secondData machine.shownCaller machine.answerWord machine.answerTo machine.answer

@@ -8,8 +8,9 @@ use mathlib.Core.Option.{Option, none, some}
 use lib.Dec.{eqb, leb, ltb}
 use Rattle.machine.specs.Below.{firstBelow, sumBelow}
 use Rattle.machine.specs.Word.{kind, caller, fieldA, fieldB, fieldC}
-use Rattle.machine.specs.Right.{SEND, GRANT, REMOVE, allRights, holds, adds, without, hasAny}
+use Rattle.machine.specs.Right.{SEND, GRANT, REMOVE, allRights, holds, adds, without}
 use Rattle.machine.specs.Table.{domains, endpoints, rights, endpoint, setRights, setEndpoint}
+use Rattle.machine.specs.Influence.{influences}
 use Rattle.machine.specs.Queue.{name, owner, waiting, lost, oldest, sent, received}
 use Rattle.machine.specs.Call.{Call, Kind, first, callKind, wantsSecond, unusedFields, allZero, hasSecond, secondPayload}
 use Rattle.machine.specs.Call.{Kind.lookUp, Kind.send, Kind.receive, Kind.myEndpoints, Kind.myRights, Kind.grant, Kind.remove, Kind.stray, Kind.unknown}
@@ -34,10 +35,6 @@ place false code next = next
 unfoldable pub maySend : List ℕ → ℕ → ℕ → Bool
 maySend t u e = eqb (owner (endpoint t e)) u || holds (rights t u (owner (endpoint t e))) SEND
 
--- u may give rights to h: it is h or has any right on it
-unfoldable pub mayGive : List ℕ → ℕ → ℕ → Bool
-mayGive t u h = eqb u h || hasAny (rights t u h)
-
 -- the endpoint that has a name
 unfoldable pub named : List ℕ → ℕ → Option ℕ
 named t x = firstBelow (endpoints t) (λ e. eqb (name (endpoint t e)) x)
@@ -55,13 +52,13 @@ receivePlaces t u e =
     place (not (ltb e (endpoints t))) 16
     (place (not (eqb (owner (endpoint t e)) u)) 18 (place (eqb (waiting (endpoint t e)) 0) 19 (receives e)))
 
--- u gives the rights r on the target g to the recipient h
+-- u gives the rights r on the target g to the recipient h, which it must influence
 unfoldable pub grantPlaces : List ℕ → ℕ → ℕ → ℕ → ℕ → Decision
 grantPlaces t u g h r =
     place (not (ltb g (domains t) && ltb h (domains t))) 20
     (place (eqb r 0 || not (leb r allRights)) 21
     (place (not (holds (rights t u g) GRANT && holds (rights t u g) r)) 22
-    (place (not (mayGive t u h)) 23 (grants g h r))))
+    (place (not (influences t u h)) 23 (grants g h r))))
 
 -- u clears the right r from its own on the target g
 unfoldable pub removePlaces : List ℕ → ℕ → ℕ → ℕ → Decision
