@@ -22,7 +22,7 @@ use Rattle.machine.specs.Run.{run, answers}
 use Rattle.machine.specs.Influence.{reaches}
 use Rattle.machine.specs.Purge.{purge, answersOf, ofOwned, queuesOf, lostOf, view}
 use Rattle.machine.specs.Claims.{SameFrame, SamePart, Agree, Noninterference}
-use Rattle.machine.specs.Unwinding.{Unwinding}
+use Rattle.machine.specs.Unwinding as unwinding
 use Rattle.machine.proofs.Bools.{and-left, cond-same}
 use Rattle.machine.proofs.Frame.{frame-refl, frame-sym, frame-trans}
 use Rattle.machine.proofs.Consistency.{owner-same, owned-same, answer-depends}
@@ -101,7 +101,7 @@ same-caller {u} {s} {t} c e a k =
     subst (λ (w : ℕ). SamePart w s t) (some-is (sym e ∙ k)) (a .part)
 
 -- Accepted tables of n domains meet the unwinding conditions.
-pub conditions : (n : ℕ) → Unwinding (tables n) (Alike n) Agree
+pub conditions : (n : ℕ) → unwinding.Unwinding (tables n) (Alike n) Agree
 conditions n =
     record {
       okSym = alike-sym;

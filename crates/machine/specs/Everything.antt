@@ -9,6 +9,7 @@ use Rattle.machine.specs.Machine as machine
 use Rattle.machine.specs.Run.{run, answers}
 use Rattle.machine.specs.Entry as «entry»
 use Rattle.machine.specs.Influence.{reaches, influences}
+use Rattle.machine.specs.DomainSet.{member, callerIn, calledBy}
 use Rattle.machine.specs.Purge as purge
 use Rattle.machine.specs.Counts as counts
 
@@ -30,7 +31,8 @@ unfolding allBelow firstBelow sumBelow
     run answers
     «entry».spaceCode «entry».entryCode «entry».refusal «entry».ran «entry».entry
     reaches influences
-    purge.member purge.reachesAny purge.joinedBy purge.sources purge.callerIn purge.purge purge.calledBy
+    member callerIn calledBy
+    purge.reachesAny purge.joinedBy purge.sources purge.purge
     purge.answersOf purge.rightsOf purge.ofOwned purge.queuesOf purge.lostOf purge.view
     counts.doneOn counts.countDone counts.messagesFrom counts.sendsTo counts.fullSends counts.messagesTo counts.messages
 everything = tt

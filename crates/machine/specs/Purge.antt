@@ -11,11 +11,7 @@ use Rattle.machine.specs.Queue.{owner}
 use Rattle.machine.specs.Call.{Call, callerOf}
 use Rattle.machine.specs.Machine.{step}
 use Rattle.machine.specs.Influence.{reaches}
-
--- A set of domains is the list of its members.
-unfoldable pub member : ℕ → List ℕ → Bool
-member u [] = false
-member u (v ∷ vs) = eqb u v || member u vs
+use Rattle.machine.specs.DomainSet.{callerIn, calledBy}
 
 -- u has any right on a member
 unfoldable pub reachesAny : List ℕ → ℕ → List ℕ → Bool
@@ -32,22 +28,12 @@ unfoldable pub sources : List ℕ → List Call → ℕ → List ℕ
 sources t [] d = d ∷ []
 sources t (c ∷ cs) d = joinedBy t (callerOf c) (sources (step t c) cs d)
 
--- a call's caller is in a set
-unfoldable pub callerIn : Option ℕ → List ℕ → Bool
-callerIn none vs = false
-callerIn (some u) vs = member u vs
-
 -- kept are exactly the calls whose caller is in the set at that call
 unfoldable pub purge : List ℕ → List Call → ℕ → List Call
 purge t [] d = []
 purge t (c ∷ cs) d =
     let rest = purge (step t c) cs d in
     cond (callerIn (callerOf c) (sources t (c ∷ cs) d)) (c ∷ rest) rest
-
--- a call is of domain d
-unfoldable pub calledBy : ℕ → Option ℕ → Bool
-calledBy d none = false
-calledBy d (some u) = eqb u d
 
 -- d's answers, out of the answer words of calls, three for each: all three words of each call whose caller is d, in order
 unfoldable pub answersOf : ℕ → List Call → List ℕ → List ℕ

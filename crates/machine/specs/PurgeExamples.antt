@@ -10,7 +10,8 @@ use Rattle.machine.specs.Table.{domains}
 use Rattle.machine.specs.Call.{Call, cut, Call.one, Call.two}
 use Rattle.machine.specs.Machine.{step}
 use Rattle.machine.specs.Run.{run, answers}
-use Rattle.machine.specs.Purge.{member, sources, purge, View, view}
+use Rattle.machine.specs.DomainSet.{member}
+use Rattle.machine.specs.Purge.{sources, purge, View, view}
 use Rattle.machine.specs.Examples.{emptySlots}
 use Rattle.machine.specs.CodeExamples.{fourDomains}
 
