@@ -1,14 +1,15 @@
--- Laws of the tests, searches and sums over the numbers below k (specs/Below).
+-- Laws of the tests, lists, searches and sums over the numbers below k (specs/Below).
 -- Assumes nothing.
 use mathlib.Core.Path.{_≡_, refl, sym, ap, ap₂, _∙_}
 use mathlib.Core.Bool.{Bool, true, false, cond, _&&_, false≢true}
 use mathlib.Core.Logic.{_⊎_, _⊎_.inl, _⊎_.inr, ⊎-elim}
+use mathlib.Core.List.{List, [], _∷_, _++_, map, map-append}
 use mathlib.Core.Option.{Option, none, some}
 use Prim.Native.Nat.{ℕ, zero, suc, _+_, _<_}
 use native.Mathlib.Nat.{not-suc-le-zero}
 use native.Mathlib.Decide.{decLt}
 use native.Mathlib.Omega.{arith}
-use Rattle.machine.specs.Below.{allBelow, firstBelow, sumBelow}
+use Rattle.machine.specs.Below.{allBelow, numbersBelow, firstBelow, sumBelow}
 use Rattle.machine.proofs.Bools.{and-left, and-right, and-intro}
 
 -- a number below suc k is below k or is k
@@ -58,3 +59,19 @@ first-same (suc k) p q e =
     ap₂ (λ (o : Option ℕ) (b : Bool). elim o [ none ↦ cond b (some k) none | some i ↦ some i ])
     (first-same k p q (λ i l. e i (omega arith)))
     (e k (omega arith))
+
+-- two tests that agree below k, and what is made of each number of which they hold
+pub map-same : {A : Type 0} (k : ℕ) (p q : ℕ → Bool) (f g : ℕ → A) → ((i : ℕ) → i < k → p i ≡ q i) → ((i : ℕ) → i < k → q i ≡ true → f i ≡ g i) → map f (numbersBelow k p) ≡ map g (numbersBelow k q)
+unfolding numbersBelow
+map-same zero p q f g e same = refl
+map-same {A} (suc k) p q f g e same =
+    map-append f (numbersBelow k p) (cond (p k) (k ∷ []) [])
+    ∙ ap₂ (λ (x y : List A). x ++ y) (map-same k p q f g (λ i l. e i (omega arith)) (λ i l. same i (omega arith))) last
+    ∙ sym (map-append g (numbersBelow k q) (cond (q k) (k ∷ []) []))
+  where
+    go : (b : Bool) → q k ≡ b → map f (cond b (k ∷ []) []) ≡ map g (cond b (k ∷ []) [])
+    go true h = ap (λ (x : A). x ∷ []) (same k (omega arith) h)
+    go false h = refl
+
+    last : map f (cond (p k) (k ∷ []) []) ≡ map g (cond (q k) (k ∷ []) [])
+    last = ap (λ (b : Bool). map f (cond b (k ∷ []) [])) (e k (omega arith)) ∙ go (q k) refl

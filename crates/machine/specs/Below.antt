@@ -1,12 +1,18 @@
--- For each number below k: a test of all of them, the first that passes one, and a sum over them.
+-- For each number below k: a test of all of them, those that pass one, the first that does, and a sum over them.
 use Prim.Native.Nat.{ℕ, zero, suc, _+_}
 use mathlib.Core.Bool.{Bool, true, cond, _&&_}
+use mathlib.Core.List.{List, [], _∷_, _++_}
 use mathlib.Core.Option.{Option, none, some}
 
 -- p holds of every number below k
 unfoldable pub allBelow : ℕ → (ℕ → Bool) → Bool
 allBelow zero p = true
 allBelow (suc k) p = allBelow k p && p k
+
+-- the numbers below k of which p holds, lowest first
+unfoldable pub numbersBelow : ℕ → (ℕ → Bool) → List ℕ
+numbersBelow zero p = []
+numbersBelow (suc k) p = numbersBelow k p ++ cond (p k) (k ∷ []) []
 
 -- the lowest number below k of which p holds
 unfoldable pub firstBelow : ℕ → (ℕ → Bool) → Option ℕ

@@ -1,5 +1,5 @@
 -- One name for the definitions of the machine and its counts, for a proof that computes with them: `unfolding everything`.
-use Rattle.machine.specs.Below.{allBelow, firstBelow, sumBelow}
+use Rattle.machine.specs.Below.{allBelow, numbersBelow, firstBelow, sumBelow}
 use Rattle.machine.specs.Right.{holds, adds, without, hasAny}
 use Rattle.machine.specs.Table.{domains, endpoints, rightsWord, rights, endpoint, setRights, setEndpoint}
 use Rattle.machine.specs.Check as check
@@ -14,7 +14,7 @@ use Rattle.machine.specs.Purge as purge
 use Rattle.machine.specs.Counts as counts
 
 unfoldable pub everything : Unit {0}
-unfolding allBelow firstBelow sumBelow
+unfolding allBelow numbersBelow firstBelow sumBelow
     holds adds without hasAny
     domains endpoints rightsWord rights endpoint setRights setEndpoint
     check.headerWordOk check.rightsWordOk check.nameWordOk check.infoWordOk check.waitingWordOk check.lostWordOk
@@ -33,6 +33,6 @@ unfolding allBelow firstBelow sumBelow
     reaches influences
     member callerIn calledBy
     purge.reachesAny purge.joinedBy purge.sources purge.purge
-    purge.answersOf purge.rightsOf purge.ofOwned purge.queuesOf purge.lostOf purge.view
+    purge.answersOf purge.rightsOf purge.ownedBy purge.queuesOf purge.lostOf purge.view
     counts.doneOn counts.countDone counts.messagesFrom counts.sendsTo counts.fullSends counts.messagesTo counts.messages
 everything = tt

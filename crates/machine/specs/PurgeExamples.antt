@@ -70,27 +70,16 @@ giver = threeDomains (none3 ++ (0x2000_0003 ∷ 0x2000_0000 ∷ 0x2000_0001 ∷ 
 
 -- domain 0's view with nothing in its queue, no right and no lost message
 abbrev pub quiet : List ℕ → View
-quiet ws = record { answers = ws; rights = none3; queues = 0x5000_0000 ∷ emptySlots; lost = 0x6000_0000 ∷ [] }
+quiet ws = record { answers = ws; rights = none3; queues = (0, 0x5000_0000 ∷ emptySlots) ∷ []; lost = (0, 0x6000_0000) ∷ [] }
 
--- domain 0's view with the message 7 in its queue, no right, no answer
-abbrev pub gotSeven : List ℕ → View
-gotSeven x =
-    record {
-      answers = [];
-      rights = none3;
-      queues =
-          0x5000_0001
-          ∷ 0xF000_0007
-          ∷ 0xF000_0000
-          ∷ 0xF000_0000
-          ∷ 0xF000_0000
-          ∷ 0xF000_0000
-          ∷ 0xF000_0000
-          ∷ 0xF000_0000
-          ∷ 0xF000_0000
-          ∷ [];
-      lost = x;
-    }
+-- an endpoint's queue with the message 7 alone in it: its waiting word and its slots
+abbrev pub justSeven : List ℕ
+justSeven =
+    0x5000_0001 ∷ 0xF000_0007 ∷ 0xF000_0000 ∷ 0xF000_0000 ∷ 0xF000_0000 ∷ 0xF000_0000 ∷ 0xF000_0000 ∷ 0xF000_0000 ∷ 0xF000_0000 ∷ []
+
+-- domain 0's view with the message 7 in its queue, no right, no answer and no lost message
+abbrev pub gotSeven : View
+gotSeven = record { answers = []; rights = none3; queues = (0, justSeven) ∷ []; lost = (0, 0x6000_0000) ∷ [] }
 
 abbrev pub purgeRows : List PurgeRow
 purgeRows =
@@ -120,14 +109,14 @@ purgeRows =
     (record {
       sets = 0b111 ∷ 0b101 ∷ 0b001 ∷ [];
       kept = one 0x6040_0201 ∷ two 0x2080_0000 0xF000_0007 ∷ [];
-      seen = gotSeven (0x6000_0000 ∷ []);
+      seen = gotSeven;
     })
     -- a right removed by its holder's own calls after use: 1 sends, then gives up SEND, then REMOVE
     ∷ pins (threeDomains (none3 ++ (0x2000_0005 ∷ 0x2000_0000 ∷ 0x2000_0000 ∷ []) ++ none3)) (0x2040_0000 ∷ 0xF000_0007 ∷ 0x7040_0001 ∷ 0x7040_0004 ∷ []) 0
     (record {
       sets = 0b011 ∷ 0b011 ∷ 0b011 ∷ 0b001 ∷ [];
       kept = two 0x2040_0000 0xF000_0007 ∷ one 0x7040_0001 ∷ one 0x7040_0004 ∷ [];
-      seen = gotSeven (0x6000_0000 ∷ []);
+      seen = gotSeven;
     })
     -- a call made before its caller was given the right is struck
     ∷ pins (giver) (0x5080_0000 ∷ 0x6040_0201 ∷ []) 0
@@ -152,8 +141,8 @@ purgeRows =
           record {
             answers = 0x5040_0000 ∷ 1 ∷ 0 ∷ [];
             rights = 0x2000_0001 ∷ 0x2000_0000 ∷ 0x2000_0000 ∷ [];
-            queues = 0x5000_0000 ∷ emptySlots;
-            lost = 0x6000_0000 ∷ [];
+            queues = (1, 0x5000_0000 ∷ emptySlots) ∷ [];
+            lost = (1, 0x6000_0000) ∷ [];
           };
     })
     -- a caller not below n is no known domain, whatever stands where its rights would
@@ -172,8 +161,8 @@ purgeRows =
           record {
             answers = [];
             rights = 0x2000_0000 ∷ 0x2000_0000 ∷ 0x2000_0001 ∷ [];
-            queues = gotSeven [] .queues;
-            lost = 0x6000_0001 ∷ [];
+            queues = (0, justSeven) ∷ [];
+            lost = (0, 0x6000_0001) ∷ [];
           };
     })
     -- endpoints that don't bear their owner's number, two of them d's; a call refused by 13 and a kind 0 join; GRANT alone counts;
@@ -186,8 +175,11 @@ purgeRows =
           record {
             answers = 0x9000_000B ∷ 0 ∷ 0 ∷ 0x3000_0012 ∷ 0 ∷ 0 ∷ 0x3000_0000 ∷ 1 ∷ 0 ∷ [];
             rights = 0x2000_0000 ∷ 0x2000_0003 ∷ 0x2000_0001 ∷ 0x2000_0000 ∷ [];
-            queues = (0x5000_0000 ∷ emptySlots) ++ (0x5000_0001 ∷ 0xF000_0002 ∷ 0xF000_0000 ∷ 0xF000_0000 ∷ 0xF000_0000 ∷ 0xF000_0000 ∷ 0xF000_0000 ∷ 0xF000_0000 ∷ 0xF000_0000 ∷ []);
-            lost = 0x6000_0000 ∷ 0x6000_0000 ∷ [];
+            queues =
+                (1, 0x5000_0000 ∷ emptySlots)
+                ∷ (2, 0x5000_0001 ∷ 0xF000_0002 ∷ 0xF000_0000 ∷ 0xF000_0000 ∷ 0xF000_0000 ∷ 0xF000_0000 ∷ 0xF000_0000 ∷ 0xF000_0000 ∷ 0xF000_0000 ∷ [])
+                ∷ [];
+            lost = (1, 0x6000_0000) ∷ (2, 0x6000_0000) ∷ [];
           };
     })
     ∷ []
