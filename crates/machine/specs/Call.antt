@@ -24,19 +24,12 @@ wantsSecond k = eqb k 1 || eqb k 2
 unfoldable pub pairs : ℕ → ℕ → Bool
 pairs w v = wantsSecond (kind w) && eqb (kind v) 15
 
--- the call that begins with the word w, where the words ws follow
-unfoldable pub callAt : ℕ → List ℕ → Call
-callAt w [] = one w
-callAt w (v ∷ ws) = cond (pairs w v) (two w v) (one w)
-
--- the calls of words that stand behind the word p: a word that makes one call with the word before it begins none
-unfoldable pub cutAfter : ℕ → List ℕ → List Call
-cutAfter p [] = []
-cutAfter p (w ∷ ws) = let rest = cutAfter w ws in cond (pairs p w) rest (callAt w ws ∷ rest)
-
--- the cutting of a whole list: nothing stands before its first word, and 0 pairs with no word
+-- The cutting: a word of kind 1 or 2 directly followed by a word of kind 15 makes one call of both; every other word is a
+-- call of one word.
 unfoldable pub cut : List ℕ → List Call
-cut ws = cutAfter 0 ws
+cut [] = []
+cut (w ∷ []) = one w ∷ []
+cut (w ∷ v ∷ ws) = cond (pairs w v) (two w v ∷ cut ws) (one w ∷ cut (v ∷ ws))
 
 -- the seven calls, a word of kind 15 that begins a call (document 01: a stray), and the unknown kinds
 pub data Kind : Type 0 where
