@@ -2,7 +2,7 @@
 -- have then shown (specs/Machine). Whatever is proved of every call is proved through this one law.
 -- Assumes nothing.
 use mathlib.Core.Path.{_≡_, refl}
-use mathlib.Core.Bool.{Bool, true, false, _&&_}
+use mathlib.Core.Bool.{Bool, true, false, not, _&&_}
 use mathlib.Core.List.{List}
 use mathlib.Core.Option.{Option, none, some}
 use Prim.Native.Nat.{ℕ, _<_, _≤_}
@@ -13,7 +13,7 @@ use Rattle.machine.specs.Word.{kind, caller, fieldA, fieldB, fieldC}
 use Rattle.machine.specs.Right.{GRANT, REMOVE, allRights, holds}
 use Rattle.machine.specs.Table.{domains, endpoints, rights, endpoint}
 use Rattle.machine.specs.Queue.{owner, waiting}
-use Rattle.machine.specs.Call.{Call, Kind, first, kindOf, callKind, callerOf, secondPayload}
+use Rattle.machine.specs.Call.{Call, Kind, first, kindOf, callKind, callerOf, wantsSecond, unusedFields, allZero, hasSecond, wordPlaces, secondPayload}
 use Rattle.machine.specs.Call.{Kind.lookUp, Kind.send, Kind.receive, Kind.myEndpoints, Kind.myRights, Kind.grant, Kind.remove, Kind.stray, Kind.unknown}
 use Rattle.machine.specs.Machine.{Decision, place, maySend, named, lookUpPlaces, sendPlaces, receivePlaces, grantPlaces, removePlaces, framed, places, decide}
 use Rattle.machine.specs.Machine.{Decision.refused, Decision.lookedUp, Decision.sends, Decision.receives, Decision.listsEndpoints, Decision.listsRights, Decision.grants, Decision.removes}
@@ -38,6 +38,13 @@ pub place-elim : (P : Decision → Type 0) (b : Bool) (n : ℕ) {next : Decision
 unfolding place
 place-elim P true n r f = r
 place-elim P false n r f = f refl
+
+-- one of the places 13 and 14 refuses, or the next is looked at
+pub word-elim : {A : Type 0} (P : A → Type 0) (k : Kind) (c : Call) {x y z : A} → P x → P y → P z → P (wordPlaces k c x y z)
+unfolding wordPlaces
+word-elim P k c p q r =
+    cond-elim P (not (allZero (unusedFields k (first c)))) (λ _. p)
+    (λ _. cond-elim P (wantsSecond (kind (first c)) && not (hasSecond c)) (λ _. q) (λ _. r))
 
 -- a refusal's number is one of the paper's
 pub record Number (n : ℕ) : Type 0 where
@@ -77,9 +84,8 @@ module _ (t : List ℕ) (c : Call) (P : Decision → Type 0) (rows : Rows t c P)
   unfolding framed
   framed-elim k i e f next =
       place-elim P _ 12 (refuse 12 (omega arith) (omega arith))
-      (λ below. place-elim P _ 13 (refuse 13 (omega arith) (omega arith))
-      (λ _. place-elim P _ 14 (refuse 14 (omega arith) (omega arith))
-      (λ _. next (record { calledBy = calls-back i c e f; below = ltb-true _ _ (not-false _ below) }))))
+      (λ below. word-elim P k c (refuse 13 (omega arith) (omega arith)) (refuse 14 (omega arith) (omega arith))
+      (next (record { calledBy = calls-back i c e f; below = ltb-true _ _ (not-false _ below) })))
 
   lookUp-elim : Known t c → kind (first c) ≡ 1 → (o : Option ℕ) → named t (secondPayload c) ≡ o → P (lookUpPlaces o)
   unfolding lookUpPlaces

@@ -1,7 +1,7 @@
 -- A call is its one or two words and nothing else. The cutting of a list into calls, the kinds of call, and what the
 -- places 10, 11, 13 and 14 test, which need no table (document 01, 'The calls' and 'Where each number is checked').
 use Prim.Native.Nat.{ℕ}
-use mathlib.Core.Bool.{Bool, true, false, cond, _&&_, _||_}
+use mathlib.Core.Bool.{Bool, true, false, cond, not, _&&_, _||_}
 use mathlib.Core.List.{List, [], _∷_}
 use mathlib.Core.Option.{Option, none, some}
 use lib.Dec.{eqb}
@@ -69,6 +69,13 @@ allZero (x ∷ xs) = eqb x 0 && allZero xs
 unfoldable pub hasSecond : Call → Bool
 hasSecond (one w) = false
 hasSecond (two w v) = true
+
+-- The places 13 and 14, which look at a call's own words alone, in their order: what the call comes to where a field that its
+-- kind doesn't use isn't zero, where it wants a second word and has none, and where neither is so.
+unfoldable pub wordPlaces : {A : Type 0} → Kind → Call → A → A → A → A
+wordPlaces k c unusedField noSecondWord next =
+    cond (not (allZero (unusedFields k (first c)))) unusedField
+    (cond (wantsSecond (kind (first c)) && not (hasSecond c)) noSecondWord next)
 
 -- what a call's second word holds in bits 27–0: the name of a look up, the message of a send
 unfoldable pub secondPayload : Call → ℕ

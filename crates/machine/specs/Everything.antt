@@ -21,7 +21,7 @@ unfolding allBelow numbersBelow firstBelow sumBelow
     check.slotWordOk check.identityOk check.queueOk check.endpointOk check.nameNew check.headerOk check.lengthOk
     check.rightsOk check.endpointsOk check.tableCode
     call.first call.wantsSecond call.pairs call.cut call.kindOf call.callKind call.callerOf
-    call.unusedFields call.allZero call.hasSecond call.secondPayload
+    call.unusedFields call.allZero call.hasSecond call.wordPlaces call.secondPayload
     queue.name queue.owner queue.capacity queue.waiting queue.lost queue.oldest queue.hasSpace queue.sendWithSpace
     queue.sendToFull queue.sent queue.movedUp queue.received
     machine.place machine.maySend machine.named machine.lookUpPlaces machine.sendPlaces

@@ -12,7 +12,7 @@ use Rattle.machine.specs.Right.{SEND, GRANT, REMOVE, allRights, holds, a
 use Rattle.machine.specs.Table.{domains, endpoints, rights, endpoint, setRights, setEndpoint}
 use Rattle.machine.specs.Influence.{influences}
 use Rattle.machine.specs.Queue.{name, owner, waiting, lost, oldest, sent, received}
-use Rattle.machine.specs.Call.{Call, Kind, first, callKind, wantsSecond, unusedFields, allZero, hasSecond, secondPayload}
+use Rattle.machine.specs.Call.{Call, Kind, first, callKind, wordPlaces, secondPayload}
 use Rattle.machine.specs.Call.{Kind.lookUp, Kind.send, Kind.receive, Kind.myEndpoints, Kind.myRights, Kind.grant, Kind.remove, Kind.stray, Kind.unknown}
 
 -- What a call comes to: a refusal by its number, or the call's row with what it needs.
@@ -71,8 +71,7 @@ removePlaces t u g r =
 unfoldable pub framed : List ℕ → Call → Kind → Decision → Decision
 framed t c k next =
     place (not (ltb (caller (first c)) (domains t))) 12
-    (place (not (allZero (unusedFields k (first c)))) 13
-    (place (wantsSecond (kind (first c)) && not (hasSecond c)) 14 next))
+    (wordPlaces k c (refused 13) (refused 14) next)
 
 -- every place of a call's kind, in the paper's order
 unfoldable pub places : List ℕ → Call → Kind → Decision
