@@ -7,6 +7,7 @@ use mathlib.Core.Option.{Option, none, some}
 use lib.Dec.{eqb}
 use Rattle.machine.specs.Word.{kind, payload, caller, fieldA, fieldB, fieldC}
 
+-- A call: its one word, or its two in their order.
 pub data Call : Type 0 where
   one : ℕ → Call
   two : ℕ → ℕ → Call
@@ -35,6 +36,7 @@ cut (w ∷ v ∷ ws) = cond (pairs w v) (two w v ∷ cut ws) (one w ∷ cut (v �
 pub data Kind : Type 0 where
   lookUp send receive myEndpoints myRights grant remove stray unknown : Kind
 
+-- which of these a word of kind k begins
 unfoldable pub kindOf : ℕ → Kind
 kindOf k =
     cond (eqb k 1) lookUp
@@ -43,6 +45,7 @@ kindOf k =
     (cond (eqb k 4) myEndpoints
     (cond (eqb k 5) myRights (cond (eqb k 6) grant (cond (eqb k 7) remove (cond (eqb k 15) stray unknown)))))))
 
+-- a call's kind is that of its first word
 unfoldable pub callKind : Call → Kind
 callKind c = kindOf (kind (first c))
 
@@ -62,10 +65,12 @@ unusedFields remove w = fieldB w ∷ []
 unusedFields stray w = []
 unusedFields unknown w = []
 
+-- every one of some fields is zero
 unfoldable pub allZero : List ℕ → Bool
 allZero [] = true
 allZero (x ∷ xs) = eqb x 0 && allZero xs
 
+-- a call has a second word
 unfoldable pub hasSecond : Call → Bool
 hasSecond (one w) = false
 hasSecond (two w v) = true

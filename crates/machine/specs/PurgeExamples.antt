@@ -30,6 +30,7 @@ pub record Purged : Type 0 where
   pub kept : List Call
   pub seen : View
 
+-- all of that, of the calls cs run from the table t, for the domain d
 unfoldable pub purged : List ℕ → List Call → ℕ → Purged
 purged t cs d = record { sets = setsAt t cs d; kept = purge t cs d; seen = view d cs (answers t cs) (run t cs) }
 
@@ -37,6 +38,7 @@ purged t cs d = record { sets = setsAt t cs d; kept = purge t cs d; seen = view 
 pub data PurgeRow : Type 0 where
   pins : (table list : List ℕ) (d : ℕ) (outcome : Purged) → PurgeRow
 
+-- a row holds where what it pins is so
 abbrev pub PurgeRowHolds : PurgeRow → Type 0
 PurgeRowHolds (pins t ws d o) = purged t (cut ws) d ≡ o
 
@@ -81,6 +83,7 @@ justSeven =
 abbrev pub gotSeven : View
 gotSeven = record { answers = []; rights = none3; queues = (0, justSeven) ∷ []; lost = (0, 0x6000_0000) ∷ [] }
 
+-- the rows
 abbrev pub purgeRows : List PurgeRow
 purgeRows =
     -- a refused call (16) joins its caller 1, and so brings in the earlier caller 2
