@@ -10,14 +10,14 @@ use lib.Arith.{lt-of-le-ne, mod-mul}
 use lib.Dec.{eqb, lit<}
 use borrow.Author.Tests.{eqb-true, eqb-false, eq-eqb, ne-eqb}
 use Rattle.machine.specs.Word.{kind, caller, fieldA, fieldB, fieldC}
-use Rattle.machine.specs.Call.{Kind, kindOf, Kind.unknown, unusedFields, allZero, wantsSecond, hasSecond}
+use Rattle.machine.specs.Call.{first, Kind, kindOf, Kind.unknown, unusedFields, allZero, wantsSecond, hasSecond, wordPlaces}
 use Rattle.calls.specs.Apart.{whole, ofKind, apart}
 use Rattle.cutting.specs.Cutting.{callOf}
 use Rattle.calls.specs.declared.Call.{Call}
 use Rattle.calls.specs.declared.Call.the-variants.{Refused}
 use Rattle.calls.specs.declared.Refusal.the-variants.{UnusedField, NoSecondWord}
 use Rattle.cutting.specs.declared.Second.{Second}
-use Rattle.cutting.specs.declared.Second.the-variants.{Nothing}
+use Rattle.cutting.specs.declared.Second.the-variants.{Nothing, Word}
 
 abbrev pub total : List ℕ → ℕ
 total [] = 0
@@ -48,26 +48,31 @@ digits x a b c e = ((λ z. omega arith), (λ z. omega arith))
 pub no-field : (w : ℕ) → (w % 4194304 ≡ 0) ↔ (total (fieldA w ∷ fieldB w ∷ fieldC w ∷ []) ≡ 0)
 no-field w = digits (w % 4194304) (fieldA w) (fieldB w) (fieldC w) (low-bits w)
 
+pub first-of : (w : ℕ) (s : Second) → first (callOf w s) ≡ w
+unfolding first
+first-of w Nothing = refl
+first-of w (Word v) = refl
+
 module _ (w n : ℕ) (is : kind w ≡ n) where
   pub unused : (s : Second) (k : Kind) (next : Call)
       → (total (unusedFields k w) ≡ 0 → ⊥)
-      → Refused n (caller w) UnusedField ≡ whole w s k next
-  unfolding whole
-  unused s k next h = rw (is, all-zero, ne-eqb _ _ h)
+      → Refused (caller w) UnusedField ≡ whole w s k next
+  unfolding whole wordPlaces
+  unused s k next h = rw (first-of w s, all-zero, ne-eqb _ _ h)
 
   pub no-second : (k : Kind) (next : Call)
       → total (unusedFields k w) ≡ 0
       → wantsSecond n ≡ true
-      → Refused n (caller w) NoSecondWord ≡ whole w Nothing k next
-  unfolding whole hasSecond
-  no-second k next h wants = rw (is, all-zero, eq-eqb _ _ h, wants)
+      → Refused (caller w) NoSecondWord ≡ whole w Nothing k next
+  unfolding whole wordPlaces hasSecond
+  no-second k next h wants = rw (first-of w Nothing, is, all-zero, eq-eqb _ _ h, wants)
 
   pub fine : (s : Second) (k : Kind) (next : Call)
       → total (unusedFields k w) ≡ 0
       → (wantsSecond n && not (hasSecond (callOf w s))) ≡ false
       → next ≡ whole w s k next
-  unfolding whole
-  fine s k next h second = rw (is, all-zero, eq-eqb _ _ h, second)
+  unfolding whole wordPlaces
+  fine s k next h second = rw (first-of w s, is, all-zero, eq-eqb _ _ h, second)
 
 -- a call goes by its kind
 pub of-kind : (w n : ℕ) (s : Second) → kind w ≡ n → ofKind w s (kindOf n) ≡ apart w s

@@ -5,40 +5,37 @@ use mathlib.Core.Path.{_≡_, refl, sym}
 use mathlib.Core.Bool.{Bool, true, false, cond, not, _&&_}
 use mathlib.Core.List.{List}
 use Rattle.machine.specs.Word.{kind, caller}
-use Rattle.machine.specs.Call.{Kind, first, callKind, kindOf, allZero, unusedFields, wantsSecond, hasSecond}
+use Rattle.machine.specs.Call.{Kind, callKind, kindOf, allZero, unusedFields, wantsSecond, hasSecond, wordPlaces}
 use Rattle.machine.specs.Call.{Kind.lookUp, Kind.send, Kind.receive, Kind.myEndpoints, Kind.myRights, Kind.grant, Kind.remove, Kind.stray, Kind.unknown}
-use Rattle.machine.specs.Machine.{Decision, place, framed, places, decide}
+use Rattle.machine.specs.Machine.{Decision, Decision.refused, framed, places, decide}
 use Rattle.calls.specs.Apart.{whole, ofKind, apart}
 use Rattle.cutting.specs.Cutting.{callOf}
 use Rattle.calls.specs.Decide.{knownCaller, refusedCall, decideCall}
+use Rattle.calls.proofs.Apart.{first-of}
 use Rattle.calls.specs.declared.Call.{Call}
 use Rattle.calls.specs.declared.Call.the-variants.{Refused}
 use Rattle.calls.specs.declared.Refusal.the-variants.{UnusedField, NoSecondWord}
 use Rattle.cutting.specs.declared.Second.{Second}
-use Rattle.cutting.specs.declared.Second.the-variants.{Nothing, Word}
-
-first-of : (w : ℕ) (s : Second) → first (callOf w s) ≡ w
-unfolding first
-first-of w Nothing = refl
-first-of w (Word v) = refl
 
 -- 12 before 13 and 14, whatever these two find
-around : (t : List ℕ) (k u : ℕ) (unused lacking : Bool) (next : Decision) (call : Call)
-    → decideCall t call ≡ knownCaller t u next
-    → knownCaller t u (place unused 13 (place lacking 14 next))
-    ≡ decideCall t (cond unused (Refused k u UnusedField) (cond lacking (Refused k u NoSecondWord) call))
-unfolding decideCall refusedCall place
-around t k u true lacking next call h = refl
-around t k u false true next call h = refl
-around t k u false false next call h = sym h
-
 framed-whole : (t : List ℕ) (w : ℕ) (s : Second) (k : Kind) (next : Decision) (call : Call)
     → decideCall t call ≡ knownCaller t (caller w) next
     → framed t (callOf w s) k next ≡ decideCall t (whole w s k call)
-unfolding framed whole knownCaller
+unfolding framed whole wordPlaces knownCaller decideCall refusedCall
 framed-whole t w s k next call h =
     rw (first-of w s)
-    (around t (kind w) (caller w) (not (allZero (unusedFields k w))) (wantsSecond (kind w) && not (hasSecond (callOf w s))) next call h)
+    (go (not (allZero (unusedFields k w))) (wantsSecond (kind w) && not (hasSecond (callOf w s))))
+  where
+    u : ℕ
+    u = caller w
+
+    go :
+        (unused lacking : Bool)
+        → knownCaller t u (cond unused (refused 13) (cond lacking (refused 14) next))
+        ≡ decideCall t (cond unused (Refused u UnusedField) (cond lacking (Refused u NoSecondWord) call))
+    go true lacking = refl
+    go false true = refl
+    go false false = sym h
 
 by-kind : (t : List ℕ) (w : ℕ) (s : Second) (k : Kind) → places t (callOf w s) k ≡ decideCall t (ofKind w s k)
 unfolding places ofKind decideCall refusedCall

@@ -1,7 +1,6 @@
 -- A call taken apart: what it asks for, or its refusal by one of the places that need no table: 10, 11, 13 and 14, in this
 -- order (document 01, 'The calls' and 'Where each number is checked').
 use Prim.Native.Nat.{ℕ}
-use mathlib.Core.Bool.{cond, not, _&&_}
 use Rattle.machine.specs.Word.{kind, caller, fieldA, fieldB, fieldC}
 use Rattle.machine.specs.Call as machine
 use Rattle.machine.specs.Call.{Kind.lookUp, Kind.send, Kind.receive, Kind.myEndpoints, Kind.myRights, Kind.grant, Kind.remove, Kind.stray, Kind.unknown}
@@ -14,13 +13,12 @@ use Rattle.cutting.specs.declared.Second.{Second}
 -- the places 13 and 14, which every known kind has
 unfoldable pub whole : ℕ → Second → machine.Kind → Call → Call
 whole w s k next =
-    cond (not (machine.allZero (machine.unusedFields k w))) (Refused (kind w) (caller w) UnusedField)
-    (cond (machine.wantsSecond (kind w) && not (machine.hasSecond (callOf w s))) (Refused (kind w) (caller w) NoSecondWord) next)
+    machine.wordPlaces k (callOf w s) (Refused (caller w) UnusedField) (Refused (caller w) NoSecondWord) next
 
--- a call of a kind: its caller and the fields that the kind uses; a stray has no caller
+-- a call of a kind: its caller and the fields that the kind uses; a stray has no caller, and 0 stands in its place
 unfoldable pub ofKind : ℕ → Second → machine.Kind → Call
-ofKind w s stray = Refused (kind w) 0 Stray
-ofKind w s unknown = Refused (kind w) (caller w) UnknownKind
+ofKind w s stray = Refused 0 Stray
+ofKind w s unknown = Refused (caller w) UnknownKind
 ofKind w s lookUp = whole w s lookUp (LookUp (caller w) (machine.secondPayload (callOf w s)))
 ofKind w s send = whole w s send (Send (caller w) (fieldB w) (machine.secondPayload (callOf w s)))
 ofKind w s receive = whole w s receive (Receive (caller w) (fieldB w))

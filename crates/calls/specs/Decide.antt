@@ -22,7 +22,7 @@ unfoldable pub refusedCall : List ℕ → ℕ → Refusal → Decision
 refusedCall t u r = cond (ltb (numberOf r) 12) (refused (numberOf r)) (knownCaller t u (refused (numberOf r)))
 
 unfoldable pub decideCall : List ℕ → Call → Decision
-decideCall t (Refused k u r) = refusedCall t u r
+decideCall t (Refused u r) = refusedCall t u r
 decideCall t (LookUp u x) = knownCaller t u (lookUpPlaces (named t x))
 decideCall t (Send u e message) = knownCaller t u (sendPlaces t u e message)
 decideCall t (Receive u e) = knownCaller t u (receivePlaces t u e)

@@ -17,7 +17,6 @@ pub fn look_up(first: u32, second: Second) -> Call
     let caller = first / 4194304 % 64;
     if first % 4194304 != 0 {
         return Call::Refused {
-            kind: 1,
             caller,
             refusal: Refusal::UnusedField,
         };
@@ -28,7 +27,6 @@ pub fn look_up(first: u32, second: Second) -> Call
             name: word % 0x1000_0000,
         },
         Second::Nothing => Call::Refused {
-            kind: 1,
             caller,
             refusal: Refusal::NoSecondWord,
         },
@@ -45,7 +43,6 @@ pub fn send(first: u32, second: Second) -> Call
     let c = first % 256;
     if a + c != 0 {
         return Call::Refused {
-            kind: 2,
             caller,
             refusal: Refusal::UnusedField,
         };
@@ -57,7 +54,6 @@ pub fn send(first: u32, second: Second) -> Call
             message: word % 0x1000_0000,
         },
         Second::Nothing => Call::Refused {
-            kind: 2,
             caller,
             refusal: Refusal::NoSecondWord,
         },
@@ -75,7 +71,6 @@ pub fn receive(first: u32) -> Call
     let c = first % 256;
     if a + c != 0 {
         return Call::Refused {
-            kind: 3,
             caller,
             refusal: Refusal::UnusedField,
         };
@@ -90,7 +85,6 @@ pub fn my_endpoints(first: u32) -> Call
     let caller = first / 4194304 % 64;
     if first % 4194304 != 0 {
         return Call::Refused {
-            kind: 4,
             caller,
             refusal: Refusal::UnusedField,
         };
@@ -105,7 +99,6 @@ pub fn my_rights(first: u32) -> Call
     let caller = first / 4194304 % 64;
     if first % 4194304 != 0 {
         return Call::Refused {
-            kind: 5,
             caller,
             refusal: Refusal::UnusedField,
         };
@@ -135,7 +128,6 @@ pub fn remove(first: u32) -> Call
     let rights = first % 256;
     if b != 0 {
         return Call::Refused {
-            kind: 7,
             caller,
             refusal: Refusal::UnusedField,
         };

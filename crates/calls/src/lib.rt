@@ -32,8 +32,9 @@ pub enum Refusal {
     MayNotGive, // 23
 }
 
-// A call taken apart: its caller and the fields that its kind uses, as found. A refused one has the kind and the caller that
-// its answer shows.
+// A call taken apart: its caller and the fields that its kind uses, as found. A refused one has its caller for place 12 alone,
+// which comes before 13 and 14; a stray has none, and the 0 in its place is never looked at. The answer's kind and caller come
+// from the call's first word.
 pub enum Call {
     LookUp {
         caller: u32,
@@ -66,7 +67,6 @@ pub enum Call {
         rights: u32,
     },
     Refused {
-        kind: u32,
         caller: u32,
         refusal: Refusal,
     },
@@ -102,12 +102,10 @@ pub fn take_apart(first: u32, second: Second) -> Call
     let caller = first / 4194304 % 64;
     match kind {
         15 => Call::Refused {
-            kind,
             caller: 0,
             refusal: Refusal::Stray,
         },
         0 | 8..=14 => Call::Refused {
-            kind,
             caller,
             refusal: Refusal::UnknownKind,
         },

@@ -1,37 +1,79 @@
 -- What a loop that counts the calls of a list keeps: the calls counted, and those that begin among the words behind the last
--- word read, are those of the list.
+-- word read, are those of the list. The loop goes by the word before: a word that makes one call with it begins none.
 -- Assumes nothing.
 use mathlib.Core.Path.{_≡_, refl, ap}
 use mathlib.Core.Bool.{Bool, true, false, cond}
-use mathlib.Core.List.{List, _∷_}
+use mathlib.Core.List.{List, [], _∷_}
 use Prim.Native.Nat.{ℕ, _+_, _<_, _≤_}
 use native.Mathlib.Numerals.{add-one}
 use native.Mathlib.Omega.{arith}
+use borrow.Author.Tests.{eqb-true}
+use lib.Dec.{eqb}
 use lib.ListN.{length, getD, drop, drop-of-length-le}
 use lib.Seq.{drop-cons}
-use Rattle.machine.specs.Call.{pairs, cutAfter, cut}
-use Rattle.machine.proofs.Cut.{cut-count}
+use Rattle.machine.specs.Word.{kind}
+use Rattle.machine.specs.Call.{wantsSecond, pairs, cut}
+use Rattle.machine.proofs.Bools.{and-right}
+use Rattle.machine.proofs.Cut.{cut-one, cut-two}
+
+-- how many calls begin among the words ws, which stand behind the word p
+unfoldable pub begunAfter : ℕ → List ℕ → ℕ
+begunAfter p [] = 0
+begunAfter p (w ∷ ws) = cond (pairs p w) 0 1 + begunAfter w ws
+
+-- a second word makes no call with the word after it
+second-pairs : (w v x : ℕ) → pairs w v ≡ true → pairs v x ≡ false
+unfolding pairs wantsSecond
+second-pairs w v x h =
+    let k : kind v ≡ 15 = eqb-true _ _ (and-right (wantsSecond (kind w)) (eqb (kind v) 15) h) in
+    rw k
+
+-- nor does 0, which stands before the first word
+zero-pairs : (w : ℕ) → pairs 0 w ≡ false
+unfolding pairs wantsSecond
+zero-pairs w = refl
+
+begun-two :
+    (w v : ℕ) (ws : List ℕ)
+    → (pairs w v ≡ true → begunAfter v ws ≡ length (cut ws))
+    → begunAfter 0 (v ∷ ws) ≡ length (cut (v ∷ ws))
+    → 1 + begunAfter w (v ∷ ws) ≡ length (cut (w ∷ (v ∷ ws)))
+unfolding begunAfter
+begun-two w v ws both alone = go (pairs w v) refl
+  where
+    next : 1 + begunAfter v ws ≡ length (cut (v ∷ ws))
+    next = rw (zero-pairs v) at alone
+
+    go : (b : Bool) → pairs w v ≡ b → 1 + (cond b 0 1 + begunAfter v ws) ≡ length (cut (w ∷ (v ∷ ws)))
+    go true h = omega (arith, both h, ap length (cut-two w v ws h))
+    go false h = omega (arith, next, ap length (cut-one w v ws h))
+
+-- behind a word that makes no call with the next, every call of the words begins
+begun-all : (p : ℕ) (ws : List ℕ) → ((w : ℕ) → pairs p w ≡ false) → begunAfter p ws ≡ length (cut ws)
+unfolding begunAfter cut
+begun-all p [] f = refl
+begun-all p (w ∷ []) f = rw (f w)
+begun-all p (w ∷ (v ∷ ws)) f =
+    rw (f w) (begun-two w v ws (λ h. begun-all v ws (λ x. second-pairs w v x h)) (begun-all 0 (v ∷ ws) zero-pairs))
 
 abbrev pub Counted : List ℕ → ℕ → ℕ → ℕ → Type 0
-Counted list calls before i = calls + length (cutAfter before (drop i list)) ≡ length (cut list)
+Counted list calls before i = calls + begunAfter before (drop i list) ≡ length (cut list)
 
 pub counted-none : (list : List ℕ) → Counted list 0 0 0
-unfolding cut
-counted-none list = omega arith
+counted-none list = omega (arith, begun-all 0 list zero-pairs)
 
 pub counted-next : (list : List ℕ) (calls before i : ℕ) → i < length list → Counted list calls before i → Counted list (calls + cond (pairs before (getD list i 0)) 0 1) (getD list i 0) (i + 1)
+unfolding begunAfter
 counted-next list calls before i l h =
-    let w = getD list i 0 in
-    let rest = drop (i + 1) list in
-    let front : drop i list ≡ w ∷ rest = rw (add-one i) (drop-cons list i 0 l) in
-    omega (arith, ap (λ (ws : List ℕ). length (cutAfter before ws)) front, cut-count before w rest)
+    let front : drop i list ≡ getD list i 0 ∷ drop (i + 1) list = rw (add-one i) (drop-cons list i 0 l) in
+    omega (arith, ap (begunAfter before) front)
 
 pub one-at-most : (b : Bool) → cond b 0 1 ≤ 1
 one-at-most true = omega arith
 one-at-most false = omega arith
 
 pub counted-all : (list : List ℕ) (calls before i : ℕ) → length list ≤ i → Counted list calls before i → calls ≡ length (cut list)
-unfolding cutAfter
+unfolding begunAfter
 counted-all list calls before i l h =
-    let none : length (cutAfter before (drop i list)) ≡ 0 = rw (drop-of-length-le list l) refl in
+    let none : begunAfter before (drop i list) ≡ 0 = rw (drop-of-length-le list l) refl in
     omega arith

@@ -9,7 +9,8 @@ use borrow.Author.Tests.{lt-ltb, le-ltb, le-leb, eq-eqb, ne-eqb}
 use Rattle.machine.specs.Right.{SEND, allRights, holds, hasAny}
 use Rattle.machine.specs.Table.{domains, endpoints, rights, endpoint}
 use Rattle.machine.specs.Queue.{owner}
-use Rattle.machine.specs.Machine.{Decision, Decision.refused, place, maySend, mayGive}
+use Rattle.machine.specs.Machine.{Decision, Decision.refused, place, maySend}
+use Rattle.machine.specs.Influence.{reaches, influences}
 use Rattle.calls.specs.Decide.{knownCaller}
 
 pub stop : (b : Bool) (k : ℕ) (next : Decision) → b ≡ true → refused k ≡ place b k next
@@ -96,10 +97,10 @@ module _ (t : List ℕ) (u : ℕ) where
   may-send-right e o is other =
       rw (ne-eqb (owner (endpoint t e)) u (λ same. other (is ∙ same))) (ap (λ (v : ℕ). holds (rights t u v) SEND) is)
 
-  pub may-give-self : (h : ℕ) → u ≡ h → true ≡ mayGive t u h
-  unfolding mayGive
+  pub may-give-self : (h : ℕ) → u ≡ h → true ≡ influences t u h
+  unfolding influences reaches
   may-give-self h self = rw (eq-eqb u h self)
 
-  pub may-give-right : (h : ℕ) → (u ≡ h → ⊥) → hasAny (rights t u h) ≡ mayGive t u h
-  unfolding mayGive
+  pub may-give-right : (h : ℕ) → (u ≡ h → ⊥) → hasAny (rights t u h) ≡ influences t u h
+  unfolding influences reaches
   may-give-right h other = rw (ne-eqb u h other)

@@ -58,11 +58,7 @@ pub fn decide(table: &[u32], call: Call) -> Decision
     let n = domains(table);
     let m = endpoints(table);
     match call {
-        Call::Refused {
-            kind: _,
-            caller,
-            refusal,
-        } => refused(n, caller, refusal),
+        Call::Refused { caller, refusal } => refused(n, caller, refusal),
         Call::LookUp { caller, name } => look_up(table, n, m, caller, name),
         Call::Send {
             caller,

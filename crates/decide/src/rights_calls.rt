@@ -8,14 +8,15 @@ ghost use mathlib.Core.Bool.{_||_, _&&_};
 ghost use lib.Dec.{eqb};
 ghost use Rattle.machine.specs.Right.{SEND, GRANT, REMOVE, holds};
 ghost use Rattle.machine.specs.Table.{domains, rights};
-ghost use Rattle.machine.specs.Machine.{mayGive, grantPlaces, removePlaces};
+ghost use Rattle.machine.specs.Machine.{grantPlaces, removePlaces};
+ghost use Rattle.machine.specs.Influence.{influences};
 ghost use Rattle.calls.specs.Decide.{knownCaller};
 ghost use Rattle.decide.specs.Decision.{decisionOf};
 
 // The caller is the recipient or has any right on it.
 fn may_give(table: &[u32], n: u32, caller: u32, recipient: u32) -> bool
     requires { ⌜ n ≡ domains (now table) ⌝ }
-    ensures { λ b. ⌜ b ≡ mayGive (now (table .entry)) caller recipient ⌝ }
+    ensures { λ b. ⌜ b ≡ influences (now (table .entry)) caller recipient ⌝ }
 {
     if caller == recipient {
         return true;

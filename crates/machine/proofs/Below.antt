@@ -2,8 +2,8 @@
 -- Assumes nothing.
 use mathlib.Core.Path.{_≡_, refl, sym, ap, ap₂, _∙_}
 use mathlib.Core.Bool.{Bool, true, false, cond, not, _&&_, _||_, false≢true}
-use mathlib.Core.List.{List, [], _∷_, _++_}
 use mathlib.Core.Logic.{_⊎_, _⊎_.inl, _⊎_.inr, ⊎-elim}
+use mathlib.Core.List.{List, [], _∷_, _++_, map, map-append}
 use mathlib.Core.Option.{Option, none, some}
 use Prim.Native.Nat.{ℕ, zero, suc, _+_, _-_, _*_, _/_, _%_, _^_, _<_, _≤_}
 use native.Mathlib.Nat.{not-suc-le-zero, add-mul-div-right, add-mul-mod-self-right, div-eq-of-lt, lt-of-lt-of-le, pow-suc}
@@ -13,7 +13,7 @@ use lib.Dec.{eqb}
 use lib.ListN.{length, getD, length-append, List·getD-append, List·getD-eq-default}
 use lib.Seq.{getD-at}
 use lib.Pow.{pow-pos, pow-mono, pow-add, high}
-use Rattle.machine.specs.Below.{allBelow, anyBelow, firstBelow, sumBelow, wordsBelow, bitsBelow, hasBit}
+use Rattle.machine.specs.Below.{allBelow, anyBelow, numbersBelow, firstBelow, sumBelow, wordsBelow, bitsBelow, hasBit}
 use Rattle.machine.proofs.Bools.{and-left, and-right, and-intro, or-cases, or-right, or-none-left, or-none-right}
 
 -- a number below suc k is below k or is k
@@ -203,3 +203,19 @@ bits-at (suc k) p i l =
 pub bits-past : (k : ℕ) (p : ℕ → Bool) (i : ℕ) → k ≤ i → hasBit (bitsBelow k p) i ≡ false
 unfolding hasBit
 bits-past k p i l = rw (div-eq-of-lt (lt-of-lt-of-le (bits-lt k p) (pow-mono l)))
+
+-- two tests that agree below k, and what is made of each number of which they hold
+pub map-same : {A : Type 0} (k : ℕ) (p q : ℕ → Bool) (f g : ℕ → A) → ((i : ℕ) → i < k → p i ≡ q i) → ((i : ℕ) → i < k → q i ≡ true → f i ≡ g i) → map f (numbersBelow k p) ≡ map g (numbersBelow k q)
+unfolding numbersBelow
+map-same zero p q f g e same = refl
+map-same {A} (suc k) p q f g e same =
+    map-append f (numbersBelow k p) (cond (p k) (k ∷ []) [])
+    ∙ ap₂ (λ (x y : List A). x ++ y) (map-same k p q f g (λ i l. e i (omega arith)) (λ i l. same i (omega arith))) last
+    ∙ sym (map-append g (numbersBelow k q) (cond (q k) (k ∷ []) []))
+  where
+    go : (b : Bool) → q k ≡ b → map f (cond b (k ∷ []) []) ≡ map g (cond b (k ∷ []) [])
+    go true h = ap (λ (x : A). x ∷ []) (same k (omega arith) h)
+    go false h = refl
+
+    last : map f (cond (p k) (k ∷ []) []) ≡ map g (cond (q k) (k ∷ []) [])
+    last = ap (λ (b : Bool). map f (cond b (k ∷ []) [])) (e k (omega arith)) ∙ go (q k) refl

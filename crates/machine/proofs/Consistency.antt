@@ -13,9 +13,10 @@ use Rattle.machine.specs.Right.{SEND, GRANT, REMOVE, holds, hasAny}
 use Rattle.machine.specs.Table.{domains, endpoints, rightsWord, rights, endpoint}
 use Rattle.machine.specs.Queue.{name, owner, waiting, lost, oldest}
 use Rattle.machine.specs.Check.{Accepted}
-use Rattle.machine.specs.Call.{Call, Kind, first, callKind, secondPayload}
+use Rattle.machine.specs.Call.{Call, Kind, first, callKind, wordPlaces, secondPayload}
 use Rattle.machine.specs.Call.{Kind.lookUp, Kind.send, Kind.receive, Kind.myEndpoints, Kind.myRights, Kind.grant, Kind.remove}
-use Rattle.machine.specs.Machine.{Decision, place, maySend, mayGive, named, lookUpPlaces, sendPlaces, receivePlaces, grantPlaces, removePlaces, framed, places, decide, ownedBits, rightsBits, code, firstData, secondData, answerWord, answerTo, answer}
+use Rattle.machine.specs.Machine.{Decision, Decision.refused, place, maySend, named, lookUpPlaces, sendPlaces, receivePlaces, grantPlaces, removePlaces, framed, places, decide, ownedBits, rightsBits, code, firstData, secondData, answerWord, answerTo, answer}
+use Rattle.machine.specs.Influence.{reaches, influences}
 use Rattle.machine.specs.SameParts.{SameFrame, SamePart}
 use Rattle.machine.specs.MachineClaims.{EveryCallAnswerDepends}
 use Rattle.machine.proofs.Bools.{cond-same, and-left, and-right}
@@ -65,9 +66,9 @@ module _ (s t : List ℕ) (f : SameFrame s t) where
     unfolding framed
     framed-same k i e n next =
         place-same 12 (ap (λ (m : ℕ). not (ltb u m)) (f .sameDomains))
-        (λ below. place-same 13 refl
-        (λ _. place-same 14 refl
-        (λ _. next (record { calledBy = calls-back i c e n; below = ltb-true _ _ (not-false _ below) }))))
+        (λ below.
+        ap (wordPlaces k c (refused 13) (refused 14))
+        (next (record { calledBy = calls-back i c e n; below = ltb-true _ _ (not-false _ below) })))
 
     named-same : (x : ℕ) → named s x ≡ named t x
     unfolding named
@@ -99,7 +100,7 @@ module _ (s t : List ℕ) (f : SameFrame s t) where
         (λ _. refl)))
 
     grant-same : Known t c → (g h r : ℕ) → grantPlaces s u g h r ≡ grantPlaces t u g h r
-    unfolding grantPlaces mayGive
+    unfolding grantPlaces influences reaches
     grant-same k g h r =
         place-same 20 (ap (λ (n : ℕ). not (ltb g n && ltb h n)) (f .sameDomains))
         (λ b.

@@ -7,74 +7,41 @@ use mathlib.Core.List.{List, [], _∷_, _++_, append-assoc, append-nil}
 use Prim.Native.Nat.{ℕ, suc, _+_, _*_, _≤_, zero-le}
 use native.Mathlib.Numerals.{add-one, add-two}
 use native.Mathlib.Omega.{arith}
-use borrow.Author.Tests.{eqb-true}
-use lib.Dec.{eqb}
 use lib.ListN.{length, take, drop, set, length-append}
 use lib.Seq.{take-at, drop-at, drop-drop, sets-eq}
-use Rattle.machine.specs.Word.{kind}
-use Rattle.machine.specs.Call.{Call, wantsSecond, pairs, callAt, cutAfter, cut, Call.one, Call.two}
+use Rattle.machine.specs.Call.{Call, pairs, cut, Call.one, Call.two}
 use Rattle.machine.specs.Machine.{step, answer, answerTo}
 use Rattle.machine.specs.Run.{run, answers}
-use Rattle.machine.proofs.Bools.{and-right}
-
--- a word of kind 15 makes no call with the word after it
-pub stray-pairs : (v w : ℕ) → eqb (kind v) 15 ≡ true → pairs v w ≡ false
-unfolding pairs wantsSecond
-stray-pairs v w h = let k : kind v ≡ 15 = eqb-true _ _ h in rw k
-
-second-kind : (w v : ℕ) → pairs w v ≡ true → eqb (kind v) 15 ≡ true
-unfolding pairs
-second-kind w v h = and-right (wantsSecond (kind w)) (eqb (kind v) 15) h
-
--- nothing stands before the first word
-pub zero-pairs : (w : ℕ) → pairs 0 w ≡ false
-unfolding pairs wantsSecond
-zero-pairs w = refl
-
--- the words behind one that makes no call with the next are cut as a list of their own
-pub cut-behind : (p : ℕ) (ws : List ℕ) → ((w : ℕ) → pairs p w ≡ false) → cutAfter p ws ≡ cut ws
-unfolding cut cutAfter
-cut-behind p [] f = refl
-cut-behind p (w ∷ ws) f =
-    ap (λ (b : Bool). cond b (cutAfter w ws) (callAt w ws ∷ cutAfter w ws)) (f w ∙ sym (zero-pairs w))
 
 -- ---- at the front of the words that are left
 pub cut-last : (w : ℕ) → cut (w ∷ []) ≡ one w ∷ cut []
-unfolding cut cutAfter callAt
-cut-last w = rw (zero-pairs w)
+unfolding cut
+cut-last w = refl
 
 -- two words that make one call
 pub cut-two : (w v : ℕ) (ws : List ℕ) → pairs w v ≡ true → cut (w ∷ (v ∷ ws)) ≡ two w v ∷ cut ws
-unfolding cut cutAfter callAt
-cut-two w v ws h =
-    rw (zero-pairs w, h) (ap (λ (r : List Call). two w v ∷ r) (cut-behind v ws (λ x. stray-pairs v x (second-kind w v h))))
+unfolding cut
+cut-two w v ws h = rw h
 
 -- a word that makes no call with the next
 pub cut-one : (w v : ℕ) (ws : List ℕ) → pairs w v ≡ false → cut (w ∷ (v ∷ ws)) ≡ one w ∷ cut (v ∷ ws)
-unfolding cut cutAfter callAt
-cut-one w v ws h = rw (zero-pairs w, zero-pairs v, h)
+unfolding cut
+cut-one w v ws h = rw h
 
--- a call for every word at most, and one more word is one more call or none
-cut-length : (p : ℕ) (ws : List ℕ) → length (cutAfter p ws) ≤ length ws
-unfolding cutAfter
-cut-length p [] = zero-le
-cut-length p (w ∷ ws) = go (pairs p w) (cut-length w ws)
-  where
-    go : (b : Bool) → length (cutAfter w ws) ≤ length ws → length (cond b (cutAfter w ws) (callAt w ws ∷ cutAfter w ws)) ≤ suc (length ws)
-    go true h = omega arith
-    go false h = omega arith
-
+-- a call for every word at most
 pub cut-few : (ws : List ℕ) → length (cut ws) ≤ length ws
 unfolding cut
-cut-few ws = cut-length 0 ws
-
-pub cut-count : (p w : ℕ) (ws : List ℕ) → length (cutAfter p (w ∷ ws)) ≡ cond (pairs p w) 0 1 + length (cutAfter w ws)
-unfolding cutAfter
-cut-count p w ws = go (pairs p w)
+cut-few [] = zero-le
+cut-few (w ∷ []) = omega arith
+cut-few (w ∷ (v ∷ ws)) = go (pairs w v) (cut-few ws) (cut-few (v ∷ ws))
   where
-    go : (b : Bool) → length (cond b (cutAfter w ws) (callAt w ws ∷ cutAfter w ws)) ≡ cond b 0 1 + length (cutAfter w ws)
-    go true = omega arith
-    go false = omega arith
+    go :
+        (b : Bool)
+        → length (cut ws) ≤ length ws
+        → length (cut (v ∷ ws)) ≤ suc (length ws)
+        → length (cond b (two w v ∷ cut ws) (one w ∷ cut (v ∷ ws))) ≤ suc (suc (length ws))
+    go true h k = omega arith
+    go false h k = omega arith
 
 -- ---- a run call by call
 pub answer-length : (t : List ℕ) (c : Call) → length (answer t c) ≡ 3
@@ -130,7 +97,7 @@ running-next {t₀} {ws} {space₀} {t} {left} {k} {space} left′ c space′ r 
 
 -- no word left: the run is done
 pub running-end : {t₀ ws space₀ t : List ℕ} {k : ℕ} {space : List ℕ} → Running t₀ ws space₀ t [] k space → (t ≡ run t₀ (cut ws)) × (space ≡ answers t₀ (cut ws) ++ drop (3 * length (cut ws)) space₀) × (k ≡ length (cut ws))
-unfolding run answers cut cutAfter
+unfolding run answers cut
 running-end {t₀} {ws} {space₀} {t} {k} {space} r =
     let n : k ≡ length (cut ws) = omega (arith, r .count) in
     (r .table, r .filled ∙ ap₂ (λ (d : List ℕ) (i : ℕ). d ++ drop (3 * i) space₀) (sym (append-nil (r .done)) ∙ r .answered) n, n)

@@ -2,7 +2,7 @@
 -- have then shown (specs/Machine). Whatever is proved of every call is proved through this one law.
 -- Assumes nothing.
 use mathlib.Core.Path.{_≡_, refl}
-use mathlib.Core.Bool.{Bool, true, false, _&&_}
+use mathlib.Core.Bool.{Bool, true, false, not, _&&_}
 use mathlib.Core.List.{List}
 use mathlib.Core.Option.{Option, none, some}
 use Prim.Native.Nat.{ℕ, _<_, _≤_}
@@ -13,10 +13,11 @@ use Rattle.machine.specs.Word.{kind, caller, fieldA, fieldB, fieldC}
 use Rattle.machine.specs.Right.{GRANT, REMOVE, allRights, holds}
 use Rattle.machine.specs.Table.{domains, endpoints, rights, endpoint}
 use Rattle.machine.specs.Queue.{owner, waiting}
-use Rattle.machine.specs.Call.{Call, Kind, first, kindOf, callKind, callerOf, secondPayload}
+use Rattle.machine.specs.Call.{Call, Kind, first, kindOf, callKind, callerOf, wantsSecond, unusedFields, allZero, hasSecond, wordPlaces, secondPayload}
 use Rattle.machine.specs.Call.{Kind.lookUp, Kind.send, Kind.receive, Kind.myEndpoints, Kind.myRights, Kind.grant, Kind.remove, Kind.stray, Kind.unknown}
-use Rattle.machine.specs.Machine.{Decision, place, maySend, mayGive, named, lookUpPlaces, sendPlaces, receivePlaces, grantPlaces, removePlaces, framed, places, decide}
+use Rattle.machine.specs.Machine.{Decision, place, maySend, named, lookUpPlaces, sendPlaces, receivePlaces, grantPlaces, removePlaces, framed, places, decide}
 use Rattle.machine.specs.Machine.{Decision.refused, Decision.lookedUp, Decision.sends, Decision.receives, Decision.listsEndpoints, Decision.listsRights, Decision.grants, Decision.removes}
+use Rattle.machine.specs.Influence.{influences}
 use Rattle.machine.proofs.Bools.{and-left, and-right, cond-elim, or-none-right}
 
 -- a number is the kind of one of the seven calls, of a stray, or unknown
@@ -38,6 +39,13 @@ unfolding place
 place-elim P true n r f = r
 place-elim P false n r f = f refl
 
+-- one of the places 13 and 14 refuses, or the next is looked at
+pub word-elim : {A : Type 0} (P : A → Type 0) (k : Kind) (c : Call) {x y z : A} → P x → P y → P z → P (wordPlaces k c x y z)
+unfolding wordPlaces
+word-elim P k c p q r =
+    cond-elim P (not (allZero (unusedFields k (first c)))) (λ _. p)
+    (λ _. cond-elim P (wantsSecond (kind (first c)) && not (hasSecond c)) (λ _. q) (λ _. r))
+
 -- a refusal's number is one of the paper's
 pub record Number (n : ℕ) : Type 0 where
   pub least : 10 ≤ n
@@ -56,7 +64,7 @@ pub record Rows (t : List ℕ) (c : Call) (P : Decision → Type 0) : Type 0 whe
   pub receiving : Known t c → kind (first c) ≡ 3 → fieldB (first c) < endpoints t → owner (endpoint t (fieldB (first c))) ≡ caller (first c) → (waiting (endpoint t (fieldB (first c))) ≡ 0 → ⊥) → P (receives (fieldB (first c)))
   pub endpointsListed : Known t c → kind (first c) ≡ 4 → P (listsEndpoints (caller (first c)))
   pub rightsListed : Known t c → kind (first c) ≡ 5 → P (listsRights (caller (first c)))
-  pub granting : Known t c → kind (first c) ≡ 6 → fieldA (first c) < domains t → fieldB (first c) < domains t → fieldC (first c) ≤ allRights → holds (rights t (caller (first c)) (fieldA (first c))) GRANT ≡ true → holds (rights t (caller (first c)) (fieldA (first c))) (fieldC (first c)) ≡ true → mayGive t (caller (first c)) (fieldB (first c)) ≡ true → P (grants (fieldA (first c)) (fieldB (first c)) (fieldC (first c)))
+  pub granting : Known t c → kind (first c) ≡ 6 → fieldA (first c) < domains t → fieldB (first c) < domains t → fieldC (first c) ≤ allRights → holds (rights t (caller (first c)) (fieldA (first c))) GRANT ≡ true → holds (rights t (caller (first c)) (fieldA (first c))) (fieldC (first c)) ≡ true → influences t (caller (first c)) (fieldB (first c)) ≡ true → P (grants (fieldA (first c)) (fieldB (first c)) (fieldC (first c)))
   pub removing : Known t c → kind (first c) ≡ 7 → fieldA (first c) < domains t → holds (rights t (caller (first c)) (fieldA (first c))) REMOVE ≡ true → holds (rights t (caller (first c)) (fieldA (first c))) (fieldC (first c)) ≡ true → P (removes (fieldA (first c)) (caller (first c)) (fieldC (first c)))
 
 number : (n : ℕ) → 10 ≤ n → n ≤ 23 → Number n
@@ -76,9 +84,8 @@ module _ (t : List ℕ) (c : Call) (P : Decision → Type 0) (rows : Rows t c P)
   unfolding framed
   framed-elim k i e f next =
       place-elim P _ 12 (refuse 12 (omega arith) (omega arith))
-      (λ below. place-elim P _ 13 (refuse 13 (omega arith) (omega arith))
-      (λ _. place-elim P _ 14 (refuse 14 (omega arith) (omega arith))
-      (λ _. next (record { calledBy = calls-back i c e f; below = ltb-true _ _ (not-false _ below) }))))
+      (λ below. word-elim P k c (refuse 13 (omega arith) (omega arith)) (refuse 14 (omega arith) (omega arith))
+      (next (record { calledBy = calls-back i c e f; below = ltb-true _ _ (not-false _ below) })))
 
   lookUp-elim : Known t c → kind (first c) ≡ 1 → (o : Option ℕ) → named t (secondPayload c) ≡ o → P (lookUpPlaces o)
   unfolding lookUpPlaces

@@ -2,29 +2,27 @@
 -- whole run is the view of the machine fed the kept calls alone (specs/MachineClaims: EveryRunNoninterference).
 -- Assumes nothing.
 use mathlib.Core.Path.{_≡_, refl, sym, ap, subst, _∙_}
-use mathlib.Core.Bool.{Bool, true, false, cond, _&&_}
-use mathlib.Core.List.{List, [], _∷_, _++_}
+use mathlib.Core.Bool.{Bool, true, false, _&&_}
+use mathlib.Core.List.{List, _∷_, _++_, map}
 use mathlib.Core.Option.{Option, some}
-use Prim.Native.Nat.{ℕ, zero, suc, _<_, _≤_}
-use native.Mathlib.Nat.{le-refl}
-use native.Mathlib.Omega.{arith}
+use Prim.Native.Nat.{ℕ, _<_}
 use borrow.Author.Tests.{ltb-true, eqb-true}
 use lib.Dec.{eqb, ltb}
 use lib.ListN.{getD, drop}
 use Rattle.machine.specs.Word.{payload, caller}
 use Rattle.machine.specs.Right.{hasAny}
 use Rattle.machine.specs.Table.{domains, endpoints, rights, endpoint}
-use Rattle.machine.specs.Queue.{owner}
 use Rattle.machine.specs.Check.{Accepted}
 use Rattle.machine.specs.Call.{Call, first, callerOf}
 use Rattle.machine.specs.Machine.{step}
 use Rattle.machine.specs.Run.{answers}
 use Rattle.machine.specs.Influence.{reaches}
-use Rattle.machine.specs.Purge.{purge, answersOf, ofOwned, queuesOf, lostOf, view}
+use Rattle.machine.specs.Purge.{purge, answersOf, ownedBy, queuesOf, lostOf, view}
 use Rattle.machine.specs.SameParts.{SameFrame, SamePart, Agree}
 use Rattle.machine.specs.MachineClaims.{EveryRunNoninterference}
-use Rattle.machine.specs.Unwinding.{Unwinding}
-use Rattle.machine.proofs.Bools.{and-left, cond-same}
+use Rattle.machine.specs.Unwinding as unwinding
+use Rattle.machine.proofs.Bools.{and-left}
+use Rattle.machine.proofs.Below.{map-same}
 use Rattle.machine.proofs.Frame.{frame-refl, frame-sym, frame-trans}
 use Rattle.machine.proofs.Consistency.{owner-same, owned-same, answer-depends}
 use Rattle.machine.proofs.Step.{stays-accepted, local-respect, step-consistent}
@@ -102,7 +100,7 @@ same-caller {u} {s} {t} c e a k =
     subst (λ (w : ℕ). SamePart w s t) (some-is (sym e ∙ k)) (a .part)
 
 -- Accepted tables of n domains meet the unwinding conditions.
-pub conditions : (n : ℕ) → Unwinding (tables n) (Alike n) Agree
+pub conditions : (n : ℕ) → unwinding.Unwinding (tables n) (Alike n) Agree
 conditions n =
     record {
       okSym = alike-sym;
@@ -127,23 +125,26 @@ conditions n =
           answer-depends s t c (o .second) (o .frame) (λ w k _. subst (λ (x : ℕ). SamePart x s t) (some-is (sym e ∙ k)) (a .part));
     }
 
--- words of the endpoints that d owns, in two tables that agree on d
-owned-words : {n d : ℕ} {s t : List ℕ} → Alike n s t → Agree d s t → (part : List ℕ → List ℕ) (k : ℕ) → k ≤ endpoints t → ofOwned d s part k ≡ ofOwned d t part k
-unfolding ofOwned
-owned-words o a part zero l = refl
-owned-words {n} {d} {s} {t} o a part (suc e) l =
-    ap (λ (r : List ℕ). cond (eqb (owner (endpoint s e)) d) (r ++ part (endpoint s e)) r) (owned-words o a part e (omega arith))
-    ∙ cond-same (ofOwned d t part e) (ap (λ (x : ℕ). eqb x d) (owner-same s t (o .frame) e l))
-    (λ h. ap (λ (q : List ℕ). ofOwned d t part e ++ part q) (owned-same s t (o .frame) d (a .part) e l (eqb-true _ _ h)))
+-- what is made of the endpoints that d owns, in two tables that agree on d
+owned-parts : {A : Type 0} {n d : ℕ} {s t : List ℕ} → Alike n s t → Agree d s t → (part : ℕ → List ℕ → A) → map (λ e. part e (endpoint s e)) (ownedBy d s) ≡ map (λ e. part e (endpoint t e)) (ownedBy d t)
+unfolding ownedBy
+owned-parts {A} {n} {d} {s} {t} o a part =
+    rw (o .frame .sameEndpoints)
+    (map-same (endpoints t) _ _ _ _
+    (λ e l. ap (λ (x : ℕ). eqb x d) (owner-same s t (o .frame) e l))
+    (λ e l h. ap (part e) (owned-same s t (o .frame) d (a .part) e l (eqb-true _ _ h))))
 
 -- what d sees of the tables
 pub same-view : {n d : ℕ} {s t : List ℕ} → Alike n s t → Agree d s t → (cs ks : List Call) (ws vs : List ℕ) → answersOf d cs ws ≡ answersOf d ks vs → view d cs ws s ≡ view d ks vs t
 unfolding view queuesOf lostOf
-same-view {n} {d} {s} {t} o a cs ks ws vs e =
-    λ i. record { answers = e i; rights = a .part .rights i; queues = all (λ q. getD q 2 0 ∷ drop 4 q) i; lost = all (λ q. getD q 3 0 ∷ []) i }
-  where
-    all : (part : List ℕ → List ℕ) → ofOwned d s part (endpoints s) ≡ ofOwned d t part (endpoints t)
-    all part = ap (ofOwned d s part) (o .frame .sameEndpoints) ∙ owned-words o a part (endpoints t) (le-refl _)
+same-view o a cs ks ws vs e =
+    λ i.
+    record {
+      answers = e i;
+      rights = a .part .rights i;
+      queues = owned-parts o a (λ x q. (x, getD q 2 0 ∷ drop 4 q)) i;
+      lost = owned-parts o a (λ x q. (x, getD q 3 0)) i;
+    }
 
 -- The striking rule.
 pub noninterference : EveryRunNoninterference

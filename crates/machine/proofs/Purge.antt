@@ -1,5 +1,5 @@
 -- The machine of document 01 as an instance of the unwinding theory: its run, sources, purge and answers are those of
--- specs/Unwinding, so what is proved there holds of the definitions in specs/Purge. Assumes nothing.
+-- specs/Unwinding (run, sources, ipurge and outputs), so what is proved there holds of the definitions in specs/Purge. Assumes nothing.
 use Prim.Native.Nat.{ℕ, _<_}
 use mathlib.Core.Path.{_≡_, refl, sym, ap, ap₂, _∙_, subst}
 use mathlib.Core.Bool.{Bool, true, false, cond, _&&_, _||_, and-true, and-false, and-or-distrib-left}
@@ -12,14 +12,14 @@ use Rattle.machine.specs.Call.{Call, callerOf}
 use Rattle.machine.specs.Machine.{step, answerTo, answer}
 use Rattle.machine.specs.Run.{run, answers}
 use Rattle.machine.specs.Influence.{reaches, influences}
-use Rattle.machine.specs.Purge.{reachesAny, joinedBy, sources, callerIn, purge, calledBy, answersOf}
+use Rattle.machine.specs.DomainSet.{callerIn, calledBy}
+use Rattle.machine.specs.Purge.{reachesAny, joinedBy, sources, purge, answersOf}
 use Rattle.machine.specs.MachineClaims.{callerInfluences}
 use Rattle.machine.specs.Unwinding as unwinding
-use Rattle.machine.specs.Unwinding.{StateMachine, Unwinding, ObservEquivalent}
-use Rattle.machine.proofs.Unwinding.{noninterference}
+use Rattle.machine.proofs.Unwinding as theory
 
 -- The tables of n domains. A caller that is not below a table's n reaches nobody.
-abbrev pub tables : ℕ → StateMachine
+abbrev pub tables : ℕ → unwinding.StateMachine
 tables n =
     record {
       State = List ℕ;
@@ -50,8 +50,8 @@ module _ (n : ℕ) where
   pub influences-is :
       (t : List ℕ) (q : Option ℕ) (v : ℕ)
       → v < domains t
-      → unwinding.influences (tables n) t q v ≡ callerInfluences t q v
-  unfolding unwinding.influences influences
+      → unwinding.interferes (tables n) t q v ≡ callerInfluences t q v
+  unfolding unwinding.interferes influences
   influences-is t none v k = refl
   influences-is t (some u) v k = go (eqb u v) refl
     where
@@ -65,15 +65,15 @@ module _ (n : ℕ) where
 
   reaches-any :
       (t : List ℕ) (u : ℕ) (vs : List ℕ)
-      → unwinding.reachesAny (tables n) t u vs ≡ (ltb u (domains t) && reachesAny t u vs)
-  unfolding unwinding.reachesAny reachesAny
+      → unwinding.reachesMember (tables n) t u vs ≡ (ltb u (domains t) && reachesAny t u vs)
+  unfolding unwinding.reachesMember reachesAny
   reaches-any t u [] = sym (and-false (ltb u (domains t)))
   reaches-any t u (v ∷ vs) =
       ap (λ b. (ltb u (domains t) && reaches t u v) || b) (reaches-any t u vs)
       ∙ sym (and-or-distrib-left (ltb u (domains t)) (reaches t u v) (reachesAny t u vs))
 
-  joined-by : (t : List ℕ) (q : Option ℕ) (vs : List ℕ) → unwinding.joinedBy (tables n) t q vs ≡ joinedBy t q vs
-  unfolding unwinding.joinedBy joinedBy
+  joined-by : (t : List ℕ) (q : Option ℕ) (vs : List ℕ) → unwinding.withCaller (tables n) t q vs ≡ joinedBy t q vs
+  unfolding unwinding.withCaller joinedBy
   joined-by t none vs = refl
   joined-by t (some u) vs = ap (λ b. cond b (u ∷ vs) vs) (reaches-any t u vs)
 
@@ -81,11 +81,11 @@ module _ (n : ℕ) where
   unfolding unwinding.sources sources
   sources-is t [] d = refl
   sources-is t (c ∷ cs) d =
-      ap (unwinding.joinedBy (tables n) t (callerOf c)) (sources-is (step t c) cs d)
+      ap (unwinding.withCaller (tables n) t (callerOf c)) (sources-is (step t c) cs d)
       ∙ joined-by t (callerOf c) (sources (step t c) cs d)
 
-  pub purge-is : (t : List ℕ) (cs : List Call) (d : ℕ) → unwinding.purge (tables n) t cs d ≡ purge t cs d
-  unfolding unwinding.purge purge
+  pub purge-is : (t : List ℕ) (cs : List Call) (d : ℕ) → unwinding.ipurge (tables n) t cs d ≡ purge t cs d
+  unfolding unwinding.ipurge purge
   purge-is t [] d = refl
   purge-is t (c ∷ cs) d =
       ap₂ (λ vs ks. cond (callerIn (callerOf c) vs) (c ∷ ks) ks) (sources-is t (c ∷ cs) d) (purge-is (step t c) cs d)
@@ -103,7 +103,7 @@ pub record Observed
 module _ {n : ℕ} {ok : List ℕ → List ℕ → Type 0} {same : ℕ → List ℕ → List ℕ → Type 0} where
   pub observed :
       {d : ℕ} {s : List ℕ} {cs : List Call} {t : List ℕ} {ks : List Call}
-      → ObservEquivalent (tables n) ok same d s cs t ks
+      → unwinding.ObservEquivalent (tables n) ok same d s cs t ks
       → Observed ok same d s cs t ks
   observed {d} {s} {cs} {t} {ks} e =
       let alone = outputs-is n d t ks [] ∙ ap (answersOf d ks) (append-nil (answers t ks)) in
@@ -115,9 +115,9 @@ module _ {n : ℕ} {ok : List ℕ → List ℕ → Type 0} {same : ℕ → List 
 
   -- noninterference (document 01: the striking rule), from the unwinding conditions
   pub observes-purge :
-      Unwinding (tables n) ok same
+      unwinding.Unwinding (tables n) ok same
       → (d : ℕ) (t : List ℕ) (cs : List Call)
       → d < n
       → ok t t
       → Observed ok same d t cs t (purge t cs d)
-  observes-purge w d t cs p o = rw (← purge-is n t cs d) (observed (noninterference w d t cs p o))
+  observes-purge w d t cs p o = rw (← purge-is n t cs d) (observed (theory.noninterference w d t cs p o))

@@ -18,7 +18,7 @@ use Rattle.machine.specs.Table.{domains, endpoints, rightsWord, rights, 
 use Rattle.machine.specs.Queue.{name, owner, sent, received}
 use Rattle.machine.specs.Check.{rightsWordOk, endpointOk, Accepted}
 use Rattle.machine.specs.Call.{Call, first, callerOf, secondPayload}
-use Rattle.machine.specs.Machine.{Decision, Effect, maySend, mayGive, decide, effect, after, step}
+use Rattle.machine.specs.Machine.{Decision, Effect, maySend, decide, effect, after, step}
 use Rattle.machine.specs.Machine.{Decision.refused, Effect.nothing, Effect.newRights, Effect.newEndpoint}
 use Rattle.machine.specs.Run.{run}
 use Rattle.machine.specs.Influence.{reaches, influences}
@@ -149,7 +149,7 @@ module _ (t : List ℕ) (a : Accepted t) (v : ℕ) (lv : v < domains t) where
   pub after-agrees : (x : Effect) → InOrder t x → Spares t x v → Agree v (after t x) t
   after-agrees x o n = record { part = after-part x o n; onIt = after-column x o n }
 
--- Whoever may act on a domain influences it: as the domain itself, by a right on it, by a send to its endpoint, by a gift.
+-- Whoever may act on a domain influences it: as the domain itself, by a right on it, by a send to its endpoint.
 module _ (t : List ℕ) (u : ℕ) where
   by-itself : influences t u u ≡ true
   unfolding influences
@@ -166,10 +166,6 @@ module _ (t : List ℕ) (u : ℕ) where
       ⊎-elim (λ own. subst (λ (x : ℕ). influences t u x ≡ true) (sym (eqb-true o u own)) by-itself)
       (by-right o SEND (λ z. omega arith))
       (or-cases (eqb o u) (holds (rights t u o) SEND) h)
-
-  by-gift : (h : ℕ) → mayGive t u h ≡ true → influences t u h ≡ true
-  unfolding mayGive influences reaches
-  by-gift h m = m
 
 -- v, which a known caller doesn't influence, is none of those that it influences
 not-influenced : (t : List ℕ) (c : Call) (v x : ℕ) → callerInfluences t (callerOf c) v ≡ false → Known t c → influences t (caller (first c)) x ≡ true → x ≡ v → ⊥
@@ -194,7 +190,7 @@ call-spares t c v n =
       rightsListed = λ _ _. tt;
       granting =
           λ k _ _ _ _ hg _ m.
-          (spared _ k (by-gift t u _ m), spared _ k (by-right t u _ GRANT (λ z. omega arith) hg));
+          (spared _ k m, spared _ k (by-right t u _ GRANT (λ z. omega arith) hg));
       removing =
           λ k _ _ hr _.
           (spared u k (by-itself t u), spared _ k (by-right t u _ REMOVE (λ z. omega arith) hr));

@@ -14,7 +14,8 @@ use Rattle.machine.specs.Right.{SEND, GRANT, REMOVE, holds, adds, withou
 use Rattle.machine.specs.Table.{domains, rights, setRights, setEndpoint}
 use Rattle.machine.specs.Check.{Accepted}
 use Rattle.machine.specs.Call.{Call, Call.one, Call.two, callerOf, cut}
-use Rattle.machine.specs.Machine.{Decision, decide, effect, after, step, mayGive}
+use Rattle.machine.specs.Machine.{Decision, decide, effect, after, step}
+use Rattle.machine.specs.Influence.{influences}
 use Rattle.machine.specs.Machine.{Decision.grants, Decision.removes, Effect.newRights, Effect.newEndpoint}
 use Rattle.machine.specs.Run.{run}
 use Rattle.machine.specs.Everything.{everything}
@@ -40,7 +41,7 @@ written t a h g s o =
 module _ (t : List ℕ) (c : Call) (a : Accepted t) (h g : ℕ) (ph : h < domains t) (pg : g < domains t)
     (P : ℕ → Type 0)
     (kept : P (rights t h g))
-    (granted : (u r : ℕ) → callerOf c ≡ some u → u < domains t → decide t c ≡ grants g h r → holds (rights t u g) GRANT ≡ true → holds (rights t u g) r ≡ true → mayGive t u h ≡ true → P (adds (rights t h g) r))
+    (granted : (u r : ℕ) → callerOf c ≡ some u → u < domains t → decide t c ≡ grants g h r → holds (rights t u g) GRANT ≡ true → holds (rights t u g) r ≡ true → influences t u h ≡ true → P (adds (rights t h g) r))
     (removed : (r : ℕ) → callerOf c ≡ some h → decide t c ≡ removes g h r → holds (rights t h g) REMOVE ≡ true → P (without (rights t h g) r)) where
   -- of a decision that the call came to
   Left : Decision → Type 0

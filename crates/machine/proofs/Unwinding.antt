@@ -1,6 +1,6 @@
 -- The unwinding theorem and its cases (specs/Unwinding), by induction on the choice of struck calls. Assumes nothing.
 -- First what holds of sets and sources for every machine, then what the conditions give. Of the letters, m is a membership,
--- p a domain, o an ok, x a same, i an influence or its absence, a an agreement, k a closed group or a choice of struck calls.
+-- p a domain, o an ok, x a same, i an interference or its absence, a an agreement, k a closed group or a choice of struck calls.
 use Prim.Native.Nat.{ℕ}
 use mathlib.Core.Path.{_≡_, refl, sym, ap, ap₂, _∙_, subst}
 use mathlib.Core.Bool.{Bool, true, false, cond, _||_, true≢false, false≢true}
@@ -8,11 +8,11 @@ use mathlib.Core.List.{List, [], _∷_, _++_}
 use mathlib.Core.Option.{Option, none, some}
 use lib.Dec.{eqb}
 use borrow.Author.Tests.{eqb-true, eq-eqb}
-use Rattle.machine.specs.Purge.{member, callerIn, calledBy}
-use Rattle.machine.specs.Unwinding.{StateMachine, run, outputs, reachesAny, joinedBy, sources, purge, influences}
-use Rattle.machine.specs.Unwinding.{Keeps, Keeps.done, Keeps.keep, Keeps.strike, Closed, fromGroup, groupCalls}
-use Rattle.machine.specs.Unwinding.{SameFor, Unwinding, Agree}
-use Rattle.machine.specs.Unwinding.{UnwindingTheorem, Noninfluence, Noninterference, Nonleakage, SameSources}
+use Rattle.machine.specs.DomainSet.{member, callerIn, calledBy, fromGroup}
+use Rattle.machine.specs.Unwinding.{StateMachine, run, outputs, reachesMember, withCaller, sources, ipurge, interferes}
+use Rattle.machine.specs.Unwinding.{Keeps, Keeps.done, Keeps.keep, Keeps.strike, Closed, groupCalls}
+use Rattle.machine.specs.Unwinding.{SameFor, Unwinding, SameForSources}
+use Rattle.machine.specs.Unwinding.{UnwindingTheorem, Noninfluence, Noninterference, Nonleakage, GroupNoninfluence, SameSources}
 use Rattle.machine.proofs.Bools.{or-right}
 
 -- Tests.
@@ -71,64 +71,64 @@ module _ (M : StateMachine) where
   open StateMachine M using (State, Call, step, caller, reaches)
 
   -- u reaches a set where it reaches a member, and only there
-  reaches-any :
-      (s : State) (u : ℕ) (vs : List ℕ) (v : ℕ) → member v vs ≡ true → reaches s u v ≡ true → reachesAny M s u vs ≡ true
-  unfolding reachesAny member
-  reaches-any s u [] v m r = absurd (false≢true m)
-  reaches-any s u (w ∷ vs) v m r =
-      member-elim (λ x. reaches s u x ≡ true → reachesAny M s u (w ∷ vs) ≡ true) w vs
-      (λ e. ap (λ b. b || reachesAny M s u vs) e)
-      (λ x h e. or-right (reaches s u w) (reachesAny M s u vs) (reaches-any s u vs x h e))
+  reaches-member :
+      (s : State) (u : ℕ) (vs : List ℕ) (v : ℕ) → member v vs ≡ true → reaches s u v ≡ true → reachesMember M s u vs ≡ true
+  unfolding reachesMember member
+  reaches-member s u [] v m r = absurd (false≢true m)
+  reaches-member s u (w ∷ vs) v m r =
+      member-elim (λ x. reaches s u x ≡ true → reachesMember M s u (w ∷ vs) ≡ true) w vs
+      (λ e. ap (λ b. b || reachesMember M s u vs) e)
+      (λ x h e. or-right (reaches s u w) (reachesMember M s u vs) (reaches-member s u vs x h e))
       v m r
 
   reached :
       (s : State) (u : ℕ) (vs : List ℕ)
-      → reachesAny M s u vs ≡ true
+      → reachesMember M s u vs ≡ true
       → (v : ℕ) × (member v vs ≡ true) × (reaches s u v ≡ true)
-  unfolding reachesAny
+  unfolding reachesMember
   reached s u [] r = absurd (false≢true r)
   reached s u (w ∷ vs) r =
-      or-elim (reaches s u w) (reachesAny M s u vs)
+      or-elim (reaches s u w) (reachesMember M s u vs)
       (λ e. (w, member-first w vs, e))
       (λ e. let (v, m, f) = reached s u vs e in (v, member-rest v w vs m, f))
       r
 
-  same-any :
+  same-member :
       (s t : State) (u : ℕ) (vs : List ℕ)
       → ((v : ℕ) → member v vs ≡ true → reaches s u v ≡ reaches t u v)
-      → reachesAny M s u vs ≡ reachesAny M t u vs
-  unfolding reachesAny
-  same-any s t u [] e = refl
-  same-any s t u (v ∷ vs) e =
-      ap₂ _||_ (e v (member-first v vs)) (same-any s t u vs (λ w m. e w (member-rest w v vs m)))
+      → reachesMember M s u vs ≡ reachesMember M t u vs
+  unfolding reachesMember
+  same-member s t u [] e = refl
+  same-member s t u (v ∷ vs) e =
+      ap₂ _||_ (e v (member-first v vs)) (same-member s t u vs (λ w m. e w (member-rest w v vs m)))
 
   same-joined :
       (s t : State) (q : Option ℕ) (vs : List ℕ)
       → ((u v : ℕ) → member v vs ≡ true → reaches s u v ≡ reaches t u v)
-      → joinedBy M s q vs ≡ joinedBy M t q vs
-  unfolding joinedBy
+      → withCaller M s q vs ≡ withCaller M t q vs
+  unfolding withCaller
   same-joined s t none vs e = refl
-  same-joined s t (some u) vs e = ap (λ b. cond b (u ∷ vs) vs) (same-any s t u vs (e u))
+  same-joined s t (some u) vs e = ap (λ b. cond b (u ∷ vs) vs) (same-member s t u vs (e u))
 
   -- the set only grows going back
-  pub grows : (s : State) (q : Option ℕ) (vs : List ℕ) (v : ℕ) → member v vs ≡ true → member v (joinedBy M s q vs) ≡ true
-  unfolding joinedBy
+  pub grows : (s : State) (q : Option ℕ) (vs : List ℕ) (v : ℕ) → member v vs ≡ true → member v (withCaller M s q vs) ≡ true
+  unfolding withCaller
   grows s none vs v m = m
   grows s (some u) vs v m =
-      either (reachesAny M s u vs) (λ r. rw r (member-rest v u vs m)) (λ r. rw r m)
+      either (reachesMember M s u vs) (λ r. rw r (member-rest v u vs m)) (λ r. rw r m)
 
-  -- a caller that influences a member is in the set at its call
+  -- a caller that interferes with a member is in the set at its call
   joins :
       (s : State) (q : Option ℕ) (vs : List ℕ) (v : ℕ)
       → member v vs ≡ true
-      → influences M s q v ≡ true
-      → callerIn q (joinedBy M s q vs) ≡ true
-  unfolding influences callerIn joinedBy
+      → interferes M s q v ≡ true
+      → callerIn q (withCaller M s q vs) ≡ true
+  unfolding interferes callerIn withCaller
   joins s none vs v m i = absurd (false≢true i)
   joins s (some u) vs v m i =
       or-elim (eqb u v) (reaches s u v)
       (λ e. grows s (some u) vs u (subst (λ w. member w vs ≡ true) (sym (eqb-true u v e)) m))
-      (λ r. rw (reaches-any s u vs v m r) (member-first u vs))
+      (λ r. rw (reaches-member s u vs v m r) (member-first u vs))
       i
 
   -- d is among its sources
@@ -143,14 +143,14 @@ module _ (M : StateMachine) where
       → ((u v : ℕ) → q ≡ some u → reaches s u v ≡ true → P v → P u)
       → ((v : ℕ) → member v vs ≡ true → P v)
       → (v : ℕ)
-      → member v (joinedBy M s q vs) ≡ true
+      → member v (withCaller M s q vs) ≡ true
       → P v
-  unfolding joinedBy
+  unfolding withCaller
   joined-closed P s none vs k ps v m = ps v m
   joined-closed P s (some u) vs k ps v m =
-      either (reachesAny M s u vs) (λ r. member-elim P u vs (joiner r) ps v (rw r at m)) (λ r. ps v (rw r at m))
+      either (reachesMember M s u vs) (λ r. member-elim P u vs (joiner r) ps v (rw r at m)) (λ r. ps v (rw r at m))
     where
-      joiner : reachesAny M s u vs ≡ true → P u
+      joiner : reachesMember M s u vs ≡ true → P u
       joiner r = let (w, h, e) = reached s u vs r in k u w refl e (ps w h)
 
   pub sources-closed :
@@ -165,7 +165,7 @@ module _ (M : StateMachine) where
   sources-closed P s (c ∷ cs) d p k v m =
       joined-closed P s (caller c) (sources M (step s c) cs d) (k .0) (sources-closed P (step s c) cs d p (k .1)) v m
 
-  -- a test that fails on no call of a source, then the three choices: the purge, all calls, and a closed group's calls
+  -- a test that fails on no call of a source, then the three choices: the ipurge, all calls, and a closed group's calls
   choose :
       {d : ℕ} {s : State} {cs ks : List Call} (c : Call) (b : Bool)
       → (b ≡ false → callerIn (caller c) (sources M s (c ∷ cs) d) ≡ false)
@@ -174,11 +174,11 @@ module _ (M : StateMachine) where
   choose c true h k = keep c k
   choose c false h k = strike c (h refl) k
 
-  pub keeps-purge : (d : ℕ) (s : State) (cs : List Call) → Keeps M d s cs (purge M s cs d)
-  unfolding purge
-  keeps-purge d s [] = done
-  keeps-purge d s (c ∷ cs) =
-      choose c (callerIn (caller c) (sources M s (c ∷ cs) d)) (λ e. e) (keeps-purge d (step s c) cs)
+  pub keeps-ipurge : (d : ℕ) (s : State) (cs : List Call) → Keeps M d s cs (ipurge M s cs d)
+  unfolding ipurge
+  keeps-ipurge d s [] = done
+  keeps-ipurge d s (c ∷ cs) =
+      choose c (callerIn (caller c) (sources M s (c ∷ cs) d)) (λ e. e) (keeps-ipurge d (step s c) cs)
 
   pub keeps-all : (d : ℕ) (s : State) (cs : List Call) → Keeps M d s cs cs
   keeps-all d s [] = done
@@ -222,7 +222,7 @@ module _
   -- each source of d is a domain, to which the states look the same
   known :
       {d : ℕ} {s t : State} {cs : List Call}
-      → Agree M ok same d s cs t
+      → SameForSources M ok same d s cs t
       → (v : ℕ)
       → member v (sources M s cs d) ≡ true
       → Domain v × same v s t
@@ -233,64 +233,64 @@ module _
   -- so is each source at the next call
   known-next :
       {d : ℕ} {s t : State} (c : Call) (cs : List Call)
-      → Agree M ok same d s (c ∷ cs) t
+      → SameForSources M ok same d s (c ∷ cs) t
       → (v : ℕ)
       → member v (sources M (step s c) cs d) ≡ true
       → Domain v × same v s t
   unfolding sources
   known-next {d} {s} c cs a v m = known a v (grows M s (caller c) (sources M (step s c) cs d) v m)
 
-  -- One call and one domain v: on one side only, by a caller that doesn't influence v;
+  -- One call and one domain v: on one side only, by a caller that doesn't interfere with v;
   alone :
       {s t : State} {v : ℕ} (c : Call)
       → ok s t
       → Domain v
-      → influences M s (caller c) v ≡ false
+      → interferes M s (caller c) v ≡ false
       → same v s t
       → same v (step s c) t
   alone c o p i x =
       let next = okStep c (ok-self o) in
       sameTrans (okSym next) o (sameSym next (localRespect c (ok-self o) p i)) x
 
-  same-influences :
-      {s t : State} {v : ℕ} (q : Option ℕ) → ok s t → Domain v → same v s t → influences M s q v ≡ influences M t q v
-  unfolding influences
-  same-influences none o p x = refl
-  same-influences {v} (some u) o p x = ap (λ b. eqb u v || b) (policyRespect u o p x)
+  same-interferes :
+      {s t : State} {v : ℕ} (q : Option ℕ) → ok s t → Domain v → same v s t → interferes M s q v ≡ interferes M t q v
+  unfolding interferes
+  same-interferes none o p x = refl
+  same-interferes {v} (some u) o p x = ap (λ b. eqb u v || b) (policyRespect u o p x)
 
-  -- on both sides, by a caller that doesn't influence v;
-  uninfluenced :
+  -- on both sides, by a caller that doesn't interfere with v;
+  respected :
       {s t : State} {v : ℕ} (c : Call)
       → ok s t
       → Domain v
-      → influences M s (caller c) v ≡ false
+      → interferes M s (caller c) v ≡ false
       → same v s t
       → same v (step s c) (step t c)
-  uninfluenced c o p i x =
+  respected c o p i x =
       let o′ = okSym (ok-next c o) in
-      let i′ = sym (same-influences (caller c) o p x) ∙ i in
+      let i′ = sym (same-interferes (caller c) o p x) ∙ i in
       sameSym (ok-next c o′) (alone c o′ p i′ (sameSym (ok-next c o) (alone c o p i x)))
 
   -- and on both sides, by a caller that does and is itself known.
-  influenced :
+  consistent :
       {s t : State} {v : ℕ} (c : Call) (q : Option ℕ) (vs : List ℕ)
       → caller c ≡ q
       → ok s t
       → ((u : ℕ) → member u vs ≡ true → Domain u × same u s t)
       → callerIn q vs ≡ true
       → Domain v
-      → influences M s q v ≡ true
+      → interferes M s q v ≡ true
       → same v s t
       → same v (step s c) (step t c)
   unfolding callerIn
-  influenced c none vs e o ps h p i x = absurd (false≢true h)
-  influenced c (some u) vs e o ps h p i x = weaklyStepConsistent c o (ps u h .0) p e i (ps u h .1) x
+  consistent c none vs e o ps h p i x = absurd (false≢true h)
+  consistent c (some u) vs e o ps h p i x = weaklyStepConsistent c o (ps u h .0) p e i (ps u h .1) x
 
   -- One call and all sources of d: on both sides (CapFlow: lemma-1),
   agree-both :
       {d : ℕ} {s t : State} (c : Call) (cs : List Call)
-      → Agree M ok same d s (c ∷ cs) t
-      → Agree M ok same d (step s c) cs (step t c)
+      → SameForSources M ok same d s (c ∷ cs) t
+      → SameForSources M ok same d (step s c) cs (step t c)
   unfolding sources
   agree-both {d} {s} {t} c cs a = record { domain = a .domain; proper = ok-both c o; each = each }
     where
@@ -301,16 +301,16 @@ module _
       each v m =
           let (p, x) = known-next c cs a v m in
           let joined = joins M s (caller c) (sources M (step s c) cs d) v m in
-          either (influences M s (caller c) v)
-          (λ i. influenced c (caller c) (sources M s (c ∷ cs) d) refl o (known a) (joined i) p i x)
-          (λ i. uninfluenced c o p i x)
+          either (interferes M s (caller c) v)
+          (λ i. consistent c (caller c) (sources M s (c ∷ cs) d) refl o (known a) (joined i) p i x)
+          (λ i. respected c o p i x)
 
   -- and struck.
   agree-struck :
       {d : ℕ} {s t : State} (c : Call) (cs : List Call)
-      → Agree M ok same d s (c ∷ cs) t
+      → SameForSources M ok same d s (c ∷ cs) t
       → callerIn (caller c) (sources M s (c ∷ cs) d) ≡ false
-      → Agree M ok same d (step s c) cs t
+      → SameForSources M ok same d (step s c) cs t
   unfolding sources
   agree-struck {d} {s} {t} c cs a h = record { domain = a .domain; proper = ok-next c (a .proper); each = each }
     where
@@ -323,7 +323,7 @@ module _
   -- what d is answered, with one call more in front
   same-answers :
       {d : ℕ} {s t : State} {cs : List Call} {xs ys : List ℕ} (c : Call)
-      → Agree M ok same d s (c ∷ cs) t
+      → SameForSources M ok same d s (c ∷ cs) t
       → xs ≡ ys
       → cond (calledBy d (caller c)) (out s c ++ xs) xs ≡ cond (calledBy d (caller c)) (out t c ++ ys) ys
   same-answers {d} {s} {cs = cs} c a e =
@@ -351,21 +351,24 @@ module _
   same-sources d s t (c ∷ cs) a =
       same-joined M s t (caller c) (sources M (step s c) cs d)
       (λ u v m. let (p, x) = known-next c cs a v m in policyRespect u (a .proper) p x)
-      ∙ ap (joinedBy M t (caller c)) (same-sources d (step s c) (step t c) cs (agree-both c cs a))
+      ∙ ap (withCaller M t (caller c)) (same-sources d (step s c) (step t c) cs (agree-both c cs a))
 
-  same-purge : (d : ℕ) (s t : State) (cs : List Call) → Agree M ok same d s cs t → purge M s cs d ≡ purge M t cs d
-  unfolding purge
-  same-purge d s t [] a = refl
-  same-purge d s t (c ∷ cs) a =
+  same-ipurge : (d : ℕ) (s t : State) (cs : List Call) → SameForSources M ok same d s cs t → ipurge M s cs d ≡ ipurge M t cs d
+  unfolding ipurge
+  same-ipurge d s t [] a = refl
+  same-ipurge d s t (c ∷ cs) a =
       ap₂ (λ vs ks. cond (callerIn (caller c) vs) (c ∷ ks) ks)
       (same-sources d s t (c ∷ cs) a)
-      (same-purge d (step s c) (step t c) cs (agree-both c cs a))
+      (same-ipurge d (step s c) (step t c) cs (agree-both c cs a))
 
   pub noninfluence : Noninfluence M ok same
-  noninfluence d s t cs a = unwinding d s t cs _ a (rw (← same-purge d s t cs a) (keeps-purge M d s cs))
+  noninfluence d s t cs a = unwinding d s t cs _ a (rw (← same-ipurge d s t cs a) (keeps-ipurge M d s cs))
 
   pub noninterference : Noninterference M ok same
   noninterference d s cs p o = noninfluence d s s cs (record { domain = p; proper = o; each = λ v m. sameRefl o })
 
   pub nonleakage : Nonleakage M ok same
   nonleakage d s t cs a = unwinding d s t cs cs a (keeps-all M d s cs)
+
+  pub group-noninfluence : GroupNoninfluence M ok same
+  group-noninfluence group d s t cs a h k = unwinding d s t cs _ a (keeps-group M group d s cs h k)

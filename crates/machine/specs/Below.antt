@@ -1,4 +1,4 @@
--- For each number below k: a test of all of them or of any, the first that passes one, a sum, a list and a set of bits over them.
+-- For each number below k: a test of all of them or of any, those that pass one, the first that does, a sum, a list and a set of bits over them.
 use Prim.Native.Nat.{ℕ, zero, suc, _+_, _/_, _%_, _^_}
 use mathlib.Core.Bool.{Bool, true, false, cond, _&&_, _||_}
 use mathlib.Core.List.{List, [], _∷_, _++_}
@@ -14,6 +14,11 @@ allBelow (suc k) p = allBelow k p && p k
 unfoldable pub anyBelow : ℕ → (ℕ → Bool) → Bool
 anyBelow zero p = false
 anyBelow (suc k) p = anyBelow k p || p k
+
+-- the numbers below k of which p holds, lowest first
+unfoldable pub numbersBelow : ℕ → (ℕ → Bool) → List ℕ
+numbersBelow zero p = []
+numbersBelow (suc k) p = numbersBelow k p ++ cond (p k) (k ∷ []) []
 
 -- the lowest number below k of which p holds
 unfoldable pub firstBelow : ℕ → (ℕ → Bool) → Option ℕ

@@ -1,12 +1,13 @@
 -- A call is its one or two words and nothing else. The cutting of a list into calls, the kinds of call, and what the
 -- places 10, 11, 13 and 14 test, which need no table (document 01, 'The calls' and 'Where each number is checked').
 use Prim.Native.Nat.{ℕ}
-use mathlib.Core.Bool.{Bool, true, false, cond, _&&_, _||_}
+use mathlib.Core.Bool.{Bool, true, false, cond, not, _&&_, _||_}
 use mathlib.Core.List.{List, [], _∷_}
 use mathlib.Core.Option.{Option, none, some}
 use lib.Dec.{eqb}
 use Rattle.machine.specs.Word.{kind, payload, caller, fieldA, fieldB, fieldC}
 
+-- A call: its one word, or its two in their order.
 pub data Call : Type 0 where
   one : ℕ → Call
   two : ℕ → ℕ → Call
@@ -24,24 +25,18 @@ wantsSecond k = eqb k 1 || eqb k 2
 unfoldable pub pairs : ℕ → ℕ → Bool
 pairs w v = wantsSecond (kind w) && eqb (kind v) 15
 
--- the call that begins with the word w, where the words ws follow
-unfoldable pub callAt : ℕ → List ℕ → Call
-callAt w [] = one w
-callAt w (v ∷ ws) = cond (pairs w v) (two w v) (one w)
-
--- the calls of words that stand behind the word p: a word that makes one call with the word before it begins none
-unfoldable pub cutAfter : ℕ → List ℕ → List Call
-cutAfter p [] = []
-cutAfter p (w ∷ ws) = let rest = cutAfter w ws in cond (pairs p w) rest (callAt w ws ∷ rest)
-
--- the cutting of a whole list: nothing stands before its first word, and 0 pairs with no word
+-- The cutting: a word of kind 1 or 2 directly followed by a word of kind 15 makes one call of both; every other word is a
+-- call of one word.
 unfoldable pub cut : List ℕ → List Call
-cut ws = cutAfter 0 ws
+cut [] = []
+cut (w ∷ []) = one w ∷ []
+cut (w ∷ v ∷ ws) = cond (pairs w v) (two w v ∷ cut ws) (one w ∷ cut (v ∷ ws))
 
 -- the seven calls, a word of kind 15 that begins a call (document 01: a stray), and the unknown kinds
 pub data Kind : Type 0 where
   lookUp send receive myEndpoints myRights grant remove stray unknown : Kind
 
+-- which of these a word of kind k begins
 unfoldable pub kindOf : ℕ → Kind
 kindOf k =
     cond (eqb k 1) lookUp
@@ -50,6 +45,7 @@ kindOf k =
     (cond (eqb k 4) myEndpoints
     (cond (eqb k 5) myRights (cond (eqb k 6) grant (cond (eqb k 7) remove (cond (eqb k 15) stray unknown)))))))
 
+-- a call's kind is that of its first word
 unfoldable pub callKind : Call → Kind
 callKind c = kindOf (kind (first c))
 
@@ -69,13 +65,22 @@ unusedFields remove w = fieldB w ∷ []
 unusedFields stray w = []
 unusedFields unknown w = []
 
+-- every one of some fields is zero
 unfoldable pub allZero : List ℕ → Bool
 allZero [] = true
 allZero (x ∷ xs) = eqb x 0 && allZero xs
 
+-- a call has a second word
 unfoldable pub hasSecond : Call → Bool
 hasSecond (one w) = false
 hasSecond (two w v) = true
+
+-- The places 13 and 14, which look at a call's own words alone, in their order: what the call comes to where a field that its
+-- kind doesn't use isn't zero, where it wants a second word and has none, and where neither is so.
+unfoldable pub wordPlaces : {A : Type 0} → Kind → Call → A → A → A → A
+wordPlaces k c unusedField noSecondWord next =
+    cond (not (allZero (unusedFields k (first c)))) unusedField
+    (cond (wantsSecond (kind (first c)) && not (hasSecond c)) noSecondWord next)
 
 -- what a call's second word holds in bits 27–0: the name of a look up, the message of a send
 unfoldable pub secondPayload : Call → ℕ

@@ -1,5 +1,5 @@
 -- One name for the definitions of the machine and its counts, for a proof that computes with them: `unfolding everything`.
-use Rattle.machine.specs.Below.{allBelow, firstBelow, sumBelow}
+use Rattle.machine.specs.Below.{allBelow, numbersBelow, firstBelow, sumBelow}
 use Rattle.machine.specs.Right.{holds, adds, without, hasAny}
 use Rattle.machine.specs.Table.{domains, endpoints, rightsWord, rights, endpoint, setRights, setEndpoint}
 use Rattle.machine.specs.Check as check
@@ -9,29 +9,31 @@ use Rattle.machine.specs.Machine as machine
 use Rattle.machine.specs.Run.{run, answers}
 use Rattle.machine.specs.Entry as «entry»
 use Rattle.machine.specs.Influence.{reaches, influences}
+use Rattle.machine.specs.DomainSet.{member, callerIn, calledBy}
 use Rattle.machine.specs.Purge as purge
 use Rattle.machine.specs.Counts as counts
 
 unfoldable pub everything : Unit {0}
-unfolding allBelow firstBelow sumBelow
+unfolding allBelow numbersBelow firstBelow sumBelow
     holds adds without hasAny
     domains endpoints rightsWord rights endpoint setRights setEndpoint
     check.headerWordOk check.rightsWordOk check.nameWordOk check.infoWordOk check.waitingWordOk check.lostWordOk
     check.slotWordOk check.identityOk check.queueOk check.endpointOk check.nameNew check.headerOk check.lengthOk
     check.rightsOk check.endpointsOk check.tableCode
-    call.first call.wantsSecond call.pairs call.callAt call.cutAfter call.cut call.kindOf call.callKind call.callerOf
-    call.unusedFields call.allZero call.hasSecond call.secondPayload
+    call.first call.wantsSecond call.pairs call.cut call.kindOf call.callKind call.callerOf
+    call.unusedFields call.allZero call.hasSecond call.wordPlaces call.secondPayload
     queue.name queue.owner queue.capacity queue.waiting queue.lost queue.oldest queue.hasSpace queue.sendWithSpace
     queue.sendToFull queue.sent queue.movedUp queue.received
-    machine.place machine.maySend machine.mayGive machine.named machine.lookUpPlaces machine.sendPlaces
+    machine.place machine.maySend machine.named machine.lookUpPlaces machine.sendPlaces
     machine.receivePlaces machine.grantPlaces machine.removePlaces machine.framed machine.places machine.decide
     machine.effect machine.after machine.step machine.ownedBits machine.rightsBits machine.code machine.firstData
     machine.secondData machine.shownCaller machine.answerWord machine.answerTo machine.answer
     run answers
     «entry».spaceCode «entry».entryCode «entry».refusal «entry».ran «entry».entry
     reaches influences
-    purge.member purge.reachesAny purge.joinedBy purge.sources purge.callerIn purge.purge purge.calledBy
-    purge.answersOf purge.rightsOf purge.ofOwned purge.queuesOf purge.lostOf purge.view
+    member callerIn calledBy
+    purge.reachesAny purge.joinedBy purge.sources purge.purge
+    purge.answersOf purge.rightsOf purge.ownedBy purge.queuesOf purge.lostOf purge.view
     counts.doneOn counts.countDone counts.messagesFrom counts.sendsTo counts.fullSends counts.messagesTo counts.messages
     counts.isSend counts.isReceive
 everything = tt

@@ -8,10 +8,11 @@ use mathlib.Core.Option.{Option, none, some}
 use lib.Dec.{eqb, leb, ltb}
 use Rattle.machine.specs.Below.{firstBelow, sumBelow}
 use Rattle.machine.specs.Word.{kind, caller, fieldA, fieldB, fieldC}
-use Rattle.machine.specs.Right.{SEND, GRANT, REMOVE, allRights, holds, adds, without, hasAny}
+use Rattle.machine.specs.Right.{SEND, GRANT, REMOVE, allRights, holds, adds, without}
 use Rattle.machine.specs.Table.{domains, endpoints, rights, endpoint, setRights, setEndpoint}
+use Rattle.machine.specs.Influence.{influences}
 use Rattle.machine.specs.Queue.{name, owner, waiting, lost, oldest, sent, received}
-use Rattle.machine.specs.Call.{Call, Kind, first, callKind, wantsSecond, unusedFields, allZero, hasSecond, secondPayload}
+use Rattle.machine.specs.Call.{Call, Kind, first, callKind, wordPlaces, secondPayload}
 use Rattle.machine.specs.Call.{Kind.lookUp, Kind.send, Kind.receive, Kind.myEndpoints, Kind.myRights, Kind.grant, Kind.remove, Kind.stray, Kind.unknown}
 
 -- What a call comes to: a refusal by its number, or the call's row with what it needs.
@@ -34,36 +35,35 @@ place false code next = next
 unfoldable pub maySend : List ℕ → ℕ → ℕ → Bool
 maySend t u e = eqb (owner (endpoint t e)) u || holds (rights t u (owner (endpoint t e))) SEND
 
--- u may give rights to h: it is h or has any right on it
-unfoldable pub mayGive : List ℕ → ℕ → ℕ → Bool
-mayGive t u h = eqb u h || hasAny (rights t u h)
-
 -- the endpoint that has a name
 unfoldable pub named : List ℕ → ℕ → Option ℕ
 named t x = firstBelow (endpoints t) (λ e. eqb (name (endpoint t e)) x)
 
+-- place 15, and then the look up's row: the endpoint that has the name, if any
 unfoldable pub lookUpPlaces : Option ℕ → Decision
 lookUpPlaces none = refused 15
 lookUpPlaces (some e) = lookedUp e
 
+-- the places 16 and 17, and then the send's row: u sends a message to the endpoint e
 unfoldable pub sendPlaces : List ℕ → ℕ → ℕ → ℕ → Decision
 sendPlaces t u e message =
     place (not (ltb e (endpoints t))) 16 (place (not (maySend t u e)) 17 (sends e message))
 
+-- the places 16, 18 and 19, and then the receive's row: u receives from the endpoint e
 unfoldable pub receivePlaces : List ℕ → ℕ → ℕ → Decision
 receivePlaces t u e =
     place (not (ltb e (endpoints t))) 16
     (place (not (eqb (owner (endpoint t e)) u)) 18 (place (eqb (waiting (endpoint t e)) 0) 19 (receives e)))
 
--- u gives the rights r on the target g to the recipient h
+-- the places 20 to 23, and then the grant's row: u gives the rights r on the target g to the recipient h, which it must influence
 unfoldable pub grantPlaces : List ℕ → ℕ → ℕ → ℕ → ℕ → Decision
 grantPlaces t u g h r =
     place (not (ltb g (domains t) && ltb h (domains t))) 20
     (place (eqb r 0 || not (leb r allRights)) 21
     (place (not (holds (rights t u g) GRANT && holds (rights t u g) r)) 22
-    (place (not (mayGive t u h)) 23 (grants g h r))))
+    (place (not (influences t u h)) 23 (grants g h r))))
 
--- u clears the right r from its own on the target g
+-- the places 20 to 22, and then the remove's row: u clears the right r from its own on the target g
 unfoldable pub removePlaces : List ℕ → ℕ → ℕ → ℕ → Decision
 removePlaces t u g r =
     place (not (ltb g (domains t))) 20
@@ -74,8 +74,7 @@ removePlaces t u g r =
 unfoldable pub framed : List ℕ → Call → Kind → Decision → Decision
 framed t c k next =
     place (not (ltb (caller (first c)) (domains t))) 12
-    (place (not (allZero (unusedFields k (first c)))) 13
-    (place (wantsSecond (kind (first c)) && not (hasSecond c)) 14 next))
+    (wordPlaces k c (refused 13) (refused 14) next)
 
 -- every place of a call's kind, in the paper's order
 unfoldable pub places : List ℕ → Call → Kind → Decision
@@ -90,6 +89,7 @@ places t c grant =
     framed t c grant (grantPlaces t (caller (first c)) (fieldA (first c)) (fieldB (first c)) (fieldC (first c)))
 places t c remove = framed t c remove (removePlaces t (caller (first c)) (fieldA (first c)) (fieldC (first c)))
 
+-- what a call comes to on the table t
 unfoldable pub decide : List ℕ → Call → Decision
 decide t c = places t c (callKind c)
 
@@ -99,6 +99,7 @@ pub data Effect : Type 0 where
   newRights : (holder target s : ℕ) → Effect
   newEndpoint : (e : ℕ) (words : List ℕ) → Effect
 
+-- what a decision on the table t alters
 unfoldable pub effect : List ℕ → Decision → Effect
 effect t (refused code) = nothing
 effect t (lookedUp e) = nothing
@@ -109,6 +110,7 @@ effect t (listsRights u) = nothing
 effect t (grants g h r) = newRights h g (adds (rights t h g) r)
 effect t (removes g u r) = newRights u g (without (rights t u g) r)
 
+-- the table t with what an effect alters
 unfoldable pub after : List ℕ → Effect → List ℕ
 after t nothing = t
 after t (newRights h g s) = setRights t h g s
@@ -126,7 +128,7 @@ ownedBits t u = sumBelow (endpoints t) (λ e. cond (eqb (owner (endpoint t e)) u
 unfoldable pub rightsBits : List ℕ → ℕ → ℕ → ℕ
 rightsBits t u g = sumBelow 8 (λ i. cond (ltb (g + i) (domains t)) (rights t u (g + i)) 0 * 16 ^ i)
 
--- the answer's code, and its two data words
+-- the code of the answer to a decision: its number, or 0 where no place fails
 unfoldable pub code : Decision → ℕ
 code (refused n) = n
 code (lookedUp e) = 0
@@ -137,6 +139,7 @@ code (listsRights u) = 0
 code (grants g h r) = 0
 code (removes g u r) = 0
 
+-- the first data word of the answer to a decision on the table t, zero where nothing is named
 unfoldable pub firstData : List ℕ → Decision → ℕ
 firstData t (refused n) = 0
 firstData t (lookedUp e) = e
@@ -147,6 +150,7 @@ firstData t (listsRights u) = rightsBits t u 0
 firstData t (grants g h r) = 0
 firstData t (removes g u r) = 0
 
+-- and the second
 unfoldable pub secondData : List ℕ → Decision → ℕ
 secondData t (refused n) = 0
 secondData t (lookedUp e) = 0
@@ -169,5 +173,6 @@ answerWord c n = kind (first c) * 268435456 + shownCaller c * 4194304 + n
 unfoldable pub answerTo : List ℕ → Call → Decision → List ℕ
 answerTo t c d = answerWord c (code d) ∷ firstData t d ∷ secondData t d ∷ []
 
+-- the answer to a call on the table t
 unfoldable pub answer : List ℕ → Call → List ℕ
 answer t c = answerTo t c (decide t c)

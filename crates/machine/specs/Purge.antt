@@ -1,21 +1,18 @@
 -- The striking rule's terms: which domains can have reached d at each call (sources; document 01: the set), which calls are
 -- kept (purge), and what d sees at the end (its view) (document 01, 'The striking rule').
-use Prim.Native.Nat.{ℕ, suc, zero}
+use Prim.Native.Nat.{ℕ}
 use mathlib.Core.Bool.{Bool, false, cond, _&&_, _||_}
-use mathlib.Core.List.{List, [], _∷_, _++_}
+use mathlib.Core.List.{List, [], _∷_, _++_, map}
 use mathlib.Core.Option.{Option, none, some}
 use lib.ListN.{getD, take, drop}
 use lib.Dec.{eqb, ltb}
+use Rattle.machine.specs.Below.{numbersBelow}
 use Rattle.machine.specs.Table.{domains, endpoints, rightsAt, endpoint}
 use Rattle.machine.specs.Queue.{owner}
 use Rattle.machine.specs.Call.{Call, callerOf}
 use Rattle.machine.specs.Machine.{step}
 use Rattle.machine.specs.Influence.{reaches}
-
--- A set of domains is the list of its members.
-unfoldable pub member : ℕ → List ℕ → Bool
-member u [] = false
-member u (v ∷ vs) = eqb u v || member u vs
+use Rattle.machine.specs.DomainSet.{callerIn, calledBy}
 
 -- u has any right on a member
 unfoldable pub reachesAny : List ℕ → ℕ → List ℕ → Bool
@@ -32,22 +29,12 @@ unfoldable pub sources : List ℕ → List Call → ℕ → List ℕ
 sources t [] d = d ∷ []
 sources t (c ∷ cs) d = joinedBy t (callerOf c) (sources (step t c) cs d)
 
--- a call's caller is in a set
-unfoldable pub callerIn : Option ℕ → List ℕ → Bool
-callerIn none vs = false
-callerIn (some u) vs = member u vs
-
 -- kept are exactly the calls whose caller is in the set at that call
 unfoldable pub purge : List ℕ → List Call → ℕ → List Call
 purge t [] d = []
 purge t (c ∷ cs) d =
     let rest = purge (step t c) cs d in
     cond (callerIn (callerOf c) (sources t (c ∷ cs) d)) (c ∷ rest) rest
-
--- a call is of domain d
-unfoldable pub calledBy : ℕ → Option ℕ → Bool
-calledBy d none = false
-calledBy d (some u) = eqb u d
 
 -- d's answers, out of the answer words of calls, three for each: all three words of each call whose caller is d, in order
 unfoldable pub answersOf : ℕ → List Call → List ℕ → List ℕ
@@ -60,26 +47,24 @@ answersOf d (c ∷ cs) ws =
 unfoldable pub rightsOf : ℕ → List ℕ → List ℕ
 rightsOf d t = take (domains t) (drop (rightsAt (domains t) d 0) t)
 
--- words of each of the first k endpoints that d owns
-unfoldable pub ofOwned : ℕ → List ℕ → (List ℕ → List ℕ) → ℕ → List ℕ
-ofOwned d t part zero = []
-ofOwned d t part (suc e) =
-    let before = ofOwned d t part e in
-    cond (eqb (owner (endpoint t e)) d) (before ++ part (endpoint t e)) before
+-- the endpoints that d owns
+unfoldable pub ownedBy : ℕ → List ℕ → List ℕ
+ownedBy d t = numbersBelow (endpoints t) (λ e. eqb (owner (endpoint t e)) d)
 
--- d's queues: the waiting word and all eight message words of each endpoint it owns
-unfoldable pub queuesOf : ℕ → List ℕ → List ℕ
-queuesOf d t = ofOwned d t (λ q. getD q 2 0 ∷ drop 4 q) (endpoints t)
+-- d's queues: each endpoint it owns, with its waiting word and all eight message words
+unfoldable pub queuesOf : ℕ → List ℕ → List (ℕ × List ℕ)
+queuesOf d t = map (λ e. (e, getD (endpoint t e) 2 0 ∷ drop 4 (endpoint t e))) (ownedBy d t)
 
--- d's lost counts: those endpoints' lost words
-unfoldable pub lostOf : ℕ → List ℕ → List ℕ
-lostOf d t = ofOwned d t (λ q. getD q 3 0 ∷ []) (endpoints t)
+-- d's lost counts: each of those endpoints, with its lost word
+unfoldable pub lostOf : ℕ → List ℕ → List (ℕ × ℕ)
+lostOf d t = map (λ e. (e, getD (endpoint t e) 3 0)) (ownedBy d t)
 
+-- What a domain sees: its answers, its rights, its queues and its lost counts.
 pub record View : Type 0 where
   pub answers : List ℕ
   pub rights : List ℕ
-  pub queues : List ℕ
-  pub lost : List ℕ
+  pub queues : List (ℕ × List ℕ)
+  pub lost : List (ℕ × ℕ)
 
 -- what d sees of calls that were answered by the words ws and left the table t
 unfoldable pub view : ℕ → List Call → List ℕ → List ℕ → View

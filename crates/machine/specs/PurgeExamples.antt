@@ -10,7 +10,8 @@ use Rattle.machine.specs.Table.{domains}
 use Rattle.machine.specs.Call.{Call, cut, Call.one, Call.two}
 use Rattle.machine.specs.Machine.{step}
 use Rattle.machine.specs.Run.{run, answers}
-use Rattle.machine.specs.Purge.{member, sources, purge, View, view}
+use Rattle.machine.specs.DomainSet.{member}
+use Rattle.machine.specs.Purge.{sources, purge, View, view}
 use Rattle.machine.specs.Examples.{emptySlots}
 use Rattle.machine.specs.CodeExamples.{fourDomains}
 
@@ -29,6 +30,7 @@ pub record Purged : Type 0 where
   pub kept : List Call
   pub seen : View
 
+-- all of that, of the calls cs run from the table t, for the domain d
 unfoldable pub purged : List ℕ → List Call → ℕ → Purged
 purged t cs d = record { sets = setsAt t cs d; kept = purge t cs d; seen = view d cs (answers t cs) (run t cs) }
 
@@ -36,6 +38,7 @@ purged t cs d = record { sets = setsAt t cs d; kept = purge t cs d; seen = view 
 pub data PurgeRow : Type 0 where
   pins : (table list : List ℕ) (d : ℕ) (outcome : Purged) → PurgeRow
 
+-- a row holds where what it pins is so
 abbrev pub PurgeRowHolds : PurgeRow → Type 0
 PurgeRowHolds (pins t ws d o) = purged t (cut ws) d ≡ o
 
@@ -69,28 +72,18 @@ giver = threeDomains (none3 ++ (0x2000_0003 ∷ 0x2000_0000 ∷ 0x2000_0001 ∷ 
 
 -- domain 0's view with nothing in its queue, no right and no lost message
 abbrev pub quiet : List ℕ → View
-quiet ws = record { answers = ws; rights = none3; queues = 0x5000_0000 ∷ emptySlots; lost = 0x6000_0000 ∷ [] }
+quiet ws = record { answers = ws; rights = none3; queues = (0, 0x5000_0000 ∷ emptySlots) ∷ []; lost = (0, 0x6000_0000) ∷ [] }
 
--- domain 0's view with the message 7 in its queue, no right, no answer
-abbrev pub gotSeven : List ℕ → View
-gotSeven x =
-    record {
-      answers = [];
-      rights = none3;
-      queues =
-          0x5000_0001
-          ∷ 0xF000_0007
-          ∷ 0xF000_0000
-          ∷ 0xF000_0000
-          ∷ 0xF000_0000
-          ∷ 0xF000_0000
-          ∷ 0xF000_0000
-          ∷ 0xF000_0000
-          ∷ 0xF000_0000
-          ∷ [];
-      lost = x;
-    }
+-- an endpoint's queue with the message 7 alone in it: its waiting word and its slots
+abbrev pub justSeven : List ℕ
+justSeven =
+    0x5000_0001 ∷ 0xF000_0007 ∷ 0xF000_0000 ∷ 0xF000_0000 ∷ 0xF000_0000 ∷ 0xF000_0000 ∷ 0xF000_0000 ∷ 0xF000_0000 ∷ 0xF000_0000 ∷ []
 
+-- domain 0's view with the message 7 in its queue, no right, no answer and no lost message
+abbrev pub gotSeven : View
+gotSeven = record { answers = []; rights = none3; queues = (0, justSeven) ∷ []; lost = (0, 0x6000_0000) ∷ [] }
+
+-- the rows
 abbrev pub purgeRows : List PurgeRow
 purgeRows =
     -- a refused call (16) joins its caller 1, and so brings in the earlier caller 2
@@ -119,14 +112,14 @@ purgeRows =
     (record {
       sets = 0b111 ∷ 0b101 ∷ 0b001 ∷ [];
       kept = one 0x6040_0201 ∷ two 0x2080_0000 0xF000_0007 ∷ [];
-      seen = gotSeven (0x6000_0000 ∷ []);
+      seen = gotSeven;
     })
     -- a right removed by its holder's own calls after use: 1 sends, then gives up SEND, then REMOVE
     ∷ pins (threeDomains (none3 ++ (0x2000_0005 ∷ 0x2000_0000 ∷ 0x2000_0000 ∷ []) ++ none3)) (0x2040_0000 ∷ 0xF000_0007 ∷ 0x7040_0001 ∷ 0x7040_0004 ∷ []) 0
     (record {
       sets = 0b011 ∷ 0b011 ∷ 0b011 ∷ 0b001 ∷ [];
       kept = two 0x2040_0000 0xF000_0007 ∷ one 0x7040_0001 ∷ one 0x7040_0004 ∷ [];
-      seen = gotSeven (0x6000_0000 ∷ []);
+      seen = gotSeven;
     })
     -- a call made before its caller was given the right is struck
     ∷ pins (giver) (0x5080_0000 ∷ 0x6040_0201 ∷ []) 0
@@ -151,8 +144,8 @@ purgeRows =
           record {
             answers = 0x5040_0000 ∷ 1 ∷ 0 ∷ [];
             rights = 0x2000_0001 ∷ 0x2000_0000 ∷ 0x2000_0000 ∷ [];
-            queues = 0x5000_0000 ∷ emptySlots;
-            lost = 0x6000_0000 ∷ [];
+            queues = (1, 0x5000_0000 ∷ emptySlots) ∷ [];
+            lost = (1, 0x6000_0000) ∷ [];
           };
     })
     -- a caller not below n is no known domain, whatever stands where its rights would
@@ -171,8 +164,8 @@ purgeRows =
           record {
             answers = [];
             rights = 0x2000_0000 ∷ 0x2000_0000 ∷ 0x2000_0001 ∷ [];
-            queues = gotSeven [] .queues;
-            lost = 0x6000_0001 ∷ [];
+            queues = (0, justSeven) ∷ [];
+            lost = (0, 0x6000_0001) ∷ [];
           };
     })
     -- endpoints that don't bear their owner's number, two of them d's; a call refused by 13 and a kind 0 join; GRANT alone counts;
@@ -185,8 +178,11 @@ purgeRows =
           record {
             answers = 0x9000_000B ∷ 0 ∷ 0 ∷ 0x3000_0012 ∷ 0 ∷ 0 ∷ 0x3000_0000 ∷ 1 ∷ 0 ∷ [];
             rights = 0x2000_0000 ∷ 0x2000_0003 ∷ 0x2000_0001 ∷ 0x2000_0000 ∷ [];
-            queues = (0x5000_0000 ∷ emptySlots) ++ (0x5000_0001 ∷ 0xF000_0002 ∷ 0xF000_0000 ∷ 0xF000_0000 ∷ 0xF000_0000 ∷ 0xF000_0000 ∷ 0xF000_0000 ∷ 0xF000_0000 ∷ 0xF000_0000 ∷ []);
-            lost = 0x6000_0000 ∷ 0x6000_0000 ∷ [];
+            queues =
+                (1, 0x5000_0000 ∷ emptySlots)
+                ∷ (2, 0x5000_0001 ∷ 0xF000_0002 ∷ 0xF000_0000 ∷ 0xF000_0000 ∷ 0xF000_0000 ∷ 0xF000_0000 ∷ 0xF000_0000 ∷ 0xF000_0000 ∷ 0xF000_0000 ∷ [])
+                ∷ [];
+            lost = (1, 0x6000_0000) ∷ (2, 0x6000_0000) ∷ [];
           };
     })
     ∷ []

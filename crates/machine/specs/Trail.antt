@@ -8,7 +8,8 @@ use mathlib.Core.Option.{some}
 use Rattle.machine.specs.Right.{GRANT, REMOVE, holds}
 use Rattle.machine.specs.Table.{domains, rights}
 use Rattle.machine.specs.Call.{Call, callerOf}
-use Rattle.machine.specs.Machine.{decide, mayGive, Decision.grants, Decision.removes}
+use Rattle.machine.specs.Machine.{decide, Decision.grants, Decision.removes}
+use Rattle.machine.specs.Influence.{influences}
 use Rattle.machine.specs.Run.{run}
 
 -- The call c, on the table t, is an unrefused grant to h on g of rights with r among them; its caller is a domain that held r
@@ -22,7 +23,7 @@ pub record GivenBy (h g r : ℕ) (t : List ℕ) (c : Call) : Type 0 where
   pub below : caller < domains t
   pub held : holds (rights t caller g) r ≡ true
   pub mayGrant : holds (rights t caller g) GRANT ≡ true
-  pub toward : mayGive t caller h ≡ true
+  pub toward : influences t caller h ≡ true
 
 -- One of the calls cs, run from the table t, gave the right r on g to h: GivenBy of the table just before that call.
 pub record GivenAlong (h g r : ℕ) (t : List ℕ) (cs : List Call) : Type 0 where

@@ -1,15 +1,17 @@
 -- Noninterference by unwinding, for any machine whose calls have callers; nothing here knows a table. The theory and its
--- names are CapFlow's (SM, sources, ipurge, the unwinding conditions), with additions: a call's answer is seen by its
--- caller; the theorem speaks of every choice of struck calls and not of the purge alone; a caller need be no domain (`Domain`);
--- and the states are those that are `ok`, a relation of the user's, in place of those that one first state leads to.
--- The conditions are about one call each; what follows from them is about lists of any length (proofs/Unwinding).
+-- names are CapFlow's (SM: run, interferes, sources, ipurge, the unwinding conditions), with additions: a call's answer is
+-- seen by its caller; the theorem speaks of every choice of struck calls and not of the ipurge alone; a caller need be no
+-- domain (`Domain`); and the states are those that are `ok`, a relation of the user's, in place of those that one first state
+-- leads to. The conditions are about one call each; what follows from them is about lists of any length (proofs/Unwinding).
+-- The machine of document 01 is one instance (proofs/Purge): its modules cite this one by `unwinding.` alone, so that
+-- document 01's run, sources and noninterference are those without a prefix.
 use Prim.Native.Nat.{ℕ}
 use mathlib.Core.Path.{_≡_}
 use mathlib.Core.Bool.{Bool, true, false, cond, _||_}
 use mathlib.Core.List.{List, [], _∷_, _++_}
 use mathlib.Core.Option.{Option, none, some}
 use lib.Dec.{eqb}
-use Rattle.machine.specs.Purge.{member, callerIn, calledBy}
+use Rattle.machine.specs.DomainSet.{member, callerIn, calledBy, fromGroup}
 
 -- A machine. Its domains are numbers, and a set of domains is the list of its members.
 pub record StateMachine : Type 1 where
@@ -24,11 +26,6 @@ pub record StateMachine : Type 1 where
   pub caller : Call → Option ℕ
   -- u has a right on v in a state: this moves with the state
   pub reaches : State → ℕ → ℕ → Bool
-
--- a call's caller is in a group
-unfoldable pub fromGroup : (ℕ → Bool) → Option ℕ → Bool
-fromGroup group none = false
-fromGroup group (some u) = group u
 
 module _ (M : StateMachine) where
   open StateMachine M using (State, Call, step, out, caller, reaches)
@@ -46,26 +43,31 @@ module _ (M : StateMachine) where
       cond (calledBy d (caller c)) (out s c ++ rest) rest
 
   -- u reaches a member
-  unfoldable pub reachesAny : State → ℕ → List ℕ → Bool
-  reachesAny s u [] = false
-  reachesAny s u (v ∷ vs) = reaches s u v || reachesAny s u vs
+  unfoldable pub reachesMember : State → ℕ → List ℕ → Bool
+  reachesMember s u [] = false
+  reachesMember s u (v ∷ vs) = reaches s u v || reachesMember s u vs
 
-  -- a set, joined by a call's caller where that reaches a member
-  unfoldable pub joinedBy : State → Option ℕ → List ℕ → List ℕ
-  joinedBy s none vs = vs
-  joinedBy s (some u) vs = cond (reachesAny s u vs) (u ∷ vs) vs
+  -- a set with a call's caller, where that reaches a member
+  unfoldable pub withCaller : State → Option ℕ → List ℕ → List ℕ
+  withCaller s none vs = vs
+  withCaller s (some u) vs = cond (reachesMember s u vs) (u ∷ vs) vs
 
   -- the domains that can have reached d, at the first of the calls that are run from s; past the last call it is d alone
   unfoldable pub sources : State → List Call → ℕ → List ℕ
   sources s [] d = d ∷ []
-  sources s (c ∷ cs) d = joinedBy s (caller c) (sources (step s c) cs d)
+  sources s (c ∷ cs) d = withCaller s (caller c) (sources (step s c) cs d)
 
-  -- exactly the calls whose caller is in the set at that call (CapFlow: ipurge)
-  unfoldable pub purge : State → List Call → ℕ → List Call
-  purge s [] d = []
-  purge s (c ∷ cs) d =
-      let rest = purge (step s c) cs d in
+  -- exactly the calls whose caller is in the set at that call
+  unfoldable pub ipurge : State → List Call → ℕ → List Call
+  ipurge s [] d = []
+  ipurge s (c ∷ cs) d =
+      let rest = ipurge (step s c) cs d in
       cond (callerIn (caller c) (sources s (c ∷ cs) d)) (c ∷ rest) rest
+
+  -- a call's caller is v or reaches it; a call with no caller interferes with nobody
+  unfoldable pub interferes : State → Option ℕ → ℕ → Bool
+  interferes s none v = false
+  interferes s (some u) v = eqb u v || reaches s u v
 
   -- A choice of struck calls: the second list keeps of the first, run from s, at least the calls whose caller is in the set
   -- at that call.
@@ -77,11 +79,6 @@ module _ (M : StateMachine) where
         → callerIn (caller c) (sources s (c ∷ cs) d) ≡ false
         → Keeps d (step s c) cs ks
         → Keeps d s (c ∷ cs) ks
-
-  -- a call's caller is v or reaches it; no caller influences none (CapFlow: interferes)
-  unfoldable pub influences : State → Option ℕ → ℕ → Bool
-  influences s none v = false
-  influences s (some u) v = eqb u v || reaches s u v
 
   -- along the calls run from s, a caller that reaches a member of the group P is a member
   abbrev pub Closed : (ℕ → Type 0) → State → List Call → Type 0
@@ -120,10 +117,10 @@ module _ (M : StateMachine) (ok : M .State → M .State → Type 0) (same : ℕ 
     -- policy respect: states that look the same to v agree on who reaches it
     pub policyRespect :
         {s t : State} {v : ℕ} (u : ℕ) → ok s t → Domain v → same v s t → reaches s u v ≡ reaches t u v
-    -- local respect: a call alters nothing for a domain that its caller doesn't influence
+    -- local respect: a call alters nothing for a domain that its caller doesn't interfere with
     pub localRespect :
-        {s : State} {v : ℕ} (c : Call) → ok s s → Domain v → influences M s (caller c) v ≡ false → same v s (step s c)
-    -- weak step consistency: what a call alters for a domain that its caller influences depends only on what looks the same
+        {s : State} {v : ℕ} (c : Call) → ok s s → Domain v → interferes M s (caller c) v ≡ false → same v s (step s c)
+    -- weak step consistency: what a call alters for a domain that its caller interferes with depends only on what looks the same
     -- to these two
     pub weaklyStepConsistent :
         {s t : State} {u v : ℕ} (c : Call)
@@ -131,7 +128,7 @@ module _ (M : StateMachine) (ok : M .State → M .State → Type 0) (same : ℕ 
         → Domain u
         → Domain v
         → caller c ≡ some u
-        → influences M s (some u) v ≡ true
+        → interferes M s (some u) v ≡ true
         → same u s t
         → same v s t
         → same v (step s c) (step t c)
@@ -140,7 +137,7 @@ module _ (M : StateMachine) (ok : M .State → M .State → Type 0) (same : ℕ 
         {s t : State} {u : ℕ} (c : Call) → ok s t → Domain u → caller c ≡ some u → same u s t → out s c ≡ out t c
 
   -- s and t look the same to every source of the domain d along cs.
-  pub record Agree (d : ℕ) (s : State) (cs : List Call) (t : State) : Type 0 where
+  pub record SameForSources (d : ℕ) (s : State) (cs : List Call) (t : State) : Type 0 where
     pub domain : Domain d
     pub proper : ok s t
     pub each : SameFor same (sources M s cs d) s t
@@ -154,21 +151,30 @@ module _ (M : StateMachine) (ok : M .State → M .State → Type 0) (same : ℕ 
   -- The theorem: of states that look the same to every source of d, d sees the same, whatever calls of others are struck.
   abbrev pub UnwindingTheorem : Type 0
   UnwindingTheorem =
-      (d : ℕ) (s t : State) (cs ks : List Call) → Agree d s cs t → Keeps M d s cs ks → ObservEquivalent d s cs t ks
+      (d : ℕ) (s t : State) (cs ks : List Call) → SameForSources d s cs t → Keeps M d s cs ks → ObservEquivalent d s cs t ks
 
-  -- Its cases: the purge, worked out on the second state;
+  -- Its cases: the ipurge, worked out on the second state;
   abbrev pub Noninfluence : Type 0
-  Noninfluence = (d : ℕ) (s t : State) (cs : List Call) → Agree d s cs t → ObservEquivalent d s cs t (purge M t cs d)
+  Noninfluence = (d : ℕ) (s t : State) (cs : List Call) → SameForSources d s cs t → ObservEquivalent d s cs t (ipurge M t cs d)
 
-  -- the purge, on one state;
+  -- the ipurge, on one state;
   abbrev pub Noninterference : Type 0
   Noninterference =
-      (d : ℕ) (s : State) (cs : List Call) → Domain d → ok s s → ObservEquivalent d s cs s (purge M s cs d)
+      (d : ℕ) (s : State) (cs : List Call) → Domain d → ok s s → ObservEquivalent d s cs s (ipurge M s cs d)
 
   -- nothing struck;
   abbrev pub Nonleakage : Type 0
-  Nonleakage = (d : ℕ) (s t : State) (cs : List Call) → Agree d s cs t → ObservEquivalent d s cs t cs
+  Nonleakage = (d : ℕ) (s t : State) (cs : List Call) → SameForSources d s cs t → ObservEquivalent d s cs t cs
+
+  -- every call from outside a group struck, where d is a member and no caller from outside ever reaches a member;
+  abbrev pub GroupNoninfluence : Type 0
+  GroupNoninfluence =
+      (group : ℕ → Bool) (d : ℕ) (s t : State) (cs : List Call)
+      → SameForSources d s cs t
+      → group d ≡ true
+      → Closed M (λ v. group v ≡ true) s cs
+      → ObservEquivalent d s cs t (groupCalls M group cs)
 
   -- and the sources worked out on the second state are the same.
   abbrev pub SameSources : Type 0
-  SameSources = (d : ℕ) (s t : State) (cs : List Call) → Agree d s cs t → sources M s cs d ≡ sources M t cs d
+  SameSources = (d : ℕ) (s t : State) (cs : List Call) → SameForSources d s cs t → sources M s cs d ≡ sources M t cs d

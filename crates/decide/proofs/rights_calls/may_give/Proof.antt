@@ -1,4 +1,4 @@
--- `decide::may_give` is the machine's `mayGive`. Assumes nothing.
+-- `decide::may_give` is the machine's `influences`. Assumes nothing.
 use mathlib.Core.Path.{ap, _∙_}
 use borrow.Author.Needs.{needs}
 use Rattle.machine.specs.Right.{hasAny}
