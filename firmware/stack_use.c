@@ -32,7 +32,8 @@ struct call {
     uintptr_t given[6];
 };
 
-/* Makes the call with the stack pointer at top, a multiple of 16. */
+/* Makes the call with the stack pointer at top, a multiple of 16. In struct call the
+   function stands at 0 and what is given from 8 on. */
 uint32_t call_on_stack(const struct call *call, uint64_t *top);
 
 __asm__(".text\n"
