@@ -1,6 +1,6 @@
 /*
  * codes.h: what each of the kernel's numbers means, in words for a log or a
- * panel. Nothing is allocated: every text is a constant.
+ * panel, in C11. Nothing is allocated: every text is a constant.
  */
 #ifndef CODES_H
 #define CODES_H

@@ -33,6 +33,6 @@ int main(void)
     printf("calls %u code %u: %s\n", (unsigned)calls, (unsigned)code,
            code_meaning(code));
     for (uint32_t i = 0; i < calls; i++)
-        print_answer(i, answers + BALKWIZU_ANSWER_WORDS * i);
+        print_answer(i, answers + BALKWIZU_ANSWER_AT(i));
     return code == BALKWIZU_OK ? 0 : 1;
 }

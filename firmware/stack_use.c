@@ -1,26 +1,59 @@
 /*
- * stack_use.c: how much stack the kernel's two functions take. Each is called in a
- * thread whose stack was filled with one byte beforehand; what lies below the
- * caller's own frame and is no longer that byte was used.
+ * stack_use.c: how much stack each of the kernel's functions takes, from the stack
+ * pointer at the call instruction down to the lowest word that is written: the
+ * return address, its own frame, the red zone where it uses that, and the return
+ * address of memmove. It is called on a stack of its own that was filled
+ * beforehand; what is no longer the filling was used.
  *
- * It needs POSIX threads, and is for the desk, not for the controller: link it
- * with -Wl,-z,now, or the loader's own work at a first call is counted too.
+ * The figure is the archive's alone. A few instructions here call the function, so
+ * that no frame of a C function is counted; and it is called once before it is
+ * measured, since the loader may look up memmove on the same stack at its first
+ * call. (The memmove of glibc takes no stack of its own.)
  *
- * The exit status is 0 where both were measured, 1 where one of them was not.
+ * The exit status is 0 where each function answers 0 and takes no more than
+ * balkwizu.h says, else 1.
  */
-#define _POSIX_C_SOURCE 200112L
-#include <pthread.h>
 #include <stdio.h>
-#include <string.h>
 
 #include "balkwizu.h"
 
-enum { STACK_BYTES = 65536, UNTOUCHED = 0xA5, DOMAINS = 16, ENDPOINTS = 32 };
+enum { STACK_WORDS = 8192, DOMAINS = 16, ENDPOINTS = 32 };
 
-static _Alignas(4096) unsigned char stack[STACK_BYTES];
+static const uint64_t untouched = 0xA5A5A5A5A5A5A5A5u;
+
+static _Alignas(16) uint64_t stack[STACK_WORDS];
 static uint32_t table[BALKWIZU_TABLE_WORDS_MAX];
 static uint32_t list[BALKWIZU_LIST_WORDS_MAX];
 static uint32_t answers[BALKWIZU_ANSWER_WORDS * BALKWIZU_LIST_WORDS_MAX];
+
+/* One of the kernel's functions, and up to six pointers and lengths for it. */
+struct call {
+    void (*function)(void);
+    uintptr_t given[6];
+};
+
+/* Makes the call with the stack pointer at top, a multiple of 16. In struct call the
+   function stands at 0 and what is given from 8 on. */
+uint32_t call_on_stack(const struct call *call, uint64_t *top);
+
+__asm__(".text\n"
+        ".globl call_on_stack\n"
+        ".type call_on_stack, @function\n"
+        "call_on_stack:\n"
+        "    push %rbp\n"
+        "    mov %rsp, %rbp\n"
+        "    mov %rsi, %rsp\n"
+        "    mov %rdi, %rax\n"
+        "    mov 8(%rax), %rdi\n"
+        "    mov 16(%rax), %rsi\n"
+        "    mov 24(%rax), %rdx\n"
+        "    mov 32(%rax), %rcx\n"
+        "    mov 40(%rax), %r8\n"
+        "    mov 48(%rax), %r9\n"
+        "    call *(%rax)\n"
+        "    mov %rbp, %rsp\n"
+        "    pop %rbp\n"
+        "    ret\n");
 
 /* The largest table: every right for everybody, and empty queues of eight. */
 static void make_table(void)
@@ -29,15 +62,16 @@ static void make_table(void)
     for (int holder = 0; holder < DOMAINS; holder++)
         for (int target = 0; target < DOMAINS; target++)
             table[BALKWIZU_RIGHTS_AT(DOMAINS, holder, target)] =
-                BALKWIZU_TABLE_RIGHTS(7);
+                BALKWIZU_TABLE_RIGHTS(BALKWIZU_RIGHTS_ALL);
     for (int e = 0; e < ENDPOINTS; e++) {
         uint32_t *word = table + BALKWIZU_ENDPOINT_AT(DOMAINS, e);
-        *word++ = BALKWIZU_TABLE_NAME(1 + e);
-        *word++ = BALKWIZU_TABLE_INFO(e % DOMAINS, 8);
-        *word++ = BALKWIZU_TABLE_WAITING(0);
-        *word++ = BALKWIZU_TABLE_LOST(0);
-        for (int slot = 0; slot < 8; slot++)
-            *word++ = BALKWIZU_EMPTY_SLOT;
+        word[BALKWIZU_PLACE_NAME] = BALKWIZU_TABLE_NAME(1 + e);
+        word[BALKWIZU_PLACE_INFO] =
+            BALKWIZU_TABLE_INFO(e % DOMAINS, BALKWIZU_SLOTS);
+        word[BALKWIZU_PLACE_WAITING] = BALKWIZU_TABLE_WAITING(0);
+        word[BALKWIZU_PLACE_LOST] = BALKWIZU_TABLE_LOST(0);
+        for (int slot = 0; slot < BALKWIZU_SLOTS; slot++)
+            word[BALKWIZU_PLACE_SLOTS + slot] = BALKWIZU_EMPTY_SLOT;
     }
 }
 
@@ -62,60 +96,42 @@ static void make_list(void)
     }
 }
 
-static uint32_t check(void)
+/* The bytes of stack below top that one call takes; result is what it returns. */
+static size_t bytes_taken(const struct call *call, uint32_t *result)
 {
-    return balkwizu_table_check((const uint8_t *)table, sizeof table);
-}
-
-static uint32_t run(void)
-{
-    return BALKWIZU_RUN_CODE(balkwizu_run(table, BALKWIZU_TABLE_WORDS_MAX, list,
-                                          BALKWIZU_LIST_WORDS_MAX, answers,
-                                          sizeof answers / sizeof *answers));
-}
-
-/* A function to call, and what came of it. */
-struct measured {
-    uint32_t (*function)(void);
-    uint32_t code;
-    size_t bytes;
-};
-
-/* A thread's work. Its own frame is where `here` stands: the function's is below. */
-static void *measure(void *given)
-{
-    struct measured *it = given;
-    volatile unsigned char here = UNTOUCHED;
     size_t lowest = 0;
-    it->code = it->function();
-    while (lowest < sizeof stack && stack[lowest] == UNTOUCHED)
+    for (size_t i = 0; i < STACK_WORDS; i++)
+        stack[i] = untouched;
+    make_table();
+    *result = call_on_stack(call, stack + STACK_WORDS);
+    while (lowest < STACK_WORDS && stack[lowest] == untouched)
         lowest++;
-    it->bytes = (size_t)((uintptr_t)&here - (uintptr_t)stack) - lowest;
-    return NULL;
+    return sizeof *stack * (STACK_WORDS - lowest);
 }
 
-/* Runs a function on a stack of its own and prints what it took: 0 where all is well. */
-static int tell(const char *name, uint32_t (*function)(void))
+/* Measures a call and prints what it took: 0 where all is well. */
+static int tell(const char *name, const struct call *call, size_t most)
 {
-    struct measured it = { function, BALKWIZU_OK, 0 };
-    pthread_attr_t attributes;
-    pthread_t thread;
-    memset(stack, UNTOUCHED, sizeof stack);
-    if (pthread_attr_init(&attributes) != 0 ||
-        pthread_attr_setstack(&attributes, stack, sizeof stack) != 0 ||
-        pthread_create(&thread, &attributes, measure, &it) != 0 ||
-        pthread_join(thread, NULL) != 0) {
-        printf("%s: not measured, no thread\n", name);
-        return 1;
-    }
-    printf("%s: %zu bytes of stack, code %u\n", name, it.bytes, (unsigned)it.code);
-    return it.code != BALKWIZU_OK;
+    uint32_t result;
+    bytes_taken(call, &result);
+    size_t bytes = bytes_taken(call, &result);
+    uint32_t code = BALKWIZU_RUN_CODE(result); /* the check's is in the same bits */
+    printf("%s: %zu bytes of stack, %zu allowed, code %u\n", name, bytes, most,
+           (unsigned)code);
+    return code != BALKWIZU_OK || bytes > most;
 }
 
 int main(void)
 {
-    make_table();
+    const struct call check = { (void (*)(void))balkwizu_table_check,
+                                { (uintptr_t)table, sizeof table } };
+    const struct call run = { (void (*)(void))balkwizu_run,
+                              { (uintptr_t)table, BALKWIZU_TABLE_WORDS_MAX,
+                                (uintptr_t)list, BALKWIZU_LIST_WORDS_MAX,
+                                (uintptr_t)answers,
+                                sizeof answers / sizeof *answers } };
     make_list();
-    int failed = tell("balkwizu_table_check", check);
-    return tell("balkwizu_run", run) | failed;
+    int failed =
+        tell("balkwizu_table_check", &check, BALKWIZU_TABLE_CHECK_STACK_BYTES);
+    return tell("balkwizu_run", &run, BALKWIZU_RUN_STACK_BYTES) | failed;
 }

@@ -1,17 +1,19 @@
 /*
  * balkwizu.h: the line controller's capability kernel, for firmware in C11 or
- * C++.
+ * C++11.
  *
  * The functions stand in target/staticlib/libbalkwizu.a, which
- * `rt staticlib balkwizu` makes from proved code: it is for x86-64, allocates
- * nothing, and calls nothing of the C library but memcpy, memmove and memset.
+ * `rt staticlib balkwizu` makes from proved code: it is for x86-64, may be linked
+ * at any address, allocates nothing, and calls nothing of the C library but
+ * memcpy, memmove and memset.
  *
- * Neither function keeps anything from one call to the next: they may be called
- * at the same time on different words.
+ * No function keeps anything from one call to the next: they may be called at the
+ * same time on different words.
  *
  * What is proved is proved of every table, every list and every answer space,
  * damaged ones too. What no proof covers are the caller's duties, written at
- * each function: the kernel believes the pointers and lengths that it is given.
+ * each function, and what its machine code asks, written below: the kernel
+ * believes the pointers and lengths that it is given.
  *
  * Numbers and layouts are those of document 01, "The line controller's
  * capability kernel". Bit 0 is the lowest bit of a word.
@@ -26,6 +28,39 @@
 extern "C" {
 #endif
 
+/*
+ * What the machine code asks of its caller
+ *
+ * It is made by the System V ABI of x86-64, like programs for Linux. On bare metal
+ * the firmware has to see to what that ABI takes for granted:
+ *
+ *   alignment  The stack pointer is a multiple of 16 at the call instruction.
+ *              Where it isn't, the function faults: it stores 16 bytes at a time.
+ *   red zone   A function may keep words in the 128 bytes below its stack pointer.
+ *              An interrupt on the same stack overwrites them, and the check then
+ *              refuses a sound table or lets a repeated name through. Interrupts
+ *              have a stack of their own (an entry of the interrupt stack table,
+ *              or a change of privilege), or are off during the call. No option
+ *              that the firmware is compiled with alters this.
+ *   registers  The general registers and xmm0 to xmm15, by instructions up to SSE2
+ *              and without floating-point arithmetic; no x87, MMX or AVX. SSE is
+ *              switched on (CR0.EM and CR0.TS are 0, CR4.OSFXSR is 1), and an
+ *              interrupt that uses xmm registers puts them back.
+ *   jumps      No place that is jumped to by a register is marked as such
+ *              (endbr64): indirect branch tracking is off.
+ *   stack      The bytes below the stack pointer at the call instruction, return
+ *              address and red zone included, are at most those defined here for
+ *              each function. What the firmware's own memcpy, memmove or memset
+ *              takes comes on top.
+ *
+ * What each function uses of this, as the gate reads it out of the archive:
+ *
+ *   balkwizu_run: general and xmm registers, aligned stack, unmarked jumps
+ *   balkwizu_table_check: general and xmm registers, aligned stack, red zone
+ */
+#define BALKWIZU_RUN_STACK_BYTES 512
+#define BALKWIZU_TABLE_CHECK_STACK_BYTES 256
+
 /* The most that a table, a list and its answers can have, in words. */
 #define BALKWIZU_DOMAINS_MAX 16
 #define BALKWIZU_ENDPOINTS_MAX 32
@@ -33,14 +68,28 @@ extern "C" {
 #define BALKWIZU_LIST_WORDS_MAX 4096
 #define BALKWIZU_ANSWER_WORDS 3 /* for each call */
 
+/* The words of one endpoint, and the message slots among them. */
+#define BALKWIZU_ENDPOINT_WORDS 12
+#define BALKWIZU_SLOTS 8
+
 /* The right length in words of a table of n domains and m endpoints. */
-#define BALKWIZU_TABLE_WORDS(n, m) (1 + (n) * (n) + 12 * (m))
+#define BALKWIZU_TABLE_WORDS(n, m)                                             \
+    (1 + (n) * (n) + BALKWIZU_ENDPOINT_WORDS * (m))
+
+/* A number as a word, and the bits of a word below its kind. */
+#ifdef __cplusplus
+#define BALKWIZU_WORD(number) (static_cast<uint32_t>(number))
+#else
+#define BALKWIZU_WORD(number) ((uint32_t)(number))
+#endif
+#define BALKWIZU_CONTENT(word) (BALKWIZU_WORD(word) & 0x0FFFFFFFu)
 
 /* Every number that the kernel answers with, named by what is wrong. */
 enum balkwizu_code {
     BALKWIZU_OK = 0,
 
-    /* Of a whole run, or of the table's check: nothing was changed. */
+    /* Of a whole run, or of the table's check, the first that fails: nothing was
+       changed. (7 is the program linerun's, for input that can't be read.) */
     BALKWIZU_LIST_TOO_LONG = 1,      /* the list is above 4,096 words */
     BALKWIZU_TABLE_BAD_HEADER = 2,   /* table empty, or word 0 breaks its layout */
     BALKWIZU_TABLE_BAD_LENGTH = 3,   /* not the length that word 0 asks for */
@@ -48,7 +97,8 @@ enum balkwizu_code {
     BALKWIZU_TABLE_BAD_ENDPOINT = 5, /* an endpoint word does, or a name repeats */
     BALKWIZU_ANSWERS_TOO_SHORT = 6,  /* answer space under three words a call */
 
-    /* Of one call: the table is as before it, the list goes on behind it. */
+    /* Of one call, the first that fails: the table is as before it, and the list
+       goes on behind it. */
     BALKWIZU_STRAY = 10,           /* a word of kind 15 standing alone */
     BALKWIZU_UNKNOWN_KIND = 11,    /* kind 0, or 8 to 14 */
     BALKWIZU_UNKNOWN_CALLER = 12,  /* caller not below n */
@@ -60,7 +110,8 @@ enum balkwizu_code {
     BALKWIZU_NOT_OWNER = 18,       /* receive: caller isn't the owner */
     BALKWIZU_NOTHING_WAITING = 19, /* receive: the queue is empty */
     BALKWIZU_NO_SUCH_DOMAIN = 20,  /* grant, remove: a domain named isn't below n */
-    BALKWIZU_BAD_RIGHTS = 21,      /* grant: not 1 to 7; remove: not 1, 2 or 4 */
+    BALKWIZU_BAD_RIGHTS = 21,      /* grant: 0 or above BALKWIZU_RIGHTS_ALL;
+                                      remove: not just one right */
     BALKWIZU_LACKS_RIGHT = 22,     /* grant: no GRANT, or a right of C, on the
                                       target; remove: no REMOVE or not that right */
     BALKWIZU_MAY_NOT_GIVE = 23     /* grant: to another, with no right on it */
@@ -78,11 +129,12 @@ enum balkwizu_kind {
     BALKWIZU_KIND_SECOND = 15 /* the second word of a look up or a send */
 };
 
-/* The rights, each one bit of a set. */
+/* The rights, each one bit of a set, and the set of all of them. */
 enum balkwizu_right {
     BALKWIZU_RIGHT_SEND = 1,
     BALKWIZU_RIGHT_GRANT = 2,
-    BALKWIZU_RIGHT_REMOVE = 4
+    BALKWIZU_RIGHT_REMOVE = 4,
+    BALKWIZU_RIGHTS_ALL = 7
 };
 
 /*
@@ -91,47 +143,156 @@ enum balkwizu_right {
  *
  *   word 0       kind 1: the number of domains n in bits 15-8 (1 to 16), that of
  *                endpoints m in bits 7-0 (0 to 32)
- *   n * n words  kind 2: the rights of a holder on a target in bits 2-0
+ *   n * n words  kind 2: the rights of a holder on a target, a set of enum
+ *                balkwizu_right, at 1 + holder * n + target
  *   then 12 words for each endpoint:
  *     name       kind 3: bits 27-0, not zero, no two endpoints the same
  *     info       kind 4: the owner in bits 15-8 (below n), the capacity in bits
  *                7-0 (1 to 8)
- *     waiting    kind 5: how many messages wait, at most the capacity
- *     lost       kind 6: how many messages found the queue full
- *     8 slots    kind 15: the messages that wait, oldest first, and
+ *     waiting    kind 5: how many messages wait in bits 27-0, at most the capacity
+ *     lost       kind 6: the lost count in bits 27-0
+ *     8 slots    kind 15: the messages that wait in bits 27-0, oldest first, and
  *                BALKWIZU_EMPTY_SLOT from the waiting count on
+ *
+ * A run alters rights, waiting, lost and slot words, and no other.
  *
  * Words as constants: every field must be within its bits.
  */
 #define BALKWIZU_TABLE_HEADER(n, m)                                            \
-    (0x10000000u | ((uint32_t)(n) << 8) | (uint32_t)(m))
-#define BALKWIZU_TABLE_RIGHTS(rights) (0x20000000u | (uint32_t)(rights))
-#define BALKWIZU_TABLE_NAME(name) (0x30000000u | (uint32_t)(name))
+    (0x10000000u | (BALKWIZU_WORD(n) << 8) | BALKWIZU_WORD(m))
+#define BALKWIZU_TABLE_RIGHTS(rights) (0x20000000u | BALKWIZU_WORD(rights))
+#define BALKWIZU_TABLE_NAME(name) (0x30000000u | BALKWIZU_WORD(name))
 #define BALKWIZU_TABLE_INFO(owner, capacity)                                   \
-    (0x40000000u | ((uint32_t)(owner) << 8) | (uint32_t)(capacity))
-#define BALKWIZU_TABLE_WAITING(count) (0x50000000u | (uint32_t)(count))
-#define BALKWIZU_TABLE_LOST(count) (0x60000000u | (uint32_t)(count))
+    (0x40000000u | (BALKWIZU_WORD(owner) << 8) | BALKWIZU_WORD(capacity))
+#define BALKWIZU_TABLE_WAITING(count) (0x50000000u | BALKWIZU_WORD(count))
+#define BALKWIZU_TABLE_LOST(count) (0x60000000u | BALKWIZU_WORD(count))
+#define BALKWIZU_TABLE_MESSAGE(message) (0xF0000000u | BALKWIZU_WORD(message))
 #define BALKWIZU_EMPTY_SLOT 0xF0000000u
 
 /* Where the rights of a holder on a target stand, and an endpoint's 12 words. */
 #define BALKWIZU_RIGHTS_AT(n, holder, target) (1 + (holder) * (n) + (target))
-#define BALKWIZU_ENDPOINT_AT(n, endpoint) (1 + (n) * (n) + 12 * (endpoint))
+#define BALKWIZU_ENDPOINT_AT(n, endpoint) BALKWIZU_TABLE_WORDS(n, endpoint)
+
+/* The places of an endpoint's words, counted from the first of them. */
+enum balkwizu_place {
+    BALKWIZU_PLACE_NAME = 0,
+    BALKWIZU_PLACE_INFO = 1,
+    BALKWIZU_PLACE_WAITING = 2,
+    BALKWIZU_PLACE_LOST = 3,
+    BALKWIZU_PLACE_SLOTS = 4 /* the first slot: the oldest message */
+};
 
 /*
- * Words of a call list, as constants: every field must be within its bits
- * (caller and target 6, endpoint, recipient and rights 8, name and message 28).
- * A look up and a send are directly followed by BALKWIZU_SECOND of their name or
- * message:
+ * Reading a table that was accepted, or that a run left. Domains are below n,
+ * endpoints below m, slots below BALKWIZU_SLOTS: none of these functions looks
+ * whether that is so.
+ */
+static inline uint32_t balkwizu_table_domains(const uint32_t *table)
+{
+    return (table[0] >> 8) & 0xFFu;
+}
+
+static inline uint32_t balkwizu_table_endpoints(const uint32_t *table)
+{
+    return table[0] & 0xFFu;
+}
+
+static inline uint32_t balkwizu_table_rights(const uint32_t *table,
+                                             uint32_t holder, uint32_t target)
+{
+    uint32_t n = balkwizu_table_domains(table);
+    return BALKWIZU_CONTENT(table[BALKWIZU_RIGHTS_AT(n, holder, target)]);
+}
+
+/* The word at one of the places of an endpoint. */
+static inline uint32_t balkwizu_table_word(const uint32_t *table,
+                                           uint32_t endpoint, uint32_t place)
+{
+    uint32_t n = balkwizu_table_domains(table);
+    return table[BALKWIZU_ENDPOINT_AT(n, endpoint) + place];
+}
+
+static inline uint32_t balkwizu_table_name(const uint32_t *table,
+                                           uint32_t endpoint)
+{
+    return BALKWIZU_CONTENT(
+        balkwizu_table_word(table, endpoint, BALKWIZU_PLACE_NAME));
+}
+
+static inline uint32_t balkwizu_table_owner(const uint32_t *table,
+                                            uint32_t endpoint)
+{
+    return (balkwizu_table_word(table, endpoint, BALKWIZU_PLACE_INFO) >> 8) & 0xFFu;
+}
+
+static inline uint32_t balkwizu_table_capacity(const uint32_t *table,
+                                               uint32_t endpoint)
+{
+    return balkwizu_table_word(table, endpoint, BALKWIZU_PLACE_INFO) & 0xFFu;
+}
+
+static inline uint32_t balkwizu_table_waiting(const uint32_t *table,
+                                              uint32_t endpoint)
+{
+    return BALKWIZU_CONTENT(
+        balkwizu_table_word(table, endpoint, BALKWIZU_PLACE_WAITING));
+}
+
+static inline uint32_t balkwizu_table_lost(const uint32_t *table,
+                                           uint32_t endpoint)
+{
+    return BALKWIZU_CONTENT(
+        balkwizu_table_word(table, endpoint, BALKWIZU_PLACE_LOST));
+}
+
+/* The message in a slot: it is one where the slot is below the waiting count. */
+static inline uint32_t balkwizu_table_message(const uint32_t *table,
+                                              uint32_t endpoint, uint32_t slot)
+{
+    return BALKWIZU_CONTENT(
+        balkwizu_table_word(table, endpoint, BALKWIZU_PLACE_SLOTS + slot));
+}
+
+/*
+ * The words of a call list. A call's first word has its kind in bits 31-28, the
+ * caller in bits 27-22, A in bits 21-16, B in bits 15-8 and C in bits 7-0; a field
+ * that the call doesn't use is zero. A second word has kind 15 and its name or
+ * message in bits 27-0. It is of one call with a look up or a send directly before
+ * it; every other word is a call of its own, a word of kind 15 elsewhere too.
+ *
+ *   call          uses                         data words, where it isn't refused
+ *   look up       second word: the name        the endpoint's number; 0
+ *   send          B endpoint;                  0; 0
+ *                 second word: the message
+ *   receive       B endpoint                   the message; the endpoint's lost
+ *                                              count
+ *   my endpoints  nothing                      bit e is set for each endpoint e
+ *                                              that the caller owns; 0
+ *   my rights     nothing                      the caller's rights on target t in
+ *                                              bits 4t to 4t + 3; on targets 8 to
+ *                                              15 likewise in the second word
+ *   grant         A target, B recipient,       0; 0
+ *                 C rights
+ *   remove        A target, C one right        0; 0
+ *
+ * A full queue: the message of a send is dropped and the endpoint's lost count
+ * rises by 1, up to BALKWIZU_LOST_MAX. The send answers 0 as if there had been
+ * space: the sender is never told. The owner reads it in the lost count.
+ *
+ * Words as constants: every field must be within its bits (caller and target 6,
+ * endpoint, recipient and rights 8, name and message 28). A look up and a send are
+ * directly followed by BALKWIZU_SECOND of their name or message:
  *
  *     const uint32_t list[] = {
  *         BALKWIZU_SEND(0, 1), BALKWIZU_SECOND(5),
  *         BALKWIZU_RECEIVE(2, 1),
  *     };
  */
+#define BALKWIZU_LOST_MAX 268435455
 #define BALKWIZU_FIRST(kind, caller, a, b, c)                                  \
-    (((uint32_t)(kind) << 28) | ((uint32_t)(caller) << 22) |                   \
-     ((uint32_t)(a) << 16) | ((uint32_t)(b) << 8) | (uint32_t)(c))
-#define BALKWIZU_SECOND(content) (0xF0000000u | (uint32_t)(content))
+    ((BALKWIZU_WORD(kind) << 28) | (BALKWIZU_WORD(caller) << 22) |             \
+     (BALKWIZU_WORD(a) << 16) | (BALKWIZU_WORD(b) << 8) | BALKWIZU_WORD(c))
+#define BALKWIZU_SECOND(content) (0xF0000000u | BALKWIZU_WORD(content))
 #define BALKWIZU_LOOK_UP(caller)                                               \
     BALKWIZU_FIRST(BALKWIZU_KIND_LOOK_UP, caller, 0, 0, 0)
 #define BALKWIZU_SEND(caller, endpoint)                                        \
@@ -147,14 +308,57 @@ enum balkwizu_right {
 #define BALKWIZU_REMOVE(caller, target, right)                                 \
     BALKWIZU_FIRST(BALKWIZU_KIND_REMOVE, caller, target, 0, right)
 
-/* The first of a call's three answer words, taken apart. */
-#define BALKWIZU_ANSWER_KIND(word) ((uint32_t)(word) >> 28)
-#define BALKWIZU_ANSWER_CALLER(word) (((uint32_t)(word) >> 22) & 63u)
-#define BALKWIZU_ANSWER_CODE(word) ((uint32_t)(word) & 0xFFFFu)
+/* Where a call's three answer words stand; calls are numbered from 0. */
+#define BALKWIZU_ANSWER_AT(call) (BALKWIZU_ANSWER_WORDS * (call))
+
+/*
+ * The first of them, taken apart: the call's kind in bits 31-28, its caller in bits
+ * 27-22, its code in bits 15-0, the rest zero. A stray word's caller is 0 here.
+ */
+#define BALKWIZU_ANSWER_KIND(word) (BALKWIZU_WORD(word) >> 28)
+#define BALKWIZU_ANSWER_CALLER(word) ((BALKWIZU_WORD(word) >> 22) & 63u)
+#define BALKWIZU_ANSWER_CODE(word) (BALKWIZU_WORD(word) & 0xFFFFu)
+
+/*
+ * The other two, the data words, of a call that was answered with code 0; answer
+ * points to the first of the three. A refused call has no data: both are zero.
+ */
+
+/* Look up: the number of the endpoint that has the name. */
+static inline uint32_t balkwizu_answer_endpoint(const uint32_t *answer)
+{
+    return answer[1];
+}
+
+/* Receive: the message that was taken out. */
+static inline uint32_t balkwizu_answer_message(const uint32_t *answer)
+{
+    return answer[1];
+}
+
+/* Receive: the endpoint's lost count. */
+static inline uint32_t balkwizu_answer_lost(const uint32_t *answer)
+{
+    return answer[2];
+}
+
+/* My endpoints: 1 where the caller owns the endpoint, 0 where it doesn't. */
+static inline uint32_t balkwizu_answer_owns(const uint32_t *answer,
+                                            uint32_t endpoint)
+{
+    return (answer[1] >> endpoint) & 1u;
+}
+
+/* My rights: the caller's rights on a target, a set of enum balkwizu_right. */
+static inline uint32_t balkwizu_answer_rights(const uint32_t *answer,
+                                              uint32_t target)
+{
+    return (answer[1 + target / 8] >> (4 * (target % 8))) & 0xFu;
+}
 
 /* What balkwizu_run returns, taken apart. */
-#define BALKWIZU_RUN_CODE(result) ((uint32_t)(result) & 0xFFFFu)
-#define BALKWIZU_RUN_CALLS(result) ((uint32_t)(result) >> 16)
+#define BALKWIZU_RUN_CODE(result) (BALKWIZU_WORD(result) & 0xFFFFu)
+#define BALKWIZU_RUN_CALLS(result) (BALKWIZU_WORD(result) >> 16)
 
 /*
  * The check of a table image: len bytes, little-endian words, as they stand in
@@ -179,9 +383,8 @@ uint32_t balkwizu_table_check(const uint8_t *bytes, size_t len);
  * Returns two numbers in one word: the code in bits 15-0 (BALKWIZU_RUN_CODE),
  * the number of calls in bits 31-16 (BALKWIZU_RUN_CALLS).
  *   0  BALKWIZU_OK: the list was run to its end. The table is as the last call
- *      left it. Call i has its three answer words at answers[3 * i]: kind, caller
- *      and the call's own code, then two data words, zero where the call has
- *      none. Words of answers beyond three for each call are untouched.
+ *      left it. Call i has its three answer words at BALKWIZU_ANSWER_AT(i), its
+ *      own code in the first. Words beyond three for each call are untouched.
  *   1  BALKWIZU_LIST_TOO_LONG
  *   2 to 5  as balkwizu_table_check answers, for the table's words
  *   6  BALKWIZU_ANSWERS_TOO_SHORT

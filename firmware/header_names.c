@@ -1,0 +1,366 @@
+/*
+ * header_names.c: every name of balkwizu.h used on document 01's table T and list
+ * L, on its edges, and on the largest table, and compared with what document 01
+ * says. Numbers on the right of a comparison are the paper's, written out.
+ *
+ * It is C11 and C++11. It prints what differs, then how many comparisons were
+ * made; the exit status is 0 where nothing differs, else 1.
+ */
+#include <stdio.h>
+#include <string.h>
+
+#include "balkwizu.h"
+#include "example.h"
+
+#define WORDS(array) (sizeof(array) / sizeof *(array))
+
+static uint32_t table[BALKWIZU_TABLE_WORDS_MAX];
+static uint32_t list[BALKWIZU_LIST_WORDS_MAX + 1];
+static uint32_t answers[BALKWIZU_ANSWER_WORDS * BALKWIZU_LIST_WORDS_MAX];
+static unsigned compared, differ;
+
+static void is(const char *what, uint32_t found, uint32_t wanted)
+{
+    compared++;
+    if (found == wanted)
+        return;
+    differ++;
+    printf("%s: %lX, not %lX\n", what, (unsigned long)found, (unsigned long)wanted);
+}
+
+/* Compares and names a value by the text of its expression. */
+#define IS(found, wanted) is(#found, BALKWIZU_WORD(found), BALKWIZU_WORD(wanted))
+
+static void put_table_t(void)
+{
+    memcpy(table, example_table, sizeof example_table);
+}
+
+static uint32_t run(size_t table_words, const uint32_t *calls, size_t words)
+{
+    return balkwizu_run(table, table_words, calls, words, answers, WORDS(answers));
+}
+
+static uint32_t check(size_t words)
+{
+    return balkwizu_table_check((const uint8_t *)table, 4 * words);
+}
+
+static uint32_t code_of(size_t call)
+{
+    return BALKWIZU_ANSWER_CODE(answers[BALKWIZU_ANSWER_AT(call)]);
+}
+
+/* "The length is exactly 1 + n * n + 12 * m words, so at most 641." */
+static void limits(void)
+{
+    IS(BALKWIZU_DOMAINS_MAX, 16);
+    IS(BALKWIZU_ENDPOINTS_MAX, 32);
+    IS(BALKWIZU_TABLE_WORDS_MAX, 641);
+    IS(BALKWIZU_TABLE_WORDS(16, 32), 641);
+    IS(BALKWIZU_TABLE_WORDS(3, 2), 34);
+    IS(BALKWIZU_LIST_WORDS_MAX, 4096);
+    IS(BALKWIZU_ANSWER_WORDS, 3);
+    IS(BALKWIZU_ENDPOINT_WORDS, 12);
+    IS(BALKWIZU_SLOTS, 8);
+    IS(BALKWIZU_LOST_MAX, 268435455);
+    IS(BALKWIZU_WORD(-1), 0xFFFFFFFF);
+    IS(BALKWIZU_CONTENT(0xFEDCBA98), 0x0EDCBA98);
+}
+
+/* Table T by the header's words and places. */
+static void words_of_t(void)
+{
+    const uint32_t *word = example_table + BALKWIZU_ENDPOINT_AT(3, 1);
+    IS(BALKWIZU_TABLE_HEADER(3, 2), 0x10000302);
+    IS(BALKWIZU_RIGHTS_AT(3, 1, 2), 6);
+    IS(BALKWIZU_TABLE_RIGHTS(BALKWIZU_RIGHTS_ALL), 0x20000007);
+    IS(example_table[BALKWIZU_RIGHTS_AT(3, 1, 2)], 0x20000007);
+    IS(BALKWIZU_RIGHT_SEND, 1);
+    IS(BALKWIZU_RIGHT_GRANT, 2);
+    IS(BALKWIZU_RIGHT_REMOVE, 4);
+    IS(BALKWIZU_ENDPOINT_AT(3, 0), 10);
+    IS(BALKWIZU_ENDPOINT_AT(3, 1), 22);
+    IS(word[BALKWIZU_PLACE_NAME], BALKWIZU_TABLE_NAME(0x12));
+    IS(word[BALKWIZU_PLACE_INFO], BALKWIZU_TABLE_INFO(2, 1));
+    IS(word[BALKWIZU_PLACE_WAITING], BALKWIZU_TABLE_WAITING(0));
+    IS(word[BALKWIZU_PLACE_LOST], BALKWIZU_TABLE_LOST(0));
+    IS(word[BALKWIZU_PLACE_SLOTS], BALKWIZU_EMPTY_SLOT);
+    IS(BALKWIZU_PLACE_SLOTS, 4);
+    IS(BALKWIZU_TABLE_NAME(0x11), 0x30000011);
+    IS(BALKWIZU_TABLE_INFO(1, 2), 0x40000102);
+    IS(BALKWIZU_TABLE_WAITING(2), 0x50000002);
+    IS(BALKWIZU_TABLE_LOST(1), 0x60000001);
+    IS(BALKWIZU_TABLE_MESSAGE(6), 0xF0000006);
+    IS(BALKWIZU_EMPTY_SLOT, 0xF0000000);
+}
+
+/* List L by the header's words. */
+static void words_of_l(void)
+{
+    static const uint32_t paper[] = {
+        0x20000100, 0xF0000005, 0x60420001, 0x20000100, 0xF0000005, 0x20000100,
+        0xF0000006, 0x30800100, 0x30800100, 0xF0000009, 0x50000000, 0x40800000,
+    };
+    IS(EXAMPLE_LIST_WORDS, WORDS(paper));
+    for (size_t i = 0; i < WORDS(paper); i++)
+        IS(example_list[i], paper[i]);
+    IS(BALKWIZU_LOOK_UP(2), 0x10800000);
+    IS(BALKWIZU_REMOVE(1, 2, BALKWIZU_RIGHT_REMOVE), 0x70420004); /* P11 */
+}
+
+/* The lines that document 01 prints for L: caller, kind, code, data. */
+static const uint32_t lines_of_l[][5] = {
+    { 0, 2, 17, 0, 0 },  { 1, 6, 0, 0, 0 },   { 0, 2, 0, 0, 0 },
+    { 0, 2, 0, 0, 0 },   { 2, 3, 0, 5, 1 },   { 2, 3, 19, 0, 0 },
+    { 0, 15, 10, 0, 0 }, { 0, 5, 0, 272, 0 }, { 2, 4, 0, 2, 0 },
+};
+
+static void answers_to_l(void)
+{
+    put_table_t();
+    uint32_t result = run(EXAMPLE_TABLE_WORDS, example_list, EXAMPLE_LIST_WORDS);
+    IS(BALKWIZU_RUN_CODE(result), BALKWIZU_OK);
+    IS(BALKWIZU_RUN_CALLS(result), WORDS(lines_of_l));
+    for (size_t i = 0; i < WORDS(lines_of_l); i++) {
+        const uint32_t *answer = answers + BALKWIZU_ANSWER_AT(i);
+        IS(BALKWIZU_ANSWER_CALLER(answer[0]), lines_of_l[i][0]);
+        IS(BALKWIZU_ANSWER_KIND(answer[0]), lines_of_l[i][1]);
+        IS(BALKWIZU_ANSWER_CODE(answer[0]), lines_of_l[i][2]);
+        IS(answer[1], lines_of_l[i][3]);
+        IS(answer[2], lines_of_l[i][4]);
+    }
+    const uint32_t *received = answers + BALKWIZU_ANSWER_AT(4);
+    IS(balkwizu_answer_message(received), lines_of_l[4][3]);
+    IS(balkwizu_answer_lost(received), 1);
+    const uint32_t *rights = answers + BALKWIZU_ANSWER_AT(7);
+    IS(balkwizu_answer_rights(rights, 0), 0);
+    IS(balkwizu_answer_rights(rights, 1), BALKWIZU_RIGHT_SEND);
+    IS(balkwizu_answer_rights(rights, 2), BALKWIZU_RIGHT_SEND);
+    const uint32_t *endpoints = answers + BALKWIZU_ANSWER_AT(8);
+    IS(balkwizu_answer_owns(endpoints, 0), 0);
+    IS(balkwizu_answer_owns(endpoints, 1), 1);
+}
+
+/* T after L: domain 0 has SEND on domain 2, and endpoint 1 has lost a message. */
+static void table_after_l(void)
+{
+    IS(balkwizu_table_domains(table), 3);
+    IS(balkwizu_table_endpoints(table), 2);
+    IS(balkwizu_table_rights(table, 0, 1), 1);
+    IS(balkwizu_table_rights(table, 0, 2), 1);
+    IS(balkwizu_table_rights(table, 1, 2), 7);
+    IS(balkwizu_table_rights(table, 2, 1), 0);
+    IS(balkwizu_table_name(table, 0), 0x11);
+    IS(balkwizu_table_name(table, 1), 0x12);
+    IS(balkwizu_table_owner(table, 0), 1);
+    IS(balkwizu_table_owner(table, 1), 2);
+    IS(balkwizu_table_capacity(table, 0), 2);
+    IS(balkwizu_table_capacity(table, 1), 1);
+    IS(balkwizu_table_waiting(table, 1), 0);
+    IS(balkwizu_table_lost(table, 0), 0);
+    IS(balkwizu_table_lost(table, 1), 1);
+    IS(balkwizu_table_word(table, 1, BALKWIZU_PLACE_LOST), 0x60000001);
+}
+
+/* A list on what L left, so that messages wait, and P11. */
+static void messages_that_wait(void)
+{
+    static const uint32_t calls[] = {
+        BALKWIZU_LOOK_UP(2), BALKWIZU_SECOND(0x12),
+        BALKWIZU_SEND(0, 0), BALKWIZU_SECOND(8),
+        BALKWIZU_SEND(0, 0), BALKWIZU_SECOND(9),
+        BALKWIZU_SEND(2, 1), BALKWIZU_SECOND(7),
+        BALKWIZU_REMOVE(1, 2, BALKWIZU_RIGHT_REMOVE),
+        BALKWIZU_REMOVE(1, 2, BALKWIZU_RIGHT_REMOVE),
+    };
+    IS(run(EXAMPLE_TABLE_WORDS, calls, WORDS(calls)), 0x00060000);
+    IS(balkwizu_answer_endpoint(answers), 1);
+    IS(code_of(4), 0);
+    IS(code_of(5), 22);
+    IS(balkwizu_table_rights(table, 1, 2), 3);
+    IS(balkwizu_table_waiting(table, 0), 2);
+    IS(balkwizu_table_message(table, 0, 0), 8);
+    IS(balkwizu_table_message(table, 0, 1), 9);
+    IS(balkwizu_table_message(table, 1, 0), 7);
+    IS(balkwizu_table_word(table, 0, BALKWIZU_PLACE_SLOTS + 1),
+       BALKWIZU_TABLE_MESSAGE(9));
+    IS(balkwizu_table_word(table, 1, BALKWIZU_PLACE_SLOTS + 1),
+       BALKWIZU_EMPTY_SLOT);
+}
+
+/* A call for each code of a call, in their order. For the last, 23, domain 2
+ * first gets every right on itself, then gives one to a domain it has none on. */
+static void codes_of_calls(void)
+{
+    static const uint32_t calls[] = {
+        BALKWIZU_SECOND(9),
+        BALKWIZU_FIRST(9, 0, 0, 0, 0),
+        BALKWIZU_MY_RIGHTS(3), /* P9 */
+        BALKWIZU_FIRST(BALKWIZU_KIND_MY_ENDPOINTS, 0, 1, 0, 0),
+        BALKWIZU_FIRST(BALKWIZU_KIND_LOOK_UP, 0, 0, 0, 0),
+        BALKWIZU_LOOK_UP(0), BALKWIZU_SECOND(0x13),
+        BALKWIZU_FIRST(BALKWIZU_KIND_RECEIVE, 2, 0, 2, 0),
+        BALKWIZU_FIRST(BALKWIZU_KIND_SEND, 2, 0, 0, 0),
+        BALKWIZU_FIRST(BALKWIZU_KIND_SECOND, 0, 0, 0, 1),
+        BALKWIZU_RECEIVE(1, 1),
+        BALKWIZU_RECEIVE(2, 1),
+        BALKWIZU_FIRST(BALKWIZU_KIND_REMOVE, 1, 3, 0, 1),
+        BALKWIZU_FIRST(BALKWIZU_KIND_GRANT, 1, 2, 0, 0),
+        BALKWIZU_GRANT(0, 1, 0, BALKWIZU_RIGHT_SEND),
+        BALKWIZU_GRANT(1, 2, 2, BALKWIZU_RIGHTS_ALL),
+        BALKWIZU_GRANT(2, 2, 0, BALKWIZU_RIGHT_SEND),
+        BALKWIZU_FIRST(BALKWIZU_KIND_MY_RIGHTS, 2, 0, 0, 0),
+        BALKWIZU_MY_ENDPOINTS(1),
+    };
+    static const uint32_t codes[] = {
+        BALKWIZU_STRAY,           BALKWIZU_UNKNOWN_KIND,    BALKWIZU_UNKNOWN_CALLER,
+        BALKWIZU_UNUSED_FIELD,    BALKWIZU_NO_SECOND_WORD,  BALKWIZU_NO_SUCH_NAME,
+        BALKWIZU_NO_SUCH_ENDPOINT, BALKWIZU_MAY_NOT_SEND,   BALKWIZU_NOT_OWNER,
+        BALKWIZU_NOTHING_WAITING, BALKWIZU_NO_SUCH_DOMAIN,  BALKWIZU_BAD_RIGHTS,
+        BALKWIZU_LACKS_RIGHT,     BALKWIZU_OK,              BALKWIZU_MAY_NOT_GIVE,
+        BALKWIZU_OK,              BALKWIZU_OK,
+    };
+    put_table_t();
+    IS(BALKWIZU_RUN_CALLS(run(EXAMPLE_TABLE_WORDS, calls, WORDS(calls))),
+       WORDS(codes));
+    for (size_t i = 0; i < WORDS(codes); i++)
+        IS(code_of(i), codes[i]);
+    for (uint32_t i = 0; i < 13; i++)
+        IS(codes[i], 10 + i);
+    IS(codes[14], 23);
+    IS(balkwizu_answer_rights(answers + BALKWIZU_ANSWER_AT(15), 2), 7);
+    IS(balkwizu_answer_owns(answers + BALKWIZU_ANSWER_AT(16), 0), 1);
+}
+
+/* T with one word replaced: what the check says. */
+static uint32_t check_with(size_t place, uint32_t word)
+{
+    put_table_t();
+    table[place] = word;
+    return check(EXAMPLE_TABLE_WORDS);
+}
+
+/* The edges P1 to P8 and P10, and a list that is too long. */
+static void edges(void)
+{
+    static const uint32_t p8[] = { BALKWIZU_SEND(0, 1) };
+    static const uint32_t p10[] = { BALKWIZU_REMOVE(1, 2, 3) };
+    put_table_t();
+    IS(check(EXAMPLE_TABLE_WORDS), BALKWIZU_OK);
+    IS(run(EXAMPLE_TABLE_WORDS, list, 0), 0);
+    IS(balkwizu_run(table, EXAMPLE_TABLE_WORDS, example_list, EXAMPLE_LIST_WORDS,
+                    answers, 26),
+       BALKWIZU_ANSWERS_TOO_SHORT);
+    IS(balkwizu_run(table, EXAMPLE_TABLE_WORDS, example_list, EXAMPLE_LIST_WORDS,
+                    answers, 27),
+       0x00090000);
+    IS(check(33), BALKWIZU_TABLE_BAD_LENGTH);
+    IS(check_with(0, 0x10001101), BALKWIZU_TABLE_BAD_HEADER);
+    IS(check_with(0, 0x10000002), BALKWIZU_TABLE_BAD_HEADER);
+    IS(check_with(9, 0x20000008), BALKWIZU_TABLE_BAD_RIGHTS);
+    IS(check_with(24, 0x50000002), BALKWIZU_TABLE_BAD_ENDPOINT);
+    put_table_t();
+    run(EXAMPLE_TABLE_WORDS, p8, WORDS(p8));
+    IS(code_of(0), 14);
+    run(EXAMPLE_TABLE_WORDS, p10, WORDS(p10));
+    IS(code_of(0), 21);
+    IS(run(EXAMPLE_TABLE_WORDS, list, WORDS(list)), BALKWIZU_LIST_TOO_LONG);
+    IS(BALKWIZU_LIST_TOO_LONG, 1);
+    IS(BALKWIZU_TABLE_BAD_HEADER, 2);
+    IS(BALKWIZU_TABLE_BAD_LENGTH, 3);
+    IS(BALKWIZU_TABLE_BAD_RIGHTS, 4);
+    IS(BALKWIZU_TABLE_BAD_ENDPOINT, 5);
+    IS(BALKWIZU_ANSWERS_TOO_SHORT, 6);
+}
+
+/* The largest table: domain 15 owns endpoint 31, whose queue is full and whose
+ * lost count is at its top, and has another set of rights on each domain. */
+static void put_largest_table(void)
+{
+    table[0] = BALKWIZU_TABLE_HEADER(BALKWIZU_DOMAINS_MAX, BALKWIZU_ENDPOINTS_MAX);
+    for (int holder = 0; holder < 16; holder++)
+        for (int target = 0; target < 16; target++)
+            table[BALKWIZU_RIGHTS_AT(16, holder, target)] =
+                BALKWIZU_TABLE_RIGHTS(holder == 15 ? target % 8 : 0);
+    for (int e = 0; e < 32; e++) {
+        uint32_t *word = table + BALKWIZU_ENDPOINT_AT(16, e);
+        word[BALKWIZU_PLACE_NAME] = BALKWIZU_TABLE_NAME(1 + e);
+        word[BALKWIZU_PLACE_INFO] = BALKWIZU_TABLE_INFO(e / 2, 8);
+        word[BALKWIZU_PLACE_WAITING] = BALKWIZU_TABLE_WAITING(8);
+        word[BALKWIZU_PLACE_LOST] = BALKWIZU_TABLE_LOST(BALKWIZU_LOST_MAX);
+        for (int slot = 0; slot < BALKWIZU_SLOTS; slot++)
+            word[BALKWIZU_PLACE_SLOTS + slot] =
+                BALKWIZU_TABLE_MESSAGE(10 * e + slot);
+    }
+}
+
+static void largest_table(void)
+{
+    static const uint32_t calls[] = {
+        BALKWIZU_MY_RIGHTS(15),
+        BALKWIZU_MY_ENDPOINTS(15),
+        BALKWIZU_SEND(15, 31), BALKWIZU_SECOND(1), /* the queue is full: 0 */
+    };
+    put_largest_table();
+    IS(check(BALKWIZU_TABLE_WORDS_MAX), 0);
+    IS(run(BALKWIZU_TABLE_WORDS_MAX, calls, WORDS(calls)), 0x00030000);
+    for (uint32_t target = 0; target < 16; target++) {
+        IS(balkwizu_answer_rights(answers, target), target % 8);
+        IS(balkwizu_table_rights(table, 15, target), target % 8);
+    }
+    IS(balkwizu_answer_owns(answers + BALKWIZU_ANSWER_AT(1), 29), 0);
+    IS(balkwizu_answer_owns(answers + BALKWIZU_ANSWER_AT(1), 30), 1);
+    IS(balkwizu_answer_owns(answers + BALKWIZU_ANSWER_AT(1), 31), 1);
+    IS(code_of(2), 0);
+    IS(balkwizu_table_domains(table), 16);
+    IS(balkwizu_table_endpoints(table), 32);
+    IS(balkwizu_table_owner(table, 31), 15);
+    IS(balkwizu_table_capacity(table, 31), 8);
+    IS(balkwizu_table_waiting(table, 31), 8);
+    IS(balkwizu_table_lost(table, 31), 268435455);
+    IS(balkwizu_table_message(table, 30, 7), 307);
+}
+
+/* Every field with all its bits set, which no table and no answer has. */
+static void whole_fields(void)
+{
+    static const uint32_t answer[] = { 0xFFFFFFFF, 0x76543210, 0xFEDCBA98 };
+    static const uint32_t sizes[] = { 0x1FFFFFFF };
+    static const uint32_t words[] = {
+        0x10000101, 0x2FFFFFFF, 0x3FFFFFFF, 0x4FFFFFFF, 0x5FFFFFFF, 0x6FFFFFFF,
+        0xFFFFFFFF,
+    };
+    IS(BALKWIZU_ANSWER_KIND(answer[0]), 15);
+    IS(BALKWIZU_ANSWER_CALLER(answer[0]), 63);
+    IS(BALKWIZU_ANSWER_CODE(answer[0]), 65535);
+    for (uint32_t target = 0; target < 16; target++)
+        IS(balkwizu_answer_rights(answer, target), target);
+    IS(BALKWIZU_RUN_CODE(0xFFFFFFFF), 65535);
+    IS(BALKWIZU_RUN_CALLS(0xFFFFFFFF), 65535);
+    IS(balkwizu_table_domains(sizes), 255);
+    IS(balkwizu_table_endpoints(sizes), 255);
+    IS(balkwizu_table_rights(words, 0, 0), 0x0FFFFFFF);
+    IS(balkwizu_table_name(words, 0), 0x0FFFFFFF);
+    IS(balkwizu_table_owner(words, 0), 255);
+    IS(balkwizu_table_capacity(words, 0), 255);
+    IS(balkwizu_table_waiting(words, 0), 0x0FFFFFFF);
+    IS(balkwizu_table_lost(words, 0), 0x0FFFFFFF);
+    IS(balkwizu_table_message(words, 0, 0), 0x0FFFFFFF);
+}
+
+int main(void)
+{
+    limits();
+    words_of_t();
+    words_of_l();
+    answers_to_l();
+    table_after_l();
+    messages_that_wait();
+    codes_of_calls();
+    edges();
+    largest_table();
+    whole_fields();
+    printf("%u compared, %u differ\n", compared, differ);
+    return differ != 0;
+}
