@@ -14,9 +14,11 @@ use Rattle.linerun.specs.Lines.{allLines}
 unfoldable pub answerSpace : List ℕ
 answerSpace = replicate (3 * longestList) 0
 
+-- the lines of what a run came to
 unfoldable pub outcomeLines : Outcome → List ℕ
 outcomeLines o = allLines (o .calls) (o .code) (o .answers)
 
+-- what is printed for these bytes: 7 where they are refused by it, else the lines of their table's and list's run
 unfoldable pub report : List ℕ → List ℕ
 report bytes = cond (unreadable bytes) (firstLine 0 7) (outcomeLines (entry (tableOf bytes) (listOf bytes) answerSpace))
 

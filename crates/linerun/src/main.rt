@@ -10,12 +10,14 @@ mod lines;
 mod report;
 mod stdin;
 
+// At most 28 bytes in the first line and 66 in that of each of 4,096 calls.
+const MOST_BYTES: usize = 270364;
+
 fn main() {
     // the length word, 641 table words and 4,097 list words
     let mut input = [0u8; 18956];
     let read = read_input(&mut input);
-    // at most 28 bytes in the first line and 66 in that of each of 4,096 calls
-    let mut out = [0u8; 270364];
+    let mut out = [0u8; MOST_BYTES];
     let lines = lines_for(&input, read, &mut out);
     // a program has no exit status to give, so lines that can't be written are told of on standard error
     if !io::write_all(STDOUT_FILENO, lines) {

@@ -2,6 +2,7 @@
 use Prim.Native.Nat.{zero-le}
 use mathlib.Core.Path.{ap, _∙_}
 use native.Mathlib.Nat.{sub-zero, le-trans}
+use native.Mathlib.Omega.{arith}
 use lib.ListN.{take}
 use Rattle.text.proofs.WriteLaws.{writes-length, writes-part}
 use Rattle.linerun.specs.Report.{report}
@@ -16,7 +17,7 @@ part-report-start : tie.Need-part-report-start
 part-report-start c = zero-le
 
 part-report-end : tie.Need-part-report-end
-part-report-end c = c .before .before .pre .0
+part-report-end c = omega arith
 
 report-requires : tie.Need-report-requires
 report-requires c κs = tt
@@ -30,7 +31,7 @@ part-result-start c = zero-le
 part-result-end : tie.Need-part-result-end
 part-result-end c =
     let reported = c .before .before .before in
-    rw (writes-length (reported .report .ensures .0)) (le-trans (reported .report .ensures .1) (reported .before .before .before .before .before .pre .1 .1))
+    omega (arith, writes-length (reported .report .ensures .0), reported .report .ensures .1)
 
 returns : tie.Need-returns
 returns c =

@@ -28,7 +28,7 @@ returns : tie.Need-returns
 returns c =
     let start = c .before .before .before .before .before in
     let have = start .args .have in
-    (search needs, take-put have (have + start .args .want - have) (start .args .input .now) (c .before .before .read-full .last .1 .0) (omega arith))
+    (omega arith, take-put have (have + start .args .want - have) (start .args .input .now) (c .before .before .read-full .last .1 .0) (omega arith))
 
 pub read-after-spec : {M : Type 1} → statement M
 read-after-spec =

@@ -1,4 +1,5 @@
--- `linerun::stdin::read_input` meets its contract: what is wanted always has room, and each full read leaves less. Assumes nothing.
+-- `linerun::stdin::read_input` meets its contract: what is wanted always has room, each byte that was read was needed
+-- (`needed-step`), and each full read leaves less to read. Assumes nothing.
 use Prim.Native.Nat.{_-_, _≤_, _<_}
 use mathlib.Core.Path.{_≡_, sym, _∙_}
 use native.Mathlib.Omega.{arith}
