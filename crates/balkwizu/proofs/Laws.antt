@@ -2,11 +2,10 @@
 --     same-code     bytes that are those of a list of words get the code of the words
 --     left-over     bytes left over behind the last whole word are 3, unless the first word is broken
 -- Assumes nothing.
-use mathlib.Core.Path.{_≡_, refl, sym, ap, ap₂, _∙_}
+use mathlib.Core.Path.{_≡_, refl, sym, ap, _∙_}
 use mathlib.Core.Bool.{Bool, true, false}
-use mathlib.Core.List.{List, [], _∷_}
-use Prim.Native.Nat.{ℕ, suc, _+_, _*_, _/_, _%_, _^_, _<_}
-use native.Mathlib.Nat.{mod-eq-of-lt, div-add-mod', div-div-eq-div-mul}
+use mathlib.Core.List.{List}
+use Prim.Native.Nat.{ℕ, _*_, _%_, _^_, _<_}
 use native.Mathlib.Omega.{arith}
 use borrow.Author.Tests.{eqb-true, eqb-false, eq-eqb, ne-eqb}
 use lib.Dec.{eqb}
@@ -14,31 +13,10 @@ use lib.ListN.{length, getD}
 use Rattle.machine.specs.Table.{domains, endpoints, lengthFor}
 use Rattle.machine.specs.Check.{headerOk, lengthOk, tableCode}
 use Rattle.table.proofs.Places.{code-2, code-3}
-use Rattle.reading.specs.Bytes.{wordOf, wordsOf}
-use Rattle.balkwizu.specs.Bytes.{bytesOf, bytesFor, bytesCode}
+use Rattle.reading.specs.Bytes.{wordsOf, bytesOf}
+use Rattle.reading.proofs.WordLaws.{wordsOf-bytesOf, length-bytesOf}
+use Rattle.balkwizu.specs.Bytes.{bytesFor, bytesCode}
 use Rattle.balkwizu.proofs.Places.{bytes-2, bytes-3, bytes-words}
-
--- a word of 32 bits is made of its four bytes
-joined : (w a b c p q r : ℕ) → a * 256 + p ≡ w → b * 256 + q ≡ a → c * 256 + r ≡ b → wordOf p q r c ≡ w
-joined w a b c p q r e f g = omega arith
-
-word-of-bytes : (w : ℕ) → w < 2 ^ 32 → wordOf (w % 256) (w / 256 % 256) (w / 65536 % 256) (w / 16777216 % 256) ≡ w
-word-of-bytes w h =
-    let top : w / 16777216 < 256 = omega arith in
-    rw (mod-eq-of-lt top)
-    (joined w (w / 256) (w / 65536) (w / 16777216) (w % 256) (w / 256 % 256) (w / 65536 % 256) (div-add-mod' w 256)
-    (rw (div-div-eq-div-mul w 256 256) at (div-add-mod' (w / 256) 256))
-    (rw (div-div-eq-div-mul w 65536 256) at (div-add-mod' (w / 65536) 256)))
-
-pub words-of-bytes : (ws : List ℕ) → ((i : ℕ) → getD ws i 0 < 2 ^ 32) → wordsOf (bytesOf ws) ≡ ws
-unfolding wordsOf bytesOf
-words-of-bytes [] h = refl
-words-of-bytes (w ∷ ws) h = ap₂ _∷_ (word-of-bytes w (h 0)) (words-of-bytes ws (λ i. h (suc i)))
-
-pub bytes-length : (ws : List ℕ) → length (bytesOf ws) ≡ 4 * length ws
-unfolding bytesOf
-bytes-length [] = refl
-bytes-length (w ∷ ws) = let ih = bytes-length ws in omega arith
 
 pub left-over : (b : List ℕ) → headerOk (wordsOf b) ≡ true → (length b % 4 ≡ 0 → ⊥) → bytesCode b ≡ 3
 unfolding bytesFor
@@ -53,12 +31,12 @@ times-four a k = go (eqb a k) refl
 
 module _ (ws : List ℕ) (words : (i : ℕ) → getD ws i 0 < 2 ^ 32) where
   back : wordsOf (bytesOf ws) ≡ ws
-  back = words-of-bytes ws words
+  back = wordsOf-bytesOf ws words
 
   -- the length of the bytes is right where that of the words is
   sizes : eqb (length (bytesOf ws)) (bytesFor ws) ≡ lengthOk ws
   unfolding lengthOk bytesFor
-  sizes = rw (bytes-length ws) (times-four (length ws) (lengthFor (domains ws) (endpoints ws)))
+  sizes = rw (length-bytesOf ws) (times-four (length ws) (lengthFor (domains ws) (endpoints ws)))
 
   pub same-code : bytesCode (bytesOf ws) ≡ tableCode ws
   same-code = go (headerOk ws) refl (lengthOk ws) refl

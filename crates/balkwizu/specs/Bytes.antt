@@ -1,18 +1,13 @@
 -- A table as little-endian bytes, and the code of its check (document 01, 'Into firmware and onto the bench').
-use Prim.Native.Nat.{ℕ, _*_, _/_, _%_}
+use Prim.Native.Nat.{ℕ, _*_}
 use mathlib.Core.Path.{_≡_}
 use mathlib.Core.Bool.{true, cond, not, _||_}
-use mathlib.Core.List.{List, [], _∷_}
+use mathlib.Core.List.{List}
 use lib.ListN.{length}
 use lib.Dec.{eqb, ltb}
 use Rattle.reading.specs.Bytes.{wordsOf}
 use Rattle.machine.specs.Table.{domains, endpoints, lengthFor}
 use Rattle.machine.specs.Check.{headerOk, tableCode}
-
--- the bytes of words of 32 bits
-unfoldable pub bytesOf : List ℕ → List ℕ
-bytesOf [] = []
-bytesOf (w ∷ ws) = (w % 256) ∷ (w / 256 % 256) ∷ (w / 65536 % 256) ∷ (w / 16777216 % 256) ∷ bytesOf ws
 
 -- four times the length that the first word asks for
 unfoldable pub bytesFor : List ℕ → ℕ

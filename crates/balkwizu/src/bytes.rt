@@ -1,5 +1,6 @@
 // A table's check over its little-endian bytes. The words are taken out of the bytes where they stand: only the loops are
 // here, and every test of a word is crate words'.
+use reading::words::word;
 use table::Checked;
 use table::TableRefusal;
 use table::names::all_different;
@@ -19,15 +20,8 @@ ghost use lib.ListN.{length, getD, take, drop};
 ghost use Rattle.machine.specs.Below.{allBelow};
 ghost use Rattle.machine.specs.Check.{slotWordOk, endpointOk, headerOk, rightsOk, endpointsOk};
 ghost use Rattle.table.specs.Checked.{checkedCode};
-ghost use Rattle.reading.specs.Bytes.{wordOf, wordsOf};
+ghost use Rattle.reading.specs.Bytes.{wordsOf};
 ghost use Rattle.balkwizu.specs.Bytes.{bytesFor, bytesCode, Fitting};
-
-// The word of four bytes, the lowest first.
-fn word(a: u8, b: u8, c: u8, d: u8) -> u32
-    ensures { λ r. ⌜ r ≡ wordOf a b c d ⌝ }
-{
-    a as u32 + b as u32 * 256 + c as u32 * 65536 + d as u32 * 16777216
-}
 
 // Word i of the bytes.
 fn word_at(bytes: &[u8], i: usize) -> u32

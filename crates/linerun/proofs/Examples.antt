@@ -2,7 +2,7 @@
 use mathlib.Core.Path.{refl}
 use Rattle.machine.specs.Everything.{everything}
 use Rattle.text.specs.Ascii.{ascii}
-use Rattle.reading.specs.Bytes.{wordsOf}
+use Rattle.reading.specs.Bytes.{wordsOf, bytesOf}
 use Rattle.text.specs.Decimal.{digitsWithin, decimal, labelled}
 use Rattle.reading.specs.TableInput.{noTable, tableOf, afterTable}
 use Rattle.linerun_text.specs.Input.{listOf, leftOver, unreadable}
@@ -12,6 +12,6 @@ use Rattle.linerun.specs.Report.{answerSpace, outcomeLines, report}
 use Rattle.linerun.specs.Examples.{EveryRow, rows}
 
 pub every-row : EveryRow rows
-unfolding everything ascii wordsOf digitsWithin decimal labelled noTable tableOf afterTable listOf leftOver unreadable firstLine
+unfolding everything ascii wordsOf bytesOf digitsWithin decimal labelled noTable tableOf afterTable listOf leftOver unreadable firstLine
     callLine callLines allLines answerSpace outcomeLines report
 every-row = (refl, (refl, (refl, (refl, (refl, (refl, (refl, (refl, (refl, (refl, (refl, (refl, tt))))))))))))

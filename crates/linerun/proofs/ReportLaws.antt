@@ -1,21 +1,23 @@
 -- The report as the functions make it up: the two ways that the definition goes, and how many calls there are; and where the
 -- reading stops before the input ends, no further byte makes a difference to it. Assumes nothing.
 use Prim.Native.Nat.{ℕ, _*_, _≤_}
-use mathlib.Core.Path.{_≡_, refl}
+use mathlib.Core.Path.{_≡_, refl, sym, _∙_}
 use mathlib.Core.Bool.{Bool, true, false}
-use mathlib.Core.List.{List, _++_}
+use mathlib.Core.List.{List, _++_, append-nil}
+use borrow.Author.Tests.{ltb-false}
 use native.Mathlib.Omega.{arith}
+use lib.Dec.{ltb}
 use lib.ListN.{length, length-append}
 use Rattle.machine.specs.Entry.{longestList}
 use Rattle.machine.specs.Promise.{RunPromise}
 use Rattle.machine.proofs.Promise.{calls-few}
 use Rattle.reading.specs.TableInput.{noTable, tableOf, afterTable}
 use Rattle.reading.proofs.TableLaws.{Whole, whole, whole-table, no-more, no-table-more, whole-more, tableOf-more, afterTable-more}
-use Rattle.linerun_text.specs.Input.{listWordsRead, listOf, unreadable, wanted}
+use Rattle.linerun_text.specs.Input.{listWordsRead, listOf, unreadable, wanted, Reads}
 use Rattle.linerun_text.specs.Lines.{firstLine}
 use Rattle.linerun_text.proofs.InputLaws.{no-left-over, listOf-more}
 use Rattle.linerun.specs.Lines.{allLines}
-use Rattle.linerun.specs.Report.{answerSpace, outcomeLines, report}
+use Rattle.linerun.specs.Report.{answerSpace, outcomeLines, report, Follows, Prints}
 
 pub report-unreadable : (bytes : List ℕ) → unreadable bytes ≡ true → report bytes ≡ firstLine 0 7
 unfolding report
@@ -61,3 +63,11 @@ nothing-follows bytes more done = go (noTable bytes) refl
           tableOf-more bytes more w,
           listOf-more bytes more w full,
         )
+
+-- so what is printed for the bytes read is the whole input's report
+pub prints : (bytes : List ℕ) (ended : Bool) {lines : List ℕ} → Reads bytes ended → lines ≡ report bytes → Prints bytes ended lines
+prints bytes ended {lines} reads is = record { read = is; whole = λ more follows. is ∙ whole ended (reads .reason) more follows }
+  where
+    whole : (b : Bool) → b ≡ ltb 0 (wanted bytes) → (more : List ℕ) → Follows b more → report bytes ≡ report (bytes ++ more)
+    whole true e more follows = rw (follows refl, append-nil)
+    whole false e more follows = sym (nothing-follows bytes more (omega (arith, ltb-false 0 (wanted bytes) (sym e))))

@@ -1,27 +1,26 @@
 -- Inputs of `linerun` and what it prints for them: list L on table T of document 01, each of the four conditions of code 7 by
 -- itself, the list that is one word too long, and the empty table.
-use Prim.Native.Nat.{ℕ, _/_, _%_}
+use Prim.Native.Nat.{ℕ}
 use Prim.Native.String.{String}
 use mathlib.Core.Path.{_≡_}
 use mathlib.Core.List.{List, [], _∷_, _++_}
 use lib.ListN.{take, replicate}
 use Rattle.machine.specs.Examples.{T, L}
 use Rattle.text.specs.Ascii.{ascii}
+use Rattle.reading.specs.Bytes.{bytesOf}
 use Rattle.linerun.specs.Report.{report}
 
--- words as bytes, the lowest byte first
-abbrev pub bytesOf : List ℕ → List ℕ
-bytesOf [] = []
-bytesOf (w ∷ ws) = w % 256 ∷ w / 256 % 256 ∷ w / 65536 % 256 ∷ w / 16777216 ∷ bytesOf ws
-
+-- an input, and what is printed for it
 pub record Row : Type 0 where
   pub input : List ℕ
   pub printed : String
 
+-- every row holds of the definition
 abbrev pub EveryRow : List Row → Type 0
 EveryRow [] = Unit {0}
 EveryRow (r ∷ rs) = (report (r .input) ≡ ascii (r .printed)) × EveryRow rs
 
+-- the rows
 abbrev pub rows : List Row
 rows =
     record {

@@ -1,7 +1,8 @@
 -- `linerun` as one definition: from the bytes read to the bytes written (document 01, 'Into firmware and onto the bench').
 use Prim.Native.Nat.{ℕ, _*_}
-use mathlib.Core.Bool.{cond}
-use mathlib.Core.List.{List}
+use mathlib.Core.Path.{_≡_}
+use mathlib.Core.Bool.{Bool, true, cond}
+use mathlib.Core.List.{List, [], _++_}
 use lib.ListN.{replicate}
 use Rattle.machine.specs.Entry.{Outcome, entry, longestList}
 use Rattle.reading.specs.TableInput.{tableOf}
@@ -13,8 +14,19 @@ use Rattle.linerun.specs.Lines.{allLines}
 unfoldable pub answerSpace : List ℕ
 answerSpace = replicate (3 * longestList) 0
 
+-- the lines of what a run came to
 unfoldable pub outcomeLines : Outcome → List ℕ
 outcomeLines o = allLines (o .calls) (o .code) (o .answers)
 
+-- what is printed for these bytes: 7 where they are refused by it, else the lines of their table's and list's run
 unfoldable pub report : List ℕ → List ℕ
 report bytes = cond (unreadable bytes) (firstLine 0 7) (outcomeLines (entry (tableOf bytes) (listOf bytes) answerSpace))
+
+-- what may follow the bytes read in the input: nothing where it ended behind them, anything where it did not
+abbrev pub Follows : Bool → List ℕ → Type 0
+Follows ended more = ended ≡ true → more ≡ []
+
+-- what is printed for the bytes read: their report, and so that of the whole input, whatever else is in it
+pub record Prints (bytes : List ℕ) (ended : Bool) (lines : List ℕ) : Type 0 where
+  pub read : lines ≡ report bytes
+  pub whole : (more : List ℕ) → Follows ended more → lines ≡ report (bytes ++ more)

@@ -1,21 +1,23 @@
--- The reading: it stays within what a program has room for, and where it stops before the input ends, no further byte makes a
--- difference to what is refused or to the list. Assumes nothing.
-use Prim.Native.Nat.{ℕ, _+_, _-_, _*_, _≤_}
-use mathlib.Core.Path.{_≡_, refl, ap, _∙_}
+-- The reading: it stays within what a program has room for; where it stops before the input ends, no further byte makes a
+-- difference to what is refused or to the list; and what its steps leave. Assumes nothing.
+use Prim.Native.Nat.{ℕ, _+_, _-_, _*_, _≤_, _<_}
+use mathlib.Core.Path.{_≡_, refl, sym, ap, _∙_}
 use mathlib.Core.Bool.{Bool, true, false}
-use mathlib.Core.List.{List, _++_}
-use borrow.Author.Tests.{le-ltb}
+use mathlib.Core.List.{List, [], _++_}
+use borrow.Author.Tests.{lt-ltb, le-ltb}
+use native.Mathlib.Decide.{decLt}
 use native.Mathlib.Omega.{arith}
 use lib.Dec.{lit≤}
-use lib.ListN.{length, take, drop, length-take, length-drop}
+use lib.ListN.{length, take, drop, length-append, length-take, length-drop}
+use lib.Seq.{length-take-le, take-append-le, take-append-add, take-add}
 use Rattle.machine.proofs.Bools.{or-none-left}
 use Rattle.reading.specs.Bytes.{wordsOf}
 use Rattle.reading.specs.TableInput.{tableEnd, noTable, afterTable}
 use Rattle.text.specs.Write.{Fills}
 use Rattle.text.proofs.WriteLaws.{fills-cut, fills-part}
 use Rattle.reading.proofs.WordLaws.{take-wordsOf-append}
-use Rattle.reading.proofs.TableLaws.{Whole, whole, table-within, afterTable-more}
-use Rattle.linerun_text.specs.Input.{listWordsRead, mostInput, listOf, leftOver, unreadable, wanted}
+use Rattle.reading.proofs.TableLaws.{Whole, whole, whole-table, table-within, whole-more, afterTable-more, still-asks}
+use Rattle.linerun_text.specs.Input.{listWordsRead, mostInput, listOf, leftOver, unreadable, wanted, Needed, Reads}
 
 -- the reading asks for no byte past the room for a longest table and a list one word too long
 pub wanted-within : (bytes : List ℕ) → length bytes ≤ mostInput → length bytes + wanted bytes ≤ mostInput
@@ -56,3 +58,52 @@ unfolding listOf
 listOf-more bytes more w h =
     ap (λ l. take listWordsRead (wordsOf l)) (afterTable-more bytes more w)
     ∙ take-wordsOf-append listWordsRead (afterTable bytes) more h
+
+-- while fewer bytes follow than are wanted, more is wanted
+still-wanted : (bytes more : List ℕ) → length more < wanted bytes → 0 < wanted (bytes ++ more)
+unfolding wanted
+still-wanted bytes more h = go (noTable bytes) refl
+  where
+    go : (b : Bool) → noTable bytes ≡ b → 0 < wanted (bytes ++ more)
+    go true e = let still = still-asks bytes more (simp e at h) in simp (still .0) (still .1)
+    go false e =
+        let w : Whole bytes = whole bytes e in
+        simp (whole-table (bytes ++ more) (whole-more bytes more w), afterTable-more bytes more w)
+        (omega (arith, simp e at h, length-append (afterTable bytes) more))
+
+-- The two ways to stop, and the step between: what a read that asked for no more than was wanted put behind the bytes was needed
+-- too.
+pub needed-none : Needed []
+needed-none k l = absurd (omega arith)
+
+pub stops-full : (bytes : List ℕ) → Needed bytes → wanted bytes ≡ 0 → Reads bytes false
+stops-full bytes needed done = record { reason = sym (le-ltb 0 (wanted bytes) (omega arith)); needed = needed }
+
+needed-more : (bytes more : List ℕ) → Needed bytes → length more ≤ wanted bytes → Needed (bytes ++ more)
+needed-more bytes more needed asked k l = go (decLt k (length bytes))
+  where
+    go : Dec (k < length bytes) → 0 < wanted (take k (bytes ++ more))
+    go (yes h) = rw (take-append-le k bytes more (omega arith)) (needed k h)
+    go (no h) =
+        let behind = k - length bytes in
+        let place : k ≡ length bytes + behind = omega arith in
+        rw (place, take-append-add bytes more behind)
+        (still-wanted bytes (take behind more) (omega (arith, length-take behind more, length-append bytes more)))
+
+-- the same of a buffer of which the first bytes stayed while a read stored its own behind them
+module _ (before after : List ℕ) (have got : ℕ) (kept : take have after ≡ take have before) (room : have + got ≤ length after)
+    (needed : Needed (take have before)) where
+  stored : take (have + got) after ≡ take have before ++ take got (drop have after)
+  stored = take-add have got after ∙ ap (λ l. l ++ take got (drop have after)) kept
+
+  many : length (take got (drop have after)) ≡ got
+  many = length-take-le got (drop have after) (omega (arith, length-drop have after))
+
+  pub needed-step : got ≤ wanted (take have before) → Needed (take (have + got) after)
+  needed-step asked = rw stored (needed-more (take have before) (take got (drop have after)) needed (omega (arith, many)))
+
+  pub stops-short : got < wanted (take have before) → Reads (take (have + got) after) true
+  stops-short short =
+      let more : 0 < wanted (take (have + got) after) =
+      rw stored (still-wanted (take have before) (take got (drop have after)) (omega (arith, many))) in
+      record { reason = sym (lt-ltb _ _ more); needed = needed-step (omega arith) }

@@ -1,5 +1,6 @@
 -- What `linerun` reads (document 01, 'Into firmware and onto the bench'): the table, then the list's words up to word 4,097.
-use Prim.Native.Nat.{ℕ, _+_, _-_, _*_, _%_}
+use Prim.Native.Nat.{ℕ, _+_, _-_, _*_, _%_, _<_}
+use mathlib.Core.Path.{_≡_}
 use mathlib.Core.Bool.{Bool, cond, not, _&&_, _||_}
 use mathlib.Core.List.{List}
 use lib.ListN.{length, take}
@@ -31,3 +32,14 @@ wanted bytes = cond (noTable bytes) (tableWanted bytes) (4 * listWordsRead - len
 -- the most bytes that are read: the length word, the longest table, and list words until the reading stops
 abbrev pub mostInput : ℕ
 mostInput = 4 + 4 * longestTable + 4 * listWordsRead
+
+-- each of these bytes was needed: behind the ones before it more was wanted
+abbrev pub Needed : List ℕ → Type 0
+Needed bytes = (k : ℕ) → k < length bytes → 0 < wanted (take k bytes)
+
+-- what the reading leaves: these bytes, and the answer whether the input ended behind them. It stops for no other reason than
+-- that nothing more is wanted or that the input ended while more was wanted, and it says which; and it reads no byte past the
+-- first place where nothing more is wanted, so that it waits for none.
+pub record Reads (bytes : List ℕ) (ended : Bool) : Type 0 where
+  pub reason : ended ≡ ltb 0 (wanted bytes)
+  pub needed : Needed bytes

@@ -161,3 +161,21 @@ module _ (bytes more : List ℕ) where
   afterTable-more w =
       ap (λ n. drop (4 + 4 * n) (bytes ++ more)) (tableLength-more (w .word))
       ∙ drop-append-le (tableEnd bytes) bytes more (w .all)
+
+  -- while fewer bytes follow than are asked for, more is asked for
+  pub still-asks : length more < tableWanted bytes → (noTable (bytes ++ more) ≡ true) × (0 < tableWanted (bytes ++ more))
+  unfolding noTable tableWanted
+  still-asks h = go (asks bytes)
+    where
+      go : Asks bytes → (noTable (bytes ++ more) ≡ true) × (0 < tableWanted (bytes ++ more))
+      go (word short e) =
+          let still : length (bytes ++ more) < 4 = omega (arith, length-more) in
+          (simp (lt-ltb _ _ still), simp (lt-ltb _ _ still) (omega arith))
+      go (nothing some long e) = absurd (omega arith)
+      go (table some fits e) =
+          let word : 4 ≤ length (bytes ++ more) = omega (arith, length-more) in
+          let fits-more : tableLength (bytes ++ more) ≤ longestTable = omega (arith, tableLength-more some) in
+          let still : length (bytes ++ more) < tableEnd (bytes ++ more) = omega (arith, length-more, tableLength-more some) in (
+            simp (le-ltb _ _ word, le-ltb _ _ fits-more, lt-ltb _ _ still),
+            simp (le-ltb _ _ word, le-ltb _ _ fits-more) (omega arith),
+          )

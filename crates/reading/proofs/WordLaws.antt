@@ -1,13 +1,13 @@
--- The laws of bytes as words: how many there are, each of them, and the words of a part. Assumes nothing.
-use Prim.Native.Nat.{ℕ, zero, suc, _+_, _*_, _/_, _≤_, _<_}
-use mathlib.Core.Path.{_≡_, refl, sym, ap, _∙_}
+-- The laws of bytes as words: how many there are, each of them, and the words of a part; and of words as bytes. Assumes nothing.
+use Prim.Native.Nat.{ℕ, zero, suc, _+_, _*_, _/_, _%_, _^_, _≤_, _<_}
+use mathlib.Core.Path.{_≡_, refl, sym, ap, ap₂, _∙_}
 use mathlib.Core.List.{List, [], _∷_, _++_}
-use native.Mathlib.Nat.{add-assoc}
+use native.Mathlib.Nat.{add-assoc, mod-eq-of-lt, div-add-mod', div-div-eq-div-mul}
 use native.Mathlib.Omega.{arith}
 use lib.Dec.{lit<}
 use lib.ListN.{length, getD, take, drop, List·getD-eq-default, List·getD-append}
 use lib.Seq.{getD-drop, take-append-le}
-use Rattle.reading.specs.Bytes.{wordOf, wordAt, wordsOf}
+use Rattle.reading.specs.Bytes.{wordOf, wordAt, wordsOf, bytesOf}
 
 pub length-wordsOf : (bytes : List ℕ) → length (wordsOf bytes) ≡ length bytes / 4
 unfolding wordsOf
@@ -74,3 +74,26 @@ pub take-wordsOf-append : (k : ℕ) (bytes more : List ℕ) → 4 * k ≤ length
     → take k (wordsOf (bytes ++ more)) ≡ take k (wordsOf bytes)
 take-wordsOf-append k bytes more h =
     sym (take-wordsOf k (bytes ++ more)) ∙ ap wordsOf (take-append-le (4 * k) bytes more h) ∙ take-wordsOf k bytes
+
+-- a word of 32 bits is made of its four bytes
+joined : (w a b c p q r : ℕ) → a * 256 + p ≡ w → b * 256 + q ≡ a → c * 256 + r ≡ b → wordOf p q r c ≡ w
+joined w a b c p q r e f g = omega arith
+
+word-of-bytes : (w : ℕ) → w < 2 ^ 32 → wordOf (w % 256) (w / 256 % 256) (w / 65536 % 256) (w / 16777216 % 256) ≡ w
+word-of-bytes w h =
+    let top : w / 16777216 < 256 = omega arith in
+    rw (mod-eq-of-lt top)
+    (joined w (w / 256) (w / 65536) (w / 16777216) (w % 256) (w / 256 % 256) (w / 65536 % 256) (div-add-mod' w 256)
+    (rw (div-div-eq-div-mul w 256 256) at (div-add-mod' (w / 256) 256))
+    (rw (div-div-eq-div-mul w 65536 256) at (div-add-mod' (w / 65536) 256)))
+
+-- so the bytes of words have those words
+pub wordsOf-bytesOf : (ws : List ℕ) → ((i : ℕ) → getD ws i 0 < 2 ^ 32) → wordsOf (bytesOf ws) ≡ ws
+unfolding wordsOf bytesOf
+wordsOf-bytesOf [] h = refl
+wordsOf-bytesOf (w ∷ ws) h = ap₂ _∷_ (word-of-bytes w (h 0)) (wordsOf-bytesOf ws (λ i. h (suc i)))
+
+pub length-bytesOf : (ws : List ℕ) → length (bytesOf ws) ≡ 4 * length ws
+unfolding bytesOf
+length-bytesOf [] = refl
+length-bytesOf (w ∷ ws) = let ih = length-bytesOf ws in omega arith

@@ -1,5 +1,5 @@
--- Bytes as words (document 01, 'Into firmware and onto the bench': little-endian words).
-use Prim.Native.Nat.{ℕ, _+_, _*_}
+-- Bytes as words and words as bytes (document 01, 'Into firmware and onto the bench': little-endian words).
+use Prim.Native.Nat.{ℕ, _+_, _*_, _/_, _%_}
 use mathlib.Core.List.{List, [], _∷_}
 use lib.ListN.{getD}
 
@@ -18,3 +18,8 @@ wordsOf (a ∷ []) = []
 wordsOf (a ∷ b ∷ []) = []
 wordsOf (a ∷ b ∷ c ∷ []) = []
 wordsOf (a ∷ b ∷ c ∷ d ∷ bytes) = wordOf a b c d ∷ wordsOf bytes
+
+-- the bytes of words of 32 bits
+unfoldable pub bytesOf : List ℕ → List ℕ
+bytesOf [] = []
+bytesOf (w ∷ ws) = (w % 256) ∷ (w / 256 % 256) ∷ (w / 65536 % 256) ∷ (w / 16777216 % 256) ∷ bytesOf ws

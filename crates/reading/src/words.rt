@@ -6,7 +6,7 @@ ghost use Rattle.reading.specs.Bytes.{wordOf, wordAt, wordsOf};
 ghost use Rattle.text.specs.Write.{Fills};
 
 // The word of four bytes, the lowest first.
-fn word(a: u8, b: u8, c: u8, d: u8) -> u32
+pub fn word(a: u8, b: u8, c: u8, d: u8) -> u32
     ensures { λ r. ⌜ r ≡ wordOf a b c d ⌝ }
 {
     a as u32 + 256 * (b as u32) + 65536 * (c as u32) + 16777216 * (d as u32)

@@ -142,3 +142,10 @@ fills-front {items} {buffer} {count} {left} h f =
 pub fills-part : {items buffer : List ℕ} {count : ℕ} {left : List ℕ}
     → length items ≤ length buffer → Fills items buffer count left → take (count - 0) (drop 0 left) ≡ items
 fills-part {items} {buffer} {count} {left} h f = ap (λ k. take k left) (sub-zero count) ∙ fills-front h f .1
+
+-- what a text that has room leaves at the front, as a part that is lent
+pub writes-part : {text buffer : List ℕ} {next : ℕ} {left : List ℕ}
+    → next ≤ length buffer → Writes 0 text buffer next left → take (next - 0) (drop 0 left) ≡ text
+writes-part {text} {buffer} {next} h w =
+    let all : next ≡ length text = omega (arith, w .place) in
+    fills-part {count = next} (omega arith) (record { count-is = omega arith; items-are = w .bytes })

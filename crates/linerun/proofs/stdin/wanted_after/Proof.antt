@@ -1,4 +1,4 @@
--- `linerun::wanted_after` meets its contract: what is wanted always has room (`wanted-within`). Assumes nothing.
+-- `linerun::stdin::wanted_after` meets its contract: what is wanted always has room (`wanted-within`). Assumes nothing.
 use mathlib.Core.Path.{_≡_, ap, _∙_}
 use native.Mathlib.Nat.{sub-zero}
 use native.Mathlib.Omega.{arith}
@@ -7,8 +7,8 @@ use lib.Seq.{length-take-le}
 use Rattle.linerun_text.specs.Input.{wanted}
 use Rattle.linerun_text.proofs.InputLaws.{wanted-within}
 use borrow.Author.Needs.{needs}
-use Rattle.linerun.proofs.wanted_after.Statement.{statement}
-use Rattle.linerun.proofs.wanted_after.Tie as tie
+use Rattle.linerun.proofs.stdin.wanted_after.Statement.{statement}
+use Rattle.linerun.proofs.stdin.wanted_after.Tie as tie
 
 sub-wanted : tie.Need-sub-wanted
 sub-wanted c = search needs

@@ -1,0 +1,53 @@
+// Standard input, read in steps: the length word, the table, the list. Each step asks for what the bytes read so far leave wanted
+// and for no byte more, so that the program never waits for one that can't matter.
+use libc::STDIN_FILENO;
+use linerun_text::input::wanted;
+ghost use Prim.Native.Nat.{_+_, _≤_};
+ghost use mathlib.Core.Path.{_≡_};
+ghost use lib.ListN.{length, take};
+ghost use Rattle.linerun_text.specs.Input.{wanted, mostInput, Reads};
+
+// What was read: how many bytes, and whether the input ended behind them.
+pub struct Input {
+    pub have: usize,
+    pub ended: bool,
+}
+
+// How many bytes more to read behind the first ones.
+fn wanted_after(input: &[u8], have: usize) -> usize
+    requires { ⌜ length (now input) ≡ mostInput ⌝ }
+    requires { ⌜ have ≤ mostInput ⌝ }
+    ensures { λ r. ⌜ (r ≡ wanted (take have (now (input .entry)))) × (have + r ≤ mostInput) ⌝ }
+{
+    wanted(&input[0..have])
+}
+
+// Reads so many bytes behind the first ones, fewer only where the input ends, and answers how many. No more may be asked for than
+// the first ones leave wanted.
+fn read_after(input: &mut [u8], have: usize, want: usize) -> usize
+    requires { ⌜ have + want ≤ length (now input) ⌝ }
+    requires { ⌜ want ≤ wanted (take have (now input)) ⌝ }
+    ensures { λ r. ⌜ (r ≤ want) × (take have (now (input .exit)) ≡ take have (now (input .entry))) ⌝ }
+{
+    let end = have + want;
+    io::read_full(STDIN_FILENO, &mut input[have..end])
+}
+
+// Reads until nothing more is wanted or the input ends, and answers which of the two it was.
+pub fn read_input(input: &mut [u8]) -> Input
+    requires { ⌜ length (now input) ≡ mostInput ⌝ }
+    ensures { λ r. ⌜ (r .have ≤ mostInput) × Reads (take (r .have) (now (input .exit))) (r .ended) ⌝ }
+{
+    let mut have: usize = 0;
+    loop {
+        let want = wanted_after(input, have);
+        if want == 0 {
+            return Input { have, ended: false };
+        }
+        let got = read_after(input, have, want);
+        have += got;
+        if got < want {
+            return Input { have, ended: true };
+        }
+    }
+}
