@@ -84,7 +84,20 @@ fn link_kernel(out: &Path) -> Result<(), Box<dyn Error>> {
         let shown = archive.display();
         format!("no archive {shown} ({why}): `rt staticlib balkwizu` makes {ARCHIVE}")
     })?;
+    if let Some(name) = STEP_EXPORTS.iter().find(|name| has(&bytes, name)) {
+        let shown = archive.display();
+        return Err(
+            format!("{shown} is for the firmware and has {name}, which is for tests").into(),
+        );
+    }
     link_archive(out, &archive, "balkwizu", &bytes, &EXPORTS)
+}
+
+/// Whether a name stands in an archive.
+fn has(archive: &[u8], name: &str) -> bool {
+    archive
+        .windows(name.len())
+        .any(|part| part == name.as_bytes())
 }
 
 /// Links the archive with the public step, where there is one.
@@ -110,13 +123,8 @@ fn link_archive(
     exports: &[&str],
 ) -> Result<(), Box<dyn Error>> {
     println!("cargo::rerun-if-changed={}", archive.display());
-    for name in exports {
-        if !bytes
-            .windows(name.len())
-            .any(|part| part == name.as_bytes())
-        {
-            return Err(format!("{} has no function {name}", archive.display()).into());
-        }
+    if let Some(name) = exports.iter().find(|name| !has(bytes, name)) {
+        return Err(format!("{} has no function {name}", archive.display()).into());
     }
     fs::write(out.join(format!("lib{library}.a")), bytes)?;
     println!("cargo::rustc-link-lib=static={library}");
