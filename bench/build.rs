@@ -5,6 +5,10 @@
 //! that BALKWIZU_ARCHIVE names; the program then calls it by that name, since nobody
 //! knows here whether it is the proved one. Each compiler's functions get a prefix of
 //! their own, so that all of them stand in one program.
+//!
+//! Where it is there, the archive of the crate step_export is linked too: it has the
+//! kernel's public step for `bench step`, which the firmware's archive hasn't got. An
+//! archive of the kit shows its exported functions only, so the two don't meet.
 
 use std::env;
 use std::error::Error;
@@ -14,6 +18,8 @@ use std::process::Command;
 
 const ARCHIVE: &str = "target/staticlib/libbalkwizu.a";
 const EXPORTS: [&str; 2] = ["balkwizu_table_check", "balkwizu_run"];
+const STEP_ARCHIVE: &str = "target/staticlib/libstep_export.a";
+const STEP_EXPORTS: [&str; 1] = ["balkwizu_test_step"];
 const PLAIN_SOURCES: [&str; 2] = ["plain_check", "plain_run"];
 const FLAGS: [&str; 6] = [
     "-std=c11",
@@ -26,9 +32,11 @@ const FLAGS: [&str; 6] = [
 
 fn main() {
     println!("cargo::rerun-if-env-changed=BALKWIZU_ARCHIVE");
+    println!("cargo::rerun-if-env-changed=BALKWIZU_STEP_ARCHIVE");
     println!("cargo::rerun-if-changed=build.rs");
     println!("cargo::rerun-if-changed=c");
     println!("cargo::rustc-check-cfg=cfg(clang)");
+    println!("cargo::rustc-check-cfg=cfg(step)");
     if let Err(wrong) = build() {
         println!("cargo::error={wrong}");
     }
@@ -36,7 +44,8 @@ fn main() {
 
 fn build() -> Result<(), Box<dyn Error>> {
     let out = PathBuf::from(env::var("OUT_DIR")?);
-    link_archive(&out)?;
+    link_kernel(&out)?;
+    link_step(&out)?;
     compile_plain("gcc", &out)?;
     let mut compilers = vec![version("gcc").ok_or("no gcc")?];
     if let Some(clang) = version("clang") {
@@ -59,40 +68,74 @@ fn version(compiler: &str) -> Option<String> {
     text.lines().next().map(str::to_string)
 }
 
-/// Copies the archive beside the others, so that it has the name to link by
-/// wherever it came from.
-fn link_archive(out: &Path) -> Result<(), Box<dyn Error>> {
-    let (archive, title) = archive()?;
-    println!("cargo::rerun-if-changed={}", archive.display());
+/// Links the kernel's archive, and tells the program what to call it.
+fn link_kernel(out: &Path) -> Result<(), Box<dyn Error>> {
+    let named = env::var_os("BALKWIZU_ARCHIVE").map(PathBuf::from);
+    let title = match &named {
+        None => "proved archive".to_string(),
+        Some(named) => {
+            let path = fs::canonicalize(named).unwrap_or(named.clone());
+            format!("archive {}", path.display())
+        }
+    };
     println!("cargo::rustc-env=ARCHIVE_TITLE={title}");
-    let shown = archive.display();
+    let archive = named.map_or_else(|| in_repository(ARCHIVE), Ok)?;
     let bytes = fs::read(&archive).map_err(|why| {
+        let shown = archive.display();
         format!("no archive {shown} ({why}): `rt staticlib balkwizu` makes {ARCHIVE}")
     })?;
-    for name in EXPORTS {
-        if !bytes
-            .windows(name.len())
-            .any(|part| part == name.as_bytes())
-        {
-            return Err(format!("{shown} has no function {name}").into());
-        }
+    if let Some(name) = STEP_EXPORTS.iter().find(|name| has(&bytes, name)) {
+        let shown = archive.display();
+        return Err(
+            format!("{shown} is for the firmware and has {name}, which is for tests").into(),
+        );
     }
-    fs::write(out.join("libbalkwizu.a"), bytes)?;
-    println!("cargo::rustc-link-lib=static=balkwizu");
+    link_archive(out, &archive, "balkwizu", &bytes, &EXPORTS)
+}
+
+/// Whether a name stands in an archive.
+fn has(archive: &[u8], name: &str) -> bool {
+    archive
+        .windows(name.len())
+        .any(|part| part == name.as_bytes())
+}
+
+/// Links the archive with the public step, where there is one.
+fn link_step(out: &Path) -> Result<(), Box<dyn Error>> {
+    let named = env::var_os("BALKWIZU_STEP_ARCHIVE").map(PathBuf::from);
+    let archive = named.map_or_else(|| in_repository(STEP_ARCHIVE), Ok)?;
+    let Ok(bytes) = fs::read(&archive) else {
+        // Looked for again by the next build, so that it is found once it is made.
+        println!("cargo::rerun-if-changed={}", archive.display());
+        return Ok(());
+    };
+    println!("cargo::rustc-cfg=step");
+    link_archive(out, &archive, "step_export", &bytes, &STEP_EXPORTS)
+}
+
+/// Links an archive that has the exports. It is copied beside the others, so that it
+/// has the name to link by wherever it came from.
+fn link_archive(
+    out: &Path,
+    archive: &Path,
+    library: &str,
+    bytes: &[u8],
+    exports: &[&str],
+) -> Result<(), Box<dyn Error>> {
+    println!("cargo::rerun-if-changed={}", archive.display());
+    if let Some(name) = exports.iter().find(|name| !has(bytes, name)) {
+        return Err(format!("{} has no function {name}", archive.display()).into());
+    }
+    fs::write(out.join(format!("lib{library}.a")), bytes)?;
+    println!("cargo::rustc-link-lib=static={library}");
     Ok(())
 }
 
-/// The archive, and what the program calls it.
-fn archive() -> Result<(PathBuf, String), Box<dyn Error>> {
-    if let Some(named) = env::var_os("BALKWIZU_ARCHIVE") {
-        let named = PathBuf::from(named);
-        let path = fs::canonicalize(&named).unwrap_or(named);
-        let title = format!("archive {}", path.display());
-        return Ok((path, title));
-    }
+/// A file of the repository.
+fn in_repository(path: &str) -> Result<PathBuf, Box<dyn Error>> {
     let package = PathBuf::from(env::var("CARGO_MANIFEST_DIR")?);
     let repository = package.parent().ok_or("the package stands nowhere")?;
-    Ok((repository.join(ARCHIVE), "proved archive".to_string()))
+    Ok(repository.join(path))
 }
 
 /// Compiles bench/c with one compiler into libplain_COMPILER.a, each function

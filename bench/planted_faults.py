@@ -1,18 +1,20 @@
 #!/usr/bin/env python3
-"""Shows that `bench fuzz` reports a difference when there is one.
+"""Shows that `bench fuzz` and `bench step` report a difference when there is one.
 
 The faults are those of the separate implementation's own mutants, by edits as
-reference/edits.py has them. For each, the bench is built against a copy of the
-separate implementation with the fault in it, and the same seeded fuzz must end
-with a reported difference between that and the kernel. First it must pass
-against the copy as it stands. A panic, a run that doesn't end and a code never
-met are no reported difference.
+reference/edits.py has them. The bench is built against a copy of the separate
+implementation with the faults in it, and with each of them switched on the same
+seeded fuzz must end with a reported difference between that and the kernel, and so
+must the same seeded steps where the fault is one of a single call. With none
+switched on both must pass. A panic, a run that doesn't end and a code never met are
+no reported difference.
 
     python3 bench/planted_faults.py            all faults
     python3 bench/planted_faults.py NAME...    some of them
 
-Copies and builds stand under build/planted. The kernel is the archive
-target/staticlib/libbalkwizu.a, or the one that BALKWIZU_ARCHIVE names.
+The copy and its build stand under build/planted. The kernel is the archive
+target/staticlib/libbalkwizu.a, or the one that BALKWIZU_ARCHIVE names, and its step
+target/staticlib/libstep_export.a, or what BALKWIZU_STEP_ARCHIVE names.
 """
 
 import os
@@ -21,10 +23,14 @@ from fnmatch import fnmatch
 from pathlib import Path
 
 sys.path.insert(0, str(Path(__file__).resolve().parent.parent / "reference"))
-from edits import ROOT, Copy, Wrong, edit_files, try_all  # noqa: E402
+from edits import ROOT, Copy, Wrong, edit_files, run, try_all  # noqa: E402
 
-ARCHIVE = ROOT / "target" / "staticlib" / "libbalkwizu.a"
+ARCHIVES = {
+    "BALKWIZU_ARCHIVE": "libbalkwizu.a",
+    "BALKWIZU_STEP_ARCHIVE": "libstep_export.a",
+}
 FUZZ = ["fuzz", "--seed", "20", "--cases", "10000", "--table-checks", "10000"]
+STEP = ["step", "--seed", "20", "--cases", "5000"]
 LEAST = 20
 
 # Faults that no comparison with the kernel can show, by name, each with why. They
@@ -39,43 +45,60 @@ UNSEEN = {
     "view_*": "the same view is taken of both runs",
 }
 
+# The same for steps, which run one call and check the table before it.
+UNSEEN_BY_STEPS = {
+    "bytes_*": "the check of bytes",
+    "cut_*": "the cutting of a list",
+    "entry_*": "the entry of a run",
+    "purge_*": "the striking rule",
+    "shortcut_influence_from_last_table": "the striking rule",
+    "shortcut_refused_send_gives_up_second_word": "the cutting of a list",
+    "sources_*": "the striking rule",
+}
+
 PROFILE = """
 [profile.release]
 opt-level = 0
 debug = false
-incremental = true
 codegen-units = 16
 """
 
 
-def prepare(number):
+def prepare():
     """A copy of both packages."""
-    folder = ROOT / "build" / "planted" / str(number)
-    return Copy(folder, ["reference", "bench"], PROFILE)
+    return Copy(ROOT / "build" / "planted", ["reference", "bench"], PROFILE)
 
 
-def fuzz(copy):
-    """The exit status of the fuzz, built against the copy, and what it printed."""
-    bench = copy.build(["build", "--release", "-p", "balkwizu-bench"], "bench")
-    ran = copy.run([bench, *FUZZ])
-    return ran.returncode, ran.stdout
+def make(copy):
+    """The bench, built against the copy."""
+    return copy.build(["build", "--release", "-p", "balkwizu-bench"], "bench")
 
 
-def check_unedited(copy):
-    """Against the separate implementation as it stands the fuzz must pass."""
-    status, printed = fuzz(copy)
-    if status != 0:
-        raise Wrong(f"the fuzz fails:\n{printed}")
+def check_unedited(bench):
+    """Against the separate implementation as it stands both must pass."""
+    for command in FUZZ, STEP:
+        ran = run([bench, *command], 0)
+        if ran.returncode != 0:
+            raise Wrong(f"{command[0]} fails:\n{ran.stdout}{ran.stderr}")
 
 
-def reported(copy, edit):
-    """What the fuzz reports with the fault in the copy."""
-    status, printed = fuzz(copy)
-    lines = printed.splitlines()
+def difference(bench, command, fault):
+    """What a command reports with the fault switched on."""
+    ran = run([bench, *command], fault)
+    lines = ran.stdout.splitlines()
     found = [i for i, line in enumerate(lines) if line.startswith("DIFFERENCE")]
-    if status != 1 or not found:
-        raise Wrong(f"no difference is reported (exit status {status})")
+    if ran.returncode != 1 or not found:
+        status = f"exit status {ran.returncode}"
+        raise Wrong(f"{command[0]} reports no difference ({status})")
     return lines[found[0] + 1].strip()
+
+
+def reported(bench, fault, name, edit):
+    """What the fuzz reports, and the steps where the fault is one of a call."""
+    told = difference(bench, FUZZ, fault)
+    if not any(fnmatch(name, pattern) for pattern in UNSEEN_BY_STEPS):
+        told += f"; by steps: {difference(bench, STEP, fault)}"
+    return told
 
 
 def unseen(path):
@@ -88,9 +111,10 @@ def main():
     paths = [path for path in edit_files(wanted) if wanted or not unseen(path)]
     if not wanted and len(paths) < LEAST:
         sys.exit(f"only {len(paths)} faults: there must be {LEAST}")
-    archive = Path(os.environ.get("BALKWIZU_ARCHIVE", ARCHIVE)).absolute()
-    os.environ["BALKWIZU_ARCHIVE"] = str(archive)
-    try_all(paths, prepare, check_unedited, reported)
+    for name, archive in ARCHIVES.items():
+        named = os.environ.get(name, ROOT / "target" / "staticlib" / archive)
+        os.environ[name] = str(Path(named).absolute())
+    try_all(paths, prepare(), make, check_unedited, reported)
 
 
 if __name__ == "__main__":

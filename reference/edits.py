@@ -15,17 +15,18 @@ The old lines must occur exactly once in the file. `caught-by` names the test
 that must fail: `noninterference` is the property test of the striking rule by
 itself, which must show two views that differ; `any` is any test at all.
 
-As many edits are tried at a time as there are processors, each in a copy and a
-build folder that no other one uses meanwhile. Before the first edit, every copy
-must do what it should as it stands. One line is printed for each edit, in the
-order of their names, and at the end `N passed, M failed`; the exit status is 0
-only if M is 0.
+An edit alters the bodies of functions and nothing else. So one copy of the
+package is built with all faults in it, each behind a switch: a function that a
+fault alters has the altered body too, and runs that where the environment's
+REFERENCE_FAULT is the fault's number. With no fault switched on the copy must do
+what it should. As many faults are tried at a time as there are processors. One
+line is printed for each, in the order of their names, and at the end `N passed,
+M failed`; the exit status is 0 only if M is 0.
 """
 
-import contextlib
 import json
 import os
-import queue
+import re
 import shutil
 import subprocess
 import sys
@@ -71,14 +72,62 @@ def edited(edit, text):
     return text.replace(edit["old"], edit["new"])
 
 
+FUNCTION = re.compile(r"( *)(pub(\(\w+\))? )?fn \w+")
+
+
+def pieces(text):
+    """A file cut at the bodies of its functions: what stands outside of them and a
+    body, in turn. It is as rustfmt lays it out."""
+    cut, piece, indent, close = [], [], None, None
+    for line in text.splitlines(keepends=True):
+        if close is not None and line != close:
+            piece.append(line)
+            continue
+        if close is not None:
+            cut.append("".join(piece))
+            piece, close = [], None
+        found = FUNCTION.match(line)
+        indent = found[1] if found else indent
+        piece.append(line)
+        if indent is not None and line.endswith("{\n"):
+            cut.append("".join(piece))
+            piece, close, indent = [], f"{indent}}}\n", None
+    return cut + ["".join(piece)]
+
+
+def switched(text, faults):
+    """A file with faults behind switches: `faults` are their numbers and edits."""
+    cut = pieces(text)
+    switches = [""] * len(cut)
+    for number, edit in faults:
+        other = pieces(edited(edit, text))
+        if len(other) != len(cut) or other[::2] != cut[::2]:
+            raise Wrong(f"alters more than bodies of functions: {edit['what']}")
+        for place in range(1, len(cut), 2):
+            if other[place] != cut[place]:
+                body = f"return {{\n{other[place]}}};\n"
+                switches[place] += f"if crate::fault::is({number}) {{\n{body}}}\n"
+    return "".join(switch + piece for switch, piece in zip(switches, cut))
+
+
+SWITCH = """//! Which fault is switched on.
+
+pub fn is(number: u32) -> bool {
+    static ON: std::sync::OnceLock<u32> = std::sync::OnceLock::new();
+    let read = || std::env::var("REFERENCE_FAULT").map_or(0, |on| on.parse().unwrap());
+    *ON.get_or_init(read) == number
+}
+"""
+
+
 class Copy:
-    """Fresh copies of some packages, in a workspace and a build of their own."""
+    """A fresh copy of some packages, in a workspace and a build of its own."""
 
     def __init__(self, folder, packages, profile):
         self.folder = folder
         for package in packages:
             shutil.rmtree(folder / package, ignore_errors=True)
-            # new times, so that nothing built from an edited copy passes for current
+            # new times, so that nothing built from another copy passes for current
             shutil.copytree(
                 ROOT / package,
                 folder / package,
@@ -87,6 +136,17 @@ class Copy:
             )
         members = f'[workspace]\nmembers = {json.dumps(packages)}\nresolver = "2"\n'
         (folder / "Cargo.toml").write_text(members + profile)
+
+    def put_in(self, faults):
+        """Puts faults in, given by their numbers and edits, each behind its switch."""
+        package = self.folder / "reference"
+        for file in {edit["file"] for _, edit in faults}:
+            text = (REFERENCE / file).read_text()
+            own = [fault for fault in faults if fault[1]["file"] == file]
+            (package / file).write_text(switched(text, own))
+        (package / "src" / "fault.rs").write_text(SWITCH)
+        with (package / "src" / "lib.rs").open("a") as root:
+            root.write("\nmod fault;\n")
 
     def build(self, words, target):
         """The program that a cargo command makes of a target."""
@@ -104,30 +164,20 @@ class Copy:
                 return message["executable"]
         raise Wrong(f"cargo makes no {target}")
 
-    def run(self, command):
-        """A command run to its end: its status and what it printed."""
-        try:
-            return subprocess.run(
-                command,
-                cwd=self.folder,
-                env=dict(os.environ, RUST_BACKTRACE="0"),
-                capture_output=True,
-                text=True,
-                timeout=SECONDS,
-            )
-        except subprocess.TimeoutExpired:
-            raise Wrong(f"doesn't end within {SECONDS} s") from None
 
-    @contextlib.contextmanager
-    def with_edit(self, edit):
-        """The edit stands in the copy meanwhile."""
-        target = self.folder / "reference" / edit["file"]
-        text = (REFERENCE / edit["file"]).read_text()
-        target.write_text(edited(edit, text))
-        try:
-            yield
-        finally:
-            target.write_text(text)
+def run(command, fault):
+    """A command run to its end with a fault switched on, or none where that is 0: its
+    status and what it printed."""
+    try:
+        return subprocess.run(
+            command,
+            env=dict(os.environ, RUST_BACKTRACE="0", REFERENCE_FAULT=str(fault)),
+            capture_output=True,
+            text=True,
+            timeout=SECONDS,
+        )
+    except subprocess.TimeoutExpired:
+        raise Wrong(f"doesn't end within {SECONDS} s") from None
 
 
 def in_order(workers, function, items):
@@ -139,17 +189,16 @@ def in_order(workers, function, items):
         pool.shutdown(cancel_futures=True)
 
 
-def tried(judge, copy, path):
-    """Whether the fault shows as it must, and the line that says so."""
+def tried(judge, program, fault):
+    """Whether a fault shows as it must, and the line that says so."""
+    number, name, edit = fault
     start = time.monotonic()
     try:
-        edit = read_edit(path)
-        with copy.with_edit(edit):
-            told = judge(copy, edit)
+        told = judge(program, number, name, edit)
     except Wrong as wrong:
-        return False, f"FAILED  {path.stem}: {wrong}"
+        return False, f"FAILED  {name}: {wrong}"
     seconds = time.monotonic() - start
-    return True, f"ok      {path.stem} ({seconds:.1f} s): {told}"
+    return True, f"ok      {name} ({seconds:.1f} s): {told}"
 
 
 def edit_files(wanted):
@@ -163,33 +212,24 @@ def edit_files(wanted):
     return paths
 
 
-def try_all(paths, prepare, check_unedited, judge):
+def try_all(paths, copy, make, check_unedited, judge):
     """Tries every edit and ends the program.
 
-    prepare(number) gives the copy of a worker, check_unedited(copy) raises Wrong
-    where it doesn't do what it should as it stands, and judge(copy, edit), with
-    the edit made in the copy, gives what to tell of the fault or raises Wrong
-    where it doesn't show.
+    make(copy) gives the program of the copy once the faults are in it,
+    check_unedited(program) raises Wrong where it doesn't do what it should with no
+    fault switched on, and judge(program, number, name, edit) gives what to tell of a
+    fault that is switched on by its number, or raises Wrong where it doesn't show.
     """
-    workers = min(os.cpu_count() or 1, len(paths))
-    copies = [prepare(number) for number in range(workers)]
     try:
-        list(in_order(workers, check_unedited, copies))
+        faults = [(at, path.stem, read_edit(path)) for at, path in enumerate(paths, 1)]
+        copy.put_in([(number, edit) for number, _, edit in faults])
+        program = make(copy)
+        check_unedited(program)
     except Wrong as wrong:
-        sys.exit(f"without an edit: {wrong}")
-    free = queue.SimpleQueue()
-    for copy in copies:
-        free.put(copy)
-
-    def in_free_copy(path):
-        copy = free.get()
-        try:
-            return tried(judge, copy, path)
-        finally:
-            free.put(copy)
-
+        sys.exit(f"without a fault: {wrong}")
     passed = 0
-    for shown, line in in_order(workers, in_free_copy, paths):
+    workers = min(os.cpu_count() or 1, len(paths))
+    for shown, line in in_order(workers, lambda fault: tried(judge, program, fault), faults):
         print(line, flush=True)
         passed += shown
     print(f"{passed} passed, {len(paths) - passed} failed")

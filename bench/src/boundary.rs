@@ -1,10 +1,13 @@
 //! The C boundary: the kernel's exported functions as include/balkwizu.h
-//! declares them, those of the plain C kernel, and safe wrappers over both.
+//! declares them, those of the plain C kernel, the kernel's public step as the crate
+//! step_export has it for tests, and safe wrappers over all of them.
 //!
 //! The caller's duties of the header are what Rust's references say of
 //! themselves: a slice is valid for its length, aligned and never null, two
 //! lent parts of which one is written never overlap, and nobody else writes
 //! them. So every wrapper is safe, and there is no other `unsafe` in the bench.
+
+use reference::Call;
 
 /// The check of bytes that are valid for reads.
 type TableCheck = unsafe fn(bytes: *const [u8]) -> u32;
@@ -130,6 +133,45 @@ pub const PLAIN_CLANG: Kernel = kernel!(
     plain_clang_table_check,
     plain_clang_run
 );
+
+/// One call on any table: 0 with three words of the answer written, the table's 2 to
+/// 5, or [`NO_SPACE`].
+pub type Step = fn(table: &mut [u32], call: &Call, answer: &mut [u32]) -> u32;
+
+/// What the exported step returns for an answer space under three words. No paper
+/// uses the number.
+pub const NO_SPACE: u32 = 99;
+
+/// The public step of the proved kernel, where the program was built with it.
+#[cfg(not(step))]
+pub const PROVED_STEP: Option<Step> = None;
+
+#[cfg(step)]
+pub const PROVED_STEP: Option<Step> = Some(|table, call, answer| {
+    extern "C" {
+        fn balkwizu_test_step(
+            table: *mut u32,
+            table_len: usize,
+            first: u32,
+            second: u32,
+            has_second: u32,
+            answer: *mut u32,
+            answer_len: usize,
+        ) -> u32;
+    }
+    // SAFETY: two slices, each valid for its length, aligned and borrowed alone.
+    unsafe {
+        balkwizu_test_step(
+            table.as_mut_ptr(),
+            table.len(),
+            call.first,
+            call.second.unwrap_or(0),
+            u32::from(call.second.is_some()),
+            answer.as_mut_ptr(),
+            answer.len(),
+        )
+    }
+});
 
 /// Every kernel of this program, the proved one first.
 pub const KERNELS: &[Kernel] = &[

@@ -23,7 +23,7 @@ pub struct Ran {
 
 /// Words lent from the middle of a larger space, with words around them that
 /// nobody was lent.
-struct Fenced {
+pub struct Fenced {
     words: Vec<u32>,
     end: usize,
 }
@@ -31,23 +31,23 @@ struct Fenced {
 const FENCE: [u32; 4] = [0xA5A5_5A5A; 4];
 
 impl Fenced {
-    fn new(lent: &[u32]) -> Fenced {
+    pub fn new(lent: &[u32]) -> Fenced {
         Fenced {
             words: [&FENCE, lent, &FENCE].concat(),
             end: FENCE.len() + lent.len(),
         }
     }
 
-    fn lent(&mut self) -> &mut [u32] {
+    pub fn lent(&mut self) -> &mut [u32] {
         &mut self.words[FENCE.len()..self.end]
     }
 
-    /// The lent words, unless a word around them was written.
-    fn back(self, what: &str) -> Result<Vec<u32>, String> {
+    /// The lent words as they are now, unless a word around them was written.
+    pub fn words(&self, what: &str) -> Result<&[u32], String> {
         if self.words[..FENCE.len()] != FENCE || self.words[self.end..] != FENCE {
             return Err(format!("the kernel wrote outside the {what} it was lent"));
         }
-        Ok(self.words[FENCE.len()..self.end].to_vec())
+        Ok(&self.words[FENCE.len()..self.end])
     }
 }
 
@@ -58,13 +58,13 @@ pub fn kernel_run(kernel: &Kernel, case: &Case) -> Result<Ran, String> {
     let mut list = Fenced::new(&case.list);
     let mut answers = Fenced::new(&case.answers);
     let outcome = kernel.run(table.lent(), list.lent(), answers.lent());
-    if list.back("list")? != case.list {
+    if list.words("list")? != case.list {
         return Err("the kernel wrote the list".to_string());
     }
     Ok(Ran {
         outcome,
-        table: table.back("table")?,
-        answers: answers.back("answer space")?,
+        table: table.words("table")?.to_vec(),
+        answers: answers.words("answer space")?.to_vec(),
     })
 }
 
@@ -108,7 +108,7 @@ fn outcome_difference(kernel: Outcome, separate: Outcome) -> Option<String> {
     })
 }
 
-fn first_unequal(a: &[u32], b: &[u32]) -> Option<usize> {
+pub fn first_unequal(a: &[u32], b: &[u32]) -> Option<usize> {
     (0..a.len().max(b.len())).find(|&place| a.get(place) != b.get(place))
 }
 

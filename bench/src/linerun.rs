@@ -1,6 +1,10 @@
 //! `bench linerun`: the program `linerun` beside the separate one, on random
 //! inputs.
 
+use std::time::Duration;
+
+use reference::calls::LIST_WORDS_MAX;
+use reference::check_table;
 use reference::generate::{linerun_input, Rng};
 use reference::table::TABLE_WORDS_MAX;
 use reference::words::{from_bytes, to_bytes};
@@ -9,27 +13,32 @@ use crate::args::Options;
 use crate::cases::rng_for;
 use crate::explain::counted;
 use crate::output::{self, say};
-use crate::program::{run, End, Ran};
+use crate::program::{run, End, Feed, Ran};
 use crate::progress::Progress;
 use crate::shrink::fewest;
 use crate::text;
 
 pub const HELP: &str = "\
-bench linerun PROGRAM [--cases N] [--seed S] [--from K]
+bench linerun PROGRAM [--cases N] [--seed S] [--from K] [--time T]
 
 Runs PROGRAM, as target/bin/linerun, on random inputs and compares every byte
 that it prints with what the separate implementation prints: lists that run,
 tables that are refused, inputs that are cut short, that have bytes left over,
-and that are too long. PROGRAM must end by itself with status 0 each time; it is
-stopped after 10 seconds on one input, or when it prints more than any list of
+and that are too long. Some are given byte by byte or in odd parts. Where the
+answer is due before the end, at a length word above 641 and at list word 4,097,
+the pipe is held open behind that, with up to three bytes more: the answer must
+come all the same. PROGRAM must end by itself with status 0 each time; it is
+stopped after T seconds on one input, or when it prints more than any list of
 calls is answered with.
 
   --cases N  inputs to try (default 2,000)
   --seed S   the seed that they are drawn from (default 1)
   --from K   the number of the first input (default 0)
+  --time T   the seconds that it may take for one input (default 10)
 
 The first difference ends it, with the words that show it as `bench words` takes
-them. From 1,000 inputs on, a code that no input met is a failure too.
+them. From 1,000 inputs on, a code that no input met is a failure too, and so is a
+way to give an input that was never used.
 
 Exit status: 0 nothing differs, and every code was met where that is asked; 1
 otherwise; 2 bad usage, or a program that can't be started.
@@ -38,6 +47,16 @@ otherwise; 2 bad usage, or a program that can't be started.
 /// The codes of the first line that must be met, and from how many inputs on.
 const CODES: [u32; 7] = [0, 1, 2, 3, 4, 5, 7];
 const ENOUGH: u64 = 1000;
+
+/// The ways to give an input that must be met too.
+const WAYS: [&str; 6] = [
+    "byte by byte",
+    "in odd parts",
+    "held open at a length word above 641",
+    "held open at list word 4,097",
+    "held open with bytes left over",
+    "held open behind a bad table",
+];
 
 /// How much of a line is shown.
 const SHOWN_MAX: usize = 120;
@@ -49,49 +68,103 @@ const PLAIN_CALL: u32 = 0x5000_0000;
 
 /// The command: whether nothing differs.
 pub fn command(line: &[String]) -> Result<bool, String> {
-    let options = Options::parse(line, &["--cases", "--seed", "--from"], &[])?;
+    let valued = ["--cases", "--seed", "--from", "--time"];
+    let options = Options::parse(line, &valued, &[])?;
     let program = options.file().map_err(|why| format!("PROGRAM: {why}"))?;
     let cases = options.number("--cases")?.unwrap_or(2000);
     let seed = options.number("--seed")?.unwrap_or(1);
+    let time = Duration::from_secs(options.number("--time")?.unwrap_or(10));
     if cases == 0 {
         return Err("--cases 0 leaves nothing to compare".to_string());
     }
     let numbers = options.numbers("--cases", cases)?;
-    let mut met = [0u64; 8];
+    let mut met = Met::default();
     let mut progress = Progress::new("inputs", &numbers);
     for number in numbers {
-        let input = input_of(seed, number);
+        let Given { input, feed } = given(seed, number, time);
         let expected = reference::linerun(&input);
-        let ran = run(program, &input)?;
+        let ran = run(program, &input, feed)?;
         if let Some(told) = difference(&ran, &expected) {
             progress.clear();
             say!("DIFFERENCE in input {number} of seed {seed}:\n  {told}");
+            output::write(way_in_words(&input, feed).as_bytes());
             say!(
                 "To see it again: bench linerun {program} --seed {seed} --from {number} --cases 1"
             );
-            output::write(shorter(program, &input, &ran).as_bytes());
+            output::write(shorter(program, &input, feed, &ran).as_bytes());
             return Ok(false);
         }
-        met[code_of(&expected)] += 1;
+        met.add(&input, feed, &expected);
         progress.step();
     }
     progress.clear();
     Ok(ended(program, cases, &met))
 }
 
-/// Prints what was met; whether that is all that is asked.
-fn ended(program: &str, cases: u64, met: &[u64; 8]) -> bool {
-    for code in CODES {
-        say!("  code {code} {:>8}", met[code as usize]);
+/// How often each code and each way to give an input was met.
+#[derive(Debug, Default)]
+struct Met {
+    codes: [u64; 8],
+    ways: [u64; WAYS.len()],
+}
+
+impl Met {
+    fn add(&mut self, input: &[u8], feed: Feed, expected: &[u8]) {
+        self.codes[code_of(expected)] += 1;
+        let (head, list, left_over) = apart(input);
+        let at_the_list = feed.held && list.len() > LIST_WORDS_MAX;
+        let used = [
+            feed.parts == Some(1),
+            feed.parts > Some(1),
+            feed.held && !at_the_list,
+            at_the_list,
+            at_the_list && !left_over.is_empty(),
+            at_the_list && check_table(&from_bytes(&head[4..])) != 0,
+        ];
+        for (count, used) in self.ways.iter_mut().zip(used) {
+            *count += u64::from(used);
+        }
     }
-    let missing = CODES.iter().any(|&code| met[code as usize] == 0);
+
+    fn all(&self) -> bool {
+        let codes = CODES.iter().all(|&code| self.codes[code as usize] > 0);
+        codes && self.ways.iter().all(|&count| count > 0)
+    }
+}
+
+/// Prints what was met; whether that is all that is asked.
+fn ended(program: &str, cases: u64, met: &Met) -> bool {
+    for code in CODES {
+        say!("  code {code} {:>8}", met.codes[code as usize]);
+    }
+    for (way, count) in WAYS.iter().zip(met.ways) {
+        say!("  {count:>15}  {way}");
+    }
     let verdict = match cases {
-        ..ENOUGH => "nothing differs; too few to ask that every code is met",
-        _ if missing => "FAILED: a code was never met",
-        _ => "passed",
+        ..ENOUGH => "nothing differs; too few to ask that every code and way is met",
+        _ if met.all() => "passed",
+        _ => "FAILED: a code or a way was never met",
     };
     say!("{} of {program}: {verdict}", counted(cases, "input"));
-    cases < ENOUGH || !missing
+    cases < ENOUGH || met.all()
+}
+
+/// How an input was given, where it wasn't at once and with its end.
+fn way_in_words(input: &[u8], feed: Feed) -> String {
+    let parts = match feed.parts {
+        None => String::new(),
+        Some(1) => "It was given byte by byte.\n".to_string(),
+        Some(most) => format!("It was given in parts of 1 to {most} bytes.\n"),
+    };
+    if !feed.held {
+        return parts;
+    }
+    let what = match due(input) {
+        Some(4) => "the length word is above 641, so that",
+        _ => "list word 4,097 was there, so that",
+    };
+    let bytes = counted(input.len(), "byte");
+    format!("{parts}The pipe was held open behind {bytes}: {what} the answer was due.\n")
 }
 
 /// The code of the first line.
@@ -103,15 +176,50 @@ fn code_of(printed: &[u8]) -> usize {
     code.filter(|&code: &usize| code < 8).unwrap_or(6)
 }
 
-/// The input of a number: the usual ones, and those at the limits of a list.
-fn input_of(seed: u64, number: u64) -> Vec<u8> {
+/// An input, and how it is given.
+struct Given {
+    input: Vec<u8>,
+    feed: Feed,
+}
+
+/// The input of a number: the usual ones, and those at the limits of a list. Some are
+/// given in parts. Most of those whose answer is due before their end are cut there and
+/// held open.
+fn given(seed: u64, number: u64, time: Duration) -> Given {
     let rng = &mut rng_for(seed, number);
-    match number % 16 {
+    let mut input = match number % 16 {
         0 => at_the_limit(rng),
         1 => linerun_input(rng, 16, 32, 4096),
         2..=8 => linerun_input(rng, 16, 32, 100),
         _ => linerun_input(rng, 3, 2, 40),
+    };
+    let parts = match number % 64 {
+        9 => Some(1),
+        32 => Some(4001),
+        5 | 13 | 21 | 29 => Some(257),
+        _ => None,
+    };
+    let due = due(&input).filter(|_| number % 4 != 3);
+    if let Some(due) = due {
+        input.truncate(due);
+        input.extend(vec![0xF0; rng.below(4)]);
     }
+    let held = due.is_some();
+    Given {
+        input,
+        feed: Feed { parts, held, time },
+    }
+}
+
+/// How many bytes of an input decide its answer, where that is due before the end: at
+/// a length word above 641, and at list word 4,097.
+fn due(input: &[u8]) -> Option<usize> {
+    let length = *from_bytes(input).first()? as usize;
+    if length > TABLE_WORDS_MAX {
+        return Some(4);
+    }
+    let words = 1 + length + LIST_WORDS_MAX + 1;
+    (input.len() >= 4 * words).then_some(4 * words)
 }
 
 /// A list of 4,095 to 4,097 words, with or without bytes left over, behind a table
@@ -190,9 +298,10 @@ fn shown(printed: &[u8]) -> String {
 }
 
 /// The words of an input that differs, with a shorter list where that still does.
-fn shorter(program: &str, input: &[u8], ran: &Ran) -> String {
+fn shorter(program: &str, input: &[u8], feed: Feed, ran: &Ran) -> String {
     let differs = |input: &[u8]| {
-        let again = run(program, input).ok()?;
+        let held = feed.held && due(input).is_some();
+        let again = run(program, input, Feed { held, ..feed }).ok()?;
         difference(&again, &reference::linerun(input))
     };
     let smaller = match ran.end {
@@ -239,11 +348,22 @@ mod tests {
     use super::*;
     use crate::input::Input;
 
+    const TIME: Duration = Duration::from_secs(10);
+
     #[test]
     fn inputs_meet_every_code_and_both_sides_of_the_limit() {
-        let mut met = [0u64; 8];
+        let mut met = Met::default();
         for number in 0..ENOUGH {
-            met[code_of(&reference::linerun(&input_of(1, number)))] += 1;
+            let Given { input, feed } = given(1, number, TIME);
+            let whole = reference::linerun(&input);
+            if feed.held {
+                // What decides the answer is there; of a list, not a byte less would do.
+                let due = due(&input).expect("it is due");
+                assert_eq!(reference::linerun(&input[..due]), whole);
+                let less = reference::linerun(&input[..due - 1]);
+                assert_eq!(less == whole, due == 4, "{number}");
+            }
+            met.add(&input, feed, &whole);
         }
         assert!(ended("the separate one", ENOUGH, &met), "{met:?}");
         assert_eq!(code_of(b"calls 0 code 7\n"), 7);
@@ -252,8 +372,17 @@ mod tests {
     #[test]
     fn a_code_never_met_is_a_failure_only_where_enough_was_tried() {
         assert!(HELP.contains("From 1,000 inputs on"));
-        assert!(!ended("one code", ENOUGH, &[ENOUGH, 0, 0, 0, 0, 0, 0, 0]));
-        assert!(ended("one input", 1, &[1, 0, 0, 0, 0, 0, 0, 0]));
+        let mut met = Met {
+            codes: [1; 8],
+            ways: [1; WAYS.len()],
+        };
+        assert!(ended("everything", ENOUGH, &met));
+        met.ways[3] = 0;
+        assert!(!ended("a way is missing", ENOUGH, &met));
+        met.ways[3] = 1;
+        met.codes[7] = 0;
+        assert!(!ended("a code is missing", ENOUGH, &met));
+        assert!(ended("one input", 1, &met));
     }
 
     fn told(printed: &[u8], end: End, expected: &[u8]) -> Option<String> {

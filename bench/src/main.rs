@@ -22,6 +22,7 @@ mod progress;
 mod show;
 mod shrink;
 mod speed;
+mod step;
 mod svg;
 mod tally;
 mod text;
@@ -56,7 +57,7 @@ struct Command {
     act: fn(&[String]) -> Result<bool, String>,
 }
 
-const COMMANDS: [Command; 6] = [
+const COMMANDS: [Command; 7] = [
     Command {
         name: "commission",
         given: "FILE",
@@ -70,6 +71,13 @@ const COMMANDS: [Command; 6] = [
         purpose: "random runs beside the separate machine",
         help: fuzz::HELP,
         act: fuzz::command,
+    },
+    Command {
+        name: "step",
+        given: "",
+        purpose: "single calls beside the separate machine",
+        help: step::HELP,
+        act: step::command,
     },
     Command {
         name: "linerun",

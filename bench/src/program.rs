@@ -1,17 +1,19 @@
 //! Another program run on an input, whatever it does: within a time, and with no
-//! more kept of what it prints than `linerun` can print. It runs in a group of
-//! processes of its own, so that what it started ends with it.
+//! more kept of what it prints than `linerun` can print. It is given its input at once
+//! or part by part, and the pipe may stay open behind the last byte. It runs in a group
+//! of processes of its own, so that what it started ends with it.
 
 use std::io::{self, ErrorKind, Read, Write};
+use std::os::fd::AsRawFd;
 use std::os::unix::process::{CommandExt, ExitStatusExt};
 use std::path::Path;
 use std::process::{Child, ChildStdin, Command, ExitStatus, Stdio};
-use std::sync::mpsc::{channel, sync_channel, Receiver, RecvTimeoutError};
+use std::sync::mpsc::{channel, sync_channel, Receiver, RecvTimeoutError, Sender};
 use std::thread;
 use std::time::{Duration, Instant};
 
-/// How long a program may take for an input.
-const TIME: Duration = Duration::from_secs(10);
+/// How often it is looked whether a part of the input was read.
+const LOOK_AGAIN: Duration = Duration::from_micros(20);
 
 /// The most bytes that `linerun` prints: for a list of 4,096 calls.
 const PRINTED_MAX: usize = 270_364;
@@ -28,6 +30,37 @@ pub struct Ran {
     /// What it wrote to standard error, the start of it.
     pub said: Vec<u8>,
     pub end: End,
+}
+
+/// How a program is given its input.
+#[derive(Debug, Clone, Copy, PartialEq, Eq)]
+pub struct Feed {
+    /// The most bytes that are written at a time, where it isn't all of them: parts of
+    /// changing sizes up to that, each written once all before it was read, so that a
+    /// read gets no more than one.
+    pub parts: Option<usize>,
+    /// The pipe stays open behind the last byte until the program has ended.
+    pub held: bool,
+    /// How long the program may take.
+    pub time: Duration,
+}
+
+impl Feed {
+    /// The input in the parts that are written.
+    fn cut<'a>(&self, input: &'a [u8]) -> Vec<&'a [u8]> {
+        let Some(most) = self.parts else {
+            return vec![input];
+        };
+        let mut parts = Vec::new();
+        let mut rest = input;
+        while !rest.is_empty() {
+            let size = 1 + parts.len() * 7919 % most;
+            let (part, behind) = rest.split_at(size.min(rest.len()));
+            parts.push(part);
+            rest = behind;
+        }
+        parts
+    }
 }
 
 #[derive(Debug, Clone, Copy, PartialEq, Eq)]
@@ -71,14 +104,10 @@ fn known(signal: i32) -> &'static str {
 }
 
 /// Runs a program on an input; an error where it can't be started.
-pub fn run(program: &str, input: &[u8]) -> Result<Ran, String> {
-    run_for(program, input, TIME)
-}
-
-fn run_for(program: &str, input: &[u8], time: Duration) -> Result<Ran, String> {
+pub fn run(program: &str, input: &[u8], feed: Feed) -> Result<Ran, String> {
     let mut child = start(program)?;
-    let deadline = Instant::now() + time;
-    feed(child.stdin.take(), input.to_vec());
+    let deadline = Instant::now() + feed.time;
+    let running = give(child.stdin.take(), input.to_vec(), feed);
     let said = first_bytes(child.stderr.take());
     let (printed, gathered) = collect(parts(child.stdout.take()), deadline);
     let stopped = match gathered {
@@ -86,13 +115,14 @@ fn run_for(program: &str, input: &[u8], time: Duration) -> Result<Ran, String> {
         // It may have ended in time all the same, and left something that holds its
         // output open.
         Gathered::All | Gathered::InTime => {
-            wait(&mut child, deadline).then_some(End::TooLong(time))
+            wait(&mut child, deadline).then_some(End::TooLong(feed.time))
         }
     };
     if stopped.is_some() || gathered != Gathered::All {
         kill_group(&child);
     }
     let status = child.wait();
+    drop(running);
     let status = status.map_err(|why| format!("cannot wait for {program}: {why}"))?;
     Ok(Ran {
         printed,
@@ -128,9 +158,38 @@ fn start(program: &str) -> Result<Child, String> {
     })
 }
 
-/// Gives the program its input, which it may stop reading before the end.
-fn feed(stdin: Option<ChildStdin>, input: Vec<u8>) {
-    thread::spawn(move || stdin.map(|mut stdin| stdin.write_all(&input)));
+/// Gives the program its input, which it may stop reading before the end. What is
+/// returned is dropped once the program has ended: then nothing more is waited for.
+fn give(stdin: Option<ChildStdin>, input: Vec<u8>, feed: Feed) -> Sender<()> {
+    let (running, ended) = channel();
+    thread::spawn(move || {
+        let mut stdin = stdin?;
+        for part in feed.cut(&input) {
+            stdin.write_all(part).ok()?;
+            while feed.parts.is_some() && unread(&stdin) > 0 {
+                if ended.recv_timeout(LOOK_AGAIN) != Err(RecvTimeoutError::Timeout) {
+                    return None;
+                }
+            }
+        }
+        if feed.held {
+            let _ = ended.recv();
+        }
+        Some(())
+    });
+    running
+}
+
+/// How many bytes of a pipe nobody has read yet.
+fn unread(pipe: &ChildStdin) -> i32 {
+    extern "C" {
+        fn ioctl(file: i32, request: std::ffi::c_ulong, ...) -> i32;
+    }
+    const FIONREAD: std::ffi::c_ulong = 0x541B;
+    let mut count = 0;
+    // SAFETY: the file is open, and the request writes one number where it is told to.
+    unsafe { ioctl(pipe.as_raw_fd(), FIONREAD, &mut count as *mut i32) };
+    count
 }
 
 /// What is read from a program, part by part; one part at most waits to be taken.
@@ -211,16 +270,75 @@ fn ended(status: ExitStatus) -> End {
 mod tests {
     use super::*;
 
-    /// What a shell does with a script that it is given as its input.
-    fn shell(script: &str) -> Ran {
-        run("/bin/sh", script.as_bytes()).unwrap()
+    const SOON: Duration = Duration::from_secs(1);
+    const LATE: Duration = Duration::from_secs(10);
+
+    /// The input at once, and the pipe closed behind it.
+    fn at_once_for(time: Duration) -> Feed {
+        Feed {
+            parts: None,
+            held: false,
+            time,
+        }
     }
 
-    const SOON: Duration = Duration::from_secs(1);
+    fn at_once(program: &str, input: &[u8]) -> Result<Ran, String> {
+        run(program, input, at_once_for(LATE))
+    }
+
+    /// What a shell does with a script that it is given as its input.
+    fn shell(script: &str) -> Ran {
+        at_once("/bin/sh", script.as_bytes()).unwrap()
+    }
 
     /// The same with a script that never ends by itself.
     fn endless(script: &str) -> Ran {
-        run_for("/bin/sh", script.as_bytes(), SOON).unwrap()
+        run("/bin/sh", script.as_bytes(), at_once_for(SOON)).unwrap()
+    }
+
+    #[test]
+    fn an_input_is_cut_into_parts() {
+        let feed = |parts| Feed {
+            parts,
+            ..at_once_for(LATE)
+        };
+        let input: Vec<u8> = (0..100).collect();
+        assert_eq!(feed(None).cut(&input), [&input[..]]);
+        assert_eq!(feed(Some(1)).cut(&input).len(), 100);
+        let odd = feed(Some(17)).cut(&input);
+        assert_eq!(odd.concat(), input);
+        let sizes: Vec<usize> = odd.iter().map(|part| part.len()).collect();
+        assert_eq!(sizes[..4], [1, 15, 12, 9]);
+    }
+
+    #[test]
+    fn a_read_gets_no_more_than_one_part() {
+        // dd counts its reads, whole and short ones.
+        let reads = |parts| {
+            let feed = Feed {
+                parts,
+                ..at_once_for(LATE)
+            };
+            let ran = run("/bin/dd", b"abcdef", feed).unwrap();
+            assert_eq!(ran.printed, b"abcdef");
+            String::from_utf8_lossy(&ran.said).into_owned()
+        };
+        assert!(reads(None).starts_with("0+1 records in"), "{}", reads(None));
+        assert!(reads(Some(1)).starts_with("0+6 records in"));
+        assert!(reads(Some(4)).starts_with("0+3 records in"));
+    }
+
+    #[test]
+    fn a_pipe_is_held_open_behind_the_last_byte() {
+        let held = |time| Feed {
+            held: true,
+            ..at_once_for(time)
+        };
+        let all = run("/bin/cat", b"abc\n", held(SOON)).unwrap();
+        assert_eq!(all.end, End::TooLong(SOON));
+        assert_eq!(all.printed, b"abc\n");
+        let enough = run("/bin/sh", b"exit 3\nabc\n", held(LATE)).unwrap();
+        assert_eq!(enough.end, End::Status(3));
     }
 
     #[test]
@@ -244,7 +362,7 @@ mod tests {
 
     #[test]
     fn what_prints_without_end_is_stopped() {
-        let ran = run("/usr/bin/yes", b"").unwrap();
+        let ran = at_once("/usr/bin/yes", b"").unwrap();
         assert_eq!(ran.end, End::TooMuch);
         assert_eq!(ran.printed.len(), PRINTED_MAX + 1);
         let said = endless("yes no >&2");
@@ -275,11 +393,11 @@ mod tests {
 
     #[test]
     fn a_program_that_cannot_be_started_is_told() {
-        assert!(run("/no/such/program", b"").is_err());
+        assert!(at_once("/no/such/program", b"").is_err());
         // Tests run in the folder of the package.
-        let here = run("Cargo.toml", b"").unwrap_err();
+        let here = at_once("Cargo.toml", b"").unwrap_err();
         assert!(here.ends_with("write ./Cargo.toml"), "{here}");
-        let nowhere = run("no-such-program", b"").unwrap_err();
+        let nowhere = at_once("no-such-program", b"").unwrap_err();
         assert!(nowhere.starts_with("cannot start"), "{nowhere}");
     }
 }

@@ -1,6 +1,7 @@
 //! The program as it is used: its commands, what they print and their exit status.
 
 use std::fs;
+use std::os::unix::fs::PermissionsExt;
 use std::path::PathBuf;
 use std::process::{Command, Output, Stdio};
 
@@ -52,7 +53,8 @@ fn archive_title() -> String {
 fn help_is_given_for_every_command() {
     assert_eq!(status(&["--help"]), 0);
     assert!(printed(&["--help"]).contains("or a closed pipe"));
-    for command in ["commission", "fuzz", "linerun", "speed", "show", "words"] {
+    let commands = "commission fuzz step linerun speed show words";
+    for command in commands.split(' ') {
         let help = printed(&[command, "--help"]);
         assert!(help.starts_with(&format!("bench {command}")), "{help}");
         assert!(help.contains("Exit status:"), "{help}");
@@ -229,6 +231,53 @@ fn a_program_that_is_no_linerun_differs() {
     assert!(failing.contains("it ended with status 1, it should be 0"));
     let endless = printed(&["linerun", "/usr/bin/yes", "--cases", "3"]);
     assert!(endless.contains("it was stopped: it printed more than 270364 bytes"));
+}
+
+/// A program that stands in for linerun and reads its input in the given way.
+fn stand_in(how: &str) -> String {
+    let built = PathBuf::from(env!("CARGO_BIN_EXE_bench"));
+    let built = built.with_file_name("examples").join("stand_in");
+    let script = format!("#!/bin/sh\nexec '{}' {how}\n", built.display());
+    let path = file(&format!("linerun-{how}"), script.as_bytes());
+    fs::set_permissions(&path, fs::Permissions::from_mode(0o755)).expect("it can be made to run");
+    path
+}
+
+/// What is told of a stand-in on the first of some inputs that it differs on.
+fn told_of(how: &str, inputs: impl Iterator<Item = u64>) -> String {
+    let program = stand_in(how);
+    let told = inputs.map(|number| {
+        let from = number.to_string();
+        printed(&[
+            "linerun", &program, "--from", &from, "--cases", "1", "--time", "2",
+        ])
+    });
+    let mut told = told.filter(|told| told.starts_with("DIFFERENCE"));
+    told.next().expect("a difference")
+}
+
+#[test]
+fn a_linerun_that_stops_reading_in_time_passes() {
+    let ran = printed(&["linerun", &stand_in("right"), "--cases", "100"]);
+    assert!(ran.contains("nothing differs"), "{ran}");
+}
+
+#[test]
+fn a_linerun_that_reads_all_of_its_input_first_is_told() {
+    let list = told_of("late", (0..).step_by(16));
+    assert!(list.contains("it had not ended after 2 s"), "{list}");
+    assert!(list.contains("list word 4,097 was there, so that the answer was due"));
+    let length = told_of("late", (1..).filter(|number| number % 16 > 1));
+    assert!(length.contains("it had not ended after 2 s"), "{length}");
+    assert!(length.contains("the length word is above 641, so that the answer was due"));
+}
+
+#[test]
+fn a_linerun_that_takes_a_short_read_for_the_end_is_told() {
+    let bytes = told_of("once", (9..).step_by(64));
+    assert!(bytes.contains("It was given byte by byte."), "{bytes}");
+    let parts = told_of("once", (5..).step_by(64));
+    assert!(parts.contains("It was given in parts of 1 to 257 bytes."));
 }
 
 #[test]

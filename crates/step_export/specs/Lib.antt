@@ -1,0 +1,2 @@
+-- What the exported step promises.
+pub mod Exported

@@ -1,0 +1,63 @@
+// The public step behind a C function, for the bench alone: no header declares it and the archive for the firmware hasn't
+// got it (`rt staticlib step_export` makes an archive of its own). It is how `kernel::step` is run beside the separate machine.
+use cutting::Second;
+use kernel::Answer;
+use kernel::Stepped;
+ghost use mathlib.Core.Path.{_≡_};
+ghost use mathlib.Core.List.{_++_};
+ghost use Prim.Native.Nat.{_≤_};
+ghost use lib.ListN.{length, drop};
+ghost use Rattle.kernel.specs.Answer.{wordsOf};
+ghost use Rattle.cutting.specs.Cutting.{callOf};
+ghost use Rattle.step_export.specs.Exported.{secondGiven, Exported};
+
+// A second word as C hands it over: the word counts where the number beside it isn't 0.
+fn given(word: u32, has: u32) -> Second
+    ensures { λ r. ⌜ r ≡ secondGiven word has ⌝ }
+{
+    if has == 0 {
+        Second::Nothing
+    } else {
+        Second::Word(word)
+    }
+}
+
+// An answer's three words at the start of the answer space.
+fn put(space: &mut [u32], words: Answer)
+    requires { ⌜ 3 ≤ length (now space) ⌝ }
+    ensures { λ _. ⌜ now (space .exit) ≡ wordsOf words ++ drop 3 (now (space .entry)) ⌝ }
+{
+    space[0] = words.head;
+    space[1] = words.first;
+    space[2] = words.second;
+}
+
+// One call on any table.
+// C: uint32_t balkwizu_test_step(uint32_t *table, size_t table_len, uint32_t first, uint32_t second, uint32_t has,
+//                                uint32_t *answer, size_t answer_len)
+//
+// The result is 0, or the table's 2 to 5; 99, which no paper uses, is for an answer space under three words. Where it isn't 0
+// nothing is changed. Answer words behind the third are left as they were. Table and answer may not overlap.
+#[no_mangle]
+pub extern "C" fn balkwizu_test_step(
+    table: &mut [u32],
+    first: u32,
+    second: u32,
+    has: u32,
+    answer: &mut [u32],
+) -> u32
+    ensures { λ r. ⌜ Exported (now (table .entry)) (callOf first (secondGiven second has)) (now (answer .entry)) r (now (table .exit)) (now (answer .exit)) ⌝ }
+{
+    if answer.len() < 3 {
+        return 99;
+    }
+    let word = given(second, has);
+    let stepped = kernel::step(table, first, word);
+    match stepped {
+        Stepped::Refused(refusal) => refusal.code(),
+        Stepped::Answered(words) => {
+            put(answer, words);
+            0
+        }
+    }
+}
