@@ -1,5 +1,5 @@
--- The rows hold, each by computation: L and P1 to P12, every code, every word of a table, every field of a call, those that
--- pin sources, purge and view, and the counts.
+-- The rows hold, each by computation: L and P1 to P12, every code, every word of a table, every field of a call, words that no
+-- check accepts, those that pin sources, purge and view, and the counts.
 -- Assumes nothing.
 use mathlib.Core.Path.{refl}
 use Rattle.machine.specs.Everything.{everything}
@@ -7,6 +7,7 @@ use Rattle.machine.specs.Examples.{EveryRow, rows}
 use Rattle.machine.specs.CodeExamples.{codeRows}
 use Rattle.machine.specs.TableExamples.{EveryTable, tableRows, altered, namedCodes, foundCodes, endpointsNamed}
 use Rattle.machine.specs.FieldExamples.{fieldRows, each}
+use Rattle.machine.specs.AnyWordsExamples.{AnyWordsHold, ofAnyWords}
 use Rattle.machine.specs.CountExamples.{CountRowHolds, counted}
 use Rattle.machine.specs.PurgeExamples.{EveryPurgeRow, purgeRows, bitsOf, setsAt, purged}
 
@@ -30,6 +31,10 @@ every-table = (refl, (refl, (refl, (refl, (refl, (refl, (refl, (refl, (refl, tt)
 pub every-field-row : EveryRow fieldRows
 unfolding everything each endpointsNamed
 every-field-row = (refl, (refl, (refl, (refl, (refl, (refl, (refl, tt)))))))
+
+pub any-words-row : AnyWordsHold
+unfolding everything ofAnyWords
+any-words-row = refl
 
 pub count-row : CountRowHolds
 unfolding everything counted

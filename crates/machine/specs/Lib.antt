@@ -24,5 +24,6 @@ pub mod Examples
 pub mod CodeExamples
 pub mod TableExamples
 pub mod FieldExamples
+pub mod AnyWordsExamples
 pub mod PurgeExamples
 pub mod CountExamples
