@@ -5,31 +5,29 @@ use mathlib.Core.List.{List, _++_}
 use Prim.Native.Nat.{ℕ, _+_, _*_, _<_, _≤_}
 use native.Mathlib.Omega.{arith}
 use lib.ListN.{length, getD, take, drop, drop-of-length-le}
-use Rattle.machine.specs.Table as table
+use Rattle.machine.specs.Check.{Accepted}
 use Rattle.machine.specs.Call.{cut}
 use Rattle.machine.proofs.Cut.{Running, running-start, running-next, running-end}
 use Rattle.machine.proofs.Step.{stays-accepted}
 use Rattle.cutting.specs.Cutting.{callOf, secondAt, widthOf}
 use Rattle.cutting.specs.declared.Second.{Second}
 use Rattle.cutting.proofs.CutAt.{CutAt, cut-at}
-use Rattle.kernel.specs.Ready.{Ready}
 use Rattle.kernel.specs.Step.{Served}
 use Rattle.kernel.specs.Run.{AllRun}
 
 -- k calls of the list ws are done, the next begins at place i, and t and space are the table and the answer space now
-pub record Underway (t₀ ws space₀ : List ℕ) (n m : ℕ) (t space : List ℕ) (k i : ℕ) : Type 0 where
+pub record Underway (t₀ ws space₀ t space : List ℕ) (k i : ℕ) : Type 0 where
   pub running : Running t₀ ws space₀ t (drop i ws) k space
-  pub ready : Ready t n
-  pub endpoints : m ≡ table.endpoints t
+  pub accepted : Accepted t
   pub tableSize : length t ≡ length t₀
   pub spaceSize : length space ≡ length space₀
   pub within : i ≤ length ws
 
-pub underway-start : (t ws space : List ℕ) (n m : ℕ) → Ready t n → m ≡ table.endpoints t → Underway t ws space n m t space 0 0
-underway-start t ws space n m r e =
-    record { running = running-start t ws space; ready = r; endpoints = e; tableSize = refl; spaceSize = refl; within = omega arith }
+pub underway-start : (t ws space : List ℕ) → Accepted t → Underway t ws space t space 0 0
+underway-start t ws space a =
+    record { running = running-start t ws space; accepted = a; tableSize = refl; spaceSize = refl; within = omega arith }
 
-module _ {t₀ ws space₀ : List ℕ} {n m : ℕ} {t space : List ℕ} {k i : ℕ} (u : Underway t₀ ws space₀ n m t space k i) (l : i < length ws) where
+module _ {t₀ ws space₀ t space : List ℕ} {k i : ℕ} (u : Underway t₀ ws space₀ t space k i) (l : i < length ws) where
   -- there is space for one answer more, and no more calls than words
   pub room : 3 * length (cut ws) ≤ length space₀ → 3 * k + 3 ≤ length space
   room enough =
@@ -43,28 +41,27 @@ module _ {t₀ ws space₀ : List ℕ} {n m : ℕ} {t space : List ℕ} {k i : �
       → Served t (callOf (getD ws i 0) s) words t′
       → space′ ≡ take (3 * k) space ++ (words ++ drop (3 * k + 3) space)
       → length space′ ≡ length space
-      → Underway t₀ ws space₀ n m t′ space′ (k + 1) (i + w)
+      → Underway t₀ ws space₀ t′ space′ (k + 1) (i + w)
   underway-next s w words t′ space′ is wide served put long =
       let c = callOf (getD ws i 0) s in
-      let stays = stays-accepted t c (u .ready .accepted) in
+      let stays = stays-accepted t c (u .accepted) in
       let at = subst (CutAt ws i) (sym is) (cut-at ws i l) in
-      subst₂ (λ (x : List ℕ) (j : ℕ). Underway t₀ ws space₀ n m x space′ (k + 1) (i + j)) (sym (served .table)) (sym wide)
+      subst₂ (λ (x : List ℕ) (j : ℕ). Underway t₀ ws space₀ x space′ (k + 1) (i + j)) (sym (served .table)) (sym wide)
       (record {
         running =
             running-next (drop (i + widthOf s) ws) c space′ (u .running) (at .front)
             (put ∙ ap (λ (x : List ℕ). take (3 * k) space ++ (x ++ drop (3 * k + 3) space)) (served .answer));
-        ready = record { accepted = stays .accepted; domains = u .ready .domains ∙ sym (stays .frame .sameDomains) };
-        endpoints = u .endpoints ∙ sym (stays .frame .sameEndpoints);
+        accepted = stays .accepted;
         tableSize = stays .frame .size ∙ u .tableSize;
         spaceSize = long ∙ u .spaceSize;
         within = at .within;
       })
 
 -- no word is left
-pub underway-end : {t₀ ws space₀ : List ℕ} {n m : ℕ} {t space : List ℕ} {k i : ℕ}
-    → Underway t₀ ws space₀ n m t space k i
+pub underway-end : {t₀ ws space₀ t space : List ℕ} {k i : ℕ}
+    → Underway t₀ ws space₀ t space k i
     → length ws ≤ i
     → AllRun t₀ ws space₀ k t space
-underway-end {t₀} {ws} {space₀} {n} {m} {t} {space} {k} {i} u past =
+underway-end {t₀} {ws} {space₀} {t} {space} {k} {i} u past =
     let done = running-end (subst (λ (left : List ℕ). Running t₀ ws space₀ t left k space) (drop-of-length-le ws past) (u .running)) in
     record { count = done .2; table = done .0; answers = done .1 }

@@ -8,7 +8,7 @@ use Rattle.machine.specs.Check.{tableCode}
 use Rattle.machine.specs.Call.{Call}
 use Rattle.machine.specs.Machine as machine
 use Rattle.table.specs.Checked.{refusalCode}
-use Rattle.kernel.specs.Answer.{wordsOf}
+use Rattle.answers.specs.Answer.{wordsOf}
 use Rattle.kernel.specs.declared.Stepped.{Stepped}
 use Rattle.kernel.specs.declared.Stepped.the-variants.{Refused, Answered}
 

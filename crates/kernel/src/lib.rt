@@ -1,15 +1,11 @@
 // The kernel: what a call and a list of calls do to a lent table, and what they answer. Every table is checked first.
-mod answers;
-mod layout;
 mod list;
-mod perform;
 mod serve;
 
+use answers::Answer;
 use cutting::Second;
 use entry::EntryRefusal;
 use entry::Ran;
-use layout::domains;
-use layout::endpoints;
 use list::has_space;
 use list::run_calls;
 use serve::serve;
@@ -20,13 +16,6 @@ ghost use Rattle.machine.specs.Promise.{RunPromise};
 ghost use Rattle.cutting.specs.Cutting.{callOf};
 ghost use Rattle.kernel.specs.Step.{StepPromise};
 ghost use Rattle.entry.specs.Entry.{ranCode, ranCalls};
-
-// A call's three answer words.
-pub struct Answer {
-    pub head: u32,
-    pub first: u32,
-    pub second: u32,
-}
 
 // What one call by itself comes to: the table is refused, or the call is answered.
 pub enum Stepped {
@@ -42,9 +31,7 @@ pub fn step(table: &mut [u32], first: u32, second: Second) -> Stepped
     if let Checked::Refused(refusal) = checked {
         return Stepped::Refused(refusal);
     }
-    let n = domains(table);
-    let m = endpoints(table);
-    let words = serve(table, n, m, first, second);
+    let words = serve(table, first, second);
     Stepped::Answered(words)
 }
 
@@ -62,8 +49,6 @@ pub fn run(table: &mut [u32], list: &[u32], answers: &mut [u32]) -> Ran
     if !has_space(list, answers.len()) {
         return Ran::Refused(EntryRefusal::SpaceTooSmall);
     }
-    let n = domains(table);
-    let m = endpoints(table);
-    let calls = run_calls(table, n, m, list, answers);
+    let calls = run_calls(table, list, answers);
     Ran::Done(calls)
 }

@@ -1,6 +1,6 @@
 // The calls of a list one after the other, and the answer space that they need.
-use crate::Answer;
 use crate::serve::serve;
+use answers::Answer;
 use cutting::count;
 use cutting::second_at;
 use cutting::width;
@@ -10,10 +10,9 @@ ghost use mathlib.Core.List.{_++_};
 ghost use Prim.Native.Nat.{_+_, _*_, _≤_};
 ghost use lib.ListN.{length, take, drop};
 ghost use lib.Dec.{ltb};
-ghost use Rattle.machine.specs.Table.{endpoints};
+ghost use Rattle.machine.specs.Check.{Accepted};
 ghost use Rattle.machine.specs.Call.{cut};
-ghost use Rattle.kernel.specs.Ready.{Ready};
-ghost use Rattle.kernel.specs.Answer.{wordsOf};
+ghost use Rattle.answers.specs.Answer.{wordsOf};
 ghost use Rattle.kernel.specs.Run.{AllRun};
 
 // Three words a call. A list has no more calls than words, so a large enough space needs no count.
@@ -38,9 +37,8 @@ fn put(answers: &mut [u32], at: usize, words: Answer)
     answers[at + 2] = words.second;
 }
 
-pub fn run_calls(table: &mut [u32], n: u32, m: u32, list: &[u32], answers: &mut [u32]) -> usize
-    requires { ⌜ Ready (now table) n ⌝ }
-    requires { ⌜ m ≡ endpoints (now table) ⌝ }
+pub fn run_calls(table: &mut [u32], list: &[u32], answers: &mut [u32]) -> usize
+    requires { ⌜ Accepted (now table) ⌝ }
     requires { ⌜ length (now list) ≤ 4096 ⌝ }
     requires { ⌜ 3 * length (cut (now list)) ≤ length (now answers) ⌝ }
     ensures { λ k. ⌜ AllRun (now (table .entry)) (now (list .entry)) (now (answers .entry)) k (now (table .exit)) (now (answers .exit)) ⌝ }
@@ -49,7 +47,8 @@ pub fn run_calls(table: &mut [u32], n: u32, m: u32, list: &[u32], answers: &mut 
     let mut i: usize = 0;
     while i < list.len() {
         let second = second_at(list, i);
-        let words = serve(table, n, m, list[i], second);
+        let at = i;
+        let words = serve(table, list[at], second);
         put(answers, 3 * calls, words);
         calls += 1;
         i += width(second);

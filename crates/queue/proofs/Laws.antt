@@ -10,14 +10,14 @@ use Rattle.machine.specs.Queue.{capacity, waiting, mostLost, hasSpace, sendWith
 use Rattle.machine.proofs.Bools.{and-left, and-right}
 use Rattle.queue.specs.Queue.{sendable, sentTo, receivable, receivedFrom, MayReceive}
 
--- ---- for callers: with words that they know to pass the test, a send and a receive are the machine's
-pub sends-there : (q : List ℕ) (m : ℕ) → length q ≡ 12 → capacity q ≤ 8 → m ≤ mostLost → sentTo q m ≡ sent q m
-unfolding sentTo sendable
-sends-there q m twelve slots small = rw (eq-eqb _ _ twelve, le-leb _ _ slots, le-leb _ _ small)
+-- ---- for callers: words that they know to pass the test
+pub may-be-sent : (q : List ℕ) (m : ℕ) → length q ≡ 12 → capacity q ≤ 8 → m ≤ mostLost → sendable q m ≡ true
+unfolding sendable
+may-be-sent q m twelve slots small = rw (eq-eqb _ _ twelve, le-leb _ _ slots, le-leb _ _ small)
 
-pub receives-there : (q : List ℕ) → length q ≡ 12 → 1 ≤ waiting q → waiting q ≤ 8 → receivedFrom q ≡ received q
-unfolding receivedFrom receivable
-receives-there q twelve some slots = rw (eq-eqb _ _ twelve, le-leb _ _ some, le-leb _ _ slots)
+pub may-be-received : (q : List ℕ) → length q ≡ 12 → 1 ≤ waiting q → waiting q ≤ 8 → receivable q ≡ true
+unfolding receivable
+may-be-received q twelve some slots = rw (eq-eqb _ _ twelve, le-leb _ _ some, le-leb _ _ slots)
 
 -- ---- what the test of a send says, and what a send is on either side of it
 pub record MaySend (q : List ℕ) (message : ℕ) : Type 0 where

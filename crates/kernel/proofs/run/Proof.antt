@@ -8,7 +8,8 @@ use borrow.Author.Tests.{ltb-true, ltb-false, not-true, not-false}
 use Rattle.machine.specs.Check.{tableCode}
 use Rattle.machine.specs.Call.{cut}
 use Rattle.table.specs.Checked.{checkedCode}
-use Rattle.kernel.proofs.Entries.{refusal-code, not-empty, list-too-long, table-refused, space-too-small, list-runs, refused-promise, ran-promise}
+use Rattle.machine.proofs.Promise.{code-long, code-table, code-space, code-runs, promise-refused, promise-ran}
+use Rattle.kernel.proofs.Entries.{refusal-code}
 use Rattle.kernel.proofs.run.Statement.{statement}
 use Rattle.kernel.proofs.run.Tie as tie
 
@@ -24,7 +25,7 @@ enough c =
 
 returns : tie.Need-returns
 returns c =
-    refused-promise _ _ _ 1 (list-too-long _ _ _ (c .if1 .taken)) (λ e. omega arith)
+    promise-refused _ _ _ 1 (sym (code-long _ _ _ (c .if1 .taken))) (λ e. omega arith)
 
 check-requires : tie.Need-check-requires
 check-requires c κs = search needs
@@ -40,7 +41,7 @@ returns-2 c =
     let check = c .before .before .before in
     let code = sym (ap checkedCode (c .before .checked .given .1)) ∙ check .check .ensures in
     let some = refusal-code (c .before .checked .given .0 .0) in
-    refused-promise _ _ _ _ (table-refused _ _ _ (check .before .before .if1 .left) _ code some) some
+    promise-refused _ _ _ _ (code ∙ sym (code-table _ _ _ (check .before .before .if1 .left) (λ none. some (code ∙ none)))) some
 
 enum-told : tie.Need-enum-told
 enum-told c = search needs
@@ -54,23 +55,16 @@ same-length-2 c = search needs
 returns-3 : tie.Need-returns-3
 returns-3 c =
     let told = c .before .before in
-    refused-promise _ _ _ 6 (space-too-small _ _ _ (told .before .before .before .before .if1 .left) (accepted told)
-    (ltb-true _ _ (not-false _ (sym (c .before .has-space .ensures) ∙ not-true _ (c .if2 .taken))))) (λ e. omega arith)
-
-domains-requires : tie.Need-domains-requires
-domains-requires c κs = not-empty _ (accepted (c .before .before .before))
-
-endpoints-requires : tie.Need-endpoints-requires
-endpoints-requires c κs = not-empty _ (accepted (c .before .before .before .before .before))
+    promise-refused _ _ _ 6
+    (sym (code-space _ _ _ (told .before .before .before .before .if1 .left) (accepted told)
+    (ltb-true _ _ (not-false _ (sym (c .before .has-space .ensures) ∙ not-true _ (c .if2 .taken))))))
+    (λ e. omega arith)
 
 run-calls-requires : tie.Need-run-calls-requires
 run-calls-requires c κs =
-    let read = c .before .before in
-    let space = read .before .before .before .before in
-    let told = space .before .before in (
-      record { accepted = accepted told; domains = read .before .before .domains .ensures },
-      (read .endpoints .ensures, (told .before .before .before .before .if1 .left, enough space)),
-    )
+    let space = c .before .before in
+    let told = space .before .before in
+    (accepted told, (told .before .before .before .before .if1 .left, enough space))
 
 same-length-3 : tie.Need-same-length-3
 same-length-3 c = search needs
@@ -81,9 +75,13 @@ same-length-4 c = search needs
 returns-4 : tie.Need-returns-4
 returns-4 c =
     let call = c .before .before .before .before in
-    let space = call .before .before .before .before .before .before .before in
+    let space = call .before .before .before in
     let told = space .before .before in
-    ran-promise _ _ _ _ _ _ (list-runs _ _ _ (told .before .before .before .before .if1 .left) (accepted told) (enough space)) (call .run-calls .ensures)
+    let all = call .run-calls .ensures in
+    promise-ran _ _ _ _ _ _ (code-runs _ _ _ (told .before .before .before .before .if1 .left) (accepted told) (enough space))
+    (all .count)
+    (all .table)
+    (all .answers)
 
 pub run-spec : {M : Type 1} → statement M
 run-spec =
@@ -98,8 +96,6 @@ run-spec =
     has-space-requires
     same-length-2
     returns-3
-    domains-requires
-    endpoints-requires
     run-calls-requires
     same-length-3
     same-length-4

@@ -4,7 +4,7 @@ use borrow.Author.Needs.{needs}
 use borrow.Author.Tests.{eq-eqb, ne-eqb}
 use Rattle.machine.specs.Check.{tableCode}
 use Rattle.table.specs.Checked.{checkedCode}
-use Rattle.kernel.proofs.Entries.{refusal-code, not-empty}
+use Rattle.kernel.proofs.Entries.{refusal-code}
 use Rattle.kernel.proofs.step.Statement.{statement}
 use Rattle.kernel.proofs.step.Tie as tie
 
@@ -30,16 +30,8 @@ enum-told c = search needs
 accepted : (c : tie.After-enum-told) → tableCode (c .before .before .before .before .before .args .table .now) ≡ 0
 accepted c = sym (sym (ap checkedCode (c .enum-told .given .1)) ∙ c .before .before .check .ensures)
 
-domains-requires : tie.Need-domains-requires
-domains-requires c κs = not-empty _ (accepted (c .before))
-
-endpoints-requires : tie.Need-endpoints-requires
-endpoints-requires c κs = not-empty _ (accepted (c .before .before .before))
-
 serve-requires : tie.Need-serve-requires
-serve-requires c κs =
-    let read = c .before in
-    (record { accepted = accepted (read .before .before .before .before); domains = read .before .before .domains .ensures }, read .endpoints .ensures)
+serve-requires c κs = accepted (c .before)
 
 same-length-2 : tie.Need-same-length-2
 same-length-2 c = search needs
@@ -47,9 +39,9 @@ same-length-2 c = search needs
 returns-2 : tie.Need-returns-2
 returns-2 c =
     let call = c .before .before in
-    let fine = eq-eqb _ 0 (accepted (call .before .before .before .before .before .before)) in
+    let fine = eq-eqb _ 0 (accepted (call .before .before)) in
     record {
-      code = sym (accepted (call .before .before .before .before .before .before));
+      code = sym (accepted (call .before .before));
       words = rw fine (call .serve .ensures .answer);
       table = rw fine (call .serve .ensures .table);
     }
@@ -63,8 +55,6 @@ step-spec =
     same-length
     returns
     enum-told
-    domains-requires
-    endpoints-requires
     serve-requires
     same-length-2
     returns-2)

@@ -11,14 +11,14 @@ use Rattle.kernel.proofs.list.run_calls.Statement.{statement}
 use Rattle.kernel.proofs.list.run_calls.Tie as tie
 
 abbrev Inv-loop : tie.InvT-loop
-Inv-loop table₀ n m list answers₀ calls₀ i₀ table answers calls i = Underway table₀ list answers₀ n m table answers calls i
+Inv-loop table₀ list answers₀ calls₀ i₀ table answers calls i = Underway table₀ list answers₀ table answers calls i
 
 abbrev μ-loop : tie.MeasureT-loop
-μ-loop table₀ n m list answers₀ calls₀ i₀ table answers calls i = length list - i
+μ-loop table₀ list answers₀ calls₀ i₀ table answers calls i = length list - i
 
 -- there is space for one answer more
 next-room : (c : tie.In-loop Inv-loop μ-loop) → 3 * c .before .loop .calls + 3 ≤ length (c .before .loop .answers)
-next-room c = room (c .before .loop .inv) (c .loop-test .taken) (c .before .before .before .before .before .pre .1 .1 .1)
+next-room c = room (c .before .loop .inv) (c .loop-test .taken) (c .before .before .before .before .before .pre .1 .1)
 
 -- one call more
 next : tie.Need-loop-again Inv-loop μ-loop
@@ -46,8 +46,7 @@ next-place c = (next c .within, omega (arith, c .width .ensures, wide (c .before
 
 loop-holds : tie.Need-loop-holds Inv-loop μ-loop
 loop-holds c =
-    let pre = c .before .before .before .pre in
-    underway-start _ _ _ _ _ (pre .0) (pre .1 .0)
+    underway-start _ _ _ (c .before .before .before .pre .0)
 
 second-at-requires : tie.Need-second-at-requires Inv-loop μ-loop
 second-at-requires c κs = search needs
@@ -59,9 +58,7 @@ shared-slice-read-serve : tie.Need-shared-slice-read-serve Inv-loop μ-loop
 shared-slice-read-serve c = omega arith
 
 serve-requires : tie.Need-serve-requires Inv-loop μ-loop
-serve-requires c κs =
-    let inv = c .before .before .before .before .loop .inv in
-    (inv .ready, inv .endpoints)
+serve-requires c κs = c .before .before .before .before .loop .inv .accepted
 
 mul-put : tie.Need-mul-put Inv-loop μ-loop
 mul-put c = omega (arith, next-room (c .before .before .before .before .before .before .before))

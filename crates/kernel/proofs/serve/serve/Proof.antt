@@ -1,17 +1,16 @@
 -- `serve::serve` meets its contract: what is decided is what the machine decides, and so are the answer and the table.
 -- Assumes nothing.
-use mathlib.Core.Path.{_≡_, sym, ap, ap₂, subst, _∙_}
-use native.Mathlib.Omega.{arith}
+use mathlib.Core.Path.{_≡_, sym, ap, _∙_}
 use borrow.Author.Needs.{needs}
 use Rattle.machine.specs.Machine as machine
 use Rattle.cutting.specs.Cutting.{callOf}
 use Rattle.calls.specs.Decide.{decideCall}
 use Rattle.calls.proofs.Decide.{decided}
 use Rattle.decide.specs.Decision.{decisionOf}
-use Rattle.kernel.specs.Doable.{Doable}
-use Rattle.kernel.specs.Answer.{answerWith}
-use Rattle.kernel.proofs.AnswerWords.{head-room, answer-with}
-use Rattle.kernel.proofs.Decisions.{doable}
+use Rattle.answers.specs.Answer.{answerOf}
+use Rattle.effects.specs.Effect.{doable}
+use Rattle.effects.proofs.Words.{performed-whole}
+use Rattle.kernel.proofs.Fits.{answer-whole, can-be-done}
 use Rattle.kernel.proofs.serve.serve.Statement.{statement}
 use Rattle.kernel.proofs.serve.serve.Tie as tie
 
@@ -20,9 +19,6 @@ take-apart-requires c κs = search needs
 
 decide-requires : tie.Need-decide-requires
 decide-requires c κs = search needs
-
-head-requires : tie.Need-head-requires
-head-requires c κs = search needs
 
 -- what is decided
 made : (c : tie.After-decide)
@@ -34,24 +30,14 @@ made c =
     ∙ ap (decideCall (a .table .now)) (c .before .before .take-apart .ensures)
     ∙ sym (decided (a .table .now) (a .first) (a .second))
 
-can-be-done : (c : tie.After-decide) → Doable (c .before .before .before .before .args .table .now) (decisionOf (c .decide .result))
-can-be-done c = subst (Doable _) (sym (made c)) (doable _ _)
-
 answer-to-requires : tie.Need-answer-to-requires
-answer-to-requires c κs =
-    let start = c .before .before .before .before .before .before in (
-      start .pre .0,
-      (
-        start .pre .1,
-        (
-          omega (arith, c .before .head .ensures, head-room (start .args .first) (start .fits .first .fits)),
-          can-be-done (c .before .before),
-        ),
-      ),
-    )
+answer-to-requires c κs = search needs
+
+effect-on-requires : tie.Need-effect-on-requires
+effect-on-requires c κs = search needs
 
 perform-requires : tie.Need-perform-requires
-perform-requires c κs = (c .before .before .before .before .before .before .before .before .pre .0, can-be-done (c .before .before .before .before))
+perform-requires c κs = search needs
 
 same-length : tie.Need-same-length
 same-length c = search needs
@@ -60,16 +46,23 @@ returns : tie.Need-returns
 unfolding machine.answer machine.step
 returns c =
     let performed = c .before .before in
-    let answered = performed .before .before in
-    let decided = answered .before .before .before in
-    let a = decided .before .before .before .before .args in
-    let t = a .table .now in
+    let chosen = performed .before .before in
+    let answered = chosen .before .before in
+    let decided = answered .before .before in
+    let start = decided .before .before .before .before in
+    let t = start .args .table .now in
+    let call = callOf (start .args .first) (start .args .second) in
     record {
       answer =
           answered .answer-to .ensures
-          ∙ ap₂ (answerWith t) (answered .before .before .head .ensures) (made decided)
-          ∙ answer-with t (a .first) (a .second) _;
-      table = performed .perform .ensures ∙ ap (λ (d : machine.Decision). machine.after t (machine.effect t d)) (made decided);
+          ∙ ap (answerOf t (start .args .first)) (made decided)
+          ∙ answer-whole t (start .pre) (start .args .first) (start .args .second);
+      table =
+          performed .perform .ensures
+          ∙ performed-whole t (chosen .effect-on .result) (machine.decide t call)
+          (chosen .effect-on .ensures .0 ∙ ap (machine.effect t) (made decided))
+          (chosen .effect-on .ensures .1 ∙ ap (doable t) (made decided))
+          (can-be-done t (start .pre) call);
     }
 
 pub serve-spec : {M : Type 1} → statement M
@@ -78,8 +71,8 @@ serve-spec =
     (tie.spec
     take-apart-requires
     decide-requires
-    head-requires
     answer-to-requires
+    effect-on-requires
     perform-requires
     same-length
     returns)

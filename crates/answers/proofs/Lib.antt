@@ -1,0 +1,3 @@
+-- What is proved of answers besides the functions.
+pub mod Digits
+pub mod AnswerWords

@@ -1,0 +1,71 @@
+-- `rights_listed` meets its contract: among at most eight domains the second word is empty. Assumes nothing.
+use mathlib.Core.Path.{refl, ap₂, _∙_}
+use mathlib.Core.List.{[], _∷_}
+use Prim.Native.Nat.{ℕ}
+use native.Mathlib.Omega.{arith}
+use borrow.Author.Needs.{needs}
+use Rattle.answers.proofs.AnswerWords.{shows, shows-none, rights-there, rights-past, rights-none, all-targets}
+use Rattle.answers.proofs.rights_listed.Statement.{statement}
+use Rattle.answers.proofs.rights_listed.Tie as tie
+
+domains-requires : tie.Need-domains-requires
+domains-requires c κs = search needs
+
+rights-at-requires : tie.Need-rights-at-requires
+rights-at-requires c κs = search needs
+
+plain-requires : tie.Need-plain-requires
+plain-requires c κs = search needs
+
+returns : tie.Need-returns
+returns c =
+    let at = c .before .before in
+    let a = at .before .before .before .args in
+    let past = rights-past _ _ (at .before .domains .ensures) (a .caller) _ (at .rights-at .ensures) (c .before .if1 .taken) in
+    c .plain .ensures ∙ ap₂ (λ (x y : ℕ). a .head ∷ x ∷ y ∷ []) (shows-none _ past) (shows-none _ past)
+
+two-words-requires : tie.Need-two-words-requires
+two-words-requires c κs =
+    let at = c .before .before in
+    (at .before .domains .ensures, (c .if2 .taken, omega (arith, at .rights-at .ensures, c .before .if1 .left)))
+
+returns-2 : tie.Need-returns-2
+returns-2 c =
+    let there = c .before .before in
+    let at = there .before in
+    let a = at .before .before .before .args in
+    let is = rights-there _ _ (at .before .domains .ensures) (a .caller) _ (at .rights-at .ensures) (there .if1 .left) in
+    c .two-words .ensures ∙ ap₂ (λ (x y : ℕ). a .head ∷ x ∷ y ∷ []) (shows _ is refl) (shows _ is refl)
+
+rights-bits-requires : tie.Need-rights-bits-requires
+rights-bits-requires c κs =
+    let at = c .before .before in (
+      at .before .domains .ensures,
+      (
+        all-targets _ 0 (omega arith) (omega (arith, c .if2 .left)),
+        omega (arith, at .rights-at .ensures, c .before .if1 .left),
+      ),
+    )
+
+returns-3 : tie.Need-returns-3
+returns-3 c =
+    let few = c .before in
+    let there = few .before in
+    let at = there .before in
+    let a = at .before .before .before .args in
+    let is = rights-there _ _ (at .before .domains .ensures) (a .caller) _ (at .rights-at .ensures) (there .if1 .left) in
+    ap₂ (λ (x y : ℕ). a .head ∷ x ∷ y ∷ []) (shows _ is (c .rights-bits .ensures))
+    (shows _ is (rights-none _ (a .caller) (omega (arith, at .before .domains .ensures, few .if2 .left))))
+
+pub rights-listed-spec : {M : Type 1} → statement M
+rights-listed-spec =
+    tie.close
+    (tie.spec
+    domains-requires
+    rights-at-requires
+    plain-requires
+    returns
+    two-words-requires
+    returns-2
+    rights-bits-requires
+    returns-3)

@@ -1,0 +1,3 @@
+-- What the contracts of the answers cite.
+pub mod Answer
+pub mod Eight

@@ -1,0 +1,2 @@
+-- What is proved of effects besides the functions.
+pub mod Words

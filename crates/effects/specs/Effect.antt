@@ -1,0 +1,46 @@
+-- An effect as the machine has it, when it fits a table, and the table after it.
+use Prim.Native.Nat.{ℕ}
+use mathlib.Core.Bool.{Bool, true, cond, _&&_}
+use mathlib.Core.List.{List}
+use lib.Dec.{leb, ltb}
+use lib.ListN.{length}
+use Rattle.machine.specs.Right.{allRights, adds, without}
+use Rattle.machine.specs.Table.{domains, rightsAt, rights, endpoint}
+use Rattle.machine.specs.Queue.{sent, received}
+use Rattle.machine.specs.Machine as machine
+use Rattle.queue.specs.Queue.{sendable, receivable}
+use Rattle.effects.specs.declared.Effect.{Effect}
+use Rattle.effects.specs.declared.Effect.the-variants.{Nothing, NewRights, Send, Receive}
+
+-- the machine's effect: an endpoint's twelve words are what a send or a receive makes of them
+unfoldable pub effectOf : List ℕ → Effect → machine.Effect
+effectOf t Nothing = machine.nothing
+effectOf t (NewRights h g s) = machine.newRights h g s
+effectOf t (Send e message) = machine.newEndpoint e (sent (endpoint t e) message)
+effectOf t (Receive e) = machine.newEndpoint e (received (endpoint t e))
+
+-- the rights s of h on g fit: no bit stands above the rights, and their place is in the table
+unfoldable pub rightsFit : List ℕ → ℕ → ℕ → ℕ → Bool
+rightsFit t h g s = leb s allRights && ltb (rightsAt (domains t) h g) (length t)
+
+-- an effect fits: its rights do, or the queue's twelve words can be sent to or received from
+unfoldable pub fits : List ℕ → Effect → Bool
+fits t Nothing = true
+fits t (NewRights h g s) = rightsFit t h g s
+fits t (Send e message) = sendable (endpoint t e) message
+fits t (Receive e) = receivable (endpoint t e)
+
+-- a decision can be done: the rights that it makes fit, or its queue can be sent to or received from
+unfoldable pub doable : List ℕ → machine.Decision → Bool
+doable t (machine.refused code) = true
+doable t (machine.lookedUp e) = true
+doable t (machine.sends e message) = sendable (endpoint t e) message
+doable t (machine.receives e) = receivable (endpoint t e)
+doable t (machine.listsEndpoints u) = true
+doable t (machine.listsRights u) = true
+doable t (machine.grants g h r) = rightsFit t h g (adds (rights t h g) r)
+doable t (machine.removes g u r) = rightsFit t u g (without (rights t u g) r)
+
+-- the table after an effect; one that doesn't fit leaves it as it is
+unfoldable pub performed : List ℕ → Effect → List ℕ
+performed t e = cond (fits t e) (machine.after t (effectOf t e)) t

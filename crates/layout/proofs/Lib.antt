@@ -1,0 +1,2 @@
+-- What is proved beside the functions: the laws of places.
+pub mod Places
