@@ -1,7 +1,9 @@
-// What a call comes to, by the table as it stands: any words will do as a table, and nothing is written. Each kind of call goes
-// through the places of document 01 that it has, in their order; the first that fails decides.
+// What a call comes to, by the table as it stands: any words will do as a table, and nothing is written. A call's numbers are
+// tested first (range), then what the table holds (access): the places of document 01, in their order; the first that fails
+// decides.
+pub mod access;
 mod endpoint_calls;
-mod read;
+pub mod range;
 mod rights_calls;
 
 use calls::Call;
@@ -9,16 +11,14 @@ use calls::Refusal;
 use endpoint_calls::look_up;
 use endpoint_calls::receive;
 use endpoint_calls::send;
-use read::domains;
-use read::endpoints;
+use layout::domains;
+use layout::endpoints;
+use range::Range;
+use range::of_call;
 use rights_calls::grant;
 use rights_calls::remove;
 ghost use mathlib.Core.Path.{_≡_};
-ghost use mathlib.Core.List.{List};
-ghost use Prim.Native.Nat.{ℕ};
-ghost use Rattle.machine.specs.Table.{domains};
-ghost use Rattle.machine.specs.Machine.{Decision.listsEndpoints, Decision.listsRights};
-ghost use Rattle.calls.specs.Decide.{knownCaller, refusedCall, decideCall};
+ghost use Rattle.calls.specs.Decide.{decideCall};
 ghost use Rattle.decide.specs.Decision.{decisionOf};
 
 // A refusal, or the call's row with what it needs.
@@ -57,21 +57,25 @@ pub fn decide(table: &[u32], call: Call) -> Decision
 {
     let n = domains(table);
     let m = endpoints(table);
+    let range = of_call(n, m, call);
+    if let Range::Outside(refusal) = range {
+        return Decision::Refused(refusal);
+    }
     match call {
         Call::Refused {
             kind: _,
-            caller,
+            caller: _,
             refusal,
-        } => refused(n, caller, refusal),
-        Call::LookUp { caller, name } => look_up(table, n, m, caller, name),
+        } => Decision::Refused(refusal),
+        Call::LookUp { caller: _, name } => look_up(table, n, m, name),
         Call::Send {
             caller,
             endpoint,
             message,
-        } => send(table, n, m, caller, endpoint, message),
-        Call::Receive { caller, endpoint } => receive(table, n, m, caller, endpoint),
-        Call::MyEndpoints { caller } => my_endpoints(n, caller),
-        Call::MyRights { caller } => my_rights(n, caller),
+        } => send(table, n, caller, endpoint, message),
+        Call::Receive { caller, endpoint } => receive(table, n, caller, endpoint),
+        Call::MyEndpoints { caller } => Decision::ListsEndpoints { caller },
+        Call::MyRights { caller } => Decision::ListsRights { caller },
         Call::Grant {
             caller,
             target,
@@ -84,36 +88,4 @@ pub fn decide(table: &[u32], call: Call) -> Decision
             rights,
         } => remove(table, n, caller, target, rights),
     }
-}
-
-// A call that is refused without a table: 12 comes before 13 and 14, and after 10 and 11.
-fn refused(n: u32, caller: u32, refusal: Refusal) -> Decision
-    ensures { λ d. ⌜ ((t : List ℕ) → n ≡ domains t → decisionOf d ≡ refusedCall t caller refusal) ⌝ }
-{
-    let number = calls::number(refusal);
-    if number < 12 {
-        return Decision::Refused(refusal);
-    }
-    if n <= caller {
-        return Decision::Refused(Refusal::UnknownCaller);
-    }
-    Decision::Refused(refusal)
-}
-
-fn my_endpoints(n: u32, caller: u32) -> Decision
-    ensures { λ d. ⌜ ((t : List ℕ) → n ≡ domains t → decisionOf d ≡ knownCaller t caller (listsEndpoints caller)) ⌝ }
-{
-    if n <= caller {
-        return Decision::Refused(Refusal::UnknownCaller);
-    }
-    Decision::ListsEndpoints { caller }
-}
-
-fn my_rights(n: u32, caller: u32) -> Decision
-    ensures { λ d. ⌜ ((t : List ℕ) → n ≡ domains t → decisionOf d ≡ knownCaller t caller (listsRights caller)) ⌝ }
-{
-    if n <= caller {
-        return Decision::Refused(Refusal::UnknownCaller);
-    }
-    Decision::ListsRights { caller }
 }

@@ -1,10 +1,10 @@
 -- `layout::rights` meets its contract: the place lies within the table. Assumes nothing.
-use mathlib.Core.Path.{ap, _∙_}
+use mathlib.Core.Path.{ap}
 use Prim.Native.Nat.{ℕ, _<_}
 use native.Mathlib.Omega.{arith}
 use lib.ListN.{length, getD}
 use Rattle.machine.specs.Word.{payload}
-use Rattle.decide.proofs.Places.{rights-read}
+use Rattle.decide.proofs.Reading.{rights-are}
 use Rattle.kernel.proofs.Places.{few, rights-within}
 use Rattle.kernel.proofs.layout.rights.Statement.{statement}
 use Rattle.kernel.proofs.layout.rights.Tie as tie
@@ -27,8 +27,8 @@ shared-slice-read-t8 c = within (c .before)
 returns : tie.Need-returns
 returns c =
     let start = c .before .before .before in
-    ap (λ (at : ℕ). payload (getD (start .args .table .now) at 0)) (c .before .rights-at .ensures)
-    ∙ rights-read _ _ (start .pre .0 .domains) _ _
+    rights-are _ _ (start .pre .0 .domains) _ _
+    (ap (λ (at : ℕ). payload (getD (start .args .table .now) at 0)) (c .before .rights-at .ensures))
 
 pub rights-spec : {M : Type 1} → statement M
 rights-spec = tie.close (tie.spec rights-at-requires mul-t6 shared-slice-read-t8 returns)
