@@ -14,12 +14,14 @@ use endpoint_calls::send;
 use layout::domains;
 use layout::endpoints;
 use range::Range;
-use range::of_call;
+use range::of_caller;
+use range::of_refused;
 use rights_calls::grant;
 use rights_calls::remove;
 ghost use mathlib.Core.Path.{_≡_};
 ghost use Rattle.calls.specs.Decide.{decideCall};
 ghost use Rattle.decide.specs.Decision.{decisionOf};
+ghost use Rattle.decide.specs.Range.{followed};
 
 // A refusal, or the call's row with what it needs.
 pub enum Decision {
@@ -57,25 +59,23 @@ pub fn decide(table: &[u32], call: Call) -> Decision
 {
     let n = domains(table);
     let m = endpoints(table);
-    let range = of_call(n, m, call);
-    if let Range::Outside(refusal) = range {
-        return Decision::Refused(refusal);
-    }
     match call {
         Call::Refused {
             kind: _,
-            caller: _,
+            caller,
             refusal,
-        } => Decision::Refused(refusal),
-        Call::LookUp { caller: _, name } => look_up(table, n, m, name),
+        } => after(of_refused(n, caller, refusal), Decision::Refused(refusal)),
+        Call::LookUp { caller, name } => look_up(table, n, m, caller, name),
         Call::Send {
             caller,
             endpoint,
             message,
-        } => send(table, n, caller, endpoint, message),
-        Call::Receive { caller, endpoint } => receive(table, n, caller, endpoint),
-        Call::MyEndpoints { caller } => Decision::ListsEndpoints { caller },
-        Call::MyRights { caller } => Decision::ListsRights { caller },
+        } => send(table, n, m, caller, endpoint, message),
+        Call::Receive { caller, endpoint } => receive(table, n, m, caller, endpoint),
+        Call::MyEndpoints { caller } => {
+            after(of_caller(n, caller), Decision::ListsEndpoints { caller })
+        }
+        Call::MyRights { caller } => after(of_caller(n, caller), Decision::ListsRights { caller }),
         Call::Grant {
             caller,
             target,
@@ -87,5 +87,15 @@ pub fn decide(table: &[u32], call: Call) -> Decision
             target,
             rights,
         } => remove(table, n, caller, target, rights),
+    }
+}
+
+// What comes next where the numbers are within their range.
+fn after(range: Range, next: Decision) -> Decision
+    ensures { λ d. ⌜ decisionOf d ≡ followed range (decisionOf next) ⌝ }
+{
+    match range {
+        Range::Outside(refusal) => Decision::Refused(refusal),
+        Range::Within => next,
     }
 }

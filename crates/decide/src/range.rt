@@ -1,13 +1,12 @@
-// The tests of a call's numbers (12, 16, 20 and 21), by n and m alone: nothing is read but the call, so whoever holds a
-// table in another layout asks the same.
-use calls::Call;
+// The tests of a call's numbers (12, 16, 20 and 21), by n and m alone: no table is read, so whoever holds one in another layout
+// asks the same.
 use calls::Refusal;
 use words::rights::Rights;
 ghost use mathlib.Core.Path.{_≡_};
 ghost use mathlib.Core.Bool.{not};
 ghost use Rattle.machine.specs.Machine.{Decision, place};
 ghost use Rattle.calls.specs.Number.{numberOf};
-ghost use Rattle.decide.specs.Range.{isSet, isRight, followed, callerPlace, refusedPlaces, endpointPlaces, grantPlaces, removePlaces, numberPlaces};
+ghost use Rattle.decide.specs.Range.{isSet, isRight, followed, callerPlace, refusedPlaces, endpointPlaces, grantPlaces, removePlaces};
 
 // What the tests come to: all numbers are within their range, or the refusal by the first that isn't.
 pub enum Range {
@@ -47,14 +46,14 @@ fn is_right(given: u32) -> bool
 }
 
 // Place 12.
-fn of_caller(n: u32, caller: u32) -> Range
+pub fn of_caller(n: u32, caller: u32) -> Range
     ensures { λ r. ⌜ ((next : Decision) → followed r next ≡ callerPlace n caller next) ⌝ }
 {
     Range::Within.then(caller < n, Refusal::UnknownCaller)
 }
 
 // A call that is refused without a table: 12 comes before 13 and 14, and after 10 and 11.
-fn of_refused(n: u32, caller: u32, refusal: Refusal) -> Range
+pub fn of_refused(n: u32, caller: u32, refusal: Refusal) -> Range
     ensures { λ r. ⌜ ((next : Decision) → followed r next ≡ refusedPlaces n caller refusal next) ⌝ }
 {
     let number = calls::number(refusal);
@@ -65,14 +64,14 @@ fn of_refused(n: u32, caller: u32, refusal: Refusal) -> Range
 }
 
 // Places 12 and 16.
-fn of_endpoint(n: u32, m: u32, caller: u32, endpoint: u32) -> Range
+pub fn of_endpoint(n: u32, m: u32, caller: u32, endpoint: u32) -> Range
     ensures { λ r. ⌜ ((next : Decision) → followed r next ≡ endpointPlaces n m caller endpoint next) ⌝ }
 {
     of_caller(n, caller).then(endpoint < m, Refusal::NoSuchEndpoint)
 }
 
 // Places 12, 20 and 21.
-fn of_grant(n: u32, caller: u32, target: u32, recipient: u32, given: u32) -> Range
+pub fn of_grant(n: u32, caller: u32, target: u32, recipient: u32, given: u32) -> Range
     ensures { λ r. ⌜ ((next : Decision) → followed r next ≡ grantPlaces n caller target recipient given next) ⌝ }
 {
     of_caller(n, caller)
@@ -81,43 +80,10 @@ fn of_grant(n: u32, caller: u32, target: u32, recipient: u32, given: u32) -> Ran
 }
 
 // Places 12, 20 and 21.
-fn of_remove(n: u32, caller: u32, target: u32, given: u32) -> Range
+pub fn of_remove(n: u32, caller: u32, target: u32, given: u32) -> Range
     ensures { λ r. ⌜ ((next : Decision) → followed r next ≡ removePlaces n caller target given next) ⌝ }
 {
     of_caller(n, caller)
         .then(target < n, Refusal::NoSuchDomain)
         .then(is_right(given), Refusal::BadRights)
-}
-
-// The numbers of a call, among n domains and m endpoints.
-pub fn of_call(n: u32, m: u32, call: Call) -> Range
-    ensures { λ r. ⌜ ((next : Decision) → followed r next ≡ numberPlaces n m call next) ⌝ }
-{
-    match call {
-        Call::Refused {
-            kind: _,
-            caller,
-            refusal,
-        } => of_refused(n, caller, refusal),
-        Call::LookUp { caller, name: _ } => of_caller(n, caller),
-        Call::Send {
-            caller,
-            endpoint,
-            message: _,
-        } => of_endpoint(n, m, caller, endpoint),
-        Call::Receive { caller, endpoint } => of_endpoint(n, m, caller, endpoint),
-        Call::MyEndpoints { caller } => of_caller(n, caller),
-        Call::MyRights { caller } => of_caller(n, caller),
-        Call::Grant {
-            caller,
-            target,
-            recipient,
-            rights,
-        } => of_grant(n, caller, target, recipient, rights),
-        Call::Remove {
-            caller,
-            target,
-            rights,
-        } => of_remove(n, caller, target, rights),
-    }
 }

@@ -1,12 +1,15 @@
-// The calls that move rights, once their numbers are tested: what they are about is read from the table.
+// The calls that move rights: their numbers are tested, then what the table holds.
 use crate::Decision;
 use crate::access;
+use crate::range::Range;
+use crate::range::of_grant;
+use crate::range::of_remove;
 use layout::rights;
 ghost use mathlib.Core.Path.{_≡_};
 ghost use Rattle.machine.specs.Table.{domains};
 ghost use Rattle.decide.specs.Decision.{decisionOf};
+ghost use Rattle.calls.specs.Decide.{decideCall};
 ghost use Rattle.calls.specs.declared.Call.the-variants.{Grant, Remove};
-ghost use Rattle.decide.specs.Access.{readPlaces};
 
 pub fn grant(
     table: &[u32],
@@ -17,8 +20,12 @@ pub fn grant(
     given: u32,
 ) -> Decision
     requires { ⌜ n ≡ domains (now table) ⌝ }
-    ensures { λ d. ⌜ decisionOf d ≡ readPlaces (now (table .entry)) (Grant caller target recipient given) ⌝ }
+    ensures { λ d. ⌜ decisionOf d ≡ decideCall (now (table .entry)) (Grant caller target recipient given) ⌝ }
 {
+    let range = of_grant(n, caller, target, recipient, given);
+    if let Range::Outside(refusal) = range {
+        return Decision::Refused(refusal);
+    }
     let held = rights(table, n, caller, target);
     let toward = rights(table, n, caller, recipient);
     access::grant(caller, target, recipient, given, held, toward)
@@ -26,8 +33,12 @@ pub fn grant(
 
 pub fn remove(table: &[u32], n: u32, caller: u32, target: u32, given: u32) -> Decision
     requires { ⌜ n ≡ domains (now table) ⌝ }
-    ensures { λ d. ⌜ decisionOf d ≡ readPlaces (now (table .entry)) (Remove caller target given) ⌝ }
+    ensures { λ d. ⌜ decisionOf d ≡ decideCall (now (table .entry)) (Remove caller target given) ⌝ }
 {
+    let range = of_remove(n, caller, target, given);
+    if let Range::Outside(refusal) = range {
+        return Decision::Refused(refusal);
+    }
     let held = rights(table, n, caller, target);
     access::remove(caller, target, given, held)
 }

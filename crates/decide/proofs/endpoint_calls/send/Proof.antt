@@ -1,23 +1,47 @@
--- `endpoint_calls::send` meets its contract: the owner is read, and what the caller holds on it. Assumes nothing.
+-- `endpoint_calls::send` meets its contract: 12 and 16, then the owner is read, and what the caller holds on it. Assumes nothing.
 use mathlib.Core.Path.{ap, ap₂, _∙_}
 use Prim.Native.Nat.{ℕ}
 use Rattle.machine.specs.Table.{rights}
+use Rattle.decide.specs.Decision.{decisionOf}
+use Rattle.decide.specs.Range.{numberPlaces}
 use Rattle.decide.specs.Access.{sendAccess, readPlaces}
+use Rattle.decide.proofs.Guards.{outside, within}
+use Rattle.decide.proofs.Places.{decided}
 use Rattle.decide.proofs.Reading.{rights-are, owner-is}
 use Rattle.decide.proofs.endpoint_calls.send.Statement.{statement}
 use Rattle.decide.proofs.endpoint_calls.send.Tie as tie
 
 returns : tie.Need-returns
-unfolding readPlaces
+unfolding decisionOf numberPlaces
 returns c =
+    let numbers = c .before .before .before in
+    let start = numbers .before .before in
+    outside _ (c .before .range .given .1) (decided _ _ _ _ _ (start .pre .0) (start .pre .1) (numbers .of-endpoint .ensures))
+
+returns-2 : tie.Need-returns-2
+unfolding numberPlaces readPlaces
+returns-2 c =
     let held = c .before in
     let info = held .before in
-    let start = info .before .before in
+    let told = info .before in
+    let numbers = told .before .before in
+    let start = numbers .before .before in
     let a = start .args in
-    let own = owner-is _ _ (start .pre) _ (info .endpoint-word .ensures) in
+    let own = owner-is _ _ (start .pre .0) _ (info .endpoint-word .ensures) in
     c .send .ensures
     ∙ ap₂ (λ (o s : ℕ). sendAccess (a .caller) o s (a .e) (a .message)) own
-    (rights-are _ _ (start .pre) _ _ (held .rights .ensures) ∙ ap (rights (a .table .now) (a .caller)) own)
+    (rights-are _ _ (start .pre .0) _ _ (held .rights .ensures) ∙ ap (rights (a .table .now) (a .caller)) own)
+    ∙ within _ (told .enum-told .given .1) (decided _ _ _ _ _ (start .pre .0) (start .pre .1) (numbers .of-endpoint .ensures))
 
 pub send-spec : {M : Type 1} → statement M
-send-spec = tie.close (tie.spec (λ c κs. tt) (λ c κs. tt) (λ c κs. tt) returns)
+send-spec =
+    tie.close
+    (tie.spec
+    (λ c κs. tt)
+    (λ c. c .match .keys1)
+    returns
+    (λ c. c .match .keys2)
+    (λ c κs. tt)
+    (λ c κs. tt)
+    (λ c κs. tt)
+    returns-2)

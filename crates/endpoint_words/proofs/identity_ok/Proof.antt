@@ -3,9 +3,9 @@ use mathlib.Core.Path.{sym, ap₂}
 use mathlib.Core.Bool.{_&&_}
 use native.Mathlib.Omega.{arith}
 use Rattle.machine.specs.Check.{identityOk}
-use Rattle.table.proofs.Short.{short-identity}
-use Rattle.table.proofs.endpoint.identity_ok.Statement.{statement}
-use Rattle.table.proofs.endpoint.identity_ok.Tie as tie
+use Rattle.endpoint_words.proofs.Short.{short-identity}
+use Rattle.endpoint_words.proofs.identity_ok.Statement.{statement}
+use Rattle.endpoint_words.proofs.identity_ok.Tie as tie
 
 too-short : tie.Need-returns
 too-short c = sym (short-identity _ _ (c .if1 .taken))

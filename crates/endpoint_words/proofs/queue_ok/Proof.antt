@@ -4,9 +4,9 @@ use mathlib.Core.Bool.{_&&_}
 use native.Mathlib.Omega.{arith}
 use Rattle.machine.specs.Check.{queueOk}
 use Rattle.machine.specs.Queue.{capacity, waiting}
-use Rattle.table.proofs.Short.{short-queue}
-use Rattle.table.proofs.endpoint.queue_ok.Statement.{statement}
-use Rattle.table.proofs.endpoint.queue_ok.Tie as tie
+use Rattle.endpoint_words.proofs.Short.{short-queue}
+use Rattle.endpoint_words.proofs.queue_ok.Statement.{statement}
+use Rattle.endpoint_words.proofs.queue_ok.Tie as tie
 
 too-short : tie.Need-returns
 too-short c = sym (short-queue _ (c .if1 .taken))

@@ -4,9 +4,9 @@ use native.Mathlib.Omega.{arith}
 use borrow.Author.Needs.{needs}
 use lib.ListN.{getD}
 use Rattle.machine.specs.Check.{slotWordOk}
-use Rattle.table.proofs.Scan.{Scanned, scan-start, scan-next, scan-end}
-use Rattle.table.proofs.endpoint.slots_ok.Statement.{statement}
-use Rattle.table.proofs.endpoint.slots_ok.Tie as tie
+use Rattle.endpoint_words.proofs.Scan.{Scanned, scan-start, scan-next, scan-end}
+use Rattle.endpoint_words.proofs.slots_ok.Statement.{statement}
+use Rattle.endpoint_words.proofs.slots_ok.Tie as tie
 
 abbrev Inv-loop : tie.InvT-loop
 Inv-loop count q all₀ i₀ all i = Scanned (λ j. slotWordOk count j (getD q (4 + j) 0)) 8 all i

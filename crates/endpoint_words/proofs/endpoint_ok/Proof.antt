@@ -2,8 +2,8 @@
 use mathlib.Core.Path.{ap₂}
 use mathlib.Core.Bool.{_&&_}
 use Rattle.machine.specs.Check.{endpointOk}
-use Rattle.table.proofs.endpoint.endpoint_ok.Statement.{statement}
-use Rattle.table.proofs.endpoint.endpoint_ok.Tie as tie
+use Rattle.endpoint_words.proofs.endpoint_ok.Statement.{statement}
+use Rattle.endpoint_words.proofs.endpoint_ok.Tie as tie
 
 both : tie.Need-returns
 unfolding endpointOk
