@@ -1,4 +1,5 @@
 -- Laws that the proofs of several functions cite.
-pub mod Places
 pub mod Guards
+pub mod Places
+pub mod Reading
 pub mod Scans

@@ -1,37 +1,46 @@
--- Reading a table by n is reading it by its own number of domains. Assumes nothing.
-use mathlib.Core.Path.{_≡_, ap, sym, _∙_}
+-- The machine's places of a call are the tests of its numbers, followed by the tests of what the table holds, kind by kind.
+-- Assumes nothing.
+use mathlib.Core.Path.{_≡_, refl, ap₂, _∙_}
+use mathlib.Core.Bool.{not, _||_}
 use mathlib.Core.List.{List}
-use Prim.Native.Nat.{ℕ, _+_, _*_, _<_, _≤_, _^_}
-use native.Mathlib.Nat.{mul-le-mul}
+use Prim.Native.Nat.{ℕ, zero, suc}
 use native.Mathlib.Omega.{arith}
-use lib.ListN.{getD, drop}
-use lib.Seq.{getD-take, getD-drop}
-use Rattle.machine.specs.Word.{payload}
-use Rattle.machine.specs.Table as table
-use Rattle.machine.specs.Table.{rightsAt, endpointAt}
+use lib.Dec.{eqb, leb}
+use borrow.Author.Tests.{le-leb, ne-eqb}
+use Rattle.machine.specs.Right.{allRights}
+use Rattle.machine.specs.Table.{domains, endpoints}
+use Rattle.machine.specs.Machine as machine
+use Rattle.machine.specs.Machine.{Decision, maySend}
+use Rattle.machine.specs.Influence.{influences, reaches}
+use Rattle.calls.specs.Decide.{knownCaller, refusedCall, decideCall}
+use Rattle.calls.specs.declared.Call.{Call}
+use Rattle.calls.specs.declared.Call.the-variants.{LookUp, Send, Receive, MyEndpoints, MyRights, Grant, Remove, Refused}
+use Rattle.decide.specs.declared.range.Range.{Range}
+use Rattle.decide.specs.Range.{followed, isSet, isRight, callerPlace, refusedPlaces, endpointPlaces, grantPlaces, removePlaces, numberPlaces}
+use Rattle.decide.specs.Access.{sendAccess, receiveAccess, grantAccess, removeAccess, readPlaces}
 
-module _ (t : List ℕ) (n : ℕ) (e : n ≡ table.domains t) where
-  -- word 0 has eight bits for n
-  pub few : n ≤ 255
-  unfolding table.domains
-  few = omega (arith, e)
+-- no set of rights: none at all, or one that isn't a right
+pub no-set : (r : ℕ) → not (isSet r) ≡ (eqb r 0 || not (leb r allRights))
+unfolding isSet
+no-set zero = refl
+no-set (suc r) = rw (le-leb 1 (suc r) (omega arith), ne-eqb (suc r) 0 (λ same. omega arith))
 
-  -- places stay small, whatever is asked for
-  pub row-small : (h : ℕ) → h < 2 ^ 32 → h * n ≤ 4294967295 * 255
-  row-small h small =
-      let most : h ≤ 4294967295 = omega arith in
-      mul-le-mul most few
+pub decide-places : (t : List ℕ) (call : Call) → numberPlaces (domains t) (endpoints t) call (readPlaces t call) ≡ decideCall t call
+unfolding numberPlaces readPlaces decideCall callerPlace knownCaller refusedPlaces refusedCall endpointPlaces grantPlaces removePlaces isRight sendAccess receiveAccess grantAccess removeAccess maySend influences reaches machine.sendPlaces machine.receivePlaces machine.grantPlaces machine.removePlaces
+decide-places t (Refused u r) = refl
+decide-places t (LookUp u x) = refl
+decide-places t (Send u e message) = refl
+decide-places t (Receive u e) = refl
+decide-places t (MyEndpoints u) = refl
+decide-places t (MyRights u) = refl
+decide-places t (Grant u g h r) = rw (no-set r)
+decide-places t (Remove u g r) = refl
 
-  pub square-small : n * n ≤ 65025
-  square-small = mul-le-mul few few
-
-  pub rights-read : (h g : ℕ) → payload (getD t (rightsAt n h g) 0) ≡ table.rights t h g
-  unfolding table.rights table.rightsWord
-  rights-read h g = ap (λ (k : ℕ). payload (getD t (rightsAt k h g) 0)) e
-
-  pub endpoint-read : (i j : ℕ) → j < 12 → getD t (endpointAt n i + j) 0 ≡ getD (table.endpoint t i) j 0
-  unfolding table.endpoint
-  endpoint-read i j l =
-      ap (λ (k : ℕ). getD t (endpointAt k i + j) 0) e
-      ∙ sym (getD-drop (endpointAt (table.domains t) i) t j 0)
-      ∙ sym (getD-take 12 (drop (endpointAt (table.domains t) i) t) j 0 l)
+-- so whatever tested the numbers by n and m of the table goes on with what the table holds
+pub decided : (t : List ℕ) (n m : ℕ) (call : Call) (r : Range)
+    → n ≡ domains t
+    → m ≡ endpoints t
+    → ((next : Decision) → followed r next ≡ numberPlaces n m call next)
+    → followed r (readPlaces t call) ≡ decideCall t call
+decided t n m call r en em tested =
+    tested (readPlaces t call) ∙ ap₂ (λ (a b : ℕ). numberPlaces a b call (readPlaces t call)) en em ∙ decide-places t call

@@ -1,88 +1,76 @@
-// The calls that name an endpoint: look up, send and receive.
+// The calls that name an endpoint: their numbers are tested, then what the table holds.
 use crate::Decision;
-use crate::read::endpoint_word;
-use crate::read::owner;
-use crate::read::rights;
-use calls::Refusal;
+use crate::access;
+use crate::access::Found;
+use crate::range::Range;
+use crate::range::of_caller;
+use crate::range::of_endpoint;
+use layout::endpoint_word;
+use layout::rights;
 use words::KIND;
-use words::rights::Rights;
 ghost use mathlib.Core.Path.{_≡_};
 ghost use Rattle.machine.specs.Table.{domains, endpoints};
-ghost use Rattle.machine.specs.Machine.{maySend, named, lookUpPlaces, sendPlaces, receivePlaces};
-ghost use Rattle.calls.specs.Decide.{knownCaller};
+ghost use Rattle.machine.specs.Machine.{named};
+ghost use Rattle.calls.specs.Decide.{decideCall};
 ghost use Rattle.decide.specs.Decision.{decisionOf};
+ghost use Rattle.calls.specs.declared.Call.the-variants.{LookUp, Send, Receive};
+ghost use Rattle.decide.specs.Access.{foundOf};
 
 // The first endpoint that has the name.
-pub fn look_up(table: &[u32], n: u32, m: u32, caller: u32, name: u32) -> Decision
+fn find(table: &[u32], n: u32, m: u32, name: u32) -> Found
     requires { ⌜ n ≡ domains (now table) ⌝ }
     requires { ⌜ m ≡ endpoints (now table) ⌝ }
-    ensures { λ d. ⌜ decisionOf d ≡ knownCaller (now (table .entry)) caller (lookUpPlaces (named (now (table .entry)) name)) ⌝ }
+    ensures { λ r. ⌜ foundOf r ≡ named (now (table .entry)) name ⌝ }
 {
-    if n <= caller {
-        return Decision::Refused(Refusal::UnknownCaller);
-    }
     let mut e = 0;
     while e < m {
         let word = endpoint_word(table, n, e, 0);
         if word % KIND == name {
-            return Decision::LookedUp { endpoint: e };
+            return Found::At(e);
         }
         e += 1;
     }
-    Decision::Refused(Refusal::NoSuchName)
+    Found::Nothing
 }
 
-// The caller owns the endpoint or has SEND on its owner.
-fn may_send(table: &[u32], n: u32, caller: u32, e: u32) -> bool
+pub fn look_up(table: &[u32], n: u32, m: u32, caller: u32, name: u32) -> Decision
     requires { ⌜ n ≡ domains (now table) ⌝ }
-    ensures { λ b. ⌜ b ≡ maySend (now (table .entry)) caller e ⌝ }
+    requires { ⌜ m ≡ endpoints (now table) ⌝ }
+    ensures { λ d. ⌜ decisionOf d ≡ decideCall (now (table .entry)) (LookUp caller name) ⌝ }
 {
-    let owned_by = owner(table, n, e);
-    if owned_by == caller {
-        return true;
+    let range = of_caller(n, caller);
+    if let Range::Outside(refusal) = range {
+        return Decision::Refused(refusal);
     }
-    rights(table, n, caller, owned_by).holds(Rights::SEND)
+    let found = find(table, n, m, name);
+    access::look_up(found)
 }
 
 pub fn send(table: &[u32], n: u32, m: u32, caller: u32, e: u32, message: u32) -> Decision
     requires { ⌜ n ≡ domains (now table) ⌝ }
     requires { ⌜ m ≡ endpoints (now table) ⌝ }
-    ensures { λ d. ⌜ decisionOf d ≡ knownCaller (now (table .entry)) caller (sendPlaces (now (table .entry)) caller e message) ⌝ }
+    ensures { λ d. ⌜ decisionOf d ≡ decideCall (now (table .entry)) (Send caller e message) ⌝ }
 {
-    if n <= caller {
-        return Decision::Refused(Refusal::UnknownCaller);
+    let range = of_endpoint(n, m, caller, e);
+    if let Range::Outside(refusal) = range {
+        return Decision::Refused(refusal);
     }
-    if m <= e {
-        return Decision::Refused(Refusal::NoSuchEndpoint);
-    }
-    if may_send(table, n, caller, e) {
-        return Decision::Sends {
-            endpoint: e,
-            message,
-        };
-    }
-    Decision::Refused(Refusal::MayNotSend)
+    let info = endpoint_word(table, n, e, 1);
+    let owner = info / 256 % 256;
+    let held = rights(table, n, caller, owner);
+    access::send(caller, owner, held, e, message)
 }
 
 pub fn receive(table: &[u32], n: u32, m: u32, caller: u32, e: u32) -> Decision
     requires { ⌜ n ≡ domains (now table) ⌝ }
     requires { ⌜ m ≡ endpoints (now table) ⌝ }
-    ensures { λ d. ⌜ decisionOf d ≡ knownCaller (now (table .entry)) caller (receivePlaces (now (table .entry)) caller e) ⌝ }
+    ensures { λ d. ⌜ decisionOf d ≡ decideCall (now (table .entry)) (Receive caller e) ⌝ }
 {
-    if n <= caller {
-        return Decision::Refused(Refusal::UnknownCaller);
+    let range = of_endpoint(n, m, caller, e);
+    if let Range::Outside(refusal) = range {
+        return Decision::Refused(refusal);
     }
-    if m <= e {
-        return Decision::Refused(Refusal::NoSuchEndpoint);
-    }
-    let owned_by = owner(table, n, e);
-    if owned_by != caller {
-        return Decision::Refused(Refusal::NotOwner);
-    }
-    let word = endpoint_word(table, n, e, 2);
-    let count = word % KIND;
-    if count == 0 {
-        return Decision::Refused(Refusal::NothingWaiting);
-    }
-    Decision::Receives { endpoint: e }
+    let info = endpoint_word(table, n, e, 1);
+    let count = endpoint_word(table, n, e, 2);
+    access::receive(caller, info / 256 % 256, count % KIND, e)
 }

@@ -1,7 +1,9 @@
-// What a call comes to, by the table as it stands: any words will do as a table, and nothing is written. Each kind of call goes
-// through the places of document 01 that it has, in their order; the first that fails decides.
+// What a call comes to, by the table as it stands: any words will do as a table, and nothing is written. A call's numbers are
+// tested first (range), then what the table holds (access): the places of document 01, in their order; the first that fails
+// decides.
+pub mod access;
 mod endpoint_calls;
-mod read;
+pub mod range;
 mod rights_calls;
 
 use calls::Call;
@@ -9,17 +11,17 @@ use calls::Refusal;
 use endpoint_calls::look_up;
 use endpoint_calls::receive;
 use endpoint_calls::send;
-use read::domains;
-use read::endpoints;
+use layout::domains;
+use layout::endpoints;
+use range::Range;
+use range::of_caller;
+use range::of_refused;
 use rights_calls::grant;
 use rights_calls::remove;
 ghost use mathlib.Core.Path.{_≡_};
-ghost use mathlib.Core.List.{List};
-ghost use Prim.Native.Nat.{ℕ};
-ghost use Rattle.machine.specs.Table.{domains};
-ghost use Rattle.machine.specs.Machine.{Decision.listsEndpoints, Decision.listsRights};
-ghost use Rattle.calls.specs.Decide.{knownCaller, refusedCall, decideCall};
+ghost use Rattle.calls.specs.Decide.{decideCall};
 ghost use Rattle.decide.specs.Decision.{decisionOf};
+ghost use Rattle.decide.specs.Range.{followed};
 
 // A refusal, or the call's row with what it needs.
 pub enum Decision {
@@ -58,7 +60,10 @@ pub fn decide(table: &[u32], call: Call) -> Decision
     let n = domains(table);
     let m = endpoints(table);
     match call {
-        Call::Refused { caller, refusal } => refused(n, caller, refusal),
+        Call::Refused { caller, refusal } => after(
+            of_refused(n, caller, refusal),
+            Decision::Refused(refusal),
+        ),
         Call::LookUp { caller, name } => look_up(table, n, m, caller, name),
         Call::Send {
             caller,
@@ -66,8 +71,10 @@ pub fn decide(table: &[u32], call: Call) -> Decision
             message,
         } => send(table, n, m, caller, endpoint, message),
         Call::Receive { caller, endpoint } => receive(table, n, m, caller, endpoint),
-        Call::MyEndpoints { caller } => my_endpoints(n, caller),
-        Call::MyRights { caller } => my_rights(n, caller),
+        Call::MyEndpoints { caller } => {
+            after(of_caller(n, caller), Decision::ListsEndpoints { caller })
+        }
+        Call::MyRights { caller } => after(of_caller(n, caller), Decision::ListsRights { caller }),
         Call::Grant {
             caller,
             target,
@@ -82,34 +89,12 @@ pub fn decide(table: &[u32], call: Call) -> Decision
     }
 }
 
-// A call that is refused without a table: 12 comes before 13 and 14, and after 10 and 11.
-fn refused(n: u32, caller: u32, refusal: Refusal) -> Decision
-    ensures { λ d. ⌜ ((t : List ℕ) → n ≡ domains t → decisionOf d ≡ refusedCall t caller refusal) ⌝ }
+// What comes next where the numbers are within their range.
+fn after(range: Range, next: Decision) -> Decision
+    ensures { λ d. ⌜ decisionOf d ≡ followed range (decisionOf next) ⌝ }
 {
-    let number = calls::number(refusal);
-    if number < 12 {
-        return Decision::Refused(refusal);
+    match range {
+        Range::Outside(refusal) => Decision::Refused(refusal),
+        Range::Within => next,
     }
-    if n <= caller {
-        return Decision::Refused(Refusal::UnknownCaller);
-    }
-    Decision::Refused(refusal)
-}
-
-fn my_endpoints(n: u32, caller: u32) -> Decision
-    ensures { λ d. ⌜ ((t : List ℕ) → n ≡ domains t → decisionOf d ≡ knownCaller t caller (listsEndpoints caller)) ⌝ }
-{
-    if n <= caller {
-        return Decision::Refused(Refusal::UnknownCaller);
-    }
-    Decision::ListsEndpoints { caller }
-}
-
-fn my_rights(n: u32, caller: u32) -> Decision
-    ensures { λ d. ⌜ ((t : List ℕ) → n ≡ domains t → decisionOf d ≡ knownCaller t caller (listsRights caller)) ⌝ }
-{
-    if n <= caller {
-        return Decision::Refused(Refusal::UnknownCaller);
-    }
-    Decision::ListsRights { caller }
 }

@@ -15,7 +15,7 @@ use Rattle.machine.specs.Queue.{name}
 use Rattle.machine.specs.Check.{endpointOk, nameNew, endpointsOk}
 use Rattle.machine.proofs.Below.{all-same}
 use Rattle.table.specs.Names.{newAt, allDifferent}
-use Rattle.table.proofs.Scan.{Scanned, scan-end}
+use Rattle.endpoint_words.proofs.Scan.{Scanned, scan-end}
 use Rattle.table.proofs.Fill.{Filled}
 
 and-swap : (a b c d : Bool) → ((a && b) && (c && d)) ≡ ((a && c) && (b && d))

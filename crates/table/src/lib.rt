@@ -1,11 +1,10 @@
 // The table check: it accepts or refuses a lent table, place by place.
-use crate::endpoint::endpoint_ok;
 use crate::names::all_different;
+use endpoint_words::endpoint_ok;
 use words::KIND;
 use words::header_word_ok;
 use words::rights_word_ok;
 
-mod endpoint;
 pub mod names;
 
 ghost use mathlib.Core.Path.{_≡_};

@@ -11,7 +11,7 @@ use Rattle.machine.specs.Table.{domains, endpoints}
 use Rattle.machine.specs.Check.{endpointOk}
 use Rattle.table.proofs.Places.{headed-most, headed-size}
 use Rattle.table.proofs.Bounds.{count-fits, from-fits, words-fit, start-fits, end-fits, bytes-fit, start-within, end-within, name-fits, next-fits}
-use Rattle.table.proofs.Scan.{scan-start, scan-next}
+use Rattle.endpoint_words.proofs.Scan.{scan-start, scan-next}
 use Rattle.table.proofs.Fill.{fill-start, fill-next}
 use Rattle.table.proofs.Gather.{Gathered, part, part-name, all-words-right, some-word-wrong}
 use Rattle.table.proofs.endpoints_ok.Statement.{statement}

@@ -7,7 +7,7 @@ use Rattle.machine.specs.Table.{domains}
 use Rattle.machine.specs.Check.{rightsWordOk, rightsOk}
 use Rattle.table.proofs.Places.{headed-size, headed-rights}
 use Rattle.table.proofs.Bounds.{count-fits, rights-fits, rights-bytes-fit, rights-next-fits, rights-within}
-use Rattle.table.proofs.Scan.{Scanned, scan-start, scan-next, scan-end}
+use Rattle.endpoint_words.proofs.Scan.{Scanned, scan-start, scan-next, scan-end}
 use Rattle.table.proofs.rights_ok.Statement.{statement}
 use Rattle.table.proofs.rights_ok.Tie as tie
 

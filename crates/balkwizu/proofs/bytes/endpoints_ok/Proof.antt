@@ -7,7 +7,7 @@ use native.Mathlib.Omega.{arith}
 use borrow.Author.Count.{falls}
 use Rattle.machine.specs.Check.{endpointOk}
 use Rattle.table.proofs.Bounds.{count-fits, from-fits, words-fit, start-fits, name-fits, next-fits}
-use Rattle.table.proofs.Scan.{scan-start, scan-next}
+use Rattle.endpoint_words.proofs.Scan.{scan-start, scan-next}
 use Rattle.table.proofs.Fill.{fill-start, fill-next}
 use Rattle.table.proofs.Gather.{Gathered, all-words-right, some-word-wrong}
 use Rattle.reading.specs.Bytes.{wordsOf}

@@ -7,7 +7,7 @@ use lib.ListN.{getD, length}
 use Rattle.machine.specs.Table.{domains}
 use Rattle.machine.specs.Check.{rightsWordOk, rightsOk}
 use Rattle.table.proofs.Bounds.{count-fits, rights-fits, rights-next-fits}
-use Rattle.table.proofs.Scan.{Scanned, scan-start, scan-next, scan-end}
+use Rattle.endpoint_words.proofs.Scan.{Scanned, scan-start, scan-next, scan-end}
 use Rattle.reading.specs.Bytes.{wordsOf}
 use Rattle.balkwizu.proofs.Places.{header-four, fitting-counted}
 use Rattle.balkwizu.proofs.bytes.rights_ok.Statement.{statement}

@@ -5,7 +5,7 @@ use native.Mathlib.Omega.{arith}
 use borrow.Author.Needs.{needs}
 use lib.ListN.{getD}
 use Rattle.machine.specs.Check.{slotWordOk}
-use Rattle.table.proofs.Scan.{Scanned, scan-start, scan-next, scan-end}
+use Rattle.endpoint_words.proofs.Scan.{Scanned, scan-start, scan-next, scan-end}
 use Rattle.reading.specs.Bytes.{wordsOf}
 use Rattle.balkwizu.proofs.bytes.slots_ok.Statement.{statement}
 use Rattle.balkwizu.proofs.bytes.slots_ok.Tie as tie

@@ -1,69 +1,44 @@
--- `receive` meets its contract, place by place. Assumes nothing.
-use mathlib.Core.Path.{_≡_, refl, sym, ap, _∙_}
-use mathlib.Core.Bool.{not}
-use Prim.Native.Nat.{_%_}
-use borrow.Author.Needs.{needs}
-use borrow.Author.Tests.{eq-eqb, ne-eqb}
-use Rattle.machine.specs.Word.{payload}
-use Rattle.machine.specs.Table.{endpoint}
-use Rattle.machine.specs.Queue.{waiting}
-use Rattle.machine.specs.Machine.{receivePlaces}
+-- `endpoint_calls::receive` meets its contract: 12 and 16, then the owner is read, and what waits. Assumes nothing.
+use mathlib.Core.Path.{ap₂, _∙_}
+use Prim.Native.Nat.{ℕ}
 use Rattle.decide.specs.Decision.{decisionOf}
-use Rattle.decide.proofs.Guards.{stop, pass, unknown-caller, no-endpoint, past-endpoint}
+use Rattle.decide.specs.Range.{numberPlaces}
+use Rattle.decide.specs.Access.{receiveAccess, readPlaces}
+use Rattle.decide.proofs.Guards.{outside, within}
+use Rattle.decide.proofs.Places.{decided}
+use Rattle.decide.proofs.Reading.{owner-is, waiting-is}
 use Rattle.decide.proofs.endpoint_calls.receive.Statement.{statement}
 use Rattle.decide.proofs.endpoint_calls.receive.Tie as tie
 
 returns : tie.Need-returns
-unfolding decisionOf
-returns c = unknown-caller _ _ _ (c .before .before .pre .0) _ (c .if1 .taken)
+unfolding decisionOf numberPlaces
+returns c =
+    let numbers = c .before .before .before in
+    let start = numbers .before .before in
+    outside _ (c .before .range .given .1) (decided _ _ _ _ _ (start .pre .0) (start .pre .1) (numbers .of-endpoint .ensures))
 
 returns-2 : tie.Need-returns-2
-unfolding decisionOf receivePlaces
+unfolding numberPlaces readPlaces
 returns-2 c =
-    let pre = c .before .before .before .pre in
-    no-endpoint _ _ _ _ _ (pre .0) (pre .1) (c .before .if1 .left) _ (c .if2 .taken)
-
-owner-requires : tie.Need-owner-requires
-owner-requires c κs = search needs
-
-returns-3 : tie.Need-returns-3
-unfolding decisionOf receivePlaces
-returns-3 c =
-    let at2 = c .before .before in
-    let pre = at2 .before .before .before .pre in
-    past-endpoint _ _ _ _ _ (pre .0) (pre .1) (at2 .before .if1 .left) _ _ (at2 .if2 .left)
-    (stop _ 18 _ (ap not (ne-eqb _ _ (λ same. c .if3 .taken (c .before .owner .ensures ∙ same)))))
-
-endpoint-word-requires : tie.Need-endpoint-word-requires
-endpoint-word-requires c κs = search needs
-
-counted : (c : tie.After-endpoint-word)
-    → let a = c .before .before .before .before .before .before .args in
-    c .endpoint-word .result % 268435456 ≡ waiting (endpoint (a .table .now) (a .e))
-unfolding waiting
-counted c = ap payload (c .endpoint-word .ensures)
-
-returns-4 : tie.Need-returns-4
-unfolding decisionOf receivePlaces
-returns-4 c =
-    let at3 = c .before .before in
-    let at2 = at3 .before .before in
-    let pre = at2 .before .before .before .pre in
-    past-endpoint _ _ _ _ _ (pre .0) (pre .1) (at2 .before .if1 .left) _ _ (at2 .if2 .left)
-    (pass _ 18 _ _ (ap not (eq-eqb _ _ (sym (at3 .before .owner .ensures) ∙ at3 .if3 .left)))
-    (stop _ 19 _ (eq-eqb _ _ (sym (counted (c .before)) ∙ c .if4 .taken))))
-
-returns-5 : tie.Need-returns-5
-unfolding decisionOf receivePlaces
-returns-5 c =
-    let at3 = c .before .before in
-    let at2 = at3 .before .before in
-    let pre = at2 .before .before .before .pre in
-    past-endpoint _ _ _ _ _ (pre .0) (pre .1) (at2 .before .if1 .left) _ _ (at2 .if2 .left)
-    (pass _ 18 _ _ (ap not (eq-eqb _ _ (sym (at3 .before .owner .ensures) ∙ at3 .if3 .left)))
-    (pass _ 19 _ _ (ne-eqb _ _ (λ none. c .if4 .left (counted (c .before) ∙ none))) refl))
+    let count = c .before in
+    let info = count .before in
+    let told = info .before in
+    let numbers = told .before .before in
+    let start = numbers .before .before in
+    c .receive .ensures
+    ∙ ap₂ (λ (o k : ℕ). receiveAccess (start .args .caller) o k (start .args .e))
+    (owner-is _ _ (start .pre .0) _ (info .endpoint-word .ensures)) (waiting-is _ _ (start .pre .0) _ (count .endpoint-word2 .ensures))
+    ∙ within _ (told .enum-told .given .1) (decided _ _ _ _ _ (start .pre .0) (start .pre .1) (numbers .of-endpoint .ensures))
 
 pub receive-spec : {M : Type 1} → statement M
 receive-spec =
     tie.close
-    (tie.spec returns returns-2 owner-requires returns-3 endpoint-word-requires returns-4 returns-5)
+    (tie.spec
+    (λ c κs. tt)
+    (λ c. c .match .keys1)
+    returns
+    (λ c. c .match .keys2)
+    (λ c κs. tt)
+    (λ c κs. tt)
+    (λ c κs. tt)
+    returns-2)

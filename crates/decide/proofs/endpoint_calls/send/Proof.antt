@@ -1,40 +1,47 @@
--- `decide::send` meets its contract, place by place. Assumes nothing.
-use mathlib.Core.Path.{refl}
-use borrow.Author.Needs.{needs}
-use Rattle.machine.specs.Machine.{sendPlaces}
+-- `endpoint_calls::send` meets its contract: 12 and 16, then the owner is read, and what the caller holds on it. Assumes nothing.
+use mathlib.Core.Path.{ap, ap₂, _∙_}
+use Prim.Native.Nat.{ℕ}
+use Rattle.machine.specs.Table.{rights}
 use Rattle.decide.specs.Decision.{decisionOf}
-use Rattle.decide.proofs.Guards.{stop, by-test, pass, unknown-caller, no-endpoint, past-endpoint}
+use Rattle.decide.specs.Range.{numberPlaces}
+use Rattle.decide.specs.Access.{sendAccess, readPlaces}
+use Rattle.decide.proofs.Guards.{outside, within}
+use Rattle.decide.proofs.Places.{decided}
+use Rattle.decide.proofs.Reading.{rights-are, owner-is}
 use Rattle.decide.proofs.endpoint_calls.send.Statement.{statement}
 use Rattle.decide.proofs.endpoint_calls.send.Tie as tie
 
 returns : tie.Need-returns
-unfolding decisionOf
-returns c = unknown-caller _ _ _ (c .before .before .pre .0) _ (c .if1 .taken)
+unfolding decisionOf numberPlaces
+returns c =
+    let numbers = c .before .before .before in
+    let start = numbers .before .before in
+    outside _ (c .before .range .given .1) (decided _ _ _ _ _ (start .pre .0) (start .pre .1) (numbers .of-endpoint .ensures))
 
 returns-2 : tie.Need-returns-2
-unfolding decisionOf sendPlaces
+unfolding numberPlaces readPlaces
 returns-2 c =
-    let pre = c .before .before .before .pre in
-    no-endpoint _ _ _ _ _ (pre .0) (pre .1) (c .before .if1 .left) _ (c .if2 .taken)
-
-may-send-requires : tie.Need-may-send-requires
-may-send-requires c κs = search needs
-
-returns-3 : tie.Need-returns-3
-unfolding decisionOf sendPlaces
-returns-3 c =
-    let at2 = c .before .before in
-    let pre = at2 .before .before .before .pre in
-    past-endpoint _ _ _ _ _ (pre .0) (pre .1) (at2 .before .if1 .left) _ _ (at2 .if2 .left)
-    (pass _ 17 _ _ (by-test (c .before .may-send .ensures) (c .if3 .taken)) refl)
-
-returns-4 : tie.Need-returns-4
-unfolding decisionOf sendPlaces
-returns-4 c =
-    let at2 = c .before .before in
-    let pre = at2 .before .before .before .pre in
-    past-endpoint _ _ _ _ _ (pre .0) (pre .1) (at2 .before .if1 .left) _ _ (at2 .if2 .left)
-    (stop _ 17 _ (by-test (c .before .may-send .ensures) (c .if3 .left)))
+    let held = c .before in
+    let info = held .before in
+    let told = info .before in
+    let numbers = told .before .before in
+    let start = numbers .before .before in
+    let a = start .args in
+    let own = owner-is _ _ (start .pre .0) _ (info .endpoint-word .ensures) in
+    c .send .ensures
+    ∙ ap₂ (λ (o s : ℕ). sendAccess (a .caller) o s (a .e) (a .message)) own
+    (rights-are _ _ (start .pre .0) _ _ (held .rights .ensures) ∙ ap (rights (a .table .now) (a .caller)) own)
+    ∙ within _ (told .enum-told .given .1) (decided _ _ _ _ _ (start .pre .0) (start .pre .1) (numbers .of-endpoint .ensures))
 
 pub send-spec : {M : Type 1} → statement M
-send-spec = tie.close (tie.spec returns returns-2 may-send-requires returns-3 returns-4)
+send-spec =
+    tie.close
+    (tie.spec
+    (λ c κs. tt)
+    (λ c. c .match .keys1)
+    returns
+    (λ c. c .match .keys2)
+    (λ c κs. tt)
+    (λ c κs. tt)
+    (λ c κs. tt)
+    returns-2)

@@ -7,7 +7,7 @@ use borrow.Author.Tests.{not-true, not-false}
 use lib.ListN.{length}
 use Rattle.machine.proofs.Below.{all-fails}
 use Rattle.table.specs.Names.{newAt, allDifferent}
-use Rattle.table.proofs.Scan.{Scanned, scan-start, scan-next, scan-end}
+use Rattle.endpoint_words.proofs.Scan.{Scanned, scan-start, scan-next, scan-end}
 use Rattle.table.proofs.names.all_different.Statement.{statement}
 use Rattle.table.proofs.names.all_different.Tie as tie
 

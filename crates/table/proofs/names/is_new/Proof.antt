@@ -6,7 +6,7 @@ use native.Mathlib.Omega.{arith}
 use lib.Dec.{eqb}
 use lib.ListN.{getD}
 use Rattle.table.specs.Names.{newAt}
-use Rattle.table.proofs.Scan.{Scanned, scan-start, scan-next, scan-end}
+use Rattle.endpoint_words.proofs.Scan.{Scanned, scan-start, scan-next, scan-end}
 use Rattle.table.proofs.names.is_new.Statement.{statement}
 use Rattle.table.proofs.names.is_new.Tie as tie
 

@@ -1,0 +1,11 @@
+-- `range::of_caller` meets its contract. Assumes nothing.
+use Rattle.decide.specs.Range.{followed, callerPlace}
+use Rattle.decide.proofs.range.of_caller.Statement.{statement}
+use Rattle.decide.proofs.range.of_caller.Tie as tie
+
+returns : tie.Need-returns
+unfolding followed callerPlace
+returns c next = c .then .ensures next
+
+pub of-caller-spec : {M : Type 1} → statement M
+of-caller-spec = tie.close (tie.spec (λ c κs. tt) returns)

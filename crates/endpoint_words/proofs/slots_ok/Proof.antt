@@ -1,0 +1,38 @@
+-- `slots_ok`: the flag is the test of the slots passed. Assumes nothing.
+use Prim.Native.Nat.{_+_, _-_}
+use native.Mathlib.Omega.{arith}
+use borrow.Author.Needs.{needs}
+use lib.ListN.{getD}
+use Rattle.machine.specs.Check.{slotWordOk}
+use Rattle.endpoint_words.proofs.Scan.{Scanned, scan-start, scan-next, scan-end}
+use Rattle.endpoint_words.proofs.slots_ok.Statement.{statement}
+use Rattle.endpoint_words.proofs.slots_ok.Tie as tie
+
+abbrev Inv-loop : tie.InvT-loop
+Inv-loop count q all₀ i₀ all i = Scanned (λ j. slotWordOk count j (getD q (4 + j) 0)) 8 all i
+
+abbrev μ-loop : tie.MeasureT-loop
+μ-loop count q all₀ i₀ all i = 8 - i
+
+again : tie.Need-loop-again Inv-loop μ-loop
+again c = scan-next _ _ _ _ _ (c .before .before .before .loop .inv) (c .before .before .loop-test .taken) (c .slot-word-ok .ensures)
+
+returns : tie.Need-returns Inv-loop μ-loop
+returns c = scan-end _ _ _ _ (c .before .loop .inv) (c .loop-test .left)
+
+pub slots-ok-spec : {M : Type 1} → statement M
+slots-ok-spec =
+    tie.close
+    (tie.spec
+    Inv-loop
+    μ-loop
+    (λ c. scan-start _ _)
+    (λ c. omega arith)
+    (λ c. omega arith)
+    (λ c. omega arith)
+    (λ c. omega arith)
+    (λ c κs. search needs)
+    (λ c. omega arith)
+    (λ c. omega arith)
+    again
+    returns)
