@@ -54,8 +54,8 @@ const WAYS: [&str; 6] = [
     "in odd parts",
     "held open at a length word above 641",
     "held open at list word 4,097",
-    "held open with bytes left over",
-    "held open behind a bad table",
+    "held open at list word 4,097 with bytes left over",
+    "held open at list word 4,097 behind a bad table",
 ];
 
 /// How much of a line is shown.
@@ -117,7 +117,7 @@ impl Met {
             feed.parts == Some(1),
             feed.parts > Some(1),
             feed.held && !at_the_list,
-            at_the_list,
+            at_the_list && left_over.is_empty(),
             at_the_list && !left_over.is_empty(),
             at_the_list && check_table(&from_bytes(&head[4..])) != 0,
         ];

@@ -237,6 +237,7 @@ fn a_program_that_is_no_linerun_differs() {
 fn stand_in(how: &str) -> String {
     let built = PathBuf::from(env!("CARGO_BIN_EXE_bench"));
     let built = built.with_file_name("examples").join("stand_in");
+    assert!(built.exists(), "it is made where all tests are: no --test");
     let script = format!("#!/bin/sh\nexec '{}' {how}\n", built.display());
     let path = file(&format!("linerun-{how}"), script.as_bytes());
     fs::set_permissions(&path, fs::Permissions::from_mode(0o755)).expect("it can be made to run");
