@@ -2,12 +2,8 @@
 use mathlib.Core.Path.{_≡_, refl, sym, ap}
 use mathlib.Core.Bool.{Bool, true, false, not}
 use Prim.Native.Nat.{ℕ}
-use native.Mathlib.Omega.{arith}
 use lib.Dec.{leb, ltb}
 use borrow.Author.Tests.{lt-ltb, le-ltb, leb-true, leb-false}
-use Rattle.table.specs.Checked.{refusalCode}
-use Rattle.table.specs.declared.TableRefusal.{TableRefusal}
-use Rattle.table.specs.declared.TableRefusal.the-variants.{BadHeader, BadLength, BadRights, BadEndpoint}
 
 -- the test of the code and that of the definition
 pub at-most : (a b : ℕ) → leb a b ≡ not (ltb b a)
@@ -16,10 +12,3 @@ at-most a b = go (leb a b) refl
     go : (x : Bool) → leb a b ≡ x → x ≡ not (ltb b a)
     go true e = sym (ap not (le-ltb b a (leb-true a b e)))
     go false e = sym (ap not (lt-ltb b a (leb-false a b e)))
-
--- a refusal has a code
-pub refusal-code : (r : TableRefusal) → refusalCode r ≡ 0 → ⊥
-refusal-code BadHeader e = omega arith
-refusal-code BadLength e = omega arith
-refusal-code BadRights e = omega arith
-refusal-code BadEndpoint e = omega arith

@@ -61,7 +61,7 @@ module _ {t₀ ws space₀ t space : List ℕ} {k i : ℕ} (u : Underway t₀ ws
 pub underway-end : {t₀ ws space₀ t space : List ℕ} {k i : ℕ}
     → Underway t₀ ws space₀ t space k i
     → length ws ≤ i
-    → AllRun t₀ ws space₀ k t space
+    → AllRun t₀ ws space₀ k space t
 underway-end {t₀} {ws} {space₀} {t} {space} {k} {i} u past =
     let done = running-end (subst (λ (left : List ℕ). Running t₀ ws space₀ t left k space) (drop-of-length-le ws past) (u .running)) in
     record { count = done .2; table = done .0; answers = done .1 }

@@ -41,7 +41,7 @@ pub fn run_calls(table: &mut [u32], list: &[u32], answers: &mut [u32]) -> usize
     requires { ⌜ Accepted (now table) ⌝ }
     requires { ⌜ length (now list) ≤ 4096 ⌝ }
     requires { ⌜ 3 * length (cut (now list)) ≤ length (now answers) ⌝ }
-    ensures { λ k. ⌜ AllRun (now (table .entry)) (now (list .entry)) (now (answers .entry)) k (now (table .exit)) (now (answers .exit)) ⌝ }
+    ensures { λ k. ⌜ AllRun (now (table .entry)) (now (list .entry)) (now (answers .entry)) k (now (answers .exit)) (now (table .exit)) ⌝ }
 {
     let mut calls: usize = 0;
     let mut i: usize = 0;

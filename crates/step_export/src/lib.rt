@@ -1,13 +1,13 @@
 // The public step behind a C function, for the bench alone: no header declares it and the archive for the firmware hasn't
 // got it (`rt staticlib step_export` makes an archive of its own). It is how `kernel::step` is run beside the separate machine.
+use answers::Answer;
 use cutting::Second;
-use kernel::Answer;
 use kernel::Stepped;
 ghost use mathlib.Core.Path.{_≡_};
 ghost use mathlib.Core.List.{_++_};
 ghost use Prim.Native.Nat.{_≤_};
 ghost use lib.ListN.{length, drop};
-ghost use Rattle.kernel.specs.Answer.{wordsOf};
+ghost use Rattle.answers.specs.Answer.{wordsOf};
 ghost use Rattle.cutting.specs.Cutting.{callOf};
 ghost use Rattle.step_export.specs.Exported.{secondGiven, Exported};
 

@@ -3,3 +3,4 @@ pub mod Fill
 pub mod Places
 pub mod Bounds
 pub mod Gather
+pub mod Refusals

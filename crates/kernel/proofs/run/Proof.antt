@@ -9,7 +9,7 @@ use Rattle.machine.specs.Check.{tableCode}
 use Rattle.machine.specs.Call.{cut}
 use Rattle.table.specs.Checked.{checkedCode}
 use Rattle.machine.proofs.Promise.{code-long, code-table, code-space, code-runs, promise-refused, promise-ran}
-use Rattle.kernel.proofs.Entries.{refusal-code}
+use Rattle.table.proofs.Refusals.{refusal-code}
 use Rattle.kernel.proofs.run.Statement.{statement}
 use Rattle.kernel.proofs.run.Tie as tie
 
@@ -80,8 +80,8 @@ returns-4 c =
     let all = call .run-calls .ensures in
     promise-ran _ _ _ _ _ _ (code-runs _ _ _ (told .before .before .before .before .if1 .left) (accepted told) (enough space))
     (all .count)
-    (all .table)
     (all .answers)
+    (all .table)
 
 pub run-spec : {M : Type 1} → statement M
 run-spec =

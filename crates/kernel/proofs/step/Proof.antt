@@ -4,7 +4,7 @@ use borrow.Author.Needs.{needs}
 use borrow.Author.Tests.{eq-eqb, ne-eqb}
 use Rattle.machine.specs.Check.{tableCode}
 use Rattle.table.specs.Checked.{checkedCode}
-use Rattle.kernel.proofs.Entries.{refusal-code}
+use Rattle.table.proofs.Refusals.{refusal-code}
 use Rattle.kernel.proofs.step.Statement.{statement}
 use Rattle.kernel.proofs.step.Tie as tie
 

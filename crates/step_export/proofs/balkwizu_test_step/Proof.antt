@@ -16,12 +16,12 @@ use Rattle.table.specs.Checked.{refusalCode}
 use Rattle.table.specs.declared.TableRefusal.{TableRefusal}
 use Rattle.cutting.specs.Cutting.{callOf}
 use Rattle.cutting.specs.declared.Second.{Second}
-use Rattle.kernel.specs.Answer.{wordsOf}
+use Rattle.answers.specs.Answer.{wordsOf}
 use Rattle.kernel.specs.Step.{StepPromise}
-use Rattle.kernel.specs.declared.Answer.{Answer}
+use Rattle.answers.specs.declared.Answer.{Answer}
 use Rattle.kernel.specs.declared.Stepped.{Stepped}
 use Rattle.kernel.specs.declared.Stepped.the-variants.{Refused, Answered}
-use Rattle.kernel.proofs.Entries.{refusal-code}
+use Rattle.table.proofs.Refusals.{refusal-code}
 use Rattle.step_export.specs.Exported.{secondGiven, exportedCode, Exported}
 use Rattle.step_export.proofs.balkwizu_test_step.Statement.{statement}
 use Rattle.step_export.proofs.balkwizu_test_step.Tie as tie
