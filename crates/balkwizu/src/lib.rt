@@ -1,11 +1,9 @@
 // The C boundary: what the controller's firmware and the bench link, as target/staticlib/libbalkwizu.a.
 // Every exported name begins with `balkwizu_`. A slice passes as a pointer and then a length.
-mod bytes;
-
 ghost use mathlib.Core.Path.{_≡_};
 ghost use Prim.Native.Nat.{_/_, _%_};
 ghost use Rattle.machine.specs.Promise.{RunPromise};
-ghost use Rattle.balkwizu.specs.Bytes.{bytesCode};
+ghost use Rattle.image.specs.Bytes.{bytesCode};
 
 // The check of a table before the kernel runs on it. C: uint32_t balkwizu_table_check(const uint8_t *bytes, size_t length).
 //
@@ -22,7 +20,7 @@ ghost use Rattle.balkwizu.specs.Bytes.{bytesCode};
 pub extern "C" fn balkwizu_table_check(bytes: &[u8]) -> u32
     ensures { λ r. ⌜ r ≡ bytesCode (now (bytes .entry)) ⌝ }
 {
-    let checked = bytes::check(bytes);
+    let checked = image::check(bytes);
     checked.code()
 }
 

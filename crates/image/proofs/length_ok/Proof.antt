@@ -4,10 +4,10 @@ use native.Mathlib.Omega.{arith}
 use Rattle.machine.specs.Table.{domains, endpoints}
 use Rattle.table.proofs.Places.{square-small}
 use Rattle.table.proofs.Bounds.{count-fits, from-fits, whole-fits}
-use Rattle.balkwizu.specs.Bytes.{bytesFor}
-use Rattle.balkwizu.proofs.Places.{header-four}
-use Rattle.balkwizu.proofs.bytes.length_ok.Statement.{statement}
-use Rattle.balkwizu.proofs.bytes.length_ok.Tie as tie
+use Rattle.image.specs.Bytes.{bytesFor}
+use Rattle.image.proofs.Places.{header-four}
+use Rattle.image.proofs.length_ok.Statement.{statement}
+use Rattle.image.proofs.length_ok.Tie as tie
 
 compared : tie.Need-returns
 unfolding bytesFor domains endpoints

@@ -3,8 +3,8 @@ use mathlib.Core.Path.{sym, _∙_}
 use native.Mathlib.Omega.{arith}
 use borrow.Author.Needs.{needs}
 use Rattle.reading.proofs.WordLaws.{getD-wordsOf}
-use Rattle.balkwizu.proofs.bytes.word_at.Statement.{statement}
-use Rattle.balkwizu.proofs.bytes.word_at.Tie as tie
+use Rattle.image.proofs.word_at.Statement.{statement}
+use Rattle.image.proofs.word_at.Tie as tie
 
 returns : tie.Need-returns
 returns c = c .word .ensures ∙ sym (getD-wordsOf _ _ (omega (arith, c .before .before .before .before .before .before .pre)))

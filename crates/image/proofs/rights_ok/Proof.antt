@@ -9,9 +9,9 @@ use Rattle.machine.specs.Check.{rightsWordOk, rightsOk}
 use Rattle.table.proofs.Bounds.{count-fits, rights-fits, rights-next-fits}
 use Rattle.endpoint_words.proofs.Scan.{Scanned, scan-start, scan-next, scan-end}
 use Rattle.reading.specs.Bytes.{wordsOf}
-use Rattle.balkwizu.proofs.Places.{header-four, fitting-counted}
-use Rattle.balkwizu.proofs.bytes.rights_ok.Statement.{statement}
-use Rattle.balkwizu.proofs.bytes.rights_ok.Tie as tie
+use Rattle.image.proofs.Places.{header-four, fitting-counted}
+use Rattle.image.proofs.rights_ok.Statement.{statement}
+use Rattle.image.proofs.rights_ok.Tie as tie
 
 abbrev Inv-loop : tie.InvT-loop
 Inv-loop bytes header n count all₀ i₀ all i =

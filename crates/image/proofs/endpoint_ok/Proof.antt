@@ -5,9 +5,9 @@ use borrow.Author.Needs.{needs}
 use denote.Ref.{now}
 use Rattle.machine.specs.Check.{nameWordOk, lostWordOk}
 use Rattle.reading.specs.Bytes.{wordsOf}
-use Rattle.balkwizu.proofs.Words.{endpoint-words}
-use Rattle.balkwizu.proofs.bytes.endpoint_ok.Statement.{statement}
-use Rattle.balkwizu.proofs.bytes.endpoint_ok.Tie as tie
+use Rattle.image.proofs.Words.{endpoint-words}
+use Rattle.image.proofs.endpoint_ok.Statement.{statement}
+use Rattle.image.proofs.endpoint_ok.Tie as tie
 
 returns : tie.Need-returns
 returns c =

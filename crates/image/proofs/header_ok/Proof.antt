@@ -1,9 +1,9 @@
 -- `header_ok` is the machine's `headerOk` of the words. Assumes nothing.
 use mathlib.Core.Path.{sym, ap, _∙_}
 use Rattle.machine.specs.Check.{headerWordOk}
-use Rattle.balkwizu.proofs.Places.{under-four, first-word}
-use Rattle.balkwizu.proofs.bytes.header_ok.Statement.{statement}
-use Rattle.balkwizu.proofs.bytes.header_ok.Tie as tie
+use Rattle.image.proofs.Places.{under-four, first-word}
+use Rattle.image.proofs.header_ok.Statement.{statement}
+use Rattle.image.proofs.header_ok.Tie as tie
 
 short : tie.Need-returns
 short c = sym (under-four _ (c .if1 .taken))

@@ -1,5 +1,5 @@
-// A table's check over its little-endian bytes. The words are taken out of the bytes where they stand: only the loops are
-// here, and every test of a word is crate words'.
+// A table's check over its image, its words as little-endian bytes. The words are taken out of the bytes where they stand: only
+// the loops are here, and every test of a word is crate words'.
 use reading::words::word;
 use table::Checked;
 use table::TableRefusal;
@@ -21,7 +21,7 @@ ghost use Rattle.machine.specs.Below.{allBelow};
 ghost use Rattle.machine.specs.Check.{slotWordOk, endpointOk, headerOk, rightsOk, endpointsOk};
 ghost use Rattle.table.specs.Checked.{checkedCode};
 ghost use Rattle.reading.specs.Bytes.{wordsOf};
-ghost use Rattle.balkwizu.specs.Bytes.{bytesFor, bytesCode, Fitting};
+ghost use Rattle.image.specs.Bytes.{bytesFor, bytesCode, Fitting};
 
 // Word i of the bytes.
 fn word_at(bytes: &[u8], i: usize) -> u32

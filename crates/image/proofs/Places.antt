@@ -18,7 +18,7 @@ use Rattle.table.specs.Checked.{Headed}
 use Rattle.table.proofs.Places.{empty-header, word-header, headed-most, headed-size}
 use Rattle.table.proofs.Gather.{part-name}
 use Rattle.reading.specs.Bytes.{wordsOf}
-use Rattle.balkwizu.specs.Bytes.{bytesFor, bytesCode, Fitting}
+use Rattle.image.specs.Bytes.{bytesFor, bytesCode, Fitting}
 use Rattle.reading.proofs.WordLaws.{length-wordsOf}
 
 -- What a first word x of a table says of it: its n domains and m endpoints, the first endpoint at `from`, and that the bytes

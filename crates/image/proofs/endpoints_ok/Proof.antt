@@ -11,9 +11,9 @@ use Rattle.endpoint_words.proofs.Scan.{scan-start, scan-next}
 use Rattle.table.proofs.Fill.{fill-start, fill-next}
 use Rattle.table.proofs.Gather.{Gathered, all-words-right, some-word-wrong}
 use Rattle.reading.specs.Bytes.{wordsOf}
-use Rattle.balkwizu.proofs.Places.{Counted, counted-endpoint, counted-name, counted-within, counted-first, header-four, fitting-counted}
-use Rattle.balkwizu.proofs.bytes.endpoints_ok.Statement.{statement}
-use Rattle.balkwizu.proofs.bytes.endpoints_ok.Tie as tie
+use Rattle.image.proofs.Places.{Counted, counted-endpoint, counted-name, counted-within, counted-first, header-four, fitting-counted}
+use Rattle.image.proofs.endpoints_ok.Statement.{statement}
+use Rattle.image.proofs.endpoints_ok.Tie as tie
 
 abbrev Inv-loop : tie.InvT-loop
 Inv-loop bytes header n m from names₀ all₀ e₀ names all e = Gathered (wordsOf bytes) m names all e × Counted bytes n from m

@@ -7,8 +7,8 @@ use lib.ListN.{getD}
 use Rattle.machine.specs.Check.{slotWordOk}
 use Rattle.endpoint_words.proofs.Scan.{Scanned, scan-start, scan-next, scan-end}
 use Rattle.reading.specs.Bytes.{wordsOf}
-use Rattle.balkwizu.proofs.bytes.slots_ok.Statement.{statement}
-use Rattle.balkwizu.proofs.bytes.slots_ok.Tie as tie
+use Rattle.image.proofs.slots_ok.Statement.{statement}
+use Rattle.image.proofs.slots_ok.Tie as tie
 
 abbrev Inv-loop : tie.InvT-loop
 Inv-loop bytes start count all₀ i₀ all i =

@@ -15,8 +15,8 @@ use Rattle.machine.specs.Check.{headerOk, lengthOk, tableCode}
 use Rattle.table.proofs.Places.{code-2, code-3}
 use Rattle.reading.specs.Bytes.{wordsOf, bytesOf}
 use Rattle.reading.proofs.WordLaws.{wordsOf-bytesOf, length-bytesOf}
-use Rattle.balkwizu.specs.Bytes.{bytesFor, bytesCode}
-use Rattle.balkwizu.proofs.Places.{bytes-2, bytes-3, bytes-words}
+use Rattle.image.specs.Bytes.{bytesFor, bytesCode}
+use Rattle.image.proofs.Places.{bytes-2, bytes-3, bytes-words}
 
 pub left-over : (b : List ℕ) → headerOk (wordsOf b) ≡ true → (length b % 4 ≡ 0 → ⊥) → bytesCode b ≡ 3
 unfolding bytesFor

@@ -1,4 +1,4 @@
--- `bytes::check` gives `bytesCode`: each place is tested once, in the order of document 01. Assumes nothing.
+-- `image::check` gives `bytesCode`: each place is tested once, in the order of document 01. Assumes nothing.
 use mathlib.Core.Path.{_≡_, sym, _∙_}
 use mathlib.Core.Bool.{true}
 use borrow.Author.Tests.{eqb-true, not-true, not-false}
@@ -6,10 +6,10 @@ use denote.Ref.{now}
 use Rattle.machine.specs.Check.{headerOk, rightsOk}
 use Rattle.table.proofs.Places.{code-0, code-4, code-5}
 use Rattle.reading.specs.Bytes.{wordsOf}
-use Rattle.balkwizu.specs.Bytes.{Fitting}
-use Rattle.balkwizu.proofs.Places.{fitting-headed, bytes-2, bytes-3, bytes-words}
-use Rattle.balkwizu.proofs.bytes.check.Statement.{statement}
-use Rattle.balkwizu.proofs.bytes.check.Tie as tie
+use Rattle.image.specs.Bytes.{Fitting}
+use Rattle.image.proofs.Places.{fitting-headed, bytes-2, bytes-3, bytes-words}
+use Rattle.image.proofs.check.Statement.{statement}
+use Rattle.image.proofs.check.Tie as tie
 
 -- what is known of the bytes behind the places 2, 3 and 4
 header-holds : (c : tie.Else1) → headerOk (wordsOf (now (c .before .before .before .args .bytes))) ≡ true
