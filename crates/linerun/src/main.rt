@@ -3,15 +3,33 @@
 // lines_for's; here the one is handed to the other, and the lines are written.
 use libc::STDERR_FILENO;
 use libc::STDOUT_FILENO;
-use report::lines_for;
+use linerun_report::report;
+use stdin::Input;
 use stdin::read_input;
 
-mod lines;
-mod report;
 mod stdin;
+
+ghost use Prim.Native.Nat.{_≤_};
+ghost use lib.ListN.{length, take};
+ghost use Rattle.linerun_text.specs.Input.{Reads};
+ghost use Rattle.linerun_report.specs.Lines.{mostBytes};
+ghost use Rattle.linerun_report.specs.Report.{Prints};
 
 // At most 28 bytes in the first line and 66 in that of each of 4,096 calls.
 const MOST_BYTES: usize = 270364;
+
+// The lines for what was read, as the part of the lent buffer that they fill.
+fn lines_for<'a>(input: &[u8], read: Input, out: &'a mut [u8]) -> &'a [u8]
+    requires { ⌜ read .have ≤ length (now input) ⌝ }
+    requires { ⌜ Reads (take (read .have) (now input)) (read .ended) ⌝ }
+    requires { ⌜ mostBytes 4096 ≤ length (now out) ⌝ }
+    ensures { λ r. ⌜ Prints (take (read .have) (now (input .entry))) (read .ended) (now r) ⌝ }
+{
+    let have = read.have;
+    let printed = report(&input[0..have], out);
+    let lines = &out[..];
+    &lines[0..printed]
+}
 
 fn main() {
     // the length word, 641 table words and 4,097 list words

@@ -16,8 +16,8 @@ use Rattle.reading.proofs.TableLaws.{Whole, whole, whole-table, no-more, no-tab
 use Rattle.linerun_text.specs.Input.{listWordsRead, listOf, unreadable, wanted, Reads}
 use Rattle.linerun_text.specs.Lines.{firstLine}
 use Rattle.linerun_text.proofs.InputLaws.{no-left-over, listOf-more}
-use Rattle.linerun.specs.Lines.{allLines}
-use Rattle.linerun.specs.Report.{answerSpace, outcomeLines, report, Follows, Prints}
+use Rattle.linerun_report.specs.Lines.{allLines}
+use Rattle.linerun_report.specs.Report.{answerSpace, outcomeLines, report, Follows, Prints}
 
 pub report-unreadable : (bytes : List ℕ) → unreadable bytes ≡ true → report bytes ≡ firstLine 0 7
 unfolding report

@@ -1,18 +1,17 @@
-// The whole program on bytes: from what was read to what is printed.
-use crate::lines::all_lines;
-use crate::stdin::Input;
+// What linerun prints for what it read, as bytes: the whole program without its reading and writing.
+mod lines;
+
 use kernel::run;
 use linerun_text::input::unreadable;
 use linerun_text::lines::first_line;
+use lines::all_lines;
 use reading::table_input::after_table;
 use reading::table_input::read_table;
 use reading::words::fill;
 ghost use Prim.Native.Nat.{_≤_};
-ghost use lib.ListN.{length, take};
 ghost use Rattle.text.specs.Write.{Writes};
-ghost use Rattle.linerun_text.specs.Input.{Reads};
-ghost use Rattle.linerun.specs.Lines.{mostBytes};
-ghost use Rattle.linerun.specs.Report.{report, Prints};
+ghost use Rattle.linerun_report.specs.Lines.{mostBytes};
+ghost use Rattle.linerun_report.specs.Report.{report};
 
 // What is printed for the bytes read, from the buffer's front on; answers how many bytes that is. A buffer that is too short
 // gets what fits, and the answer is then one past its length.
@@ -32,17 +31,4 @@ pub fn report(bytes: &[u8], out: &mut [u8]) -> usize
     let mut answers = [0u32; 12288];
     let ran = run(&mut table[0..words], &list[0..listed], &mut answers);
     all_lines(ran.calls(), ran.code(), &answers, out)
-}
-
-// The lines for what was read, as the part of the lent buffer that they fill.
-pub fn lines_for<'a>(input: &[u8], read: Input, out: &'a mut [u8]) -> &'a [u8]
-    requires { ⌜ read .have ≤ length (now input) ⌝ }
-    requires { ⌜ Reads (take (read .have) (now input)) (read .ended) ⌝ }
-    requires { ⌜ mostBytes 4096 ≤ length (now out) ⌝ }
-    ensures { λ r. ⌜ Prints (take (read .have) (now (input .entry))) (read .ended) (now r) ⌝ }
-{
-    let have = read.have;
-    let printed = report(&input[0..have], out);
-    let lines = &out[..];
-    &lines[0..printed]
 }

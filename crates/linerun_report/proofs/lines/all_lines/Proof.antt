@@ -6,11 +6,11 @@ use mathlib.Core.Path.{_≡_}
 use native.Mathlib.Omega.{arith}
 use Rattle.text.specs.Write.{Writes}
 use Rattle.text.proofs.WriteLaws.{then, writes-nothing, writes-length}
-use Rattle.linerun.specs.Lines.{callLines, allLines, mostBytes}
+use Rattle.linerun_report.specs.Lines.{callLines, allLines, mostBytes}
 use Rattle.linerun_text.proofs.LineLaws.{length-firstLine, length-callLine}
-use Rattle.linerun.proofs.LineLaws.{next-line}
-use Rattle.linerun.proofs.lines.all_lines.Statement.{statement}
-use Rattle.linerun.proofs.lines.all_lines.Tie as tie
+use Rattle.linerun_report.proofs.LineLaws.{next-line}
+use Rattle.linerun_report.proofs.lines.all_lines.Statement.{statement}
+use Rattle.linerun_report.proofs.lines.all_lines.Tie as tie
 
 abbrev Inv-loop : tie.InvT-loop
 Inv-loop calls code answers out₀ at₀ i₀ out at i = (i ≤ calls) × Writes at₀ (callLines answers i) out₀ at out × (calls ≤ 10000 → at ≤ mostBytes i)

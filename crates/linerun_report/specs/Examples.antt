@@ -8,7 +8,7 @@ use lib.ListN.{take, replicate}
 use Rattle.machine.specs.Examples.{T, L}
 use Rattle.text.specs.Ascii.{ascii}
 use Rattle.reading.specs.Bytes.{bytesOf}
-use Rattle.linerun.specs.Report.{report}
+use Rattle.linerun_report.specs.Report.{report}
 
 -- an input, and what is printed for it
 pub record Row : Type 0 where

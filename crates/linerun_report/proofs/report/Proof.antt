@@ -5,11 +5,11 @@ use Rattle.text.proofs.WriteLaws.{fills-part}
 use Rattle.reading.proofs.TableLaws.{whole, length-tableOf}
 use Rattle.linerun_text.proofs.InputLaws.{readable-whole, list-part}
 use Rattle.linerun_text.proofs.LineLaws.{length-firstLine}
-use Rattle.linerun.specs.Report.{answerSpace}
-use Rattle.linerun.proofs.ReportLaws.{report-unreadable, report-ran, ran-few}
+use Rattle.linerun_report.specs.Report.{answerSpace}
+use Rattle.linerun_report.proofs.ReportLaws.{report-unreadable, report-ran, ran-few}
 use borrow.Author.Needs.{needs}
-use Rattle.linerun.proofs.report.report.Statement.{statement}
-use Rattle.linerun.proofs.report.report.Tie as tie
+use Rattle.linerun_report.proofs.report.Statement.{statement}
+use Rattle.linerun_report.proofs.report.Tie as tie
 
 unreadable-requires : tie.Need-unreadable-requires
 unreadable-requires c κs = tt

@@ -8,7 +8,7 @@ use Rattle.machine.specs.Entry.{Outcome, entry, longestList}
 use Rattle.reading.specs.TableInput.{tableOf}
 use Rattle.linerun_text.specs.Input.{listOf, unreadable}
 use Rattle.linerun_text.specs.Lines.{firstLine}
-use Rattle.linerun.specs.Lines.{allLines}
+use Rattle.linerun_report.specs.Lines.{allLines}
 
 -- an answer space that is never too small: three words for each call of the longest list
 unfoldable pub answerSpace : List ℕ

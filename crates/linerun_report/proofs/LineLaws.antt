@@ -6,7 +6,7 @@ use lib.ListN.{getD}
 use Rattle.text.specs.Write.{Writes}
 use Rattle.text.proofs.WriteLaws.{then}
 use Rattle.linerun_text.specs.Lines.{callLine}
-use Rattle.linerun.specs.Lines.{callLines}
+use Rattle.linerun_report.specs.Lines.{callLines}
 
 -- a turn: the line of call i after the lines of those before it
 pub next-line : {at : ℕ} (answers : List ℕ) (i : ℕ) {buffer : List ℕ} {here : ℕ} {left : List ℕ} {next : ℕ} {left′ : List ℕ}

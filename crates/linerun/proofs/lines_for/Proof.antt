@@ -1,14 +1,14 @@
--- `linerun::report::lines_for` meets its contract: the part that the report fills is the report. Assumes nothing.
+-- `linerun::lines_for` meets its contract: the part that the report fills is the report. Assumes nothing.
 use Prim.Native.Nat.{zero-le}
 use mathlib.Core.Path.{ap, _∙_}
 use native.Mathlib.Nat.{sub-zero, le-trans}
 use native.Mathlib.Omega.{arith}
 use lib.ListN.{take}
 use Rattle.text.proofs.WriteLaws.{writes-length, writes-part}
-use Rattle.linerun.specs.Report.{report}
-use Rattle.linerun.proofs.ReportLaws.{prints}
-use Rattle.linerun.proofs.report.lines_for.Statement.{statement}
-use Rattle.linerun.proofs.report.lines_for.Tie as tie
+use Rattle.linerun_report.specs.Report.{report}
+use Rattle.linerun_report.proofs.ReportLaws.{prints}
+use Rattle.linerun.proofs.lines_for.Statement.{statement}
+use Rattle.linerun.proofs.lines_for.Tie as tie
 
 sub-report : tie.Need-sub-report
 sub-report c = zero-le

@@ -20,8 +20,8 @@ use Rattle.reading.proofs.WordLaws.{length-wordsOf}
 use Rattle.reading.proofs.TableLaws.{Whole, whole-table}
 use Rattle.linerun_text.specs.Input.{listWordsRead, listOf, unreadable}
 use Rattle.linerun_text.specs.Lines.{firstLine}
-use Rattle.linerun.specs.Lines.{callLines, allLines}
-use Rattle.linerun.specs.Report.{answerSpace, outcomeLines, report}
+use Rattle.linerun_report.specs.Lines.{callLines, allLines}
+use Rattle.linerun_report.specs.Report.{answerSpace, outcomeLines, report}
 use Rattle.linerun_text.proofs.InputLaws.{no-left-over}
 
 -- where there are as many list words as are read, the list is one word too long

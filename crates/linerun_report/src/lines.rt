@@ -4,7 +4,7 @@ use linerun_text::lines::first_line;
 ghost use Prim.Native.Nat.{_*_, _≤_};
 ghost use lib.ListN.{length};
 ghost use Rattle.text.specs.Write.{Writes};
-ghost use Rattle.linerun.specs.Lines.{allLines, mostBytes};
+ghost use Rattle.linerun_report.specs.Lines.{allLines, mostBytes};
 
 // All lines from the buffer's front on; each has few bytes.
 pub fn all_lines(calls: usize, code: u32, answers: &[u32], out: &mut [u8]) -> usize

@@ -7,9 +7,9 @@ use Rattle.text.specs.Decimal.{digitsWithin, decimal, labelled}
 use Rattle.reading.specs.TableInput.{noTable, tableOf, afterTable}
 use Rattle.linerun_text.specs.Input.{listOf, leftOver, unreadable}
 use Rattle.linerun_text.specs.Lines.{firstLine, callLine}
-use Rattle.linerun.specs.Lines.{callLines, allLines}
-use Rattle.linerun.specs.Report.{answerSpace, outcomeLines, report}
-use Rattle.linerun.specs.Examples.{EveryRow, rows}
+use Rattle.linerun_report.specs.Lines.{callLines, allLines}
+use Rattle.linerun_report.specs.Report.{answerSpace, outcomeLines, report}
+use Rattle.linerun_report.specs.Examples.{EveryRow, rows}
 
 pub every-row : EveryRow rows
 unfolding everything ascii wordsOf bytesOf digitsWithin decimal labelled noTable tableOf afterTable listOf leftOver unreadable firstLine
