@@ -16,8 +16,8 @@ use Rattle.calls.specs.Decide.{knownCaller, refusedCall, decideCall}
 use Rattle.calls.specs.declared.Call.{Call}
 use Rattle.calls.specs.declared.Call.the-variants.{LookUp, Send, Receive, MyEndpoints, MyRights, Grant, Remove, Refused}
 use Rattle.decide.specs.declared.range.Range.{Range}
-use Rattle.decide.specs.Range.{followed, isSet, isRight, callerPlace, refusedPlaces, endpointPlaces, grantPlaces, removePlaces, numberPlaces}
-use Rattle.decide.specs.Access.{sendAccess, receiveAccess, grantAccess, removeAccess, readPlaces}
+use Rattle.decide.specs.Range.{followed, isSet, isRight, callerNumber, refusedNumbers, endpointNumbers, grantNumbers, removeNumbers, callNumbers}
+use Rattle.decide.specs.Access.{sendAccess, receiveAccess, grantAccess, removeAccess, callAccess}
 
 -- no set of rights: none at all, or one that isn't a right
 pub no-set : (r : ℕ) → not (isSet r) ≡ (eqb r 0 || not (leb r allRights))
@@ -25,8 +25,8 @@ unfolding isSet
 no-set zero = refl
 no-set (suc r) = rw (le-leb 1 (suc r) (omega arith), ne-eqb (suc r) 0 (λ same. omega arith))
 
-pub decide-places : (t : List ℕ) (call : Call) → numberPlaces (domains t) (endpoints t) call (readPlaces t call) ≡ decideCall t call
-unfolding numberPlaces readPlaces decideCall callerPlace knownCaller refusedPlaces refusedCall endpointPlaces grantPlaces removePlaces isRight sendAccess receiveAccess grantAccess removeAccess maySend influences reaches machine.sendPlaces machine.receivePlaces machine.grantPlaces machine.removePlaces
+pub decide-places : (t : List ℕ) (call : Call) → callNumbers (domains t) (endpoints t) call (callAccess t call) ≡ decideCall t call
+unfolding callNumbers callAccess decideCall callerNumber knownCaller refusedNumbers refusedCall endpointNumbers grantNumbers removeNumbers isRight sendAccess receiveAccess grantAccess removeAccess maySend influences reaches machine.sendPlaces machine.receivePlaces machine.grantPlaces machine.removePlaces
 decide-places t (Refused u r) = refl
 decide-places t (LookUp u x) = refl
 decide-places t (Send u e message) = refl
@@ -40,7 +40,7 @@ decide-places t (Remove u g r) = refl
 pub decided : (t : List ℕ) (n m : ℕ) (call : Call) (r : Range)
     → n ≡ domains t
     → m ≡ endpoints t
-    → ((next : Decision) → followed r next ≡ numberPlaces n m call next)
-    → followed r (readPlaces t call) ≡ decideCall t call
+    → ((next : Decision) → followed r next ≡ callNumbers n m call next)
+    → followed r (callAccess t call) ≡ decideCall t call
 decided t n m call r en em tested =
-    tested (readPlaces t call) ∙ ap₂ (λ (a b : ℕ). numberPlaces a b call (readPlaces t call)) en em ∙ decide-places t call
+    tested (callAccess t call) ∙ ap₂ (λ (a b : ℕ). callNumbers a b call (callAccess t call)) en em ∙ decide-places t call

@@ -39,12 +39,12 @@ unfoldable pub removeAccess : ℕ → ℕ → ℕ → ℕ → Decision
 removeAccess u g r s = place (not (holds s REMOVE && holds s r)) 22 (removes g u r)
 
 -- the places of a call behind the tests of its numbers, by what the table holds
-unfoldable pub readPlaces : List ℕ → Call → Decision
-readPlaces t (Refused u r) = refused (numberOf r)
-readPlaces t (LookUp u x) = lookUpPlaces (named t x)
-readPlaces t (Send u e message) = sendAccess u (owner (endpoint t e)) (rights t u (owner (endpoint t e))) e message
-readPlaces t (Receive u e) = receiveAccess u (owner (endpoint t e)) (waiting (endpoint t e)) e
-readPlaces t (MyEndpoints u) = listsEndpoints u
-readPlaces t (MyRights u) = listsRights u
-readPlaces t (Grant u g h r) = grantAccess u g h r (rights t u g) (rights t u h)
-readPlaces t (Remove u g r) = removeAccess u g r (rights t u g)
+unfoldable pub callAccess : List ℕ → Call → Decision
+callAccess t (Refused u r) = refused (numberOf r)
+callAccess t (LookUp u x) = lookUpPlaces (named t x)
+callAccess t (Send u e message) = sendAccess u (owner (endpoint t e)) (rights t u (owner (endpoint t e))) e message
+callAccess t (Receive u e) = receiveAccess u (owner (endpoint t e)) (waiting (endpoint t e)) e
+callAccess t (MyEndpoints u) = listsEndpoints u
+callAccess t (MyRights u) = listsRights u
+callAccess t (Grant u g h r) = grantAccess u g h r (rights t u g) (rights t u h)
+callAccess t (Remove u g r) = removeAccess u g r (rights t u g)

@@ -25,33 +25,33 @@ followed Within next = next
 followed (Outside r) next = refused (numberOf r)
 
 -- place 12: the caller u
-unfoldable pub callerPlace : ℕ → ℕ → Decision → Decision
-callerPlace n u next = place (not (ltb u n)) 12 next
+unfoldable pub callerNumber : ℕ → ℕ → Decision → Decision
+callerNumber n u next = place (not (ltb u n)) 12 next
 
 -- place 12 of a call that is refused without a table: it comes after 10 and 11
-unfoldable pub refusedPlaces : ℕ → ℕ → Refusal → Decision → Decision
-refusedPlaces n u r next = cond (ltb (numberOf r) 12) next (callerPlace n u next)
+unfoldable pub refusedNumbers : ℕ → ℕ → Refusal → Decision → Decision
+refusedNumbers n u r next = cond (ltb (numberOf r) 12) next (callerNumber n u next)
 
 -- places 12 and 16: the endpoint e
-unfoldable pub endpointPlaces : ℕ → ℕ → ℕ → ℕ → Decision → Decision
-endpointPlaces n m u e next = callerPlace n u (place (not (ltb e m)) 16 next)
+unfoldable pub endpointNumbers : ℕ → ℕ → ℕ → ℕ → Decision → Decision
+endpointNumbers n m u e next = callerNumber n u (place (not (ltb e m)) 16 next)
 
 -- places 12, 20 and 21 of a grant: the target g, the recipient h, the rights r
-unfoldable pub grantPlaces : ℕ → ℕ → ℕ → ℕ → ℕ → Decision → Decision
-grantPlaces n u g h r next =
-    callerPlace n u (place (not (ltb g n && ltb h n)) 20 (place (not (isSet r)) 21 next))
+unfoldable pub grantNumbers : ℕ → ℕ → ℕ → ℕ → ℕ → Decision → Decision
+grantNumbers n u g h r next =
+    callerNumber n u (place (not (ltb g n && ltb h n)) 20 (place (not (isSet r)) 21 next))
 
 -- places 12, 20 and 21 of a remove: the target g, the right r
-unfoldable pub removePlaces : ℕ → ℕ → ℕ → ℕ → Decision → Decision
-removePlaces n u g r next = callerPlace n u (place (not (ltb g n)) 20 (place (not (isRight r)) 21 next))
+unfoldable pub removeNumbers : ℕ → ℕ → ℕ → ℕ → Decision → Decision
+removeNumbers n u g r next = callerNumber n u (place (not (ltb g n)) 20 (place (not (isRight r)) 21 next))
 
 -- all of a call's, before what comes next
-unfoldable pub numberPlaces : ℕ → ℕ → Call → Decision → Decision
-numberPlaces n m (Refused u r) next = refusedPlaces n u r next
-numberPlaces n m (LookUp u x) next = callerPlace n u next
-numberPlaces n m (Send u e message) next = endpointPlaces n m u e next
-numberPlaces n m (Receive u e) next = endpointPlaces n m u e next
-numberPlaces n m (MyEndpoints u) next = callerPlace n u next
-numberPlaces n m (MyRights u) next = callerPlace n u next
-numberPlaces n m (Grant u g h r) next = grantPlaces n u g h r next
-numberPlaces n m (Remove u g r) next = removePlaces n u g r next
+unfoldable pub callNumbers : ℕ → ℕ → Call → Decision → Decision
+callNumbers n m (Refused u r) next = refusedNumbers n u r next
+callNumbers n m (LookUp u x) next = callerNumber n u next
+callNumbers n m (Send u e message) next = endpointNumbers n m u e next
+callNumbers n m (Receive u e) next = endpointNumbers n m u e next
+callNumbers n m (MyEndpoints u) next = callerNumber n u next
+callNumbers n m (MyRights u) next = callerNumber n u next
+callNumbers n m (Grant u g h r) next = grantNumbers n u g h r next
+callNumbers n m (Remove u g r) next = removeNumbers n u g r next

@@ -6,7 +6,7 @@ ghost use mathlib.Core.Path.{_≡_};
 ghost use mathlib.Core.Bool.{not};
 ghost use Rattle.machine.specs.Machine.{Decision, place};
 ghost use Rattle.calls.specs.Number.{numberOf};
-ghost use Rattle.decide.specs.Range.{isSet, isRight, followed, callerPlace, refusedPlaces, endpointPlaces, grantPlaces, removePlaces};
+ghost use Rattle.decide.specs.Range.{isSet, isRight, followed, callerNumber, refusedNumbers, endpointNumbers, grantNumbers, removeNumbers};
 
 // What the tests come to: all numbers are within their range, or the refusal by the first that isn't.
 pub enum Range {
@@ -47,14 +47,14 @@ fn is_right(given: u32) -> bool
 
 // Place 12.
 pub fn of_caller(n: u32, caller: u32) -> Range
-    ensures { λ r. ⌜ ((next : Decision) → followed r next ≡ callerPlace n caller next) ⌝ }
+    ensures { λ r. ⌜ ((next : Decision) → followed r next ≡ callerNumber n caller next) ⌝ }
 {
     Range::Within.then(caller < n, Refusal::UnknownCaller)
 }
 
 // A call that is refused without a table: 12 comes before 13 and 14, and after 10 and 11.
 pub fn of_refused(n: u32, caller: u32, refusal: Refusal) -> Range
-    ensures { λ r. ⌜ ((next : Decision) → followed r next ≡ refusedPlaces n caller refusal next) ⌝ }
+    ensures { λ r. ⌜ ((next : Decision) → followed r next ≡ refusedNumbers n caller refusal next) ⌝ }
 {
     let number = calls::number(refusal);
     if number < 12 {
@@ -65,14 +65,14 @@ pub fn of_refused(n: u32, caller: u32, refusal: Refusal) -> Range
 
 // Places 12 and 16.
 pub fn of_endpoint(n: u32, m: u32, caller: u32, endpoint: u32) -> Range
-    ensures { λ r. ⌜ ((next : Decision) → followed r next ≡ endpointPlaces n m caller endpoint next) ⌝ }
+    ensures { λ r. ⌜ ((next : Decision) → followed r next ≡ endpointNumbers n m caller endpoint next) ⌝ }
 {
     of_caller(n, caller).then(endpoint < m, Refusal::NoSuchEndpoint)
 }
 
 // Places 12, 20 and 21.
 pub fn of_grant(n: u32, caller: u32, target: u32, recipient: u32, given: u32) -> Range
-    ensures { λ r. ⌜ ((next : Decision) → followed r next ≡ grantPlaces n caller target recipient given next) ⌝ }
+    ensures { λ r. ⌜ ((next : Decision) → followed r next ≡ grantNumbers n caller target recipient given next) ⌝ }
 {
     of_caller(n, caller)
         .then((target < n) & (recipient < n), Refusal::NoSuchDomain)
@@ -81,7 +81,7 @@ pub fn of_grant(n: u32, caller: u32, target: u32, recipient: u32, given: u32) ->
 
 // Places 12, 20 and 21.
 pub fn of_remove(n: u32, caller: u32, target: u32, given: u32) -> Range
-    ensures { λ r. ⌜ ((next : Decision) → followed r next ≡ removePlaces n caller target given next) ⌝ }
+    ensures { λ r. ⌜ ((next : Decision) → followed r next ≡ removeNumbers n caller target given next) ⌝ }
 {
     of_caller(n, caller)
         .then(target < n, Refusal::NoSuchDomain)

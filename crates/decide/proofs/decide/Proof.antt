@@ -1,14 +1,14 @@
 -- `decide::decide` meets its contract: each arm is one case of the call. Assumes nothing.
 use mathlib.Core.Path.{_∙_}
 use Rattle.decide.specs.Decision.{decisionOf}
-use Rattle.decide.specs.Range.{numberPlaces}
-use Rattle.decide.specs.Access.{readPlaces}
+use Rattle.decide.specs.Range.{callNumbers}
+use Rattle.decide.specs.Access.{callAccess}
 use Rattle.decide.proofs.Places.{decided}
 use Rattle.decide.proofs.decide.Statement.{statement}
 use Rattle.decide.proofs.decide.Tie as tie
 
 returns : tie.Need-returns
-unfolding decisionOf numberPlaces readPlaces
+unfolding decisionOf callNumbers callAccess
 returns c =
     let counts = c .before .before .before .before .before in
     rw (c .before .before .before .call .given .1)
@@ -24,14 +24,14 @@ returns-4 : tie.Need-returns-4
 returns-4 c = rw (c .before .before .call4 .given .1) (c .receive .ensures)
 
 returns-5 : tie.Need-returns-5
-unfolding decisionOf numberPlaces readPlaces
+unfolding decisionOf callNumbers callAccess
 returns-5 c =
     let counts = c .before .before .before .before .before in
     rw (c .before .before .before .call5 .given .1)
     (c .after2 .ensures ∙ decided _ _ _ _ _ (counts .before .domains .ensures) (counts .endpoints .ensures) (c .before .of-caller .ensures))
 
 returns-6 : tie.Need-returns-6
-unfolding decisionOf numberPlaces readPlaces
+unfolding decisionOf callNumbers callAccess
 returns-6 c =
     let counts = c .before .before .before .before .before in
     rw (c .before .before .before .call6 .given .1)

@@ -2,22 +2,22 @@
 use mathlib.Core.Path.{ap, _∙_}
 use Rattle.machine.specs.Machine.{lookUpPlaces}
 use Rattle.decide.specs.Decision.{decisionOf}
-use Rattle.decide.specs.Range.{numberPlaces}
-use Rattle.decide.specs.Access.{readPlaces}
+use Rattle.decide.specs.Range.{callNumbers}
+use Rattle.decide.specs.Access.{callAccess}
 use Rattle.decide.proofs.Guards.{outside, within}
 use Rattle.decide.proofs.Places.{decided}
 use Rattle.decide.proofs.endpoint_calls.look_up.Statement.{statement}
 use Rattle.decide.proofs.endpoint_calls.look_up.Tie as tie
 
 returns : tie.Need-returns
-unfolding decisionOf numberPlaces
+unfolding decisionOf callNumbers
 returns c =
     let numbers = c .before .before .before in
     let start = numbers .before .before in
     outside _ (c .before .range .given .1) (decided _ _ _ _ _ (start .pre .0) (start .pre .1) (numbers .of-caller .ensures))
 
 returns-2 : tie.Need-returns-2
-unfolding numberPlaces readPlaces
+unfolding callNumbers callAccess
 returns-2 c =
     let told = c .before .before in
     let numbers = told .before .before in

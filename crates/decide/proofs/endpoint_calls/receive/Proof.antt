@@ -2,8 +2,8 @@
 use mathlib.Core.Path.{ap₂, _∙_}
 use Prim.Native.Nat.{ℕ}
 use Rattle.decide.specs.Decision.{decisionOf}
-use Rattle.decide.specs.Range.{numberPlaces}
-use Rattle.decide.specs.Access.{receiveAccess, readPlaces}
+use Rattle.decide.specs.Range.{callNumbers}
+use Rattle.decide.specs.Access.{receiveAccess, callAccess}
 use Rattle.decide.proofs.Guards.{outside, within}
 use Rattle.decide.proofs.Places.{decided}
 use Rattle.decide.proofs.Reading.{owner-is, waiting-is}
@@ -11,14 +11,14 @@ use Rattle.decide.proofs.endpoint_calls.receive.Statement.{statement}
 use Rattle.decide.proofs.endpoint_calls.receive.Tie as tie
 
 returns : tie.Need-returns
-unfolding decisionOf numberPlaces
+unfolding decisionOf callNumbers
 returns c =
     let numbers = c .before .before .before in
     let start = numbers .before .before in
     outside _ (c .before .range .given .1) (decided _ _ _ _ _ (start .pre .0) (start .pre .1) (numbers .of-endpoint .ensures))
 
 returns-2 : tie.Need-returns-2
-unfolding numberPlaces readPlaces
+unfolding callNumbers callAccess
 returns-2 c =
     let count = c .before in
     let info = count .before in

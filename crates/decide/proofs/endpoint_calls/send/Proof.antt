@@ -3,8 +3,8 @@ use mathlib.Core.Path.{ap, ap₂, _∙_}
 use Prim.Native.Nat.{ℕ}
 use Rattle.machine.specs.Table.{rights}
 use Rattle.decide.specs.Decision.{decisionOf}
-use Rattle.decide.specs.Range.{numberPlaces}
-use Rattle.decide.specs.Access.{sendAccess, readPlaces}
+use Rattle.decide.specs.Range.{callNumbers}
+use Rattle.decide.specs.Access.{sendAccess, callAccess}
 use Rattle.decide.proofs.Guards.{outside, within}
 use Rattle.decide.proofs.Places.{decided}
 use Rattle.decide.proofs.Reading.{rights-are, owner-is}
@@ -12,14 +12,14 @@ use Rattle.decide.proofs.endpoint_calls.send.Statement.{statement}
 use Rattle.decide.proofs.endpoint_calls.send.Tie as tie
 
 returns : tie.Need-returns
-unfolding decisionOf numberPlaces
+unfolding decisionOf callNumbers
 returns c =
     let numbers = c .before .before .before in
     let start = numbers .before .before in
     outside _ (c .before .range .given .1) (decided _ _ _ _ _ (start .pre .0) (start .pre .1) (numbers .of-endpoint .ensures))
 
 returns-2 : tie.Need-returns-2
-unfolding numberPlaces readPlaces
+unfolding callNumbers callAccess
 returns-2 c =
     let held = c .before in
     let info = held .before in

@@ -1,10 +1,10 @@
 -- `range::of_caller` meets its contract. Assumes nothing.
-use Rattle.decide.specs.Range.{followed, callerPlace}
+use Rattle.decide.specs.Range.{followed, callerNumber}
 use Rattle.decide.proofs.range.of_caller.Statement.{statement}
 use Rattle.decide.proofs.range.of_caller.Tie as tie
 
 returns : tie.Need-returns
-unfolding followed callerPlace
+unfolding followed callerNumber
 returns c next = c .then .ensures next
 
 pub of-caller-spec : {M : Type 1} → statement M

@@ -1,11 +1,11 @@
 -- `range::of_endpoint` meets its contract: 12, and then 16. Assumes nothing.
 use mathlib.Core.Path.{_∙_}
-use Rattle.decide.specs.Range.{endpointPlaces}
+use Rattle.decide.specs.Range.{endpointNumbers}
 use Rattle.decide.proofs.range.of_endpoint.Statement.{statement}
 use Rattle.decide.proofs.range.of_endpoint.Tie as tie
 
 returns : tie.Need-returns
-unfolding endpointPlaces
+unfolding endpointNumbers
 returns c next = c .then .ensures next ∙ c .before .of-caller .ensures _
 
 pub of-endpoint-spec : {M : Type 1} → statement M

@@ -1,11 +1,11 @@
 -- `range::of_grant` meets its contract: 12, 20 and 21. Assumes nothing.
 use mathlib.Core.Path.{sym, _∙_}
-use Rattle.decide.specs.Range.{grantPlaces}
+use Rattle.decide.specs.Range.{grantNumbers}
 use Rattle.decide.proofs.range.of_grant.Statement.{statement}
 use Rattle.decide.proofs.range.of_grant.Tie as tie
 
 returns : tie.Need-returns
-unfolding grantPlaces
+unfolding grantNumbers
 returns c next =
     let named = c .before .before in
     rw (sym (c .before .is-set .ensures)) (c .then2 .ensures next ∙ named .then .ensures _ ∙ named .before .of-caller .ensures _)

@@ -1,16 +1,16 @@
 -- `range::of_refused` meets its contract: 12 stands between 11 and 13. Assumes nothing.
 use mathlib.Core.Path.{refl, sym}
 use borrow.Author.Tests.{lt-ltb, le-ltb}
-use Rattle.decide.specs.Range.{followed, refusedPlaces}
+use Rattle.decide.specs.Range.{followed, refusedNumbers}
 use Rattle.decide.proofs.range.of_refused.Statement.{statement}
 use Rattle.decide.proofs.range.of_refused.Tie as tie
 
 returns : tie.Need-returns
-unfolding followed refusedPlaces
+unfolding followed refusedNumbers
 returns c next = rw (sym (c .before .number .ensures), lt-ltb _ _ (c .if1 .taken))
 
 returns-2 : tie.Need-returns-2
-unfolding refusedPlaces
+unfolding refusedNumbers
 returns-2 c next =
     let late = c .before in
     rw (sym (late .before .number .ensures), le-ltb _ _ (late .if1 .left)) (c .of-caller .ensures next)

@@ -1,11 +1,11 @@
 -- `range::of_remove` meets its contract: 12, 20 and 21. Assumes nothing.
 use mathlib.Core.Path.{sym, _∙_}
-use Rattle.decide.specs.Range.{removePlaces}
+use Rattle.decide.specs.Range.{removeNumbers}
 use Rattle.decide.proofs.range.of_remove.Statement.{statement}
 use Rattle.decide.proofs.range.of_remove.Tie as tie
 
 returns : tie.Need-returns
-unfolding removePlaces
+unfolding removeNumbers
 returns c next =
     let named = c .before .before in
     rw (sym (c .before .is-right .ensures)) (c .then2 .ensures next ∙ named .then .ensures _ ∙ named .before .of-caller .ensures _)

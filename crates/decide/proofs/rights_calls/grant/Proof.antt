@@ -1,8 +1,8 @@
 -- `rights_calls::grant` meets its contract: 12, 20 and 21, then what the caller holds on the target and on the recipient. Assumes nothing.
 use mathlib.Core.Path.{refl, ap₂, _∙_}
 use Rattle.decide.specs.Decision.{decisionOf}
-use Rattle.decide.specs.Range.{numberPlaces}
-use Rattle.decide.specs.Access.{grantAccess, readPlaces}
+use Rattle.decide.specs.Range.{callNumbers}
+use Rattle.decide.specs.Access.{grantAccess, callAccess}
 use Rattle.decide.proofs.Guards.{outside, within}
 use Rattle.decide.proofs.Places.{decided}
 use Rattle.decide.proofs.Reading.{rights-are}
@@ -10,14 +10,14 @@ use Rattle.decide.proofs.rights_calls.grant.Statement.{statement}
 use Rattle.decide.proofs.rights_calls.grant.Tie as tie
 
 returns : tie.Need-returns
-unfolding decisionOf numberPlaces
+unfolding decisionOf callNumbers
 returns c =
     let numbers = c .before .before .before in
     let start = numbers .before .before in
     outside _ (c .before .range .given .1) (decided _ _ _ _ _ (start .pre) refl (numbers .of-grant .ensures))
 
 returns-2 : tie.Need-returns-2
-unfolding numberPlaces readPlaces
+unfolding callNumbers callAccess
 returns-2 c =
     let toward = c .before in
     let held = toward .before in

@@ -1,8 +1,8 @@
 -- `rights_calls::remove` meets its contract: 12, 20 and 21, then what the caller holds on the target. Assumes nothing.
 use mathlib.Core.Path.{refl, ap, _∙_}
 use Rattle.decide.specs.Decision.{decisionOf}
-use Rattle.decide.specs.Range.{numberPlaces}
-use Rattle.decide.specs.Access.{removeAccess, readPlaces}
+use Rattle.decide.specs.Range.{callNumbers}
+use Rattle.decide.specs.Access.{removeAccess, callAccess}
 use Rattle.decide.proofs.Guards.{outside, within}
 use Rattle.decide.proofs.Places.{decided}
 use Rattle.decide.proofs.Reading.{rights-are}
@@ -10,14 +10,14 @@ use Rattle.decide.proofs.rights_calls.remove.Statement.{statement}
 use Rattle.decide.proofs.rights_calls.remove.Tie as tie
 
 returns : tie.Need-returns
-unfolding decisionOf numberPlaces
+unfolding decisionOf callNumbers
 returns c =
     let numbers = c .before .before .before in
     let start = numbers .before .before in
     outside _ (c .before .range .given .1) (decided _ _ _ _ _ (start .pre) refl (numbers .of-remove .ensures))
 
 returns-2 : tie.Need-returns-2
-unfolding numberPlaces readPlaces
+unfolding callNumbers callAccess
 returns-2 c =
     let held = c .before in
     let told = held .before in
