@@ -3,13 +3,13 @@
 mod lists;
 
 use calls::Refusal;
-use decide::Decision;
 use layout::domains;
 use layout::endpoint_at;
 use layout::endpoints;
 use layout::rights_at;
 use lists::owned_bits;
 use lists::rights_bits;
+use rules::Decision;
 use words::KIND;
 ghost use mathlib.Core.Path.{_≡_};
 ghost use mathlib.Core.List.{[], _∷_};
@@ -19,7 +19,7 @@ ghost use Rattle.machine.specs.Table.{domains, rightsAt, endpoint};
 ghost use Rattle.machine.specs.Queue.{oldest, lost};
 ghost use Rattle.machine.specs.Machine.{ownedBits, rightsBits, Decision.receives, Decision.listsEndpoints, Decision.listsRights};
 ghost use Rattle.calls.specs.Number.{numberOf};
-ghost use Rattle.decide.specs.Decision.{decisionOf};
+ghost use Rattle.rules.specs.Decision.{decisionOf};
 ghost use Rattle.answers.specs.Answer.{wordsOf, headOf, readable, shown, answerOf};
 
 // A call's three answer words.

@@ -1,5 +1,3 @@
 -- Laws that the proofs of several functions cite.
-pub mod Guards
-pub mod Places
 pub mod Reading
 pub mod Scans

@@ -1,20 +1,20 @@
 // The calls that name an endpoint: their numbers are tested, then what the table holds.
-use crate::Decision;
-use crate::access;
-use crate::access::Found;
-use crate::range::Range;
-use crate::range::of_caller;
-use crate::range::of_endpoint;
 use layout::endpoint_word;
 use layout::rights;
+use rules::Decision;
+use rules::access;
+use rules::access::Found;
+use rules::range::Range;
+use rules::range::of_caller;
+use rules::range::of_endpoint;
 use words::KIND;
 ghost use mathlib.Core.Path.{_≡_};
 ghost use Rattle.machine.specs.Table.{domains, endpoints};
 ghost use Rattle.machine.specs.Machine.{named};
 ghost use Rattle.calls.specs.Decide.{decideCall};
-ghost use Rattle.decide.specs.Decision.{decisionOf};
+ghost use Rattle.rules.specs.Decision.{decisionOf};
 ghost use Rattle.calls.specs.declared.Call.the-variants.{LookUp, Send, Receive};
-ghost use Rattle.decide.specs.Access.{foundOf};
+ghost use Rattle.rules.specs.Access.{foundOf};
 
 // The first endpoint that has the name.
 fn find(table: &[u32], n: u32, m: u32, name: u32) -> Found

@@ -1,13 +1,13 @@
 // The calls that move rights: their numbers are tested, then what the table holds.
-use crate::Decision;
-use crate::access;
-use crate::range::Range;
-use crate::range::of_grant;
-use crate::range::of_remove;
 use layout::rights;
+use rules::Decision;
+use rules::access;
+use rules::range::Range;
+use rules::range::of_grant;
+use rules::range::of_remove;
 ghost use mathlib.Core.Path.{_≡_};
 ghost use Rattle.machine.specs.Table.{domains};
-ghost use Rattle.decide.specs.Decision.{decisionOf};
+ghost use Rattle.rules.specs.Decision.{decisionOf};
 ghost use Rattle.calls.specs.Decide.{decideCall};
 ghost use Rattle.calls.specs.declared.Call.the-variants.{Grant, Remove};
 

@@ -3,12 +3,12 @@
 mod rights;
 mod write;
 
-use decide::Decision;
 use rights::granted;
 use rights::removed;
+use rules::Decision;
 ghost use mathlib.Core.Path.{_≡_};
 ghost use Rattle.machine.specs.Machine as machine;
-ghost use Rattle.decide.specs.Decision.{decisionOf};
+ghost use Rattle.rules.specs.Decision.{decisionOf};
 ghost use Rattle.effects.specs.Effect.{effectOf, fits, doable, performed};
 
 // A holder's new rights on a target, or a send to an endpoint, or a receive from one.

@@ -6,7 +6,7 @@ use native.Mathlib.Omega.{arith}
 use borrow.Author.Needs.{needs}
 use Rattle.machine.specs.Machine.{code, firstData, secondData}
 use Rattle.calls.specs.Number.{numberOf}
-use Rattle.decide.specs.Decision.{decisionOf}
+use Rattle.rules.specs.Decision.{decisionOf}
 use Rattle.answers.specs.Answer.{headOf, readable, shown, answerOf}
 use Rattle.answers.proofs.AnswerWords.{same-head, head-code, head-room}
 use Rattle.answers.proofs.answer_to.Statement.{statement}

@@ -1,6 +1,6 @@
 -- `decide::after` meets its contract. Assumes nothing.
-use Rattle.decide.specs.Decision.{decisionOf}
-use Rattle.decide.specs.Range.{followed}
+use Rattle.rules.specs.Decision.{decisionOf}
+use Rattle.rules.specs.Range.{followed}
 use Rattle.decide.proofs.after.Statement.{statement}
 use Rattle.decide.proofs.after.Tie as tie
 

@@ -1,9 +1,9 @@
 -- `decide::decide` meets its contract: each arm is one case of the call. Assumes nothing.
 use mathlib.Core.Path.{_∙_}
-use Rattle.decide.specs.Decision.{decisionOf}
-use Rattle.decide.specs.Range.{callNumbers}
-use Rattle.decide.specs.Access.{callAccess}
-use Rattle.decide.proofs.Places.{decided}
+use Rattle.rules.specs.Decision.{decisionOf}
+use Rattle.rules.specs.Range.{callNumbers}
+use Rattle.rules.specs.Access.{callAccess}
+use Rattle.rules.proofs.Places.{decided}
 use Rattle.decide.proofs.decide.Statement.{statement}
 use Rattle.decide.proofs.decide.Tie as tie
 

@@ -2,7 +2,7 @@
 use mathlib.Core.Path.{refl}
 use borrow.Author.Needs.{needs}
 use Rattle.machine.specs.Machine.{effect}
-use Rattle.decide.specs.Decision.{decisionOf}
+use Rattle.rules.specs.Decision.{decisionOf}
 use Rattle.effects.specs.Effect.{effectOf, fits, doable}
 use Rattle.effects.proofs.effect_on.Statement.{statement}
 use Rattle.effects.proofs.effect_on.Tie as tie

@@ -1,11 +1,11 @@
 -- `endpoint_calls::look_up` meets its contract: 12, and then what has the name. Assumes nothing.
 use mathlib.Core.Path.{ap, _∙_}
 use Rattle.machine.specs.Machine.{lookUpPlaces}
-use Rattle.decide.specs.Decision.{decisionOf}
-use Rattle.decide.specs.Range.{callNumbers}
-use Rattle.decide.specs.Access.{callAccess}
-use Rattle.decide.proofs.Guards.{outside, within}
-use Rattle.decide.proofs.Places.{decided}
+use Rattle.rules.specs.Decision.{decisionOf}
+use Rattle.rules.specs.Range.{callNumbers}
+use Rattle.rules.specs.Access.{callAccess}
+use Rattle.rules.proofs.Guards.{outside, within}
+use Rattle.rules.proofs.Places.{decided}
 use Rattle.decide.proofs.endpoint_calls.look_up.Statement.{statement}
 use Rattle.decide.proofs.endpoint_calls.look_up.Tie as tie
 

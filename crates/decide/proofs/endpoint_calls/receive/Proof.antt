@@ -1,11 +1,11 @@
 -- `endpoint_calls::receive` meets its contract: 12 and 16, then the owner is read, and what waits. Assumes nothing.
 use mathlib.Core.Path.{ap₂, _∙_}
 use Prim.Native.Nat.{ℕ}
-use Rattle.decide.specs.Decision.{decisionOf}
-use Rattle.decide.specs.Range.{callNumbers}
-use Rattle.decide.specs.Access.{receiveAccess, callAccess}
-use Rattle.decide.proofs.Guards.{outside, within}
-use Rattle.decide.proofs.Places.{decided}
+use Rattle.rules.specs.Decision.{decisionOf}
+use Rattle.rules.specs.Range.{callNumbers}
+use Rattle.rules.specs.Access.{receiveAccess, callAccess}
+use Rattle.rules.proofs.Guards.{outside, within}
+use Rattle.rules.proofs.Places.{decided}
 use Rattle.decide.proofs.Reading.{owner-is, waiting-is}
 use Rattle.decide.proofs.endpoint_calls.receive.Statement.{statement}
 use Rattle.decide.proofs.endpoint_calls.receive.Tie as tie

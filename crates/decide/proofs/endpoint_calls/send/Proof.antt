@@ -2,11 +2,11 @@
 use mathlib.Core.Path.{ap, ap₂, _∙_}
 use Prim.Native.Nat.{ℕ}
 use Rattle.machine.specs.Table.{rights}
-use Rattle.decide.specs.Decision.{decisionOf}
-use Rattle.decide.specs.Range.{callNumbers}
-use Rattle.decide.specs.Access.{sendAccess, callAccess}
-use Rattle.decide.proofs.Guards.{outside, within}
-use Rattle.decide.proofs.Places.{decided}
+use Rattle.rules.specs.Decision.{decisionOf}
+use Rattle.rules.specs.Range.{callNumbers}
+use Rattle.rules.specs.Access.{sendAccess, callAccess}
+use Rattle.rules.proofs.Guards.{outside, within}
+use Rattle.rules.proofs.Places.{decided}
 use Rattle.decide.proofs.Reading.{rights-are, owner-is}
 use Rattle.decide.proofs.endpoint_calls.send.Statement.{statement}
 use Rattle.decide.proofs.endpoint_calls.send.Tie as tie

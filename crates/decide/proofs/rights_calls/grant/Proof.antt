@@ -1,10 +1,10 @@
 -- `rights_calls::grant` meets its contract: 12, 20 and 21, then what the caller holds on the target and on the recipient. Assumes nothing.
 use mathlib.Core.Path.{refl, ap₂, _∙_}
-use Rattle.decide.specs.Decision.{decisionOf}
-use Rattle.decide.specs.Range.{callNumbers}
-use Rattle.decide.specs.Access.{grantAccess, callAccess}
-use Rattle.decide.proofs.Guards.{outside, within}
-use Rattle.decide.proofs.Places.{decided}
+use Rattle.rules.specs.Decision.{decisionOf}
+use Rattle.rules.specs.Range.{callNumbers}
+use Rattle.rules.specs.Access.{grantAccess, callAccess}
+use Rattle.rules.proofs.Guards.{outside, within}
+use Rattle.rules.proofs.Places.{decided}
 use Rattle.decide.proofs.Reading.{rights-are}
 use Rattle.decide.proofs.rights_calls.grant.Statement.{statement}
 use Rattle.decide.proofs.rights_calls.grant.Tie as tie

@@ -1,10 +1,10 @@
 -- `rights_calls::remove` meets its contract: 12, 20 and 21, then what the caller holds on the target. Assumes nothing.
 use mathlib.Core.Path.{refl, ap, _∙_}
-use Rattle.decide.specs.Decision.{decisionOf}
-use Rattle.decide.specs.Range.{callNumbers}
-use Rattle.decide.specs.Access.{removeAccess, callAccess}
-use Rattle.decide.proofs.Guards.{outside, within}
-use Rattle.decide.proofs.Places.{decided}
+use Rattle.rules.specs.Decision.{decisionOf}
+use Rattle.rules.specs.Range.{callNumbers}
+use Rattle.rules.specs.Access.{removeAccess, callAccess}
+use Rattle.rules.proofs.Guards.{outside, within}
+use Rattle.rules.proofs.Places.{decided}
 use Rattle.decide.proofs.Reading.{rights-are}
 use Rattle.decide.proofs.rights_calls.remove.Statement.{statement}
 use Rattle.decide.proofs.rights_calls.remove.Tie as tie

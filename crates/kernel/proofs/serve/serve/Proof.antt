@@ -6,7 +6,7 @@ use Rattle.machine.specs.Machine as machine
 use Rattle.cutting.specs.Cutting.{callOf}
 use Rattle.calls.specs.Decide.{decideCall}
 use Rattle.calls.proofs.Decide.{decided}
-use Rattle.decide.specs.Decision.{decisionOf}
+use Rattle.rules.specs.Decision.{decisionOf}
 use Rattle.answers.specs.Answer.{answerOf}
 use Rattle.effects.specs.Effect.{doable}
 use Rattle.effects.proofs.Words.{performed-whole}

@@ -1,0 +1,57 @@
+-- The places that test a call's numbers by n and m alone: 12, 16, 20 and 21 (document 01, 'Where each number is checked').
+use Prim.Native.Nat.{ℕ}
+use mathlib.Core.Bool.{Bool, cond, not, _&&_, _||_}
+use lib.Dec.{eqb, leb, ltb}
+use Rattle.machine.specs.Right.{SEND, GRANT, REMOVE, allRights}
+use Rattle.machine.specs.Machine.{Decision, Decision.refused, place}
+use Rattle.calls.specs.Number.{numberOf}
+use Rattle.calls.specs.declared.Refusal.{Refusal}
+use Rattle.calls.specs.declared.Call.{Call}
+use Rattle.calls.specs.declared.Call.the-variants.{LookUp, Send, Receive, MyEndpoints, MyRights, Grant, Remove, Refused}
+use Rattle.rules.specs.declared.range.Range.{Range}
+use Rattle.rules.specs.declared.range.Range.the-variants.{Within, Outside}
+
+-- at least one right, and none that isn't a right
+unfoldable pub isSet : ℕ → Bool
+isSet r = leb 1 r && leb r allRights
+
+-- one right, and no more
+unfoldable pub isRight : ℕ → Bool
+isRight r = eqb r SEND || eqb r GRANT || eqb r REMOVE
+
+-- the tests' result, and where none failed what comes next
+unfoldable pub followed : Range → Decision → Decision
+followed Within next = next
+followed (Outside r) next = refused (numberOf r)
+
+-- place 12: the caller u
+unfoldable pub callerNumber : ℕ → ℕ → Decision → Decision
+callerNumber n u next = place (not (ltb u n)) 12 next
+
+-- place 12 of a call that is refused without a table: it comes after 10 and 11
+unfoldable pub refusedNumbers : ℕ → ℕ → Refusal → Decision → Decision
+refusedNumbers n u r next = cond (ltb (numberOf r) 12) next (callerNumber n u next)
+
+-- places 12 and 16: the endpoint e
+unfoldable pub endpointNumbers : ℕ → ℕ → ℕ → ℕ → Decision → Decision
+endpointNumbers n m u e next = callerNumber n u (place (not (ltb e m)) 16 next)
+
+-- places 12, 20 and 21 of a grant: the target g, the recipient h, the rights r
+unfoldable pub grantNumbers : ℕ → ℕ → ℕ → ℕ → ℕ → Decision → Decision
+grantNumbers n u g h r next =
+    callerNumber n u (place (not (ltb g n && ltb h n)) 20 (place (not (isSet r)) 21 next))
+
+-- places 12, 20 and 21 of a remove: the target g, the right r
+unfoldable pub removeNumbers : ℕ → ℕ → ℕ → ℕ → Decision → Decision
+removeNumbers n u g r next = callerNumber n u (place (not (ltb g n)) 20 (place (not (isRight r)) 21 next))
+
+-- all of a call's, before what comes next
+unfoldable pub callNumbers : ℕ → ℕ → Call → Decision → Decision
+callNumbers n m (Refused u r) next = refusedNumbers n u r next
+callNumbers n m (LookUp u x) next = callerNumber n u next
+callNumbers n m (Send u e message) next = endpointNumbers n m u e next
+callNumbers n m (Receive u e) next = endpointNumbers n m u e next
+callNumbers n m (MyEndpoints u) next = callerNumber n u next
+callNumbers n m (MyRights u) next = callerNumber n u next
+callNumbers n m (Grant u g h r) next = grantNumbers n u g h r next
+callNumbers n m (Remove u g r) next = removeNumbers n u g r next

@@ -1,0 +1,101 @@
+// The tests of what was read for a call (15, 17, 18, 19, 22 and 23), by plain values: who owns the endpoint, what the caller
+// holds, what waits. Whoever holds a table in another layout reads its own and asks the same.
+use crate::Decision;
+use calls::Refusal;
+use words::rights::Rights;
+ghost use mathlib.Core.Path.{_≡_};
+ghost use mathlib.Core.Bool.{_&&_};
+ghost use Rattle.machine.specs.Right.{holds};
+ghost use Rattle.machine.specs.Machine.{lookUpPlaces};
+ghost use Rattle.rules.specs.Decision.{decisionOf};
+ghost use Rattle.rules.specs.Access.{foundOf, sendAccess, receiveAccess, grantAccess, removeAccess};
+
+// The endpoint that has a name, if one has it.
+pub enum Found {
+    At(u32),
+    Nothing,
+}
+
+// Place 15.
+pub fn look_up(found: Found) -> Decision
+    ensures { λ d. ⌜ decisionOf d ≡ lookUpPlaces (foundOf found) ⌝ }
+{
+    match found {
+        Found::At(endpoint) => Decision::LookedUp { endpoint },
+        Found::Nothing => Decision::Refused(Refusal::NoSuchName),
+    }
+}
+
+// Place 17: held are the caller's rights on the endpoint's owner.
+pub fn send(caller: u32, owner: u32, held: Rights, endpoint: u32, message: u32) -> Decision
+    ensures { λ d. ⌜ decisionOf d ≡ sendAccess caller owner (held .bits) endpoint message ⌝ }
+{
+    let by_right = held.holds(Rights::SEND);
+    if (owner == caller) | by_right {
+        return Decision::Sends { endpoint, message };
+    }
+    Decision::Refused(Refusal::MayNotSend)
+}
+
+// Places 18 and 19.
+pub fn receive(caller: u32, owner: u32, waiting: u32, endpoint: u32) -> Decision
+    ensures { λ d. ⌜ decisionOf d ≡ receiveAccess caller owner waiting endpoint ⌝ }
+{
+    if owner != caller {
+        return Decision::Refused(Refusal::NotOwner);
+    }
+    if waiting == 0 {
+        return Decision::Refused(Refusal::NothingWaiting);
+    }
+    Decision::Receives { endpoint }
+}
+
+// The right that a call needs is held, and so are the rights that it speaks of.
+fn holds_both(held: Rights, needed: Rights, given: u32) -> bool
+    ensures { λ b. ⌜ b ≡ (holds (held .bits) (needed .bits) && holds (held .bits) given) ⌝ }
+{
+    let able = held.holds(needed);
+    let all = held.holds(Rights { bits: given });
+    able & all
+}
+
+// Places 22 and 23: held are the caller's rights on the target, toward those on the recipient.
+pub fn grant(
+    caller: u32,
+    target: u32,
+    recipient: u32,
+    rights: u32,
+    held: Rights,
+    toward: Rights,
+) -> Decision
+    ensures { λ d. ⌜ decisionOf d ≡ grantAccess caller target recipient rights (held .bits) (toward .bits) ⌝ }
+{
+    let holds = holds_both(held, Rights::GRANT, rights);
+    if !holds {
+        return Decision::Refused(Refusal::LacksRight);
+    }
+    let by_right = toward.has_any();
+    if (caller == recipient) | by_right {
+        return Decision::Grants {
+            target,
+            recipient,
+            rights,
+        };
+    }
+    Decision::Refused(Refusal::MayNotGive)
+}
+
+// Place 22: held are the caller's rights on the target.
+pub fn remove(caller: u32, target: u32, rights: u32, held: Rights) -> Decision
+    ensures { λ d. ⌜ decisionOf d ≡ removeAccess caller target rights (held .bits) ⌝ }
+{
+    let holds = holds_both(held, Rights::REMOVE, rights);
+    if !holds {
+        return Decision::Refused(Refusal::LacksRight);
+    }
+    Decision::Removes {
+        target,
+        caller,
+        rights,
+    }
+}

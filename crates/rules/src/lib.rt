@@ -1,0 +1,38 @@
+// The conditions of a call's numbers 12 and 15 to 23, by plain values and without a table: those of the numbers that a call
+// names (range), and those of what was read for it (access). Each stands here once, for whoever holds a table in whatever
+// layout.
+pub mod access;
+pub mod range;
+
+use calls::Refusal;
+
+// A refusal, or the call's row with what it needs.
+pub enum Decision {
+    Refused(Refusal),
+    LookedUp {
+        endpoint: u32,
+    },
+    Sends {
+        endpoint: u32,
+        message: u32,
+    },
+    Receives {
+        endpoint: u32,
+    },
+    ListsEndpoints {
+        caller: u32,
+    },
+    ListsRights {
+        caller: u32,
+    },
+    Grants {
+        target: u32,
+        recipient: u32,
+        rights: u32,
+    },
+    Removes {
+        target: u32,
+        caller: u32,
+        rights: u32,
+    },
+}

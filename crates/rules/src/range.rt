@@ -1,0 +1,89 @@
+// The tests of a call's numbers (12, 16, 20 and 21), by n and m alone: no table is read, so whoever holds one in another layout
+// asks the same.
+use calls::Refusal;
+use words::rights::Rights;
+ghost use mathlib.Core.Path.{_≡_};
+ghost use mathlib.Core.Bool.{not};
+ghost use Rattle.machine.specs.Machine.{Decision, place};
+ghost use Rattle.calls.specs.Number.{numberOf};
+ghost use Rattle.rules.specs.Range.{isSet, isRight, followed, callerNumber, refusedNumbers, endpointNumbers, grantNumbers, removeNumbers};
+
+// What the tests come to: all numbers are within their range, or the refusal by the first that isn't.
+pub enum Range {
+    Within,
+    Outside(Refusal),
+}
+
+impl Range {
+    // One test more: where none failed before, it decides.
+    fn then(self, passes: bool, refusal: Refusal) -> Range
+        ensures { λ r. ⌜ ((next : Decision) → followed r next ≡ followed self (place (not passes) (numberOf refusal) next)) ⌝ }
+    {
+        match self {
+            Range::Outside(first) => Range::Outside(first),
+            Range::Within => {
+                if passes {
+                    return Range::Within;
+                }
+                Range::Outside(refusal)
+            }
+        }
+    }
+}
+
+// A set of rights: at least one, and none that isn't a right.
+fn is_set(given: u32) -> bool
+    ensures { λ b. ⌜ b ≡ isSet given ⌝ }
+{
+    (1 <= given) & (given <= Rights::ALL.bits)
+}
+
+// One right, and no more.
+fn is_right(given: u32) -> bool
+    ensures { λ b. ⌜ b ≡ isRight given ⌝ }
+{
+    (given == Rights::SEND.bits) | (given == Rights::GRANT.bits) | (given == Rights::REMOVE.bits)
+}
+
+// Place 12.
+pub fn of_caller(n: u32, caller: u32) -> Range
+    ensures { λ r. ⌜ ((next : Decision) → followed r next ≡ callerNumber n caller next) ⌝ }
+{
+    Range::Within.then(caller < n, Refusal::UnknownCaller)
+}
+
+// A call that is refused without a table: 12 comes before 13 and 14, and after 10 and 11.
+pub fn of_refused(n: u32, caller: u32, refusal: Refusal) -> Range
+    ensures { λ r. ⌜ ((next : Decision) → followed r next ≡ refusedNumbers n caller refusal next) ⌝ }
+{
+    let number = calls::number(refusal);
+    if number < 12 {
+        return Range::Within;
+    }
+    of_caller(n, caller)
+}
+
+// Places 12 and 16.
+pub fn of_endpoint(n: u32, m: u32, caller: u32, endpoint: u32) -> Range
+    ensures { λ r. ⌜ ((next : Decision) → followed r next ≡ endpointNumbers n m caller endpoint next) ⌝ }
+{
+    of_caller(n, caller).then(endpoint < m, Refusal::NoSuchEndpoint)
+}
+
+// Places 12, 20 and 21.
+pub fn of_grant(n: u32, caller: u32, target: u32, recipient: u32, given: u32) -> Range
+    ensures { λ r. ⌜ ((next : Decision) → followed r next ≡ grantNumbers n caller target recipient given next) ⌝ }
+{
+    of_caller(n, caller)
+        .then((target < n) & (recipient < n), Refusal::NoSuchDomain)
+        .then(is_set(given), Refusal::BadRights)
+}
+
+// Places 12, 20 and 21.
+pub fn of_remove(n: u32, caller: u32, target: u32, given: u32) -> Range
+    ensures { λ r. ⌜ ((next : Decision) → followed r next ≡ removeNumbers n caller target given next) ⌝ }
+{
+    of_caller(n, caller)
+        .then(target < n, Refusal::NoSuchDomain)
+        .then(is_right(given), Refusal::BadRights)
+}
