@@ -1,6 +1,4 @@
--- What ties the code of a table in bytes to the machine's check of words:
---     same-code     bytes that are those of a list of words get the code of the words
---     left-over     bytes left over behind the last whole word are 3, unless the first word is broken
+-- What ties the code of a table in bytes to the machine's check of words (specs/Bytes: SameCode, LeftOver).
 -- Assumes nothing.
 use mathlib.Core.Path.{_≡_, refl, sym, ap, _∙_}
 use mathlib.Core.Bool.{Bool, true, false}
@@ -15,10 +13,10 @@ use Rattle.machine.specs.Check.{headerOk, lengthOk, tableCode}
 use Rattle.table.proofs.Places.{code-2, code-3}
 use Rattle.reading.specs.Bytes.{wordsOf, bytesOf}
 use Rattle.reading.proofs.WordLaws.{wordsOf-bytesOf, length-bytesOf}
-use Rattle.image.specs.Bytes.{bytesFor, bytesCode}
+use Rattle.image.specs.Bytes.{bytesFor, bytesCode, SameCode, LeftOver}
 use Rattle.image.proofs.Places.{bytes-2, bytes-3, bytes-words}
 
-pub left-over : (b : List ℕ) → headerOk (wordsOf b) ≡ true → (length b % 4 ≡ 0 → ⊥) → bytesCode b ≡ 3
+pub left-over : LeftOver
 unfolding bytesFor
 left-over b h odd = sym (bytes-3 b h (ne-eqb (length b) (bytesFor (wordsOf b)) (λ e. odd (omega arith))))
 
@@ -38,8 +36,8 @@ module _ (ws : List ℕ) (words : (i : ℕ) → getD ws i 0 < 2 ^ 32) where
   unfolding lengthOk bytesFor
   sizes = rw (length-bytesOf ws) (times-four (length ws) (lengthFor (domains ws) (endpoints ws)))
 
-  pub same-code : bytesCode (bytesOf ws) ≡ tableCode ws
-  same-code = go (headerOk ws) refl (lengthOk ws) refl
+  agrees : bytesCode (bytesOf ws) ≡ tableCode ws
+  agrees = go (headerOk ws) refl (lengthOk ws) refl
     where
       go : (h : Bool) → headerOk ws ≡ h → (l : Bool) → lengthOk ws ≡ l → bytesCode (bytesOf ws) ≡ tableCode ws
       go false h l e = sym (bytes-2 (bytesOf ws) (ap headerOk back ∙ h)) ∙ code-2 ws h
@@ -47,3 +45,6 @@ module _ (ws : List ℕ) (words : (i : ℕ) → getD ws i 0 < 2 ^ 32) where
       go true h true e =
           sym (bytes-words (bytesOf ws) (record { header = ap headerOk back ∙ h; size = eqb-true _ _ (rw back (sizes ∙ e)) }))
           ∙ ap tableCode back
+
+pub same-code : SameCode
+same-code = agrees

@@ -21,7 +21,7 @@ use Rattle.reading.proofs.TableLaws.{Whole, whole-table}
 use Rattle.linerun_text.specs.Input.{listWordsRead, listOf, unreadable}
 use Rattle.linerun_text.specs.Lines.{firstLine}
 use Rattle.linerun_report.specs.Lines.{callLines, allLines}
-use Rattle.linerun_report.specs.Report.{answerSpace, outcomeLines, report}
+use Rattle.linerun_report.specs.Report.{answerSpace, outcomeLines, report, NeverSix}
 use Rattle.linerun_text.proofs.InputLaws.{no-left-over}
 
 -- where there are as many list words as are read, the list is one word too long
@@ -55,7 +55,7 @@ no-table-six t =
     cond-elim (λ (code : ℕ). code ≡ 6 → ⊥) (not (rightsOk t)) (λ _ e. omega arith)
     (λ _. cond-elim (λ (code : ℕ). code ≡ 6 → ⊥) (not (endpointsOk t)) (λ _ e. omega arith) (λ _ e. omega arith))))
 
-pub never-six : (t ws : List ℕ) → entry t ws answerSpace .code ≡ 6 → ⊥
+pub never-six : NeverSix
 unfolding entryCode spaceCode answerSpace
 never-six t ws e =
     cond-elim (λ (code : ℕ). code ≡ 6 → ⊥) (ltb longestList (length ws)) (λ _ e. omega arith)

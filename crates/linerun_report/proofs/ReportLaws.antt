@@ -17,7 +17,7 @@ use Rattle.linerun_text.specs.Input.{listWordsRead, listOf, unreadable, wanted,
 use Rattle.linerun_text.specs.Lines.{firstLine}
 use Rattle.linerun_text.proofs.InputLaws.{no-left-over, listOf-more}
 use Rattle.linerun_report.specs.Lines.{allLines}
-use Rattle.linerun_report.specs.Report.{answerSpace, outcomeLines, report, Follows, Prints}
+use Rattle.linerun_report.specs.Report.{answerSpace, outcomeLines, report, NothingFollows, Follows, Prints}
 
 pub report-unreadable : (bytes : List ℕ) → unreadable bytes ≡ true → report bytes ≡ firstLine 0 7
 unfolding report
@@ -41,7 +41,7 @@ pub ran-few : {table list space : List ℕ} {code calls : ℕ} {answers end : Li
 ran-few {table} {list} {space} p = omega (arith, p .sameCalls, calls-few table list space)
 
 -- where the reading asks for nothing more, what follows makes no difference
-pub nothing-follows : (bytes more : List ℕ) → wanted bytes ≡ 0 → report (bytes ++ more) ≡ report bytes
+pub nothing-follows : NothingFollows
 unfolding report unreadable wanted
 nothing-follows bytes more done = go (noTable bytes) refl
   where

@@ -6,7 +6,7 @@ use mathlib.Core.List.{List, [], _++_}
 use lib.ListN.{replicate}
 use Rattle.machine.specs.Entry.{Outcome, entry, longestList}
 use Rattle.reading.specs.TableInput.{tableOf}
-use Rattle.linerun_text.specs.Input.{listOf, unreadable}
+use Rattle.linerun_text.specs.Input.{listOf, unreadable, wanted}
 use Rattle.linerun_text.specs.Lines.{firstLine}
 use Rattle.linerun_report.specs.Lines.{allLines}
 
@@ -21,6 +21,14 @@ outcomeLines o = allLines (o .calls) (o .code) (o .answers)
 -- what is printed for these bytes: 7 where they are refused by it, else the lines of their table's and list's run
 unfoldable pub report : List ℕ → List ℕ
 report bytes = cond (unreadable bytes) (firstLine 0 7) (outcomeLines (entry (tableOf bytes) (listOf bytes) answerSpace))
+
+-- Where no further byte is wanted, what follows alters nothing;
+abbrev pub NothingFollows : Type 0
+NothingFollows = (bytes more : List ℕ) → wanted bytes ≡ 0 → report (bytes ++ more) ≡ report bytes
+
+-- and 6 never comes.
+abbrev pub NeverSix : Type 0
+NeverSix = (t ws : List ℕ) → entry t ws answerSpace .code ≡ 6 → ⊥
 
 -- what may follow the bytes read in the input: nothing where it ended behind them, anything where it did not
 abbrev pub Follows : Bool → List ℕ → Type 0

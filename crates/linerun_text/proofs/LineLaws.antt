@@ -6,8 +6,8 @@ use lib.ListN.{length, length-append}
 use Rattle.text.specs.Ascii.{ascii}
 use Rattle.text.specs.Decimal.{decimal, labelled}
 use Rattle.text.proofs.DigitLaws.{length-decimal}
-use Rattle.machine.specs.Word.{kind, caller}
-use Rattle.linerun_text.specs.Lines.{codeOf, firstLine, callLine}
+use Rattle.machine.specs.Word.{kind, caller, answerCode}
+use Rattle.linerun_text.specs.Lines.{firstLine, callLine}
 
 -- a label and a number of at most so many digits
 length-labelled : (label : List ℕ) (n k : ℕ) → n < 10 ^ suc k → length (labelled label n) ≤ length label + suc k
@@ -31,7 +31,7 @@ length-callLine i w x y hi hw hx hy =
     let call = labelled (ascii "call ") i in
     let caller = labelled (ascii " caller ") (caller w) in
     let kind = labelled (ascii " kind ") (kind w) in
-    let code = labelled (ascii " code ") (codeOf w) in
+    let code = labelled (ascii " code ") (answerCode w) in
     let first = labelled (ascii " data ") x in
     let second = labelled (ascii " ") y in
     omega (

@@ -1,13 +1,9 @@
 -- The lines that `linerun` prints, as bytes (document 01, 'Into firmware and onto the bench').
-use Prim.Native.Nat.{ℕ, _%_}
+use Prim.Native.Nat.{ℕ}
 use mathlib.Core.List.{List, _++_}
-use Rattle.machine.specs.Word.{kind, caller}
+use Rattle.machine.specs.Word.{kind, caller, answerCode}
 use Rattle.text.specs.Ascii.{ascii}
 use Rattle.text.specs.Decimal.{labelled}
-
--- bits 15–0 of an answer's first word: its code
-abbrev pub codeOf : ℕ → ℕ
-codeOf w = w % 65536
 
 -- the first line: the number of calls and the entry's code
 unfoldable pub firstLine : ℕ → ℕ → List ℕ
@@ -19,7 +15,7 @@ callLine i w x y =
     labelled (ascii "call ") i
     ++ labelled (ascii " caller ") (caller w)
     ++ labelled (ascii " kind ") (kind w)
-    ++ labelled (ascii " code ") (codeOf w)
+    ++ labelled (ascii " code ") (answerCode w)
     ++ labelled (ascii " data ") x
     ++ labelled (ascii " ") y
     ++ ascii "\n"
