@@ -46,8 +46,9 @@ pub fn run_calls(table: &mut [u32], list: &[u32], answers: &mut [u32]) -> usize
     let mut calls: usize = 0;
     let mut i: usize = 0;
     while i < list.len() {
-        let second = second_at(list, i);
+        // the call stands at i, in one word or two
         let at = i;
+        let second = second_at(list, i);
         let words = serve(table, list[at], second);
         put(answers, 3 * calls, words);
         calls += 1;
