@@ -1,17 +1,15 @@
 // The program `linerun`: a table and a list of calls from standard input, the calls' answers as lines on standard output
-// (document 01, 'Into firmware and onto the bench'). What is read is the module stdin's, what is printed for it the function
+// (document 01, 'Into firmware and onto the bench'). What is read is crate linerun_input's, what is printed for it the function
 // lines_for's; here the one is handed to the other, and the lines are written.
 use libc::STDERR_FILENO;
 use libc::STDOUT_FILENO;
+use linerun_input::stdin::Input;
+use linerun_input::stdin::MOST_INPUT;
+use linerun_input::stdin::read_input;
 use linerun_report::report;
-use stdin::Input;
-use stdin::read_input;
-
-mod stdin;
-
 ghost use Prim.Native.Nat.{_≤_};
 ghost use lib.ListN.{length, take};
-ghost use Rattle.linerun_text.specs.Input.{Reads};
+ghost use Rattle.linerun_input.specs.Input.{Reads};
 ghost use Rattle.linerun_report.specs.Lines.{mostBytes};
 ghost use Rattle.linerun_report.specs.Report.{Prints};
 
@@ -32,8 +30,7 @@ fn lines_for<'a>(input: &[u8], read: Input, out: &'a mut [u8]) -> &'a [u8]
 }
 
 fn main() {
-    // the length word, 641 table words and 4,097 list words
-    let mut input = [0u8; 18956];
+    let mut input = [0u8; MOST_INPUT];
     let read = read_input(&mut input);
     let mut out = [0u8; MOST_BYTES];
     let lines = lines_for(&input, read, &mut out);

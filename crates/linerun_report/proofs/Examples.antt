@@ -5,7 +5,7 @@ use Rattle.text.specs.Ascii.{ascii}
 use Rattle.reading.specs.Bytes.{wordsOf, bytesOf}
 use Rattle.text.specs.Decimal.{digitsWithin, decimal, labelled}
 use Rattle.reading.specs.TableInput.{noTable, tableOf, afterTable}
-use Rattle.linerun_text.specs.Input.{listOf, leftOver, unreadable}
+use Rattle.linerun_input.specs.Input.{listOf, leftOver, unreadable}
 use Rattle.linerun_text.specs.Lines.{firstLine, callLine}
 use Rattle.linerun_report.specs.Lines.{callLines, allLines}
 use Rattle.linerun_report.specs.Report.{answerSpace, outcomeLines, report}

@@ -18,11 +18,11 @@ use Rattle.reading.specs.Bytes.{wordsOf}
 use Rattle.reading.specs.TableInput.{tableOf, afterTable}
 use Rattle.reading.proofs.WordLaws.{length-wordsOf}
 use Rattle.reading.proofs.TableLaws.{Whole, whole-table}
-use Rattle.linerun_text.specs.Input.{listWordsRead, listOf, unreadable}
+use Rattle.linerun_input.specs.Input.{listWordsRead, listOf, unreadable}
 use Rattle.linerun_text.specs.Lines.{firstLine}
 use Rattle.linerun_report.specs.Lines.{callLines, allLines}
 use Rattle.linerun_report.specs.Report.{answerSpace, outcomeLines, report, NeverSix}
-use Rattle.linerun_text.proofs.InputLaws.{no-left-over}
+use Rattle.linerun_input.proofs.InputLaws.{no-left-over}
 
 -- where there are as many list words as are read, the list is one word too long
 long : (bytes : List ℕ) → 4 * listWordsRead ≤ length (afterTable bytes) → longestList < length (listOf bytes)

@@ -13,9 +13,9 @@ use Rattle.machine.specs.Promise.{RunPromise}
 use Rattle.machine.proofs.Promise.{calls-few}
 use Rattle.reading.specs.TableInput.{noTable, tableOf, afterTable}
 use Rattle.reading.proofs.TableLaws.{Whole, whole, whole-table, no-more, no-table-more, whole-more, tableOf-more, afterTable-more}
-use Rattle.linerun_text.specs.Input.{listWordsRead, listOf, unreadable, wanted, Reads}
+use Rattle.linerun_input.specs.Input.{listWordsRead, listOf, unreadable, wanted, Reads}
 use Rattle.linerun_text.specs.Lines.{firstLine}
-use Rattle.linerun_text.proofs.InputLaws.{no-left-over, listOf-more}
+use Rattle.linerun_input.proofs.InputLaws.{no-left-over, listOf-more}
 use Rattle.linerun_report.specs.Lines.{allLines}
 use Rattle.linerun_report.specs.Report.{answerSpace, outcomeLines, report, NothingFollows, Follows, Prints}
 

@@ -2,7 +2,7 @@
 mod lines;
 
 use kernel::run;
-use linerun_text::input::unreadable;
+use linerun_input::unreadable;
 use linerun_text::lines::first_line;
 use lines::all_lines;
 use reading::table_input::after_table;

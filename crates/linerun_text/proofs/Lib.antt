@@ -1,4 +1,3 @@
--- What is proved of linerun's input and lines as definitions: laws that the program's proofs cite.
-pub mod InputLaws
+-- What is proved of linerun's lines as definitions: laws that the program's proofs cite.
 pub mod LineLaws
 pub mod Examples

@@ -1,3 +1,2 @@
--- What the contracts of `linerun_text` cite: what linerun reads, and its lines.
-pub mod Input
+-- What the contracts of `linerun_text` cite: linerun's lines.
 pub mod Lines

@@ -10,7 +10,7 @@ slice-aggregate-read-input : tie.Need-slice-aggregate-read-input
 slice-aggregate-read-input c = refl
 
 read-input-requires : tie.Need-read-input-requires
-read-input-requires c κs = refl
+read-input-requires c κs = tt
 
 slice-aggregate-lines-for : tie.Need-slice-aggregate-lines-for
 slice-aggregate-lines-for c = search needs

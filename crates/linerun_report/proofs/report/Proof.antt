@@ -3,7 +3,7 @@ use mathlib.Core.Path.{refl, sym, _∙_}
 use native.Mathlib.Omega.{arith}
 use Rattle.text.proofs.WriteLaws.{fills-part}
 use Rattle.reading.proofs.TableLaws.{whole, length-tableOf}
-use Rattle.linerun_text.proofs.InputLaws.{readable-whole, list-part}
+use Rattle.linerun_input.proofs.InputLaws.{readable-whole, list-part}
 use Rattle.linerun_text.proofs.LineLaws.{length-firstLine}
 use Rattle.linerun_report.specs.Report.{answerSpace}
 use Rattle.linerun_report.proofs.ReportLaws.{report-unreadable, report-ran, ran-few}

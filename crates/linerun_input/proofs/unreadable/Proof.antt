@@ -1,10 +1,10 @@
 -- `linerun_text::input::unreadable` meets its contract: each return rewrites by the tests that led there. Assumes nothing.
 use mathlib.Core.Path.{sym, _∙_}
 use borrow.Author.Tests.{lt-ltb, le-ltb}
-use Rattle.linerun_text.specs.Input.{leftOver, unreadable}
+use Rattle.linerun_input.specs.Input.{leftOver, unreadable}
 use borrow.Author.Needs.{needs}
-use Rattle.linerun_text.proofs.input.unreadable.Statement.{statement}
-use Rattle.linerun_text.proofs.input.unreadable.Tie as tie
+use Rattle.linerun_input.proofs.unreadable.Statement.{statement}
+use Rattle.linerun_input.proofs.unreadable.Tie as tie
 
 no-table-requires : tie.Need-no-table-requires
 no-table-requires c κs = search needs

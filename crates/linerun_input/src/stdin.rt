@@ -1,11 +1,11 @@
 // Standard input, read in steps: the length word, the table, the list. Each step asks for what the bytes read so far leave wanted
 // and for no byte more, so that the program never waits for one that can't matter.
+use crate::wanted;
 use libc::STDIN_FILENO;
-use linerun_text::input::wanted;
 ghost use Prim.Native.Nat.{_+_, _≤_};
 ghost use mathlib.Core.Path.{_≡_};
 ghost use lib.ListN.{length, take};
-ghost use Rattle.linerun_text.specs.Input.{wanted, mostInput, Reads};
+ghost use Rattle.linerun_input.specs.Input.{wanted, mostInput, Reads};
 
 // What was read: how many bytes, and whether the input ended behind them.
 pub struct Input {
@@ -34,7 +34,7 @@ fn read_after(input: &mut [u8], have: usize, want: usize) -> usize
 }
 
 // Reads until nothing more is wanted or the input ends, and answers which of the two it was.
-pub fn read_input(input: &mut [u8]) -> Input
+fn read_all(input: &mut [u8]) -> Input
     requires { ⌜ length (now input) ≡ mostInput ⌝ }
     ensures { λ r. ⌜ (r .have ≤ mostInput) × Reads (take (r .have) (now (input .exit))) (r .ended) ⌝ }
 {
@@ -50,4 +50,20 @@ pub fn read_input(input: &mut [u8]) -> Input
             return Input { have, ended: true };
         }
     }
+}
+
+// The most bytes that are read: the length word, 641 table words and 4,097 list words.
+pub const MOST_INPUT: usize = 18956;
+
+// Reads standard input into a buffer of that length. Into any other nothing is read, and the answer is that more is wanted.
+pub fn read_input(input: &mut [u8]) -> Input
+    ensures { λ r. ⌜ (r .have ≤ length (now (input .exit))) × Reads (take (r .have) (now (input .exit))) (r .ended) ⌝ }
+{
+    if input.len() != MOST_INPUT {
+        return Input {
+            have: 0,
+            ended: true,
+        };
+    }
+    read_all(input)
 }

@@ -12,12 +12,12 @@ use lib.ListN.{length, take, drop, length-append, length-take, length-drop}
 use lib.Seq.{length-take-le, take-append-le, take-append-add, take-add}
 use Rattle.machine.proofs.Bools.{or-none-left}
 use Rattle.reading.specs.Bytes.{wordsOf}
-use Rattle.reading.specs.TableInput.{tableEnd, noTable, afterTable}
+use Rattle.reading.specs.TableInput.{tableEnd, noTable, afterTable, tableWanted}
 use Rattle.text.specs.Write.{Fills}
 use Rattle.text.proofs.WriteLaws.{fills-cut, fills-part}
 use Rattle.reading.proofs.WordLaws.{take-wordsOf-append}
 use Rattle.reading.proofs.TableLaws.{Whole, whole, whole-table, table-within, whole-more, afterTable-more, still-asks}
-use Rattle.linerun_text.specs.Input.{listWordsRead, mostInput, listOf, leftOver, unreadable, wanted, Needed, Reads}
+use Rattle.linerun_input.specs.Input.{listWordsRead, mostInput, listOf, leftOver, unreadable, wanted, Needed, Reads}
 
 -- the reading asks for no byte past the room for a longest table and a list one word too long
 pub wanted-within : (bytes : List ℕ) → length bytes ≤ mostInput → length bytes + wanted bytes ≤ mostInput
@@ -75,6 +75,11 @@ still-wanted bytes more h = go (noTable bytes) refl
 -- too.
 pub needed-none : Needed []
 needed-none k l = absurd (omega arith)
+
+-- of no byte at all the length word is wanted
+pub stops-empty : Reads [] true
+unfolding wanted noTable tableWanted
+stops-empty = record { reason = refl; needed = needed-none }
 
 pub stops-full : (bytes : List ℕ) → Needed bytes → wanted bytes ≡ 0 → Reads bytes false
 stops-full bytes needed done = record { reason = sym (le-ltb 0 (wanted bytes) (omega arith)); needed = needed }

@@ -1,9 +1,12 @@
-// What linerun reads: the table, then the list's words up to word 4,097.
+// What linerun reads: the table, then the list's words up to word 4,097. Which input 7 refuses and how much is wanted, as bytes, and
+// the reading of standard input by it.
+pub mod stdin;
+
 use reading::table_input::after_table;
 use reading::table_input::no_table;
 use reading::table_input::table_wanted;
 ghost use mathlib.Core.Path.{_≡_};
-ghost use Rattle.linerun_text.specs.Input.{unreadable, wanted};
+ghost use Rattle.linerun_input.specs.Input.{unreadable, wanted};
 
 // The bytes of 4,097 list words: where the reading stops.
 const LIST_BYTES: usize = 16388;

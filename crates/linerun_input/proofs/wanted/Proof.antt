@@ -1,10 +1,10 @@
 -- `linerun_text::input::wanted` meets its contract: each return rewrites by the tests that led there. Assumes nothing.
 use mathlib.Core.Path.{sym, _∙_}
 use native.Mathlib.Omega.{arith}
-use Rattle.linerun_text.specs.Input.{wanted}
+use Rattle.linerun_input.specs.Input.{wanted}
 use borrow.Author.Needs.{needs}
-use Rattle.linerun_text.proofs.input.wanted.Statement.{statement}
-use Rattle.linerun_text.proofs.input.wanted.Tie as tie
+use Rattle.linerun_input.proofs.wanted.Statement.{statement}
+use Rattle.linerun_input.proofs.wanted.Tie as tie
 
 no-table-requires : tie.Need-no-table-requires
 no-table-requires c κs = search needs

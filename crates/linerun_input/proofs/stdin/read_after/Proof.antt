@@ -1,10 +1,10 @@
--- `linerun::stdin::read_after` meets its contract: what stands before the part that is lent stays. Assumes nothing.
+-- `stdin::read_after` meets its contract: what stands before the part that is lent stays. Assumes nothing.
 use Prim.Native.Nat.{_+_, _-_}
 use borrow.Author.Needs.{needs}
 use borrow.Rule.Slice.PartMut.{take-put}
 use native.Mathlib.Omega.{arith}
-use Rattle.linerun.proofs.stdin.read_after.Statement.{statement}
-use Rattle.linerun.proofs.stdin.read_after.Tie as tie
+use Rattle.linerun_input.proofs.stdin.read_after.Statement.{statement}
+use Rattle.linerun_input.proofs.stdin.read_after.Tie as tie
 
 add-end : tie.Need-add-end
 add-end c = search needs

@@ -1,13 +1,13 @@
--- `linerun::stdin::read_input` meets its contract: what is wanted always has room, each byte that was read was needed
+-- `stdin::read_all` meets its contract: what is wanted always has room, each byte that was read was needed
 -- (`needed-step`), and each full read leaves less to read. Assumes nothing.
 use Prim.Native.Nat.{_-_, _≤_, _<_}
 use mathlib.Core.Path.{_≡_, sym, _∙_}
 use native.Mathlib.Omega.{arith}
 use lib.ListN.{length, take}
-use Rattle.linerun_text.specs.Input.{wanted, mostInput, Needed}
-use Rattle.linerun_text.proofs.InputLaws.{needed-none, stops-full, needed-step, stops-short}
-use Rattle.linerun.proofs.stdin.read_input.Statement.{statement}
-use Rattle.linerun.proofs.stdin.read_input.Tie as tie
+use Rattle.linerun_input.specs.Input.{wanted, mostInput, Needed}
+use Rattle.linerun_input.proofs.InputLaws.{needed-none, stops-full, needed-step, stops-short}
+use Rattle.linerun_input.proofs.stdin.read_all.Statement.{statement}
+use Rattle.linerun_input.proofs.stdin.read_all.Tie as tie
 
 abbrev Inv-loop : tie.InvT-loop
 Inv-loop input₀ have₀ input have = (have ≤ mostInput) × (length input ≡ mostInput) × Needed (take have input)
@@ -60,8 +60,8 @@ loop-again c =
     let asked : got ≤ wanted (take have (at-loop .input)) = omega arith in
     (omega arith, omega arith, needed-step (at-loop .input) (read .read-after .last .0) have got (read .read-after .ensures .1) (omega arith) (at-loop .inv .2) asked)
 
-pub read-input-spec : {M : Type 1} → statement M
-read-input-spec =
+pub read-all-spec : {M : Type 1} → statement M
+read-all-spec =
     tie.close
     (tie.spec
     Inv-loop

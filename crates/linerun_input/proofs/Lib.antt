@@ -1,0 +1,2 @@
+-- What is proved of linerun's input as definitions: laws that the programs' proofs cite.
+pub mod InputLaws

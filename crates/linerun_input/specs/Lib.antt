@@ -1,0 +1,2 @@
+-- What the contracts of `linerun_input` cite: what linerun reads.
+pub mod Input
