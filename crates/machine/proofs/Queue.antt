@@ -37,7 +37,7 @@ pub record Slot (count i w : ℕ) : Type 0 where
   pub isSlot : kind w ≡ 15
   pub empty : count ≤ i → w ≡ emptySlot
 
-slot-of : (count i w : ℕ) → slotWordOk count i w ≡ true → Slot count i w
+pub slot-of : (count i w : ℕ) → slotWordOk count i w ≡ true → Slot count i w
 unfolding slotWordOk
 slot-of count i w h =
     record {
@@ -48,7 +48,7 @@ slot-of count i w h =
           (or-cases (ltb i count) (eqb w emptySlot) (and-right (eqb (kind w) 15) (ltb i count || eqb w emptySlot) h));
     }
 
-slot-ok : (count i w : ℕ) → Slot count i w → slotWordOk count i w ≡ true
+pub slot-ok : (count i w : ℕ) → Slot count i w → slotWordOk count i w ≡ true
 unfolding slotWordOk
 slot-ok count i w s = and-intro (eq-eqb _ _ (s .isSlot)) (go (ltb i count) refl)
   where
@@ -140,15 +140,15 @@ module _ (q : List ℕ) (twelve : length q ≡ 12) (m : ℕ) where
   sendWithSpace-length = simp length-set twelve
 
   -- its words: the waiting count, the slot at the old one, and every other
-  sendWithSpace-count : getD (sendWithSpace q m) 2 0 ≡ word 5 (waiting q + 1)
+  pub sendWithSpace-count : getD (sendWithSpace q m) 2 0 ≡ word 5 (waiting q + 1)
   unfolding sendWithSpace
   sendWithSpace-count = let b : 2 < length q = omega arith in simp (getD-set-same, lt-length-set) (omega arith)
 
-  sendWithSpace-other : (k : ℕ) → k ≢ 2 → k ≢ 4 + waiting q → getD (sendWithSpace q m) k 0 ≡ getD q k 0
+  pub sendWithSpace-other : (k : ℕ) → k ≢ 2 → k ≢ 4 + waiting q → getD (sendWithSpace q m) k 0 ≡ getD q k 0
   unfolding sendWithSpace
   sendWithSpace-other k a b = simp getD-set-other
 
-  sendWithSpace-slot : waiting q < 8 → getD (sendWithSpace q m) (4 + waiting q) 0 ≡ word 15 m
+  pub sendWithSpace-slot : waiting q < 8 → getD (sendWithSpace q m) (4 + waiting q) 0 ≡ word 15 m
   unfolding sendWithSpace
   sendWithSpace-slot b =
       let apart : 4 + waiting q ≢ 2 = omega arith in
@@ -170,7 +170,7 @@ module _ (q : List ℕ) (twelve : length q ≡ 12) (m : ℕ) where
   unfolding lost
   sendWithSpace-lost = ap payload (sendWithSpace-other 3 (omega arith) (omega arith))
 
-  sendWithSpace-slots : m ≤ mostLost → waiting q < 8 → Sound q → (i : ℕ) → i < 8 → Slot (waiting q + 1) i (getD (sendWithSpace q m) (4 + i) 0)
+  pub sendWithSpace-slots : m ≤ mostLost → waiting q < 8 → Sound q → (i : ℕ) → i < 8 → Slot (waiting q + 1) i (getD (sendWithSpace q m) (4 + i) 0)
   sendWithSpace-slots small b s i l = go (ℕ-discrete i (waiting q))
     where
       go : Dec (i ≡ waiting q) → Slot (waiting q + 1) i (getD (sendWithSpace q m) (4 + i) 0)
@@ -193,7 +193,7 @@ module _ (q : List ℕ) (twelve : length q ≡ 12) (m : ℕ) where
         slots = λ i l. rw (sendWithSpace-waiting (omega arith)) (sendWithSpace-slots small (omega arith) s i l);
       }
 
-  sendWithSpace-drop : drop 4 (sendWithSpace q m) ≡ set (drop 4 q) (waiting q) (word 15 m)
+  pub sendWithSpace-drop : drop 4 (sendWithSpace q m) ≡ set (drop 4 q) (waiting q) (word 15 m)
   unfolding sendWithSpace
   sendWithSpace-drop = let b : 2 < 4 = omega arith in rw (drop-set-lt, drop-set-add)
 
@@ -217,11 +217,11 @@ module _ (q : List ℕ) (twelve : length q ≡ 12) (m : ℕ) where
   sendToFull-identity = take-set-le 2 q 3 _ (omega arith)
 
   -- its words: the lost count, and every other
-  sendToFull-count : getD (sendToFull q m) 3 0 ≡ word 6 (min (lost q + 1) mostLost)
+  pub sendToFull-count : getD (sendToFull q m) 3 0 ≡ word 6 (min (lost q + 1) mostLost)
   unfolding sendToFull
   sendToFull-count = getD-set-same q 3 _ 0 (omega arith) ∙ omega arith
 
-  sendToFull-other : (k : ℕ) → k ≢ 3 → getD (sendToFull q m) k 0 ≡ getD q k 0
+  pub sendToFull-other : (k : ℕ) → k ≢ 3 → getD (sendToFull q m) k 0 ≡ getD q k 0
   unfolding sendToFull
   sendToFull-other k a = simp getD-set-other
 
@@ -255,7 +255,7 @@ module _ (q : List ℕ) (twelve : length q ≡ 12) (some : waiting q ≢ 0) (mos
   moved-length : length (take (waiting q - 1) (drop 5 q)) ≡ waiting q - 1
   moved-length = length-take-le (waiting q - 1) (drop 5 q) (simp length-drop (omega arith))
 
-  movedUp-length : length (movedUp q (waiting q)) ≡ 12
+  pub movedUp-length : length (movedUp q (waiting q)) ≡ 12
   unfolding movedUp
   movedUp-length = simp (length-append, length-take, length-drop) (omega arith)
 
@@ -271,7 +271,7 @@ module _ (q : List ℕ) (twelve : length q ≡ 12) (some : waiting q ≢ 0) (mos
       ∙ take-take 2 4 q (omega arith)
 
   -- its words: the waiting count, the others before the slots, the slots that moved up, the one that came free, and those that stay
-  received-count : getD (received q) 2 0 ≡ word 5 (waiting q - 1)
+  pub received-count : getD (received q) 2 0 ≡ word 5 (waiting q - 1)
   unfolding received
   received-count = getD-set-same (movedUp q (waiting q)) 2 _ 0 (omega (arith, movedUp-length)) ∙ omega arith
 
@@ -282,11 +282,11 @@ module _ (q : List ℕ) (twelve : length q ≡ 12) (some : waiting q ≢ 0) (mos
       ∙ List·getD-append (take 4 q) _ 0 k (omega (arith, head-length))
       ∙ getD-take 4 q k 0 b
 
-  received-drop : drop 4 (received q) ≡ take (waiting q - 1) (drop 5 q) ++ (emptySlot ∷ drop (4 + waiting q) q)
+  pub received-drop : drop 4 (received q) ≡ take (waiting q - 1) (drop 5 q) ++ (emptySlot ∷ drop (4 + waiting q) q)
   unfolding received movedUp
   received-drop = drop-set-lt 4 (movedUp q (waiting q)) 2 _ (omega arith) ∙ drop-at (take 4 q) _ 4 head-length
 
-  received-slot : (i : ℕ) → getD (received q) (4 + i) 0 ≡ getD (take (waiting q - 1) (drop 5 q) ++ (emptySlot ∷ drop (4 + waiting q) q)) i 0
+  pub received-slot : (i : ℕ) → getD (received q) (4 + i) 0 ≡ getD (take (waiting q - 1) (drop 5 q) ++ (emptySlot ∷ drop (4 + waiting q) q)) i 0
   received-slot i = sym (getD-drop 4 (received q) i 0) ∙ ap (λ (l : List ℕ). getD l i 0) received-drop
 
   pub received-moved : (i : ℕ) → i < waiting q - 1 → getD (received q) (4 + i) 0 ≡ getD q (4 + (i + 1)) 0
@@ -316,7 +316,7 @@ module _ (q : List ℕ) (twelve : length q ≡ 12) (some : waiting q ≢ 0) (mos
   unfolding lost
   received-lost = ap payload (received-before 3 (omega arith) (omega arith))
 
-  received-slots : Sound q → (i : ℕ) → i < 8 → Slot (waiting q - 1) i (getD (received q) (4 + i) 0)
+  pub received-slots : Sound q → (i : ℕ) → i < 8 → Slot (waiting q - 1) i (getD (received q) (4 + i) 0)
   received-slots s i l = go (decLt i (waiting q - 1)) (ℕ-discrete i (waiting q - 1))
     where
       go : Dec (i < waiting q - 1) → Dec (i ≡ waiting q - 1) → Slot (waiting q - 1) i (getD (received q) (4 + i) 0)

@@ -38,10 +38,10 @@ purge t (c ∷ cs) d =
 
 -- d's answers, out of the answer words of calls, three for each: all three words of each call whose caller is d, in order
 unfoldable pub answersOf : ℕ → List Call → List ℕ → List ℕ
-answersOf d [] ws = []
-answersOf d (c ∷ cs) ws =
-    let rest = answersOf d cs (drop 3 ws) in
-    cond (calledBy d (callerOf c)) (take 3 ws ++ rest) rest
+answersOf d [] answers = []
+answersOf d (c ∷ cs) answers =
+    let rest = answersOf d cs (drop 3 answers) in
+    cond (calledBy d (callerOf c)) (take 3 answers ++ rest) rest
 
 -- d's rights: the n words it holds
 unfoldable pub rightsOf : ℕ → List ℕ → List ℕ
@@ -66,7 +66,12 @@ pub record View : Type 0 where
   pub queues : List (ℕ × List ℕ)
   pub lost : List (ℕ × ℕ)
 
--- what d sees of calls that were answered by the words ws and left the table t
+-- what d sees of calls that left these answers and the table end
 unfoldable pub view : ℕ → List Call → List ℕ → List ℕ → View
-view d cs ws t =
-    record { answers = answersOf d cs ws; rights = rightsOf d t; queues = queuesOf d t; lost = lostOf d t }
+view d cs answers end =
+    record {
+      answers = answersOf d cs answers;
+      rights = rightsOf d end;
+      queues = queuesOf d end;
+      lost = lostOf d end;
+    }
