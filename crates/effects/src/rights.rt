@@ -2,7 +2,7 @@
 use crate::Effect;
 use layout::domains;
 use layout::rights;
-use words::rights::Rights;
+use right::Rights;
 ghost use mathlib.Core.Path.{_≡_};
 ghost use Rattle.machine.specs.Machine as machine;
 ghost use Rattle.effects.specs.Effect.{effectOf, fits, doable};

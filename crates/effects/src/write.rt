@@ -3,7 +3,7 @@
 use layout::domains;
 use layout::endpoint_at;
 use layout::rights_at;
-use words::rights::Rights;
+use right::Rights;
 ghost use mathlib.Core.Path.{_≡_};
 ghost use Rattle.effects.specs.Effect.{performed};
 ghost use Rattle.effects.specs.declared.Effect.the-variants.{NewRights, Send, Receive};

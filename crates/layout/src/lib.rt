@@ -1,8 +1,8 @@
 // Where a table's words stand, and reading them: any words will do as a table, and a word past the end reads as 0. Whoever reads
 // often reads n, the number of domains, once and hands it on. It has eight bits in a table's first word, so only eight are
 // looked at where a square of it is taken.
+use right::Rights;
 use words::KIND;
-use words::rights::Rights;
 ghost use mathlib.Core.Path.{_≡_};
 ghost use Prim.Native.Nat.{_+_, _%_};
 ghost use lib.ListN.{getD};

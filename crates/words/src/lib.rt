@@ -1,9 +1,6 @@
 // The test of each kind of word of a table (document 01, 'The table'), one function a kind. Each is total, and equal to
 // the machine's definition of the same name. The tests join by `&`, which leaves no branch in the loops above them.
-use rights::Rights;
-
-pub mod rights;
-
+use right::Rights;
 ghost use mathlib.Core.Path.{_≡_};
 ghost use Rattle.machine.specs.Check.{headerWordOk, rightsWordOk, nameWordOk, infoWordOk, waitingWordOk, lostWordOk, slotWordOk};
 

@@ -1,8 +1,8 @@
 -- `Rights::has_any` is the machine's `hasAny`. Assumes nothing.
 use mathlib.Core.Path.{refl}
 use Rattle.machine.specs.Right.{hasAny}
-use Rattle.words.proofs.rights.Rights.has_any.Statement.{statement}
-use Rattle.words.proofs.rights.Rights.has_any.Tie as tie
+use Rattle.right.proofs.Rights.has_any.Statement.{statement}
+use Rattle.right.proofs.Rights.has_any.Tie as tie
 
 returns : tie.Need-returns
 unfolding hasAny

@@ -1,8 +1,8 @@
 -- `Rights::adds` is the machine's `adds`. Assumes nothing.
 use mathlib.Core.Path.{refl}
 use Rattle.machine.specs.Right.{adds}
-use Rattle.words.proofs.rights.Rights.adds.Statement.{statement}
-use Rattle.words.proofs.rights.Rights.adds.Tie as tie
+use Rattle.right.proofs.Rights.adds.Statement.{statement}
+use Rattle.right.proofs.Rights.adds.Tie as tie
 
 returns : tie.Need-returns
 unfolding adds

@@ -2,8 +2,8 @@
 use mathlib.Core.Path.{refl}
 use lib.Bits.{and-le-l}
 use Rattle.machine.specs.Right.{without}
-use Rattle.words.proofs.rights.Rights.without.Statement.{statement}
-use Rattle.words.proofs.rights.Rights.without.Tie as tie
+use Rattle.right.proofs.Rights.without.Statement.{statement}
+use Rattle.right.proofs.Rights.without.Tie as tie
 
 sub-rest : tie.Need-sub-rest
 sub-rest c = and-le-l _ _

@@ -1,8 +1,8 @@
 -- `Rights::holds` is the machine's `holds`. Assumes nothing.
 use mathlib.Core.Path.{refl}
 use Rattle.machine.specs.Right.{holds}
-use Rattle.words.proofs.rights.Rights.holds.Statement.{statement}
-use Rattle.words.proofs.rights.Rights.holds.Tie as tie
+use Rattle.right.proofs.Rights.holds.Statement.{statement}
+use Rattle.right.proofs.Rights.holds.Tie as tie
 
 returns : tie.Need-returns
 unfolding holds
