@@ -11,8 +11,8 @@ use Rattle.machine.specs.Machine.{Decision.refused, Decision.lookedUp, Decision
 use Rattle.answers.specs.declared.Answer.{Answer}
 
 -- the words that an answer is
-abbrev pub wordsOf : Answer → List ℕ
-wordsOf a = a .head ∷ a .first ∷ a .second ∷ []
+abbrev pub answerWords : Answer → List ℕ
+answerWords a = a .head ∷ a .first ∷ a .second ∷ []
 
 -- the first answer word of a call with the first word w, without its code
 unfoldable pub headOf : ℕ → ℕ

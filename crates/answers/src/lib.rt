@@ -20,7 +20,7 @@ ghost use Rattle.machine.specs.Queue.{oldest, lost};
 ghost use Rattle.machine.specs.Machine.{ownedBits, rightsBits, Decision.receives, Decision.listsEndpoints, Decision.listsRights};
 ghost use Rattle.calls.specs.Number.{numberOf};
 ghost use Rattle.rules.specs.Decision.{decisionOf};
-ghost use Rattle.answers.specs.Answer.{wordsOf, headOf, readable, shown, answerOf};
+ghost use Rattle.answers.specs.Answer.{answerWords, headOf, readable, shown, answerOf};
 
 // A call's three answer words.
 pub struct Answer {
@@ -42,7 +42,7 @@ fn head(first: u32) -> u32
 
 // No data.
 fn plain(head: u32) -> Answer
-    ensures { λ a. ⌜ wordsOf a ≡ head ∷ 0 ∷ 0 ∷ [] ⌝ }
+    ensures { λ a. ⌜ answerWords a ≡ head ∷ 0 ∷ 0 ∷ [] ⌝ }
 {
     Answer {
         head,
@@ -53,7 +53,7 @@ fn plain(head: u32) -> Answer
 
 fn refused(head: u32, refusal: Refusal) -> Answer
     requires { ⌜ head + 23 < 2 ^ 32 ⌝ }
-    ensures { λ a. ⌜ wordsOf a ≡ (head + numberOf refusal) ∷ 0 ∷ 0 ∷ [] ⌝ }
+    ensures { λ a. ⌜ answerWords a ≡ (head + numberOf refusal) ∷ 0 ∷ 0 ∷ [] ⌝ }
 {
     let number = calls::number(refusal);
     let word = head + number;
@@ -62,7 +62,7 @@ fn refused(head: u32, refusal: Refusal) -> Answer
 
 // The endpoint's number.
 fn looked_up(head: u32, e: u32) -> Answer
-    ensures { λ a. ⌜ wordsOf a ≡ head ∷ e % 2 ^ 32 ∷ 0 ∷ [] ⌝ }
+    ensures { λ a. ⌜ answerWords a ≡ head ∷ e % 2 ^ 32 ∷ 0 ∷ [] ⌝ }
 {
     Answer {
         head,
@@ -73,7 +73,7 @@ fn looked_up(head: u32, e: u32) -> Answer
 
 // The oldest message and the lost count of the endpoint.
 fn received(table: &[u32], head: u32, e: u32) -> Answer
-    ensures { λ a. ⌜ wordsOf a ≡ head ∷ shown (readable (now (table .entry)) (receives e)) (oldest (endpoint (now (table .entry)) e)) ∷ shown (readable (now (table .entry)) (receives e)) (lost (endpoint (now (table .entry)) e)) ∷ [] ⌝ }
+    ensures { λ a. ⌜ answerWords a ≡ head ∷ shown (readable (now (table .entry)) (receives e)) (oldest (endpoint (now (table .entry)) e)) ∷ shown (readable (now (table .entry)) (receives e)) (lost (endpoint (now (table .entry)) e)) ∷ [] ⌝ }
 {
     let n = domains(table);
     let start = endpoint_at(n, e);
@@ -90,7 +90,7 @@ fn received(table: &[u32], head: u32, e: u32) -> Answer
 
 // The endpoints that the caller owns, a bit for each.
 fn endpoints_listed(table: &[u32], head: u32, caller: u32) -> Answer
-    ensures { λ a. ⌜ wordsOf a ≡ head ∷ shown (readable (now (table .entry)) (listsEndpoints caller)) (ownedBits (now (table .entry)) caller) ∷ shown (readable (now (table .entry)) (listsEndpoints caller)) 0 ∷ [] ⌝ }
+    ensures { λ a. ⌜ answerWords a ≡ head ∷ shown (readable (now (table .entry)) (listsEndpoints caller)) (ownedBits (now (table .entry)) caller) ∷ shown (readable (now (table .entry)) (listsEndpoints caller)) 0 ∷ [] ⌝ }
 {
     let n = domains(table);
     let m = endpoints(table);
@@ -111,7 +111,7 @@ fn two_words(table: &[u32], n: u32, head: u32, caller: u32) -> Answer
     requires { ⌜ n ≡ domains (now table) ⌝ }
     requires { ⌜ 8 < n ⌝ }
     requires { ⌜ rightsAt n caller n ≤ length (now table) ⌝ }
-    ensures { λ a. ⌜ wordsOf a ≡ head ∷ rightsBits (now (table .entry)) caller 0 % 2 ^ 32 ∷ rightsBits (now (table .entry)) caller 8 % 2 ^ 32 ∷ [] ⌝ }
+    ensures { λ a. ⌜ answerWords a ≡ head ∷ rightsBits (now (table .entry)) caller 0 % 2 ^ 32 ∷ rightsBits (now (table .entry)) caller 8 % 2 ^ 32 ∷ [] ⌝ }
 {
     let first = rights_bits(table, n, caller, 0, 8);
     if n < 16 {
@@ -132,7 +132,7 @@ fn two_words(table: &[u32], n: u32, head: u32, caller: u32) -> Answer
 
 // The caller's rights, eight targets to a word.
 fn rights_listed(table: &[u32], head: u32, caller: u32) -> Answer
-    ensures { λ a. ⌜ wordsOf a ≡ head ∷ shown (readable (now (table .entry)) (listsRights caller)) (rightsBits (now (table .entry)) caller 0) ∷ shown (readable (now (table .entry)) (listsRights caller)) (rightsBits (now (table .entry)) caller 8) ∷ [] ⌝ }
+    ensures { λ a. ⌜ answerWords a ≡ head ∷ shown (readable (now (table .entry)) (listsRights caller)) (rightsBits (now (table .entry)) caller 0) ∷ shown (readable (now (table .entry)) (listsRights caller)) (rightsBits (now (table .entry)) caller 8) ∷ [] ⌝ }
 {
     let n = domains(table);
     let end = rights_at(n, caller, n);
@@ -152,7 +152,7 @@ fn rights_listed(table: &[u32], head: u32, caller: u32) -> Answer
 
 // The answer to a call, given by its first word, on which the decision fell.
 pub fn answer_to(table: &[u32], first: u32, decision: Decision) -> Answer
-    ensures { λ a. ⌜ wordsOf a ≡ answerOf (now (table .entry)) first (decisionOf decision) ⌝ }
+    ensures { λ a. ⌜ answerWords a ≡ answerOf (now (table .entry)) first (decisionOf decision) ⌝ }
 {
     let head = head(first);
     match decision {

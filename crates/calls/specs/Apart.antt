@@ -27,5 +27,6 @@ ofKind w s myRights = whole w s myRights (MyRights (caller w))
 ofKind w s grant = whole w s grant (Grant (caller w) (fieldA w) (fieldB w) (fieldC w))
 ofKind w s remove = whole w s remove (Remove (caller w) (fieldA w) (fieldC w))
 
+-- the call of a first word and, if there is one, a second
 unfoldable pub apart : ℕ → Second → Call
 apart w s = ofKind w s (machine.kindOf (kind w))

@@ -21,6 +21,7 @@ knownCaller t u next = place (not (ltb u (domains t))) 12 next
 unfoldable pub refusedCall : List ℕ → ℕ → Refusal → Decision
 refusedCall t u r = cond (ltb (numberOf r) 12) (refused (numberOf r)) (knownCaller t u (refused (numberOf r)))
 
+-- what a call that is taken apart comes to on the table t
 unfoldable pub decideCall : List ℕ → Call → Decision
 decideCall t (Refused u r) = refusedCall t u r
 decideCall t (LookUp u x) = knownCaller t u (lookUpPlaces (named t x))

@@ -21,13 +21,14 @@ ghost use Rattle.calls.specs.Decide.{decideCall};
 ghost use Rattle.rules.specs.Decision.{decisionOf};
 ghost use Rattle.rules.specs.Range.{followed};
 
+// What a call that is taken apart comes to.
 pub fn decide(table: &[u32], call: Call) -> Decision
     ensures { λ d. ⌜ decisionOf d ≡ decideCall (now (table .entry)) call ⌝ }
 {
     let n = domains(table);
     let m = endpoints(table);
     match call {
-        Call::Refused { caller, refusal } => after(
+        Call::Refused { caller, refusal } => followed(
             of_refused(n, caller, refusal),
             Decision::Refused(refusal),
         ),
@@ -39,9 +40,12 @@ pub fn decide(table: &[u32], call: Call) -> Decision
         } => send(table, n, m, caller, endpoint, message),
         Call::Receive { caller, endpoint } => receive(table, n, m, caller, endpoint),
         Call::MyEndpoints { caller } => {
-            after(of_caller(n, caller), Decision::ListsEndpoints { caller })
+            followed(of_caller(n, caller), Decision::ListsEndpoints { caller })
         }
-        Call::MyRights { caller } => after(of_caller(n, caller), Decision::ListsRights { caller }),
+        Call::MyRights { caller } => followed(
+            of_caller(n, caller),
+            Decision::ListsRights { caller },
+        ),
         Call::Grant {
             caller,
             target,
@@ -57,7 +61,7 @@ pub fn decide(table: &[u32], call: Call) -> Decision
 }
 
 // What comes next where the numbers are within their range.
-fn after(range: Range, next: Decision) -> Decision
+fn followed(range: Range, next: Decision) -> Decision
     ensures { λ d. ⌜ decisionOf d ≡ followed range (decisionOf next) ⌝ }
 {
     match range {

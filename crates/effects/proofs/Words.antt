@@ -17,8 +17,8 @@ use Rattle.machine.specs.Queue.{sent, received}
 use Rattle.machine.specs.Machine as machine
 use Rattle.machine.specs.Machine.{Decision, effect, after}
 use Rattle.layout.proofs.Places.{eight-bits}
-use Rattle.queue.specs.Queue.{sendable, sentTo, receivable, receivedFrom}
-use Rattle.effects.specs.Effect.{effectOf, rightsFit, fits, doable, performed}
+use Rattle.queue.specs.Queue.{sendable, leftBySend, receivable, leftByReceive}
+use Rattle.effects.specs.Effect.{effectOf, rightsFit, fits, effectFor, performed}
 use Rattle.effects.specs.declared.Effect.{Effect}
 use Rattle.effects.specs.declared.Effect.the-variants.{NewRights, Send, Receive}
 
@@ -70,21 +70,21 @@ module _ (t : List ℕ) (n : ℕ) (e : n ≡ table.domains t) where
     put-back false q = same-back
 
     pub sent-back : (message : ℕ) (q : List ℕ)
-        → q ≡ sentTo (take (at + 12 - at) (drop at t)) message
+        → q ≡ leftBySend (take (at + 12 - at) (drop at t)) message
         → take at t ++ (q ++ drop (at + 12 - at) (drop at t)) ≡ performed t (Send i message)
-    unfolding performed fits after effectOf sentTo
+    unfolding performed fits after effectOf leftBySend
     sent-back message q left =
         written q
-        ∙ ap (table.setEndpoint t i) (left ∙ ap (λ (x : List ℕ). sentTo x message) lent)
+        ∙ ap (table.setEndpoint t i) (left ∙ ap (λ (x : List ℕ). leftBySend x message) lent)
         ∙ put-back (sendable (table.endpoint t i) message) (sent (table.endpoint t i) message)
 
     pub received-back : (q : List ℕ)
-        → q ≡ receivedFrom (take (at + 12 - at) (drop at t))
+        → q ≡ leftByReceive (take (at + 12 - at) (drop at t))
         → take at t ++ (q ++ drop (at + 12 - at) (drop at t)) ≡ performed t (Receive i)
-    unfolding performed fits after effectOf receivedFrom
+    unfolding performed fits after effectOf leftByReceive
     received-back q left =
         written q
-        ∙ ap (table.setEndpoint t i) (left ∙ ap receivedFrom lent)
+        ∙ ap (table.setEndpoint t i) (left ∙ ap leftByReceive lent)
         ∙ put-back (receivable (table.endpoint t i)) (received (table.endpoint t i))
 
     -- a part that would go past the table's end
@@ -104,11 +104,18 @@ module _ (t : List ℕ) (n : ℕ) (e : n ≡ table.domains t) where
       unfolding performed fits receivable
       no-receive = rw not-twelve
 
--- ---- for callers: the effect of a decision that can be done leaves what the machine's leaves
-pub performed-whole : (t : List ℕ) (e : Effect) (d : Decision)
-    → effectOf t e ≡ effect t d
-    → fits t e ≡ doable t d
-    → doable t d ≡ true
-    → performed t e ≡ after t (effect t d)
+-- ---- for callers: the effect of a decision that fits leaves what the machine's leaves
+effect-same : (t : List ℕ) (d : Decision) → effectOf t (effectFor t d) ≡ effect t d
+unfolding effectOf effectFor effect
+effect-same t (machine.refused code) = refl
+effect-same t (machine.lookedUp e) = refl
+effect-same t (machine.sends e message) = refl
+effect-same t (machine.receives e) = refl
+effect-same t (machine.listsEndpoints u) = refl
+effect-same t (machine.listsRights u) = refl
+effect-same t (machine.grants g h r) = refl
+effect-same t (machine.removes g u r) = refl
+
+pub performed-whole : (t : List ℕ) (d : Decision) → fits t (effectFor t d) ≡ true → performed t (effectFor t d) ≡ after t (effect t d)
 unfolding performed
-performed-whole t e d is fit can = ap₂ (λ (b : Bool) (x : machine.Effect). cond b (after t x) t) (fit ∙ can) is
+performed-whole t d fit = ap₂ (λ (b : Bool) (x : machine.Effect). cond b (after t x) t) fit (effect-same t d)

@@ -30,16 +30,16 @@ fits t (NewRights h g s) = rightsFit t h g s
 fits t (Send e message) = sendable (endpoint t e) message
 fits t (Receive e) = receivable (endpoint t e)
 
--- a decision can be done: the rights that it makes fit, or its queue can be sent to or received from
-unfoldable pub doable : List ℕ → machine.Decision → Bool
-doable t (machine.refused code) = true
-doable t (machine.lookedUp e) = true
-doable t (machine.sends e message) = sendable (endpoint t e) message
-doable t (machine.receives e) = receivable (endpoint t e)
-doable t (machine.listsEndpoints u) = true
-doable t (machine.listsRights u) = true
-doable t (machine.grants g h r) = rightsFit t h g (adds (rights t h g) r)
-doable t (machine.removes g u r) = rightsFit t u g (without (rights t u g) r)
+-- the effect of a decision on the table t
+unfoldable pub effectFor : List ℕ → machine.Decision → Effect
+effectFor t (machine.refused code) = Nothing
+effectFor t (machine.lookedUp e) = Nothing
+effectFor t (machine.sends e message) = Send e message
+effectFor t (machine.receives e) = Receive e
+effectFor t (machine.listsEndpoints u) = Nothing
+effectFor t (machine.listsRights u) = Nothing
+effectFor t (machine.grants g h r) = NewRights h g (adds (rights t h g) r)
+effectFor t (machine.removes g u r) = NewRights u g (without (rights t u g) r)
 
 -- the table after an effect; one that doesn't fit leaves it as it is
 unfoldable pub performed : List ℕ → Effect → List ℕ

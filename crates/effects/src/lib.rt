@@ -7,9 +7,8 @@ use rights::granted;
 use rights::removed;
 use rules::Decision;
 ghost use mathlib.Core.Path.{_≡_};
-ghost use Rattle.machine.specs.Machine as machine;
 ghost use Rattle.rules.specs.Decision.{decisionOf};
-ghost use Rattle.effects.specs.Effect.{effectOf, fits, doable, performed};
+ghost use Rattle.effects.specs.Effect.{effectFor, performed};
 
 // A holder's new rights on a target, or a send to an endpoint, or a receive from one.
 pub enum Effect {
@@ -30,8 +29,7 @@ pub enum Effect {
 
 // What a decision alters.
 pub fn effect_on(table: &[u32], decision: Decision) -> Effect
-    ensures { λ r. ⌜ effectOf (now (table .entry)) r ≡ machine.effect (now (table .entry)) (decisionOf decision) ⌝ }
-    ensures { λ r. ⌜ fits (now (table .entry)) r ≡ doable (now (table .entry)) (decisionOf decision) ⌝ }
+    ensures { λ r. ⌜ r ≡ effectFor (now (table .entry)) (decisionOf decision) ⌝ }
 {
     match decision {
         Decision::Refused(_) => Effect::Nothing,

@@ -5,12 +5,11 @@ use layout::rights;
 use right::Rights;
 ghost use mathlib.Core.Path.{_≡_};
 ghost use Rattle.machine.specs.Machine as machine;
-ghost use Rattle.effects.specs.Effect.{effectOf, fits, doable};
+ghost use Rattle.effects.specs.Effect.{effectFor};
 
 // The rights are added to the recipient's on the target.
 pub fn granted(table: &[u32], target: u32, recipient: u32, given: u32) -> Effect
-    ensures { λ r. ⌜ effectOf (now (table .entry)) r ≡ machine.effect (now (table .entry)) (machine.grants target recipient given) ⌝ }
-    ensures { λ r. ⌜ fits (now (table .entry)) r ≡ doable (now (table .entry)) (machine.grants target recipient given) ⌝ }
+    ensures { λ r. ⌜ r ≡ effectFor (now (table .entry)) (machine.grants target recipient given) ⌝ }
 {
     let n = domains(table);
     let held = rights(table, n, recipient, target);
@@ -24,8 +23,7 @@ pub fn granted(table: &[u32], target: u32, recipient: u32, given: u32) -> Effect
 
 // The right is cleared from the caller's own on the target.
 pub fn removed(table: &[u32], target: u32, caller: u32, given: u32) -> Effect
-    ensures { λ r. ⌜ effectOf (now (table .entry)) r ≡ machine.effect (now (table .entry)) (machine.removes target caller given) ⌝ }
-    ensures { λ r. ⌜ fits (now (table .entry)) r ≡ doable (now (table .entry)) (machine.removes target caller given) ⌝ }
+    ensures { λ r. ⌜ r ≡ effectFor (now (table .entry)) (machine.removes target caller given) ⌝ }
 {
     let n = domains(table);
     let held = rights(table, n, caller, target);

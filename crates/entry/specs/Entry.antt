@@ -6,15 +6,18 @@ use Rattle.entry.specs.declared.EntryRefusal.the-variants.{ListTooLong, 
 use Rattle.entry.specs.declared.Ran.{Ran}
 use Rattle.entry.specs.declared.Ran.the-variants.{Refused, Done}
 
+-- a refusal's number
 abbrev pub entryRefusalCode : EntryRefusal → ℕ
 entryRefusalCode ListTooLong = 1
 entryRefusalCode (BadTable r) = refusalCode r
 entryRefusalCode SpaceTooSmall = 6
 
+-- a run's code: its refusal's number, or 0
 abbrev pub ranCode : Ran → ℕ
 ranCode (Refused r) = entryRefusalCode r
 ranCode (Done calls) = 0
 
+-- a run's number of calls
 abbrev pub ranCalls : Ran → ℕ
 ranCalls (Refused r) = 0
 ranCalls (Done calls) = calls

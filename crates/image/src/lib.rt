@@ -24,7 +24,7 @@ ghost use Rattle.reading.specs.Bytes.{wordsOf};
 ghost use Rattle.image.specs.Bytes.{bytesFor, bytesCode, Fitting};
 
 // Word i of the bytes.
-fn word_at(bytes: &[u8], i: usize) -> u32
+fn nth_word(bytes: &[u8], i: usize) -> u32
     requires { ⌜ 4 * i + 4 ≤ length (now bytes) ⌝ }
     ensures { λ r. ⌜ r ≡ getD (wordsOf (now (bytes .entry))) i 0 ⌝ }
 {
@@ -39,7 +39,7 @@ fn header_ok(bytes: &[u8]) -> bool
     if bytes.len() < 4 {
         return false;
     }
-    header_word_ok(word_at(bytes, 0))
+    header_word_ok(nth_word(bytes, 0))
 }
 
 // Place 3: the length is four times the one that the n domains and m endpoints of word 0 ask for.
@@ -47,7 +47,7 @@ fn length_ok(bytes: &[u8]) -> bool
     requires { ⌜ headerOk (wordsOf (now bytes)) ≡ true ⌝ }
     ensures { λ b. ⌜ b ≡ eqb (length (now (bytes .entry))) (bytesFor (wordsOf (now (bytes .entry)))) ⌝ }
 {
-    let header = word_at(bytes, 0);
+    let header = nth_word(bytes, 0);
     let n = (header / 256 % 256) as usize;
     let m = (header % 256) as usize;
     bytes.len() == 4 * (1 + n * n + 12 * m)
@@ -58,13 +58,13 @@ fn rights_ok(bytes: &[u8]) -> bool
     requires { ⌜ Fitting (now bytes) ⌝ }
     ensures { λ b. ⌜ b ≡ rightsOk (wordsOf (now (bytes .entry))) ⌝ }
 {
-    let header = word_at(bytes, 0);
+    let header = nth_word(bytes, 0);
     let n = (header / 256 % 256) as usize;
     let count = n * n;
     let mut all = true;
     let mut i: usize = 0;
     while i < count {
-        let ok = rights_word_ok(word_at(bytes, 1 + i));
+        let ok = rights_word_ok(nth_word(bytes, 1 + i));
         all = all & ok;
         i += 1;
     }
@@ -79,7 +79,7 @@ fn slots_ok(bytes: &[u8], start: usize, count: u32) -> bool
     let mut all = true;
     let mut i: u32 = 0;
     while i < 8 {
-        let ok = slot_word_ok(count, i, word_at(bytes, start + i as usize));
+        let ok = slot_word_ok(count, i, nth_word(bytes, start + i as usize));
         all = all & ok;
         i += 1;
     }
@@ -91,12 +91,12 @@ fn endpoint_ok(bytes: &[u8], start: usize, n: u32) -> bool
     requires { ⌜ 4 * start + 48 ≤ length (now bytes) ⌝ }
     ensures { λ b. ⌜ b ≡ endpointOk n (take 12 (drop start (wordsOf (now (bytes .entry))))) ⌝ }
 {
-    let name = name_word_ok(word_at(bytes, start));
-    let info_word = word_at(bytes, start + 1);
+    let name = name_word_ok(nth_word(bytes, start));
+    let info_word = nth_word(bytes, start + 1);
     let info = info_word_ok(n, info_word);
-    let waiting_word = word_at(bytes, start + 2);
+    let waiting_word = nth_word(bytes, start + 2);
     let waiting = waiting_word_ok(info_word % 256, waiting_word);
-    let lost = lost_word_ok(word_at(bytes, start + 3));
+    let lost = lost_word_ok(nth_word(bytes, start + 3));
     let slots = slots_ok(bytes, start + 4, waiting_word % KIND);
     (name & info) & (waiting & lost & slots)
 }
@@ -106,7 +106,7 @@ fn endpoints_ok(bytes: &[u8]) -> bool
     requires { ⌜ Fitting (now bytes) ⌝ }
     ensures { λ b. ⌜ b ≡ endpointsOk (wordsOf (now (bytes .entry))) ⌝ }
 {
-    let header = word_at(bytes, 0);
+    let header = nth_word(bytes, 0);
     let n = header / 256 % 256;
     let m = (header % 256) as usize;
     let from = 1 + n as usize * n as usize;
@@ -116,7 +116,7 @@ fn endpoints_ok(bytes: &[u8]) -> bool
     while e < m {
         let start = from + 12 * e;
         let ok = endpoint_ok(bytes, start, n);
-        names[e] = word_at(bytes, start) % KIND;
+        names[e] = nth_word(bytes, start) % KIND;
         all = all & ok;
         e += 1;
     }

@@ -34,7 +34,7 @@ use Rattle.queue.proofs.Laws.{may-be-sent, may-be-received}
 use Rattle.answers.specs.Answer.{readable, shown, answerOf}
 use Rattle.answers.proofs.Digits.{digitSum}
 use Rattle.answers.proofs.AnswerWords.{ownsAt, owned-digits, rightsOn}
-use Rattle.effects.specs.Effect.{rightsFit, doable}
+use Rattle.effects.specs.Effect.{rightsFit, fits, effectFor}
 
 -- digits below the base make a number with as many digits
 digits-below : (b : ℕ) (d : ℕ → ℕ) (k : ℕ) → ((i : ℕ) → i < k → d i < b) → digitSum b d k < b ^ k
@@ -153,10 +153,10 @@ module _ (t : List ℕ) (a : Accepted t) where
       and-intro (le-leb s allRights few)
       (lt-ltb (rightsAt (domains t) h g) (length t) (omega (arith, rights-below (domains t) h g ph pg, accepted-sized t a)))
 
-  pub can-be-done : (c : Call) → doable t (decide t c) ≡ true
-  unfolding doable
+  pub can-be-done : (c : Call) → fits t (effectFor t (decide t c)) ≡ true
+  unfolding fits effectFor
   can-be-done c =
-      decide-elim t c (λ d. doable t d ≡ true)
+      decide-elim t c (λ d. fits t (effectFor t d) ≡ true)
       (record {
         refuses = λ _ _. refl;
         looksUp = λ _ _ _ _. refl;

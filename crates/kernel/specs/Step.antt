@@ -8,7 +8,7 @@ use Rattle.machine.specs.Check.{tableCode}
 use Rattle.machine.specs.Call.{Call}
 use Rattle.machine.specs.Machine as machine
 use Rattle.table.specs.Checked.{refusalCode}
-use Rattle.answers.specs.Answer.{wordsOf}
+use Rattle.answers.specs.Answer.{answerWords}
 use Rattle.kernel.specs.declared.Stepped.{Stepped}
 use Rattle.kernel.specs.declared.Stepped.the-variants.{Refused, Answered}
 
@@ -24,7 +24,7 @@ stepCode (Answered a) = 0
 
 abbrev pub stepWords : Stepped → List ℕ
 stepWords (Refused r) = []
-stepWords (Answered a) = wordsOf a
+stepWords (Answered a) = answerWords a
 
 -- the machine fed the call c where the table t is accepted; else nothing is answered and nothing changes
 pub record StepPromise (t : List ℕ) (c : Call) (r : Stepped) (t′ : List ℕ) : Type 0 where

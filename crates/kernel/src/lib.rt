@@ -1,4 +1,4 @@
-// The kernel: what a call and a list of calls do to a lent table, and what they answer. Every table is checked first.
+// The kernel: what a call and a list of calls do to a lent table, and what they answer. A table is checked before any call runs.
 mod list;
 mod serve;
 

@@ -12,7 +12,7 @@ ghost use lib.ListN.{length, take, drop};
 ghost use lib.Dec.{ltb};
 ghost use Rattle.machine.specs.Check.{Accepted};
 ghost use Rattle.machine.specs.Call.{cut};
-ghost use Rattle.answers.specs.Answer.{wordsOf};
+ghost use Rattle.answers.specs.Answer.{answerWords};
 ghost use Rattle.kernel.specs.Run.{AllRun};
 
 // Three words a call. A list has no more calls than words, so a large enough space needs no count.
@@ -30,7 +30,7 @@ pub fn has_space(list: &[u32], size: usize) -> bool
 // An answer's three words, from a place of the answer space on.
 fn put(answers: &mut [u32], at: usize, words: Answer)
     requires { ⌜ at + 3 ≤ length (now answers) ⌝ }
-    ensures { λ _. ⌜ now (answers .exit) ≡ take at (now (answers .entry)) ++ (wordsOf words ++ drop (at + 3) (now (answers .entry))) ⌝ }
+    ensures { λ _. ⌜ now (answers .exit) ≡ take at (now (answers .entry)) ++ (answerWords words ++ drop (at + 3) (now (answers .entry))) ⌝ }
 {
     answers[at] = words.head;
     answers[at + 1] = words.first;

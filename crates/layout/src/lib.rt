@@ -9,6 +9,7 @@ ghost use lib.ListN.{getD};
 ghost use Rattle.machine.specs.Word.{payload};
 ghost use Rattle.machine.specs.Table.{domains, endpoints, rightsAt, endpointAt};
 
+// The word at a place, 0 past the end.
 pub fn word(table: &[u32], at: usize) -> u32
     ensures { λ w. ⌜ w ≡ getD (now (table .entry)) at 0 ⌝ }
 {
@@ -18,6 +19,7 @@ pub fn word(table: &[u32], at: usize) -> u32
     0
 }
 
+// n, the number of domains.
 pub fn domains(table: &[u32]) -> u32
     ensures { λ n. ⌜ n ≡ domains (now (table .entry)) ⌝ }
 {
@@ -25,6 +27,7 @@ pub fn domains(table: &[u32]) -> u32
     header / 256 % 256
 }
 
+// m, the number of endpoints.
 pub fn endpoints(table: &[u32]) -> u32
     ensures { λ m. ⌜ m ≡ endpoints (now (table .entry)) ⌝ }
 {
@@ -47,6 +50,7 @@ pub fn endpoint_at(n: u32, e: u32) -> usize
     1 + few * few + 12 * e as usize
 }
 
+// The rights of a holder on a target.
 pub fn rights(table: &[u32], n: u32, holder: u32, target: u32) -> Rights
     ensures { λ r. ⌜ r .bits ≡ payload (getD (now (table .entry)) (rightsAt n holder target) 0) ⌝ }
 {

@@ -1,6 +1,6 @@
 // The program `linerun`: a table and a list of calls from standard input, the calls' answers as lines on standard output
-// (document 01, 'Into firmware and onto the bench'). What is read is crate linerun_input's, what is printed for it the function
-// lines_for's; here the one is handed to the other, and the lines are written.
+// (document 01, 'Into firmware and onto the bench'). What is read is crate linerun_input's, what is printed for it crate
+// linerun_report's; here the one is handed to the other, and the lines are written.
 use libc::STDERR_FILENO;
 use libc::STDOUT_FILENO;
 use linerun_input::stdin::Input;

@@ -37,9 +37,9 @@ mostInput = 4 + 4 * longestTable + 4 * listWordsRead
 abbrev pub Needed : List ℕ → Type 0
 Needed bytes = (k : ℕ) → k < length bytes → 0 < wanted (take k bytes)
 
--- what the reading leaves: these bytes, and the answer whether the input ended behind them. It stops for no other reason than
--- that nothing more is wanted or that the input ended while more was wanted, and it says which; and it reads no byte past the
--- first place where nothing more is wanted, so that it waits for none.
+-- what the reading leaves: these bytes, and the answer whether more is wanted behind them. It reads no byte past the first place
+-- where nothing more is wanted, so that it waits for none. That a reading which stops while more is wanted has met the input's
+-- end is believed of the world.
 pub record Reads (bytes : List ℕ) (ended : Bool) : Type 0 where
   pub reason : ended ≡ ltb 0 (wanted bytes)
   pub needed : Needed bytes

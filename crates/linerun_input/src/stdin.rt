@@ -7,7 +7,7 @@ ghost use mathlib.Core.Path.{_≡_};
 ghost use lib.ListN.{length, take};
 ghost use Rattle.linerun_input.specs.Input.{wanted, mostInput, Reads};
 
-// What was read: how many bytes, and whether the input ended behind them.
+// What was read: how many bytes, and whether more was wanted behind them, which is so where the input ended there.
 pub struct Input {
     pub have: usize,
     pub ended: bool,
@@ -56,8 +56,10 @@ fn read_all(input: &mut [u8]) -> Input
 pub const MOST_INPUT: usize = 18956;
 
 // Reads standard input into a buffer of that length. Into any other nothing is read, and the answer is that more is wanted.
+// Free: which bytes come, and what stands in the buffer behind them.
 pub fn read_input(input: &mut [u8]) -> Input
     ensures { λ r. ⌜ (r .have ≤ length (now (input .exit))) × Reads (take (r .have) (now (input .exit))) (r .ended) ⌝ }
+    ensures { λ r. ⌜ ((length (now (input .entry)) ≡ mostInput → ⊥) → (r .have ≡ 0) × (now (input .exit) ≡ now (input .entry))) ⌝ }
 {
     if input.len() != MOST_INPUT {
         return Input {

@@ -1,4 +1,4 @@
--- What is proved of `linerun`'s input and output as definitions.
+-- What is proved of what linerun prints, as definitions.
 pub mod LineLaws
 pub mod ReportLaws
 pub mod Refusals

@@ -43,6 +43,7 @@ pub record OfAnyWords : Type 0 where
   pub left : List ℕ
   pub noWord : List ℕ
 
+-- what the definitions make of them
 unfoldable pub ofAnyWords : OfAnyWords
 ofAnyWords =
     record {
@@ -55,6 +56,7 @@ ofAnyWords =
       noWord = answers [] (cut (0x4000_0000 ∷ []));
     }
 
+-- what they must
 abbrev pub AnyWordsHold : Type 0
 AnyWordsHold =
     ofAnyWords

@@ -40,16 +40,18 @@ lostWordOk w = eqb (kind w) 6
 unfoldable pub slotWordOk : ℕ → ℕ → ℕ → Bool
 slotWordOk count i w = eqb (kind w) 15 && (ltb i count || eqb w emptySlot)
 
--- an endpoint's twelve words, among n domains
+-- an endpoint's identity, among n domains: its name and info
 unfoldable pub identityOk : ℕ → List ℕ → Bool
 identityOk n q = nameWordOk (getD q 0 0) && infoWordOk n (getD q 1 0)
 
+-- its queue: waiting, lost and the eight slots
 unfoldable pub queueOk : List ℕ → Bool
 queueOk q =
     waitingWordOk (capacity q) (getD q 2 0)
     && lostWordOk (getD q 3 0)
     && allBelow 8 (λ i. slotWordOk (waiting q) i (getD q (4 + i) 0))
 
+-- all its twelve words, among n domains
 unfoldable pub endpointOk : ℕ → List ℕ → Bool
 endpointOk n q = identityOk n q && queueOk q
 

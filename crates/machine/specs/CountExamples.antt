@@ -16,6 +16,7 @@ pub record Counted : Type 0 where
   pub inwards : List ℕ
   pub outwards : List ℕ
 
+-- all of it, by the definitions
 unfoldable pub counted : ℕ → List ℕ → List Call → Counted
 counted e t cs =
     record {
@@ -26,6 +27,7 @@ counted e t cs =
       outwards = messagesFrom e cs (answers t cs);
     }
 
+-- the list
 abbrev pub sends : List ℕ
 sends =
     0x2000_0100
@@ -40,6 +42,7 @@ sends =
     ∷ 0x3080_0100
     ∷ []
 
+-- the row, of endpoint 1
 abbrev pub CountRowHolds : Type 0
 CountRowHolds =
     counted 1 T (cut sends) ≡ record { sent = 3; received = 1; full = 2; inwards = 5 ∷ []; outwards = 5 ∷ [] }

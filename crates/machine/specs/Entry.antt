@@ -27,6 +27,7 @@ entryCode t ws size =
 abbrev pub Runs : List ℕ → List ℕ → ℕ → Type 0
 Runs t ws size = entryCode t ws size ≡ 0
 
+-- what the entry answers and leaves: the code, the number of calls, the table and the answer space
 pub record Outcome : Type 0 where
   pub code : ℕ
   pub calls : ℕ
@@ -47,6 +48,7 @@ ran t ws space =
       answers = answers t (cut ws) ++ drop (3 * length (cut ws)) space;
     }
 
+-- the entry: a refusal, or the run
 unfoldable pub entry : List ℕ → List ℕ → List ℕ → Outcome
 entry t ws space =
     let n = entryCode t ws (length space) in

@@ -13,6 +13,7 @@ pub data Row : Type 0 where
   leaves : (table list space : List ℕ) (outcome : Outcome) → Row
   keeps : (table list : List ℕ) (d : ℕ) (kept : List Call) → Row
 
+-- what a row says
 abbrev pub RowHolds : Row → Type 0
 RowHolds (leaves t ws space o) = entry t ws space ≡ o
 RowHolds (keeps t ws d cs) = purge t (cut ws) d ≡ cs
@@ -104,6 +105,7 @@ T6 = set T 9 0x2000_0008
 abbrev pub T7 : List ℕ
 T7 = set T 24 0x5000_0002
 
+-- L and P1 to P12
 abbrev pub rows : List Row
 rows =
     -- L itself: two words of space are left over

@@ -1,6 +1,6 @@
--- What is claimed of the machine itself, in closed statements about all accepted tables: `EveryCall..` says it of each single
--- call (document 01, 'Influence'), `EveryRun..` of calls of any number run one after another. Each is the type of a theorem in
--- proofs/.
+-- What is claimed of the machine itself, in closed statements about all accepted tables, or about any where a claim says so:
+-- `EveryCall..` says it of each single call, `EveryRun..` of calls of any number run one after another. Each is the type of a
+-- theorem in proofs/.
 use Prim.Native.Nat.{ℕ, _*_, _<_, _≤_, _^_}
 use mathlib.Core.Path.{_≡_}
 use mathlib.Core.Bool.{Bool, true, false, _&&_}
@@ -44,7 +44,7 @@ pub record AltersOnly (t : List ℕ) (c : Call) : Type 0 where
   pub stray : callerOf c ≡ none → step t c ≡ t
   pub unknown : (u : ℕ) → callerOf c ≡ some u → domains t ≤ u → step t c ≡ t
 
--- Influence: on an accepted table, a call alters only what belongs to domains that its caller influences.
+-- Influence (document 01, 'Influence'): on an accepted table, a call alters only what belongs to domains that its caller influences.
 abbrev pub EveryCallAltersOnly : Type 0
 EveryCallAltersOnly = (t : List ℕ) (c : Call) → Accepted t → AltersOnly t c
 
@@ -54,7 +54,7 @@ abbrev pub AnswerDepends : List ℕ → List ℕ → Call → Type 0
 AnswerDepends s t c =
     SameFrame s t → ((u : ℕ) → callerOf c ≡ some u → u < domains t → SamePart u s t) → answer s c ≡ answer t c
 
--- A call's answer depends only on its own words, its caller's part and the unchanging parts, on an accepted table t and any
+-- A call's answer depends only on its own words, its caller's part and the unchanging parts (document 01, 'Influence'), on an accepted table t and any
 -- other s.
 abbrev pub EveryCallAnswerDepends : Type 0
 EveryCallAnswerDepends = (s t : List ℕ) (c : Call) → Accepted t → AnswerDepends s t c

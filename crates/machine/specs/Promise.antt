@@ -9,7 +9,7 @@ use Rattle.machine.specs.Entry.{entry}
 use Rattle.machine.specs.RunClaims.{Noninterference, NoRightFromNowhere, CountsBorneOut, InTurn}
 
 pub record RunPromise (t ws space : List ℕ) (code calls : ℕ) (answers end : List ℕ) : Type 0 where
-  -- demands 1 and 2: the code, the number of calls, every answer word and every table word are those of the machine of
+  -- demands 1 and 2 (docs/ASSURANCE has the checklist with its lines): the code, the number of calls, every answer word and every table word are those of the machine of
   -- document 01, for any words at all; a refusal changes nothing
   pub sameCode : code ≡ entry t ws space .code
   pub sameCalls : calls ≡ entry t ws space .calls

@@ -35,6 +35,7 @@ emptySlot = word 15 0
 abbrev pub mostLost : ℕ
 mostLost = 268435455
 
+-- fewer wait than the capacity
 unfoldable pub hasSpace : List ℕ → Bool
 hasSpace q = ltb (waiting q) (capacity q)
 
@@ -46,6 +47,7 @@ sendWithSpace q message = set (set q (4 + waiting q) (word 15 message)) 2 (word 
 unfoldable pub sendToFull : List ℕ → ℕ → List ℕ
 sendToFull q message = set q 3 (word 6 (min (lost q + 1) mostLost))
 
+-- a send: with space, or to a full queue
 unfoldable pub sent : List ℕ → ℕ → List ℕ
 sent q message = cond (hasSpace q) (sendWithSpace q message) (sendToFull q message)
 

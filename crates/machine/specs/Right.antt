@@ -4,12 +4,15 @@ use mathlib.Core.Bool.{Bool, not}
 use lib.Dec.{eqb}
 use lib.Bits.{bitAnd, bitOr}
 
+-- to send to its endpoints
 abbrev pub SEND : ℕ
 SEND = 1
 
+-- to give away rights on it
 abbrev pub GRANT : ℕ
 GRANT = 2
 
+-- to clear one's own rights on it
 abbrev pub REMOVE : ℕ
 REMOVE = 4
 

@@ -148,12 +148,13 @@ module _ (M : StateMachine) (ok : M .State → M .State → Type 0) (same : ℕ 
     pub state : same d (run M s cs) (run M t ks)
     pub answers : outputs M d s cs ≡ outputs M d t ks
 
-  -- The theorem: of states that look the same to every source of d, d sees the same, whatever calls of others are struck.
+  -- The theorem, of a machine that meets the conditions: of states that look the same to every source of d, d sees the same,
+  -- whatever calls are struck whose callers are no sources.
   abbrev pub UnwindingTheorem : Type 0
   UnwindingTheorem =
       (d : ℕ) (s t : State) (cs ks : List Call) → SameForSources d s cs t → Keeps M d s cs ks → ObservEquivalent d s cs t ks
 
-  -- Its cases: the ipurge, worked out on the second state;
+  -- Its cases, under the same conditions: the ipurge, worked out on the second state;
   abbrev pub Noninfluence : Type 0
   Noninfluence = (d : ℕ) (s t : State) (cs : List Call) → SameForSources d s cs t → ObservEquivalent d s cs t (ipurge M t cs d)
 

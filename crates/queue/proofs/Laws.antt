@@ -8,7 +8,7 @@ use lib.Dec.{eqb, leb}
 use lib.ListN.{length}
 use Rattle.machine.specs.Queue.{capacity, waiting, mostLost, hasSpace, sendWithSpace, sendToFull, sent, received}
 use Rattle.machine.proofs.Bools.{and-left, and-right}
-use Rattle.queue.specs.Queue.{sendable, sentTo, receivable, receivedFrom, MayReceive}
+use Rattle.queue.specs.Queue.{sendable, leftBySend, receivable, leftByReceive, MayReceive}
 
 -- ---- for callers: words that they know to pass the test
 pub may-be-sent : (q : List ℕ) (m : ℕ) → length q ≡ 12 → capacity q ≤ 8 → m ≤ mostLost → sendable q m ≡ true
@@ -37,17 +37,17 @@ may-send q m h =
       small = leb-true _ _ (and-right (twelve && slots) (leb m mostLost) h);
     }
 
-pub not-sent : (q : List ℕ) (m : ℕ) → sendable q m ≡ false → q ≡ sentTo q m
-unfolding sentTo
+pub not-sent : (q : List ℕ) (m : ℕ) → sendable q m ≡ false → q ≡ leftBySend q m
+unfolding leftBySend
 not-sent q m h = rw h
 
 module _ (q : List ℕ) (m : ℕ) (passed : sendable q m ≡ true) where
-  pub sent-with-space : waiting q < capacity q → sendWithSpace q m ≡ sentTo q m
-  unfolding sentTo sent hasSpace
+  pub sent-with-space : waiting q < capacity q → sendWithSpace q m ≡ leftBySend q m
+  unfolding leftBySend sent hasSpace
   sent-with-space space = rw (passed, lt-ltb _ _ space)
 
-  pub sent-to-full : capacity q ≤ waiting q → sendToFull q m ≡ sentTo q m
-  unfolding sentTo sent hasSpace
+  pub sent-to-full : capacity q ≤ waiting q → sendToFull q m ≡ leftBySend q m
+  unfolding leftBySend sent hasSpace
   sent-to-full full = rw (passed, le-ltb _ _ full)
 
 -- ---- what the test of a receive says, and what a receive is on either side of it
@@ -63,10 +63,10 @@ may-receive q h =
       slots = leb-true _ _ (and-right (twelve && some) (leb (waiting q) 8) h);
     }
 
-pub not-received : (q : List ℕ) → receivable q ≡ false → q ≡ receivedFrom q
-unfolding receivedFrom
+pub not-received : (q : List ℕ) → receivable q ≡ false → q ≡ leftByReceive q
+unfolding leftByReceive
 not-received q h = rw h
 
-pub received-there : (q : List ℕ) → receivable q ≡ true → received q ≡ receivedFrom q
-unfolding receivedFrom
+pub received-there : (q : List ℕ) → receivable q ≡ true → received q ≡ leftByReceive q
+unfolding leftByReceive
 received-there q h = rw h

@@ -7,21 +7,21 @@ use lib.Dec.{eqb, leb}
 use lib.ListN.{length}
 use Rattle.machine.specs.Queue.{capacity, waiting, mostLost, sent, received}
 
--- twelve words with at most eight slots, and a message of 28 bits
+-- twelve words with a capacity of at most 8, and a message of 28 bits
 unfoldable pub sendable : List ℕ → ℕ → Bool
 sendable q message = eqb (length q) 12 && leb (capacity q) 8 && leb message mostLost
 
 -- a send; other words stay as they are
-unfoldable pub sentTo : List ℕ → ℕ → List ℕ
-sentTo q message = cond (sendable q message) (sent q message) q
+unfoldable pub leftBySend : List ℕ → ℕ → List ℕ
+leftBySend q message = cond (sendable q message) (sent q message) q
 
 -- twelve words with 1 to 8 waiting, whatever the slots from the waiting count on hold
 unfoldable pub receivable : List ℕ → Bool
 receivable q = eqb (length q) 12 && leb 1 (waiting q) && leb (waiting q) 8
 
 -- a receive; other words stay as they are
-unfoldable pub receivedFrom : List ℕ → List ℕ
-receivedFrom q = cond (receivable q) (received q) q
+unfoldable pub leftByReceive : List ℕ → List ℕ
+leftByReceive q = cond (receivable q) (received q) q
 
 -- what `send_with_space` asks: a slot is left for the message
 pub record HasRoom (q : List ℕ) (message : ℕ) : Type 0 where

@@ -6,12 +6,12 @@ ghost use mathlib.Core.Path.{_≡_};
 ghost use Prim.Native.Nat.{ℕ};
 ghost use lib.ListN.{length};
 ghost use Rattle.machine.specs.Queue.{sendWithSpace, sendToFull, received};
-ghost use Rattle.queue.specs.Queue.{sendable, sentTo, receivable, receivedFrom, HasRoom, MayReceive};
+ghost use Rattle.queue.specs.Queue.{sendable, leftBySend, receivable, leftByReceive, HasRoom, MayReceive};
 
 // The largest lost count, and the largest message.
 const MOST_LOST: u32 = 268435455;
 
-// Twelve words with at most eight slots, and a message of 28 bits.
+// Twelve words with a capacity of at most 8, and a message of 28 bits.
 fn sendable(q: &[u32], message: u32) -> bool
     ensures { λ b. ⌜ b ≡ sendable (now (q .entry)) message ⌝ }
 {
@@ -48,7 +48,7 @@ fn send_to_full(q: &mut [u32])
 // A send: the waiting count and the capacity say whether there is space. The answer is the same either way.
 pub fn send(q: &mut [u32], message: u32) -> bool
     ensures { λ done. ⌜ done ≡ sendable (now (q .entry)) message ⌝ }
-    ensures { λ _. ⌜ now (q .exit) ≡ sentTo (now (q .entry)) message ⌝ }
+    ensures { λ _. ⌜ now (q .exit) ≡ leftBySend (now (q .entry)) message ⌝ }
 {
     if !sendable(q, message) {
         return false;
@@ -94,7 +94,7 @@ fn take_oldest(q: &mut [u32])
 // A receive: done where a message waits.
 pub fn receive(q: &mut [u32]) -> bool
     ensures { λ done. ⌜ done ≡ receivable (now (q .entry)) ⌝ }
-    ensures { λ _. ⌜ now (q .exit) ≡ receivedFrom (now (q .entry)) ⌝ }
+    ensures { λ _. ⌜ now (q .exit) ≡ leftByReceive (now (q .entry)) ⌝ }
 {
     if !receivable(q) {
         return false;

@@ -1,5 +1,5 @@
 // The rights that one domain holds on another: a set by value, with a bit for each right (document 01, 'The table').
-// Each method is the machine's definition of the same name. A further right is one more constant and a larger ALL.
+// Each method is the machine's definition of the same name.
 ghost use mathlib.Core.Path.{_≡_};
 ghost use Rattle.machine.specs.Right.{holds, adds, without, hasAny};
 

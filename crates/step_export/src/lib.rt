@@ -7,7 +7,7 @@ ghost use mathlib.Core.Path.{_≡_};
 ghost use mathlib.Core.List.{_++_};
 ghost use Prim.Native.Nat.{_≤_};
 ghost use lib.ListN.{length, drop};
-ghost use Rattle.answers.specs.Answer.{wordsOf};
+ghost use Rattle.answers.specs.Answer.{answerWords};
 ghost use Rattle.cutting.specs.Cutting.{callOf};
 ghost use Rattle.step_export.specs.Exported.{secondGiven, Exported};
 
@@ -25,7 +25,7 @@ fn given(word: u32, has: u32) -> Second
 // An answer's three words at the start of the answer space.
 fn put(space: &mut [u32], words: Answer)
     requires { ⌜ 3 ≤ length (now space) ⌝ }
-    ensures { λ _. ⌜ now (space .exit) ≡ wordsOf words ++ drop 3 (now (space .entry)) ⌝ }
+    ensures { λ _. ⌜ now (space .exit) ≡ answerWords words ++ drop 3 (now (space .entry)) ⌝ }
 {
     space[0] = words.head;
     space[1] = words.first;

@@ -12,7 +12,7 @@ unfolding decisionOf callNumbers callAccess
 returns c =
     let counts = c .before .before .before .before .before in
     rw (c .before .before .before .call .given .1)
-    (c .after .ensures ∙ decided _ _ _ _ _ (counts .before .domains .ensures) (counts .endpoints .ensures) (c .before .of-refused .ensures))
+    (c .followed .ensures ∙ decided _ _ _ _ _ (counts .before .domains .ensures) (counts .endpoints .ensures) (c .before .of-refused .ensures))
 
 returns-2 : tie.Need-returns-2
 returns-2 c = rw (c .before .before .call2 .given .1) (c .look-up .ensures)
@@ -28,14 +28,14 @@ unfolding decisionOf callNumbers callAccess
 returns-5 c =
     let counts = c .before .before .before .before .before in
     rw (c .before .before .before .call5 .given .1)
-    (c .after2 .ensures ∙ decided _ _ _ _ _ (counts .before .domains .ensures) (counts .endpoints .ensures) (c .before .of-caller .ensures))
+    (c .followed2 .ensures ∙ decided _ _ _ _ _ (counts .before .domains .ensures) (counts .endpoints .ensures) (c .before .of-caller .ensures))
 
 returns-6 : tie.Need-returns-6
 unfolding decisionOf callNumbers callAccess
 returns-6 c =
     let counts = c .before .before .before .before .before in
     rw (c .before .before .before .call6 .given .1)
-    (c .after3 .ensures ∙ decided _ _ _ _ _ (counts .before .domains .ensures) (counts .endpoints .ensures) (c .before .of-caller2 .ensures))
+    (c .followed3 .ensures ∙ decided _ _ _ _ _ (counts .before .domains .ensures) (counts .endpoints .ensures) (c .before .of-caller2 .ensures))
 
 returns-7 : tie.Need-returns-7
 returns-7 c = rw (c .before .before .call7 .given .1) (c .grant .ensures)

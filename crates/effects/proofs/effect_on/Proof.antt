@@ -1,9 +1,7 @@
 -- `effect_on` meets its contract: each arm is one case of the decision. Assumes nothing.
-use mathlib.Core.Path.{refl}
 use borrow.Author.Needs.{needs}
-use Rattle.machine.specs.Machine.{effect}
 use Rattle.rules.specs.Decision.{decisionOf}
-use Rattle.effects.specs.Effect.{effectOf, fits, doable}
+use Rattle.effects.specs.Effect.{effectFor}
 use Rattle.effects.proofs.effect_on.Statement.{statement}
 use Rattle.effects.proofs.effect_on.Tie as tie
 
@@ -38,28 +36,28 @@ removed-requires : tie.Need-removed-requires
 removed-requires c κs = search needs
 
 returns : tie.Need-returns
-unfolding effectOf effect decisionOf fits doable
-returns c = rw (c .enum-told .given .1) (refl, refl)
+unfolding effectFor decisionOf
+returns c = rw (c .enum-told .given .1)
 
 returns-2 : tie.Need-returns-2
-unfolding effectOf effect decisionOf fits doable
-returns-2 c = rw (c .enum-told2 .given .1) (refl, refl)
+unfolding effectFor decisionOf
+returns-2 c = rw (c .enum-told2 .given .1)
 
 returns-3 : tie.Need-returns-3
-unfolding effectOf effect decisionOf fits doable
-returns-3 c = rw (c .before .decision .given .1) (refl, refl)
+unfolding effectFor decisionOf
+returns-3 c = rw (c .before .decision .given .1)
 
 returns-4 : tie.Need-returns-4
-unfolding effectOf effect decisionOf fits doable
-returns-4 c = rw (c .before .decision2 .given .1) (refl, refl)
+unfolding effectFor decisionOf
+returns-4 c = rw (c .before .decision2 .given .1)
 
 returns-5 : tie.Need-returns-5
-unfolding effectOf effect decisionOf fits doable
-returns-5 c = rw (c .enum-told3 .given .1) (refl, refl)
+unfolding effectFor decisionOf
+returns-5 c = rw (c .enum-told3 .given .1)
 
 returns-6 : tie.Need-returns-6
-unfolding effectOf effect decisionOf fits doable
-returns-6 c = rw (c .enum-told4 .given .1) (refl, refl)
+unfolding effectFor decisionOf
+returns-6 c = rw (c .enum-told4 .given .1)
 
 returns-7 : tie.Need-returns-7
 unfolding decisionOf

@@ -14,8 +14,8 @@ returns c =
     let w = c .before .before .before .before in
     let v = w .before .before in
     let a = v .before .before .before .before .args in
-    ap₂ _&&_ (ap₂ _&&_ (v .before .name-word-ok .ensures ∙ ap nameWordOk (v .before .before .word-at .ensures)) (w .before .info-word-ok .ensures)) (ap₂ _&&_ (ap₂ _&&_ (c .before .before .before .waiting-word-ok .ensures) (c .before .lost-word-ok .ensures ∙ ap lostWordOk (c .before .before .word-at4 .ensures))) (c .slots-ok .ensures))
-    ∙ endpoint-words (wordsOf (now (a .bytes))) (a .start) _ _ _ (v .word-at2 .ensures) (w .word-at3 .ensures)
+    ap₂ _&&_ (ap₂ _&&_ (v .before .name-word-ok .ensures ∙ ap nameWordOk (v .before .before .nth-word .ensures)) (w .before .info-word-ok .ensures)) (ap₂ _&&_ (ap₂ _&&_ (c .before .before .before .waiting-word-ok .ensures) (c .before .lost-word-ok .ensures ∙ ap lostWordOk (c .before .before .nth-word4 .ensures))) (c .slots-ok .ensures))
+    ∙ endpoint-words (wordsOf (now (a .bytes))) (a .start) _ _ _ (v .nth-word2 .ensures) (w .nth-word3 .ensures)
 
 pub endpoint-ok-spec : {M : Type 1} → statement M
 endpoint-ok-spec =

@@ -23,7 +23,7 @@ abbrev μ-loop : tie.MeasureT-loop
 
 holds : tie.Need-loop-holds Inv-loop μ-loop
 holds c =
-    (record { tested = scan-start _ _; named = fill-start _ _ _ refl }, fitting-counted _ (c .before .before .pre) _ (c .word-at .ensures))
+    (record { tested = scan-start _ _; named = fill-start _ _ _ refl }, fitting-counted _ (c .before .before .pre) _ (c .nth-word .ensures))
 
 again : tie.Need-loop-again Inv-loop μ-loop
 again c =
@@ -31,7 +31,7 @@ again c =
     let l = i .before .loop in
     let g = l .inv .0 in
     let k = l .inv .1 in
-    (record { tested = scan-next _ _ _ _ _ (g .tested) (i .loop-test .taken) (c .before .endpoint-ok .ensures ∙ ap₂ endpointOk (k .domains) (counted-endpoint _ _ _ _ k _)); named = fill-next _ _ _ _ _ (g .named) (lt-of-lt-of-le (i .loop-test .taken) (k .most)) (ap (λ (w : ℕ). w % 268435456) (c .word-at2 .ensures) ∙ counted-name _ _ _ _ k _) }, k)
+    (record { tested = scan-next _ _ _ _ _ (g .tested) (i .loop-test .taken) (c .before .endpoint-ok .ensures ∙ ap₂ endpointOk (k .domains) (counted-endpoint _ _ _ _ k _)); named = fill-next _ _ _ _ _ (g .named) (lt-of-lt-of-le (i .loop-test .taken) (k .most)) (ap (λ (w : ℕ). w % 268435456) (c .nth-word2 .ensures) ∙ counted-name _ _ _ _ k _) }, k)
 
 names-tested : tie.Need-returns Inv-loop μ-loop
 names-tested c =

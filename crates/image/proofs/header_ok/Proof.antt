@@ -10,7 +10,7 @@ short c = sym (under-four _ (c .if1 .taken))
 
 word : tie.Need-returns-2
 word c =
-    c .header-word-ok .ensures ∙ ap headerWordOk (c .before .word-at .ensures)
+    c .header-word-ok .ensures ∙ ap headerWordOk (c .before .nth-word .ensures)
     ∙ sym (first-word _ (c .before .before .if1 .left))
 
 pub header-ok-spec : {M : Type 1} → statement M

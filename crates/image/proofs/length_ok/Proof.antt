@@ -11,7 +11,7 @@ use Rattle.image.proofs.length_ok.Tie as tie
 
 compared : tie.Need-returns
 unfolding bytesFor domains endpoints
-compared c = rw (c .word-at .ensures)
+compared c = rw (c .nth-word .ensures)
 
 pub length-ok-spec : {M : Type 1} → statement M
 length-ok-spec =
@@ -24,5 +24,5 @@ length-ok-spec =
     (λ c. from-fits _)
     (λ c. omega arith)
     (λ c. whole-fits _)
-    (λ c. omega (arith, square-small (c .word-at .result / 256)))
+    (λ c. omega (arith, square-small (c .nth-word .result / 256)))
     compared)

@@ -21,17 +21,17 @@ abbrev μ-loop : tie.MeasureT-loop
 μ-loop bytes header n count all₀ i₀ all i = count - i
 
 holds : tie.Need-loop-holds Inv-loop μ-loop
-holds c = (scan-start _ _, omega (arith, fitting-counted _ (c .before .before .pre) _ (c .word-at .ensures) .room))
+holds c = (scan-start _ _, omega (arith, fitting-counted _ (c .before .before .pre) _ (c .nth-word .ensures) .room))
 
 again : tie.Need-loop-again Inv-loop μ-loop
 again c =
     let t = c .before .before in
     let l = t .before .loop in
-    (scan-next _ _ _ _ _ (l .inv .0) (t .loop-test .taken) (c .rights-word-ok .ensures ∙ ap rightsWordOk (c .before .word-at2 .ensures)), l .inv .1)
+    (scan-next _ _ _ _ _ (l .inv .0) (t .loop-test .taken) (c .rights-word-ok .ensures ∙ ap rightsWordOk (c .before .nth-word2 .ensures)), l .inv .1)
 
 returns : tie.Need-returns Inv-loop μ-loop
 unfolding rightsOk domains
-returns c = rw (c .before .before .word-at .ensures) at (scan-end _ _ _ _ (c .before .loop .inv .0) (c .loop-test .left))
+returns c = rw (c .before .before .nth-word .ensures) at (scan-end _ _ _ _ (c .before .loop .inv .0) (c .loop-test .left))
 
 pub rights-ok-spec : {M : Type 1} → statement M
 rights-ok-spec =

@@ -21,7 +21,7 @@ again : tie.Need-loop-again Inv-loop μ-loop
 again c =
     let t = c .before .before in
     scan-next _ _ _ _ _ (t .before .loop .inv) (omega arith)
-    (c .slot-word-ok .ensures ∙ ap (slotWordOk _ _) (c .before .word-at .ensures))
+    (c .slot-word-ok .ensures ∙ ap (slotWordOk _ _) (c .before .nth-word .ensures))
 
 returns : tie.Need-returns Inv-loop μ-loop
 returns c = scan-end _ _ _ _ (c .before .loop .inv) (c .loop-test .left)

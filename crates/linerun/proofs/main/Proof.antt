@@ -21,7 +21,7 @@ slice-aggregate-lines-for-2 c = refl
 lines-for-requires : tie.Need-lines-for-requires
 lines-for-requires c κs =
     let read = c .before .before .before .read-input in
-    (omega (arith, read .ensures .0, read .kept), (read .ensures .1, omega arith))
+    (omega (arith, read .ensures .0 .0, read .kept), (read .ensures .0 .1, omega arith))
 
 write-all-requires : tie.Need-write-all-requires
 write-all-requires c κs = tt

@@ -1,4 +1,4 @@
--- `linerun_text::input::unreadable` meets its contract: each return rewrites by the tests that led there. Assumes nothing.
+-- `linerun_input::unreadable` meets its contract: each return rewrites by the tests that led there. Assumes nothing.
 use mathlib.Core.Path.{sym, _∙_}
 use borrow.Author.Tests.{lt-ltb, le-ltb}
 use Rattle.linerun_input.specs.Input.{leftOver, unreadable}

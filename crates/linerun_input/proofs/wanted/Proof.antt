@@ -1,4 +1,4 @@
--- `linerun_text::input::wanted` meets its contract: each return rewrites by the tests that led there. Assumes nothing.
+-- `linerun_input::wanted` meets its contract: each return rewrites by the tests that led there. Assumes nothing.
 use mathlib.Core.Path.{sym, _∙_}
 use native.Mathlib.Omega.{arith}
 use Rattle.linerun_input.specs.Input.{wanted}

@@ -1,4 +1,4 @@
--- `linerun::report::report` meets its contract: the two ways that the definition goes. Assumes nothing.
+-- `linerun_report::report` meets its contract: the two ways that the definition goes. Assumes nothing.
 use mathlib.Core.Path.{refl, sym, _∙_}
 use native.Mathlib.Omega.{arith}
 use Rattle.text.proofs.WriteLaws.{fills-part}

@@ -16,7 +16,7 @@ use Rattle.table.specs.Checked.{refusalCode}
 use Rattle.table.specs.declared.TableRefusal.{TableRefusal}
 use Rattle.cutting.specs.Cutting.{callOf}
 use Rattle.cutting.specs.declared.Second.{Second}
-use Rattle.answers.specs.Answer.{wordsOf}
+use Rattle.answers.specs.Answer.{answerWords}
 use Rattle.kernel.specs.Step.{StepPromise}
 use Rattle.answers.specs.declared.Answer.{Answer}
 use Rattle.kernel.specs.declared.Stepped.{Stepped}
@@ -42,7 +42,7 @@ refused t space c r t′ h p =
     let bad = ne-eqb (tableCode t) 0 (λ none. refusal-code r (p .code ∙ none)) in
     record { sameCode = p .code ∙ sym e; table = rw e (p .table); answer = rw (e, bad) }
 
-answered : (t space : List ℕ) (c : Call) (a : Answer) (t′ : List ℕ) → 3 ≤ length space → StepPromise t c (Answered a) t′ → Exported t c space 0 t′ (wordsOf a ++ drop 3 space)
+answered : (t space : List ℕ) (c : Call) (a : Answer) (t′ : List ℕ) → 3 ≤ length space → StepPromise t c (Answered a) t′ → Exported t c space 0 t′ (answerWords a ++ drop 3 space)
 answered t space c a t′ h p =
     let e = room t space h in
     let fine = eq-eqb (tableCode t) 0 (sym (p .code)) in

@@ -4,9 +4,9 @@ use Prim.Native.Nat.{ℕ}
 use borrow.Author.Needs.{needs}
 use Rattle.machine.specs.Right.{adds}
 use Rattle.machine.specs.Table as table
-use Rattle.machine.specs.Machine as machine
 use Rattle.layout.proofs.Places.{rights-read}
-use Rattle.effects.specs.Effect.{effectOf, rightsFit, fits, doable}
+use Rattle.effects.specs.Effect.{effectFor}
+use Rattle.effects.specs.declared.Effect.the-variants.{NewRights}
 use Rattle.effects.proofs.rights.granted.Statement.{statement}
 use Rattle.effects.proofs.rights.granted.Tie as tie
 
@@ -29,12 +29,10 @@ changed c =
     ∙ ap (λ (s : ℕ). adds s (read .before .before .before .args .given)) (read .rights .ensures ∙ rights-read _ _ (read .before .domains .ensures) _ _)
 
 returns : tie.Need-returns
-unfolding effectOf machine.effect fits doable
+unfolding effectFor
 returns c =
-    let a = c .before .before .before .before .args in (
-      ap (machine.newRights (a .recipient) (a .target)) (changed c),
-      ap (rightsFit (a .table .now) (a .recipient) (a .target)) (changed c),
-    )
+    let a = c .before .before .before .before .args in
+    ap (NewRights (a .recipient) (a .target)) (changed c)
 
 pub granted-spec : {M : Type 1} → statement M
 granted-spec = tie.close (tie.spec domains-requires rights-requires adds-requires returns)

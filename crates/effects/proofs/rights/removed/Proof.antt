@@ -4,9 +4,9 @@ use Prim.Native.Nat.{ℕ}
 use borrow.Author.Needs.{needs}
 use Rattle.machine.specs.Right.{without}
 use Rattle.machine.specs.Table as table
-use Rattle.machine.specs.Machine as machine
 use Rattle.layout.proofs.Places.{rights-read}
-use Rattle.effects.specs.Effect.{effectOf, rightsFit, fits, doable}
+use Rattle.effects.specs.Effect.{effectFor}
+use Rattle.effects.specs.declared.Effect.the-variants.{NewRights}
 use Rattle.effects.proofs.rights.removed.Statement.{statement}
 use Rattle.effects.proofs.rights.removed.Tie as tie
 
@@ -29,12 +29,10 @@ changed c =
     ∙ ap (λ (s : ℕ). without s (read .before .before .before .args .given)) (read .rights .ensures ∙ rights-read _ _ (read .before .domains .ensures) _ _)
 
 returns : tie.Need-returns
-unfolding effectOf machine.effect fits doable
+unfolding effectFor
 returns c =
-    let a = c .before .before .before .before .args in (
-      ap (machine.newRights (a .caller) (a .target)) (changed c),
-      ap (rightsFit (a .table .now) (a .caller) (a .target)) (changed c),
-    )
+    let a = c .before .before .before .before .args in
+    ap (NewRights (a .caller) (a .target)) (changed c)
 
 pub removed-spec : {M : Type 1} → statement M
 removed-spec = tie.close (tie.spec domains-requires rights-requires without-requires returns)

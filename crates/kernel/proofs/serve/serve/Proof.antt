@@ -8,7 +8,7 @@ use Rattle.calls.specs.Decide.{decideCall}
 use Rattle.calls.proofs.Decide.{decided}
 use Rattle.rules.specs.Decision.{decisionOf}
 use Rattle.answers.specs.Answer.{answerOf}
-use Rattle.effects.specs.Effect.{doable}
+use Rattle.effects.specs.Effect.{effectFor, performed as left}
 use Rattle.effects.proofs.Words.{performed-whole}
 use Rattle.kernel.proofs.Fits.{answer-whole, can-be-done}
 use Rattle.kernel.proofs.serve.serve.Statement.{statement}
@@ -59,10 +59,8 @@ returns c =
           ∙ answer-whole t (start .pre) (start .args .first) (start .args .second);
       table =
           performed .perform .ensures
-          ∙ performed-whole t (chosen .effect-on .result) (machine.decide t call)
-          (chosen .effect-on .ensures .0 ∙ ap (machine.effect t) (made decided))
-          (chosen .effect-on .ensures .1 ∙ ap (doable t) (made decided))
-          (can-be-done t (start .pre) call);
+          ∙ ap (left t) (chosen .effect-on .ensures ∙ ap (effectFor t) (made decided))
+          ∙ performed-whole t (machine.decide t call) (can-be-done t (start .pre) call);
     }
 
 pub serve-spec : {M : Type 1} → statement M

@@ -1,4 +1,4 @@
--- `linerun::lines::all_lines` meets its contract: after i turns the lines of the calls below i are written. Assumes nothing.
+-- `linerun_report::lines::all_lines` meets its contract: after i turns the lines of the calls below i are written. Assumes nothing.
 use borrow.Author.Needs.{needs}
 use Prim.Native.Nat.{_+_, _-_, _*_, _≤_}
 use lib.ListN.{getD}

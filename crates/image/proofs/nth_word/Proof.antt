@@ -1,16 +1,16 @@
--- `word_at` is a word of the bytes. Assumes nothing.
+-- `nth_word` is a word of the bytes. Assumes nothing.
 use mathlib.Core.Path.{sym, _∙_}
 use native.Mathlib.Omega.{arith}
 use borrow.Author.Needs.{needs}
 use Rattle.reading.proofs.WordLaws.{getD-wordsOf}
-use Rattle.image.proofs.word_at.Statement.{statement}
-use Rattle.image.proofs.word_at.Tie as tie
+use Rattle.image.proofs.nth_word.Statement.{statement}
+use Rattle.image.proofs.nth_word.Tie as tie
 
 returns : tie.Need-returns
 returns c = c .word .ensures ∙ sym (getD-wordsOf _ _ (omega (arith, c .before .before .before .before .before .before .pre)))
 
-pub word-at-spec : {M : Type 1} → statement M
-word-at-spec =
+pub nth-word-spec : {M : Type 1} → statement M
+nth-word-spec =
     tie.close
     (tie.spec
     (λ c. search needs)
