@@ -3,34 +3,18 @@
 //! for.
 
 mod args;
-mod boundary;
 mod cases;
-mod commission;
-mod compare;
-mod counts;
-mod explain;
-#[cfg(test)]
-mod faulty;
-mod fuzz;
-mod input;
-mod linerun;
+mod commands;
+mod judging;
+mod kernels;
+mod line;
 mod output;
-mod panics;
-mod picture;
-mod program;
+mod pictures;
 mod progress;
-mod show;
-mod shrink;
-mod speed;
-mod step;
-mod svg;
-mod tally;
-mod text;
-mod variants;
-mod words;
-mod workloads;
 
 use std::process::ExitCode;
+
+use commands::{commission, fuzz, linerun, show, speed, step, words};
 
 /// The help before the list of commands, and after it.
 const HEAD: &str = "\

@@ -10,13 +10,13 @@ use reference::table::TABLE_WORDS_MAX;
 use reference::words::{from_bytes, to_bytes};
 
 use crate::args::Options;
-use crate::cases::rng_for;
-use crate::explain::counted;
+use crate::cases::random::rng_for;
+use crate::judging::shrink::fewest;
+use crate::kernels::program::{run, End, Feed, Ran};
+use crate::line::explain::counted;
+use crate::line::text;
 use crate::output::{self, say};
-use crate::program::{run, End, Feed, Ran};
 use crate::progress::Progress;
-use crate::shrink::fewest;
-use crate::text;
 
 pub const HELP: &str = "\
 bench linerun PROGRAM [--cases N] [--seed S] [--from K] [--time T]
@@ -346,7 +346,7 @@ fn apart(input: &[u8]) -> (&[u8], Vec<u32>, &[u8]) {
 #[cfg(test)]
 mod tests {
     use super::*;
-    use crate::input::Input;
+    use crate::line::input::Input;
 
     const TIME: Duration = Duration::from_secs(10);
 

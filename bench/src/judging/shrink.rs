@@ -49,8 +49,8 @@ fn with_calls(case: &Case, calls: &[Call]) -> Case {
 #[cfg(test)]
 mod tests {
     use super::*;
-    use crate::input::Input;
-    use crate::variants::case_of;
+    use crate::judging::variants::case_of;
+    use crate::line::input::Input;
     use reference::example::TABLE_T;
 
     fn example() -> Case {

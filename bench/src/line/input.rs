@@ -8,7 +8,7 @@ use reference::calls::{cut, LIST_WORDS_MAX};
 use reference::table::{domains, endpoints, TABLE_WORDS_MAX};
 use reference::words::{from_bytes, to_bytes};
 
-use crate::explain::counted;
+use crate::line::explain::counted;
 
 /// The most bytes that can matter: the length word, the longest table, and a list
 /// that is one word too long.

@@ -6,9 +6,9 @@ use reference::generate::Case;
 use reference::table::{domains, endpoints};
 use reference::words::bits;
 
-use crate::compare::Ran;
-use crate::counts::Counts;
-use crate::explain::{counted, meaning};
+use crate::judging::compare::Ran;
+use crate::judging::counts::Counts;
+use crate::line::explain::{counted, meaning};
 
 /// The codes that a run ends with, and those that a call is answered with.
 const ENTRY_CODES: std::ops::RangeInclusive<u32> = 0..=6;

@@ -12,9 +12,9 @@ use reference::table::{
 };
 use reference::words::{content, hex};
 
-use crate::explain::{call_in_words, counted};
-use crate::input::Input;
-use crate::svg::{Drawing, Style, INK, LINE, QUIET};
+use crate::line::explain::{call_in_words, counted};
+use crate::line::input::Input;
+use crate::pictures::svg::{Drawing, Style, INK, LINE, QUIET};
 
 const WIDTH: f64 = 1080.0;
 const MARGIN: f64 = 32.0;

@@ -6,13 +6,13 @@ use reference::table::{domains, endpoints};
 use reference::{check_table, cut};
 
 use crate::args::Options;
-use crate::boundary::{kernel, Kernel};
-use crate::compare::{difference, isolation, kept_calls, kernel_run, separate_run, Ran};
-use crate::counts;
-use crate::explain::{call_in_words, counted, meaning, table_fault};
-use crate::input::{read_input, shown, Input};
+use crate::judging::compare::{difference, isolation, kept_calls, kernel_run, separate_run, Ran};
+use crate::judging::counts;
+use crate::judging::variants::{case_of, damaged_tables, scrambled_lists, Variant};
+use crate::kernels::boundary::{kernel, Kernel};
+use crate::line::explain::{call_in_words, counted, meaning, table_fault};
+use crate::line::input::{read_input, shown, Input};
 use crate::output::{self, say};
-use crate::variants::{case_of, damaged_tables, scrambled_lists, Variant};
 
 pub const HELP: &str = "\
 bench commission FILE [--struck D] [--seed S] [--kernel NAME]
@@ -257,8 +257,8 @@ fn entry_code(case: &Case) -> u32 {
 #[cfg(test)]
 mod tests {
     use super::*;
-    use crate::boundary::KERNELS;
-    use crate::faulty;
+    use crate::kernels::boundary::KERNELS;
+    use crate::kernels::faulty;
 
     fn checklist(kernel: Kernel) -> Checklist {
         Checklist::new(kernel, &Input::example(), 1)

@@ -14,15 +14,15 @@ use reference::generate::Rng;
 use reference::words::{bits, content, kind, word};
 
 use crate::args::Options;
-use crate::boundary::{Step, NO_SPACE, PROVED_STEP};
-use crate::cases::{rng_for, run_case};
-use crate::compare::{answer_as_printed, first_unequal, Fenced};
-use crate::explain::{call_in_words, counted, meaning, place_in_words};
-use crate::input::Input;
+use crate::cases::random::{rng_for, run_case};
+use crate::judging::compare::{answer_as_printed, first_unequal, Fenced};
+use crate::judging::panics::or_panic;
+use crate::kernels::boundary::{Step, NO_SPACE, PROVED_STEP};
+use crate::line::explain::{call_in_words, counted, meaning, place_in_words};
+use crate::line::input::Input;
+use crate::line::text;
 use crate::output::say;
-use crate::panics::or_panic;
 use crate::progress::Progress;
-use crate::text;
 
 pub const HELP: &str = "\
 bench step [--cases N] [--seed S] [--from K]

@@ -2,7 +2,7 @@
 //!
 //! The help of `bench words` says what a text looks like.
 
-use crate::input::Input;
+use crate::line::input::Input;
 
 /// How often a word may be repeated: once for each word of a list that is too long.
 const REPEATS_MAX: usize = 4097;

@@ -8,17 +8,17 @@ use reference::table::domains;
 use reference::{check_bytes, cut};
 
 use crate::args::Options;
-use crate::boundary::{kernel, Kernel};
-use crate::cases::{image, run_case};
-use crate::compare::{difference, isolation, kernel_run, separate_run};
-use crate::counts;
-use crate::explain::counted;
-use crate::input::Input;
+use crate::cases::random::{image, run_case};
+use crate::judging::compare::{difference, isolation, kernel_run, separate_run};
+use crate::judging::counts;
+use crate::judging::shrink::shrink;
+use crate::judging::tally::{Tally, Tried};
+use crate::kernels::boundary::{kernel, Kernel};
+use crate::line::explain::counted;
+use crate::line::input::Input;
+use crate::line::text;
 use crate::output::{self, say};
 use crate::progress::Progress;
-use crate::shrink::shrink;
-use crate::tally::{Tally, Tried};
-use crate::text;
 
 pub const HELP: &str = "\
 bench fuzz [--cases N] [--seed S] [--table-checks N] [--from K] [--kernel NAME]
@@ -252,8 +252,8 @@ fn image_report(plan: &Plan, number: u64, bytes: &[u8], code: u32, separate: u32
 #[cfg(test)]
 mod tests {
     use super::*;
-    use crate::boundary::KERNELS;
-    use crate::faulty;
+    use crate::kernels::boundary::KERNELS;
+    use crate::kernels::faulty;
 
     fn plan(kernel: Kernel) -> Plan {
         Plan {

@@ -5,8 +5,8 @@ use reference::calls::{cut, Call, LIST_WORDS_MAX};
 use reference::entry::ANSWER_WORDS;
 use reference::generate::{Case, Rng};
 
-use crate::explain::counted;
-use crate::input::Input;
+use crate::line::explain::counted;
+use crate::line::input::Input;
 
 /// One variant, with what was done to make it.
 pub struct Variant {

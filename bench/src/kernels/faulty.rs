@@ -1,7 +1,7 @@
 //! Kernels with one fault each, for the tests of the bench itself: every
 //! comparison must tell them from a right one.
 
-use crate::boundary::{Kernel, PROVED};
+use crate::kernels::boundary::{Kernel, PROVED};
 
 /// A kernel that does one more thing once the proved one has run: to the table, the
 /// list, the answer space and the returned word.

@@ -9,9 +9,9 @@ use reference::table::rights_place;
 use reference::words::bits;
 use reference::{purge, step, view};
 
-use crate::boundary::{Kernel, Outcome};
-use crate::explain::{call_in_words, counted, meaning, place_in_words};
-use crate::panics::or_panic;
+use crate::judging::panics::or_panic;
+use crate::kernels::boundary::{Kernel, Outcome};
+use crate::line::explain::{call_in_words, counted, meaning, place_in_words};
 
 /// What a run returned and left.
 #[derive(Debug, Clone, PartialEq, Eq)]
@@ -251,10 +251,10 @@ fn queue_words(queue: &QueueView) -> String {
 #[cfg(test)]
 mod tests {
     use super::*;
-    use crate::boundary::PROVED;
-    use crate::faulty;
-    use crate::input::Input;
-    use crate::variants::case_of;
+    use crate::judging::variants::case_of;
+    use crate::kernels::boundary::PROVED;
+    use crate::kernels::faulty;
+    use crate::line::input::Input;
 
     fn example() -> Case {
         case_of(&Input::example())

@@ -1,10 +1,10 @@
 //! `bench words`: words as text into an input of linerun, and back.
 
 use crate::args::Options;
-use crate::explain::meaning;
-use crate::input::{read_at_most, read_input, shown, Input};
+use crate::line::explain::meaning;
+use crate::line::input::{read_at_most, read_input, shown, Input};
+use crate::line::text;
 use crate::output;
-use crate::text;
 
 pub const HELP: &str = "\
 bench words FILE > INPUT

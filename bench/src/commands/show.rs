@@ -13,12 +13,14 @@ use reference::table::{
 use reference::words::content;
 
 use crate::args::Options;
-use crate::boundary::PROVED;
-use crate::compare::{kernel_run, Ran};
-use crate::explain::{answer_in_words, call_in_words, counted, letters, meaning, table_fault};
-use crate::input::{read_input, Input};
+use crate::judging::compare::{kernel_run, Ran};
+use crate::kernels::boundary::PROVED;
+use crate::line::explain::{
+    answer_in_words, call_in_words, counted, letters, meaning, table_fault,
+};
+use crate::line::input::{read_input, Input};
 use crate::output::{self, say};
-use crate::picture;
+use crate::pictures::picture;
 
 pub const HELP: &str = "\
 bench show FILE [--run] [--svg OUT] [--calls N]
@@ -55,7 +57,7 @@ pub fn command(line: &[String]) -> Result<bool, String> {
     };
     if let Some((code, fault)) = table_fault(&input.table) {
         say!("table refused with {code} ({}): {fault}", meaning(code));
-        output::write(crate::text::write(&input).as_bytes());
+        output::write(crate::line::text::write(&input).as_bytes());
         return Ok(false);
     }
     let written = out

@@ -8,11 +8,11 @@ use reference::generate::Case;
 use reference::words::to_bytes;
 
 use crate::args::Options;
-use crate::boundary::{Kernel, KERNELS};
-use crate::compare::{difference, kernel_run, separate_run};
-use crate::explain::counted;
+use crate::cases::workloads::{by_kind, largest_table, workloads, Workload};
+use crate::judging::compare::{difference, kernel_run, separate_run};
+use crate::kernels::boundary::{Kernel, KERNELS};
+use crate::line::explain::counted;
 use crate::output::{self, say};
-use crate::workloads::{by_kind, largest_table, workloads, Workload};
 
 pub const HELP: &str = "\
 bench speed [--by-kind] [--rounds N]

@@ -1,0 +1,10 @@
+//! The commands of the program, one file each: what is given on the line, what is
+//! done with it, and the help.
+
+pub mod commission;
+pub mod fuzz;
+pub mod linerun;
+pub mod show;
+pub mod speed;
+pub mod step;
+pub mod words;

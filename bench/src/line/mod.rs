@@ -1,0 +1,6 @@
+//! A line's table and its list of calls: as the bytes that `linerun` reads, as text
+//! that is typed in, and in plain words.
+
+pub mod explain;
+pub mod input;
+pub mod text;
