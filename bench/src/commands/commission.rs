@@ -6,10 +6,12 @@ use reference::table::{domains, endpoints};
 use reference::{check_table, cut};
 
 use crate::args::Options;
-use crate::judging::compare::{difference, isolation, kept_calls, kernel_run, separate_run, Ran};
+use crate::judging::compare::{difference, isolation, kept_calls, separate_run};
 use crate::judging::counts;
 use crate::judging::variants::{case_of, damaged_tables, scrambled_lists, Variant};
 use crate::kernels::boundary::{kernel, Kernel};
+use crate::kernels::child;
+use crate::kernels::lent::Ran;
 use crate::line::explain::{call_in_words, counted, meaning, table_fault};
 use crate::line::input::{read_input, shown, Input};
 use crate::output::{self, say};
@@ -149,7 +151,8 @@ impl Checklist {
     fn refusals(&self) -> Line {
         let mut refused = 0;
         for Variant { what, case } in &self.variants {
-            let ran = kernel_run(&self.kernel, case).map_err(|why| format!("{what}: {why}"))?;
+            let ran = child::run(&self.kernel, case, child::LIMIT)
+                .map_err(|why| format!("{what}: {why}"))?;
             refusal_difference(case, &ran).map_or(Ok(()), |why| Err(format!("{what}: {why}")))?;
             refused += usize::from(ran.outcome.code != 0);
         }
@@ -170,7 +173,8 @@ impl Checklist {
         let variants = self.variants.iter().map(|v| (v.what.as_str(), &v.case));
         for (what, case) in whole.chain(variants) {
             let told = |why: String| format!("{what}: {why}");
-            let ran = kernel_run(&self.kernel, case).map_err(told)?;
+            let ran = child::run(&self.kernel, case, child::LIMIT);
+            let ran = ran.map_err(|why| told(why.into()))?;
             let separate = separate_run(case).map_err(told)?;
             if let Some(why) = difference(case, &ran, &separate) {
                 return Err(told(why));
@@ -185,7 +189,7 @@ impl Checklist {
 
     /// Line 3.
     fn isolation(&self) -> Line {
-        let ran = kernel_run(&self.kernel, &self.case)?;
+        let ran = child::run(&self.kernel, &self.case, child::LIMIT)?;
         let n = domains(&self.case.table);
         let mut struck = Vec::new();
         for domain in 0..n {
@@ -200,7 +204,7 @@ impl Checklist {
 
     /// Line 4.
     fn counts(&self) -> Line {
-        let ran = kernel_run(&self.kernel, &self.case)?;
+        let ran = child::run(&self.kernel, &self.case, child::LIMIT)?;
         let calls = cut(&self.case.list);
         if ran.outcome.calls as usize != calls.len() {
             return Err(format!(

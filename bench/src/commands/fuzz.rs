@@ -9,11 +9,12 @@ use reference::{check_bytes, cut};
 
 use crate::args::Options;
 use crate::cases::random::{image, run_case};
-use crate::judging::compare::{difference, isolation, kernel_run, separate_run};
+use crate::judging::compare::{difference, isolation, separate_run};
 use crate::judging::counts;
 use crate::judging::shrink::shrink;
 use crate::judging::tally::{Tally, Tried};
 use crate::kernels::boundary::{kernel, Kernel};
+use crate::kernels::lent::run_here;
 use crate::line::explain::counted;
 use crate::line::input::Input;
 use crate::line::text;
@@ -150,7 +151,7 @@ fn try_cases(plan: &Plan, tally: &mut Tally) -> Result<(), String> {
 /// One run: what it came to, or what differs. `pick` chooses the domain whose
 /// view is looked at where not every domain's is.
 fn try_case(kernel: &Kernel, case: &Case, pick: u64) -> Result<Tried, String> {
-    let ran = kernel_run(kernel, case)?;
+    let ran = run_here(kernel, case)?;
     if let Some(told) = difference(case, &ran, &separate_run(case)?) {
         return Err(told);
     }

@@ -13,8 +13,9 @@ use reference::table::{
 use reference::words::content;
 
 use crate::args::Options;
-use crate::judging::compare::{kernel_run, Ran};
 use crate::kernels::boundary::PROVED;
+use crate::kernels::child;
+use crate::kernels::lent::Ran;
 use crate::line::explain::{
     answer_in_words, call_in_words, counted, letters, meaning, table_fault,
 };
@@ -108,7 +109,7 @@ fn ran(input: &Input) -> Result<Ran, String> {
         list: input.list.clone(),
         answers: vec![0; ANSWER_WORDS * cut(&input.list).len()],
     };
-    let ran = kernel_run(&PROVED, &case)?;
+    let ran = child::run(&PROVED, &case, child::LIMIT)?;
     match ran.outcome.code {
         0 => Ok(ran),
         code => Err(format!(

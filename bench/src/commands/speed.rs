@@ -9,8 +9,9 @@ use reference::words::to_bytes;
 
 use crate::args::Options;
 use crate::cases::workloads::{by_kind, largest_table, workloads, Workload};
-use crate::judging::compare::{difference, kernel_run, separate_run};
+use crate::judging::compare::{difference, separate_run};
 use crate::kernels::boundary::{Kernel, KERNELS};
+use crate::kernels::child;
 use crate::line::explain::counted;
 use crate::output::{self, say};
 
@@ -86,7 +87,8 @@ fn first_wrong(workload: &Workload) -> Option<String> {
         answers: vec![0; 3 * workload.list.len()],
     };
     KERNELS.iter().find_map(|kernel| {
-        let compared = kernel_run(kernel, &case).and_then(|ran| {
+        let ran = child::run(kernel, &case, child::LIMIT).map_err(String::from);
+        let compared = ran.and_then(|ran| {
             let separate = separate_run(&case)?;
             difference(&case, &ran, &separate).map_or(Ok(()), Err)
         });

@@ -15,9 +15,10 @@ use reference::words::{bits, content, kind, word};
 
 use crate::args::Options;
 use crate::cases::random::{rng_for, run_case};
-use crate::judging::compare::{answer_as_printed, first_unequal, Fenced};
+use crate::judging::compare::{answer_as_printed, first_unequal};
 use crate::judging::panics::or_panic;
 use crate::kernels::boundary::{Step, NO_SPACE, PROVED_STEP};
+use crate::kernels::lent::{Fenced, Forbidden};
 use crate::line::explain::{call_in_words, counted, meaning, place_in_words};
 use crate::line::input::Input;
 use crate::line::text;
@@ -247,10 +248,10 @@ fn difference(
             meaning(wanted.code)
         ));
     }
-    let words = lent_table.words("table");
-    let words = words.and_then(|table| Ok((table, lent_space.words("answer space")?)));
+    let words = lent_table.words(Forbidden::AroundTable);
+    let words = words.and_then(|table| Ok((table, lent_space.words(Forbidden::AroundAnswers)?)));
     match words {
-        Err(told) => Some(told),
+        Err(wrote) => Some(wrote.to_string()),
         Ok((left, answer)) => words_difference(table, space, (left, answer), wanted),
     }
 }

@@ -10,63 +10,9 @@ use reference::words::bits;
 use reference::{purge, step, view};
 
 use crate::judging::panics::or_panic;
-use crate::kernels::boundary::{Kernel, Outcome};
+use crate::kernels::boundary::Outcome;
+use crate::kernels::lent::Ran;
 use crate::line::explain::{call_in_words, counted, meaning, place_in_words};
-
-/// What a run returned and left.
-#[derive(Debug, Clone, PartialEq, Eq)]
-pub struct Ran {
-    pub outcome: Outcome,
-    pub table: Vec<u32>,
-    pub answers: Vec<u32>,
-}
-
-/// Words lent from the middle of a larger space, with words around them that
-/// nobody was lent.
-pub struct Fenced {
-    words: Vec<u32>,
-    end: usize,
-}
-
-const FENCE: [u32; 4] = [0xA5A5_5A5A; 4];
-
-impl Fenced {
-    pub fn new(lent: &[u32]) -> Fenced {
-        Fenced {
-            words: [&FENCE, lent, &FENCE].concat(),
-            end: FENCE.len() + lent.len(),
-        }
-    }
-
-    pub fn lent(&mut self) -> &mut [u32] {
-        &mut self.words[FENCE.len()..self.end]
-    }
-
-    /// The lent words as they are now, unless a word around them was written.
-    pub fn words(&self, what: &str) -> Result<&[u32], String> {
-        if self.words[..FENCE.len()] != FENCE || self.words[self.end..] != FENCE {
-            return Err(format!("the kernel wrote outside the {what} it was lent"));
-        }
-        Ok(&self.words[FENCE.len()..self.end])
-    }
-}
-
-/// A kernel's run of a case; an error where it wrote what it wasn't lent to be
-/// written.
-pub fn kernel_run(kernel: &Kernel, case: &Case) -> Result<Ran, String> {
-    let mut table = Fenced::new(&case.table);
-    let mut list = Fenced::new(&case.list);
-    let mut answers = Fenced::new(&case.answers);
-    let outcome = kernel.run(table.lent(), list.lent(), answers.lent());
-    if list.words("list")? != case.list {
-        return Err("the kernel wrote the list".to_string());
-    }
-    Ok(Ran {
-        outcome,
-        table: table.words("table")?.to_vec(),
-        answers: answers.words("answer space")?.to_vec(),
-    })
-}
 
 /// The separate machine's run of a case; an error where it panics, which is a
 /// difference from a kernel that answers.
@@ -252,8 +198,9 @@ fn queue_words(queue: &QueueView) -> String {
 mod tests {
     use super::*;
     use crate::judging::variants::case_of;
-    use crate::kernels::boundary::PROVED;
+    use crate::kernels::boundary::{Kernel, PROVED};
     use crate::kernels::faulty;
+    use crate::kernels::lent::run_here;
     use crate::line::input::Input;
 
     fn example() -> Case {
@@ -262,8 +209,8 @@ mod tests {
 
     fn told(kernel: &Kernel) -> Option<String> {
         let case = example();
-        match kernel_run(kernel, &case) {
-            Err(wrong) => Some(wrong),
+        match run_here(kernel, &case) {
+            Err(wrong) => Some(wrong.to_string()),
             Ok(ran) => difference(&case, &ran, &separate_run(&case).unwrap()),
         }
     }
@@ -272,7 +219,7 @@ mod tests {
     fn the_proved_kernel_does_not_differ() {
         assert_eq!(told(&PROVED), None);
         let case = example();
-        let ran = kernel_run(&PROVED, &case).unwrap();
+        let ran = run_here(&PROVED, &case).unwrap();
         let struck: Vec<usize> = (0..3)
             .map(|domain| isolation(&case, &ran, domain).unwrap())
             .collect();

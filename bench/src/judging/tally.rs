@@ -6,8 +6,8 @@ use reference::generate::Case;
 use reference::table::{domains, endpoints};
 use reference::words::bits;
 
-use crate::judging::compare::Ran;
 use crate::judging::counts::Counts;
+use crate::kernels::lent::Ran;
 use crate::line::explain::{counted, meaning};
 
 /// The codes that a run ends with, and those that a call is answered with.

@@ -5,7 +5,7 @@
 //! The caller's duties of the header are what Rust's references say of
 //! themselves: a slice is valid for its length, aligned and never null, two
 //! lent parts of which one is written never overlap, and nobody else writes
-//! them. So every wrapper is safe, and there is no other `unsafe` in the bench.
+//! them. So every wrapper is safe.
 
 use reference::Call;
 

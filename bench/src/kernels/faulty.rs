@@ -1,6 +1,8 @@
 //! Kernels with one fault each, for the tests of the bench itself: every
 //! comparison must tell them from a right one.
 
+use reference::calls::GRANT;
+
 use crate::kernels::boundary::{Kernel, PROVED};
 
 /// A kernel that does one more thing once the proved one has run: to the table, the
@@ -69,4 +71,40 @@ pub const LOSES_COUNT: Kernel = faulty!("loses the lost count", |table, _l, _a, 
         *word = 0x6000_0000;
     }
     result
+});
+
+/// Whether a list has a call of the kind.
+fn has(list: &[u32], kind: u32) -> bool {
+    reference::cut(list).iter().any(|call| call.kind() == kind)
+}
+
+pub const FAULTS_AT_A_GRANT: Kernel = faulty!("faults", |_t, list, _a, result| {
+    if has(list, GRANT) {
+        let nowhere = std::hint::black_box(8 as *mut u32);
+        nowhere.write_volatile(result);
+    }
+    result
+});
+
+pub const LOOPS_AT_A_GRANT: Kernel = faulty!("loops", |_t, list, _a, result| {
+    while has(list, GRANT) {
+        std::hint::spin_loop();
+    }
+    result
+});
+
+pub const EXITS_AT_A_GRANT: Kernel = faulty!("exits", |_t, list, _a, result| {
+    if has(list, GRANT) {
+        std::process::exit(0);
+    }
+    result
+});
+
+/// Its check faults where bytes are left over behind the last whole word.
+pub const CHECK_FAULTS: Kernel = PROVED.with_check("check faults", |bytes| unsafe {
+    let nowhere = std::hint::black_box(8 as *mut u32);
+    if bytes.len() % 4 != 0 {
+        nowhere.write_volatile(0);
+    }
+    PROVED.table_check(&*bytes)
 });

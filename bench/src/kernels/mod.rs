@@ -1,7 +1,11 @@
-//! What is tried, and how it is called: the kernels behind the C boundary, and another
-//! program run on an input; kernels with a fault each, for the tests of the bench.
+//! What is tried, and how: the kernels behind the C boundary, the words that they are
+//! lent, the child process that they run in, and another program run on an input. For
+//! the tests of the bench, kernels with a fault each.
 
 pub mod boundary;
+pub mod child;
 #[cfg(test)]
 pub mod faulty;
+pub mod lent;
+pub mod process;
 pub mod program;

@@ -12,6 +12,8 @@ use std::sync::mpsc::{channel, sync_channel, Receiver, RecvTimeoutError, Sender}
 use std::thread;
 use std::time::{Duration, Instant};
 
+use crate::kernels::process::{end_group, signal_in_words};
+
 /// How often it is looked whether a part of the input was read.
 const LOOK_AGAIN: Duration = Duration::from_micros(20);
 
@@ -79,27 +81,13 @@ impl End {
         Some(match self {
             End::Status(0) => return None,
             End::Status(status) => format!("it ended with status {status}, it should be 0"),
-            End::Signal(signal) => format!("it was ended by signal {signal}{}", known(signal)),
+            End::Signal(signal) => format!("it was ended by {}", signal_in_words(signal)),
             End::TooMuch => format!("it was stopped: it printed more than {PRINTED_MAX} bytes"),
             End::TooLong(time) => format!(
                 "it was stopped: it had not ended after {} s",
                 time.as_secs()
             ),
         })
-    }
-}
-
-/// The signals that a faulty program ends by, in words.
-fn known(signal: i32) -> &'static str {
-    match signal {
-        4 => " (illegal instruction)",
-        6 => " (aborted)",
-        7 => " (bus error)",
-        8 => " (arithmetic error)",
-        9 => " (killed)",
-        11 => " (segmentation fault)",
-        15 => " (terminated)",
-        _ => "",
     }
 }
 
@@ -119,7 +107,7 @@ pub fn run(program: &str, input: &[u8], feed: Feed) -> Result<Ran, String> {
         }
     };
     if stopped.is_some() || gathered != Gathered::All {
-        kill_group(&child);
+        end_group(&child);
     }
     let status = child.wait();
     drop(running);
@@ -129,17 +117,6 @@ pub fn run(program: &str, input: &[u8], feed: Feed) -> Result<Ran, String> {
         said: said.recv_timeout(WAIT_FOR_SAID).unwrap_or_default(),
         end: stopped.unwrap_or_else(|| ended(status)),
     })
-}
-
-/// Ends a program and whatever it started. Nothing is asked of the outcome: they may
-/// have ended meanwhile.
-fn kill_group(child: &Child) {
-    extern "C" {
-        fn kill(process: i32, signal: i32) -> i32;
-    }
-    const SIGKILL: i32 = 9;
-    // SAFETY: it takes two numbers and touches no memory of this program.
-    unsafe { kill(-(child.id() as i32), SIGKILL) };
 }
 
 fn start(program: &str) -> Result<Child, String> {

@@ -1,0 +1,319 @@
+//! Kernels in a child process, with a time limit: one that faults, that loops or that
+//! ends the program is told, and this process goes on.
+//!
+//! The child is a copy of this process. Before each thing that it tries it writes its
+//! number on a board that both see, so that it is known what the kernel stopped at.
+
+use std::ops::Range;
+use std::sync::atomic::Ordering::Relaxed;
+use std::time::{Duration, Instant};
+use std::{io, thread};
+
+use reference::generate::Case;
+
+use crate::kernels::boundary::{Kernel, Outcome};
+use crate::kernels::lent::{run_here, Failure, Forbidden, Ran, Stopped};
+use crate::kernels::process::{Child, Shared};
+
+/// How long a kernel may take for one run or one check: thousands of times what the
+/// longest list takes.
+pub const LIMIT: Duration = Duration::from_secs(2);
+
+/// How long the parent sleeps before it looks at the child again, at first and at most.
+const LOOK_AGAIN: Duration = Duration::from_micros(50);
+const LOOK_AGAIN_AT_LATEST: Duration = Duration::from_millis(2);
+
+/// What a child and its parent both see: the number of what is tried, how it all ended,
+/// and words that the child leaves.
+pub struct Board(Shared);
+
+const NUMBER: usize = 0;
+const ENDED: usize = 1;
+const LEFT: usize = 2;
+
+/// What stands at [`ENDED`] once the child has done all that it was asked to.
+const WITH_FALSE: u64 = 1;
+const WITH_TRUE: u64 = 2;
+
+impl Board {
+    /// A board for so many words, which are zero until something is left in their place.
+    pub fn new(words: usize) -> Board {
+        Board(or_give_up(Shared::new(LEFT + words)))
+    }
+
+    /// Says what is tried next. The time for it begins.
+    pub fn announce(&self, number: u64) {
+        self.0[NUMBER].store(number, Relaxed);
+    }
+
+    /// The number announced last.
+    pub fn announced(&self) -> u64 {
+        self.0[NUMBER].load(Relaxed)
+    }
+
+    pub fn leave(&self, place: usize, words: impl IntoIterator<Item = u64>) {
+        for (at, word) in self.0[LEFT + place..].iter().zip(words) {
+            at.store(word, Relaxed);
+        }
+    }
+
+    pub fn left(&self, places: Range<usize>) -> impl Iterator<Item = u64> + '_ {
+        let places = &self.0[LEFT + places.start..LEFT + places.end];
+        places.iter().map(|at| at.load(Relaxed))
+    }
+}
+
+/// What `act` gives, done in a child process; or how it stopped, where it took longer
+/// than the limit for what was announced last, or never came to its end.
+pub fn watch(board: &Board, limit: Duration, act: impl FnOnce() -> bool) -> Result<bool, Stopped> {
+    let ended = |with| board.0[ENDED].store(with, Relaxed);
+    ended(0);
+    let mut child = or_give_up(Child::start(|| {
+        ended(if act() { WITH_TRUE } else { WITH_FALSE });
+    }));
+    let (mut number, mut since) = (board.announced(), Instant::now());
+    let mut pause = LOOK_AGAIN;
+    let status = loop {
+        if let Some(status) = child.ended() {
+            break status;
+        }
+        if board.announced() != number {
+            (number, since) = (board.announced(), Instant::now());
+        }
+        if since.elapsed() > limit {
+            return Err(Stopped::Loop(limit));
+        }
+        thread::sleep(pause);
+        pause = (2 * pause).min(LOOK_AGAIN_AT_LATEST);
+    };
+    match (board.0[ENDED].load(Relaxed), status.code()) {
+        (WITH_TRUE, _) => Ok(true),
+        (WITH_FALSE, _) => Ok(false),
+        (_, Some(101)) => panic!("the child process panicked"),
+        (_, Some(status)) => Err(Stopped::Exit(status)),
+        (_, None) => {
+            use std::os::unix::process::ExitStatusExt;
+            Err(Stopped::Fault(status.signal().unwrap_or_default()))
+        }
+    }
+}
+
+/// What the system gives, or the end of the program with 2.
+fn or_give_up<T>(given: io::Result<T>) -> T {
+    given.unwrap_or_else(|why| {
+        eprintln!("bench: no child process can be started: {why}");
+        std::process::exit(2)
+    })
+}
+
+/// A kernel's run of a case, in a child process.
+pub fn run(kernel: &Kernel, case: &Case, limit: Duration) -> Result<Ran, Failure> {
+    let mut only = runs(kernel, &[case], limit);
+    only.pop().expect("one case has one result")
+}
+
+/// A kernel's runs of cases, one after another in one child process. The first that
+/// stops is the last: those behind it are not run.
+pub fn runs(kernel: &Kernel, cases: &[&Case], limit: Duration) -> Vec<Result<Ran, Failure>> {
+    let mut places = Vec::with_capacity(cases.len());
+    let mut words = 0;
+    for case in cases {
+        places.push(words);
+        words += HEAD + case.table.len() + case.answers.len();
+    }
+    let board = Board::new(words);
+    let watched = watch(&board, limit, || {
+        for (number, (case, &place)) in cases.iter().zip(&places).enumerate() {
+            board.announce(number as u64);
+            leave_run(&board, place, &run_here(kernel, case));
+        }
+        true
+    });
+    let ran = cases.iter().zip(&places);
+    let ran = ran.map_while(|(case, &place)| left_run(&board, place, case));
+    let stopped = watched.err().map(|how| Err(Failure::Stopped(how)));
+    ran.chain(stopped).collect()
+}
+
+/// The words before the table and the answers that a run leaves on a board: what it came
+/// to, its code and its number of calls.
+const HEAD: usize = 3;
+
+/// What a run came to: it ran, or by [`FORBIDDEN`] what it wrote.
+const RAN: u64 = 1;
+const WROTE: u64 = 2;
+const FORBIDDEN: [Forbidden; 4] = [
+    Forbidden::List,
+    Forbidden::AroundList,
+    Forbidden::AroundTable,
+    Forbidden::AroundAnswers,
+];
+
+fn leave_run(board: &Board, place: usize, ran: &Result<Ran, Failure>) {
+    match ran {
+        Ok(ran) => {
+            let Outcome { code, calls } = ran.outcome;
+            let words = ran.table.iter().chain(&ran.answers).copied();
+            board.leave(
+                place + 1,
+                [code, calls].into_iter().chain(words).map(u64::from),
+            );
+            board.leave(place, [RAN]);
+        }
+        Err(Failure::Wrote(forbidden)) => {
+            let which = FORBIDDEN.iter().position(|known| known == forbidden);
+            board.leave(place, which.map(|which| WROTE + which as u64));
+        }
+        // It would have stopped this process.
+        Err(Failure::Stopped(_)) => {}
+    }
+}
+
+/// What a run left; nothing where it never came to that.
+fn left_run(board: &Board, place: usize, case: &Case) -> Option<Result<Ran, Failure>> {
+    let table = place + HEAD..place + HEAD + case.table.len();
+    let answers = table.end..table.end + case.answers.len();
+    let words = |places| {
+        board
+            .left(places)
+            .map(|word| word as u32)
+            .collect::<Vec<u32>>()
+    };
+    match board.left(place..place + 1).next()? {
+        0 => None,
+        RAN => {
+            let outcome = words(place + 1..place + HEAD);
+            Some(Ok(Ran {
+                outcome: Outcome {
+                    code: outcome[0],
+                    calls: outcome[1],
+                },
+                table: words(table),
+                answers: words(answers),
+            }))
+        }
+        wrote => {
+            let forbidden = FORBIDDEN[(wrote - WROTE) as usize];
+            Some(Err(Failure::Wrote(forbidden)))
+        }
+    }
+}
+
+/// A kernel's checks of table images, one after another in one child process. The first
+/// that stops is the last: those behind it are not checked.
+pub fn checks(kernel: &Kernel, images: &[&[u8]], limit: Duration) -> Vec<Result<u32, Stopped>> {
+    let board = Board::new(images.len());
+    let watched = watch(&board, limit, || {
+        for (number, image) in images.iter().enumerate() {
+            board.announce(number as u64);
+            // One more than the code, since 0 stands where nothing was left.
+            board.leave(number, [1 + u64::from(kernel.table_check(image))]);
+        }
+        true
+    });
+    let codes = board.left(0..images.len());
+    let codes = codes.map_while(|left| Some(left.checked_sub(1)? as u32));
+    codes.map(Ok).chain(watched.err().map(Err)).collect()
+}
+
+#[cfg(test)]
+mod tests {
+    use super::*;
+    use crate::judging::variants::case_of;
+    use crate::kernels::boundary::PROVED;
+    use crate::kernels::faulty;
+    use crate::line::input::Input;
+    use reference::example::TABLE_T;
+    use reference::words::to_bytes;
+
+    const SOON: Duration = Duration::from_millis(300);
+
+    /// The worked example, which has a grant, and the same without calls.
+    fn cases() -> [Case; 2] {
+        let without = Input {
+            list: vec![],
+            ..Input::example()
+        };
+        [case_of(&Input::example()), case_of(&without)]
+    }
+
+    #[test]
+    fn a_run_in_a_child_is_the_run() {
+        for case in &cases() {
+            assert_eq!(run(&PROVED, case, LIMIT), run_here(&PROVED, case));
+        }
+        let refused = Case {
+            table: vec![],
+            ..cases()[0].clone()
+        };
+        let ran = run(&PROVED, &refused, LIMIT).unwrap();
+        assert_eq!((ran.outcome.code, ran.answers), (2, refused.answers));
+    }
+
+    #[test]
+    fn words_that_are_not_lent_are_watched_in_a_child_too() {
+        let wrote = |kernel| run(&kernel, &cases()[0], LIMIT).unwrap_err();
+        let list = wrote(faulty::WRITES_LIST);
+        assert_eq!(list, Failure::Wrote(Forbidden::List));
+        let outside = wrote(faulty::WRITES_OUTSIDE);
+        assert_eq!(outside, Failure::Wrote(Forbidden::AroundAnswers));
+    }
+
+    #[test]
+    fn a_kernel_that_stops_is_told() {
+        let stopped = |kernel| run(&kernel, &cases()[0], SOON).unwrap_err().to_string();
+        let fault = stopped(faulty::FAULTS_AT_A_GRANT);
+        assert_eq!(
+            fault,
+            "the kernel was ended by signal 11 (segmentation fault)"
+        );
+        let endless = stopped(faulty::LOOPS_AT_A_GRANT);
+        assert_eq!(endless, "the kernel had not returned after 0.3 s");
+        let exit = stopped(faulty::EXITS_AT_A_GRANT);
+        assert_eq!(exit, "the kernel ended the program, with status 0");
+    }
+
+    #[test]
+    fn runs_end_with_the_first_that_stops() {
+        let [stops, runs_on] = &cases();
+        let all = [runs_on, runs_on, stops, runs_on];
+        assert_eq!(runs(&PROVED, &all, LIMIT).len(), 4);
+        let ran = runs(&faulty::FAULTS_AT_A_GRANT, &all, LIMIT);
+        assert_eq!(ran[..2], [(); 2].map(|()| run_here(&PROVED, runs_on)));
+        let fault = Err(Failure::Stopped(Stopped::Fault(11)));
+        assert_eq!(ran[2..], [fault]);
+    }
+
+    #[test]
+    fn each_run_has_the_whole_time() {
+        let slow = PROVED.with_run("slow", |_, _, _| {
+            thread::sleep(SOON / 4);
+            0
+        });
+        let case = &cases()[1];
+        assert!(runs(&slow, &[case; 6], SOON).iter().all(Result::is_ok));
+    }
+
+    #[test]
+    fn checks_end_with_the_first_that_stops() {
+        let image = &to_bytes(&TABLE_T)[..];
+        let all = [image, &image[..1], image];
+        assert_eq!(checks(&PROVED, &all, LIMIT), [Ok(0), Ok(2), Ok(0)]);
+        let stopped = checks(&faulty::CHECK_FAULTS, &all, LIMIT);
+        assert_eq!(stopped, [Ok(0), Err(Stopped::Fault(11))]);
+    }
+
+    #[test]
+    fn what_was_announced_last_is_known() {
+        let board = Board::new(1);
+        let watched = watch(&board, SOON, || {
+            board.announce(7);
+            board.leave(0, [5]);
+            std::process::abort()
+        });
+        assert_eq!(watched, Err(Stopped::Fault(6)));
+        assert_eq!(board.announced(), 7);
+        assert_eq!(board.left(0..1).collect::<Vec<_>>(), [5]);
+        assert_eq!(watch(&board, SOON, || false), Ok(false));
+    }
+}

@@ -1,0 +1,135 @@
+//! A run of a kernel on a case: the words that it is lent, what it returns and leaves of
+//! them, and what it does where it doesn't come to that.
+
+use std::fmt::{self, Display};
+use std::time::Duration;
+
+use reference::generate::Case;
+
+use crate::kernels::boundary::{Kernel, Outcome};
+use crate::kernels::process::signal_in_words;
+
+/// What a run returned and left.
+#[derive(Debug, Clone, PartialEq, Eq)]
+pub struct Ran {
+    pub outcome: Outcome,
+    pub table: Vec<u32>,
+    pub answers: Vec<u32>,
+}
+
+/// What a kernel did where there is no run to compare.
+#[derive(Debug, Clone, Copy, PartialEq, Eq)]
+pub enum Failure {
+    Stopped(Stopped),
+    Wrote(Forbidden),
+}
+
+/// A kernel that never returned.
+#[derive(Debug, Clone, Copy, PartialEq, Eq)]
+pub enum Stopped {
+    /// It was ended by this signal.
+    Fault(i32),
+    /// It was still at it after so long.
+    Loop(Duration),
+    /// It ended the whole program, with this status.
+    Exit(i32),
+}
+
+/// Words that a kernel isn't lent to be written.
+#[derive(Debug, Clone, Copy, PartialEq, Eq)]
+pub enum Forbidden {
+    List,
+    AroundList,
+    AroundTable,
+    AroundAnswers,
+}
+
+impl Display for Failure {
+    fn fmt(&self, to: &mut fmt::Formatter) -> fmt::Result {
+        match self {
+            Failure::Stopped(stopped) => stopped.fmt(to),
+            Failure::Wrote(forbidden) => forbidden.fmt(to),
+        }
+    }
+}
+
+impl Display for Stopped {
+    fn fmt(&self, to: &mut fmt::Formatter) -> fmt::Result {
+        match self {
+            Stopped::Fault(signal) => {
+                write!(to, "the kernel was ended by {}", signal_in_words(*signal))
+            }
+            Stopped::Loop(limit) => {
+                let seconds = limit.as_secs_f64();
+                write!(to, "the kernel had not returned after {seconds} s")
+            }
+            Stopped::Exit(status) => {
+                write!(to, "the kernel ended the program, with status {status}")
+            }
+        }
+    }
+}
+
+impl Display for Forbidden {
+    fn fmt(&self, to: &mut fmt::Formatter) -> fmt::Result {
+        let what = match self {
+            Forbidden::List => return write!(to, "the kernel wrote the list"),
+            Forbidden::AroundList => "list",
+            Forbidden::AroundTable => "table",
+            Forbidden::AroundAnswers => "answer space",
+        };
+        write!(to, "the kernel wrote outside the {what} it was lent")
+    }
+}
+
+impl From<Failure> for String {
+    fn from(failure: Failure) -> String {
+        failure.to_string()
+    }
+}
+
+/// Words lent from the middle of a larger space, with words around them that
+/// nobody was lent.
+pub struct Fenced {
+    words: Vec<u32>,
+    end: usize,
+}
+
+const FENCE: [u32; 4] = [0xA5A5_5A5A; 4];
+
+impl Fenced {
+    pub fn new(lent: &[u32]) -> Fenced {
+        Fenced {
+            words: [&FENCE, lent, &FENCE].concat(),
+            end: FENCE.len() + lent.len(),
+        }
+    }
+
+    pub fn lent(&mut self) -> &mut [u32] {
+        &mut self.words[FENCE.len()..self.end]
+    }
+
+    /// The lent words as they are now, unless a word around them was written.
+    pub fn words(&self, around: Forbidden) -> Result<&[u32], Failure> {
+        if self.words[..FENCE.len()] != FENCE || self.words[self.end..] != FENCE {
+            return Err(Failure::Wrote(around));
+        }
+        Ok(&self.words[FENCE.len()..self.end])
+    }
+}
+
+/// A kernel's run of a case in this process, which ends with the kernel if that stops.
+pub fn run_here(kernel: &Kernel, case: &Case) -> Result<Ran, Failure> {
+    let mut table = Fenced::new(&case.table);
+    let mut list = Fenced::new(&case.list);
+    let mut answers = Fenced::new(&case.answers);
+    let outcome = kernel.run(table.lent(), list.lent(), answers.lent());
+    if list.words(Forbidden::AroundList)? != case.list {
+        return Err(Failure::Wrote(Forbidden::List));
+    }
+    Ok(Ran {
+        outcome,
+        table: table.words(Forbidden::AroundTable)?.to_vec(),
+        answers: answers.words(Forbidden::AroundAnswers)?.to_vec(),
+    })
+}

@@ -1,0 +1,163 @@
+//! What the system is asked for beyond Rust's library: a child process that does part
+//! of this program's work, memory that both see, and an end put to a process. This and
+//! the boundary have all of the bench's `unsafe`.
+
+use std::ffi::{c_int, c_long, c_uint, c_ulong, c_void};
+use std::ops::Deref;
+use std::os::unix::process::ExitStatusExt;
+use std::panic::{catch_unwind, AssertUnwindSafe};
+use std::process::ExitStatus;
+use std::ptr;
+use std::sync::atomic::AtomicU64;
+use std::{io, slice};
+
+extern "C" {
+    fn fork() -> c_int;
+    fn _exit(status: c_int) -> !;
+    fn waitpid(process: c_int, status: *mut c_int, options: c_int) -> c_int;
+    fn kill(process: c_int, signal: c_int) -> c_int;
+    fn prctl(option: c_int, ...) -> c_int;
+    fn setrlimit(resource: c_int, limits: *const [c_ulong; 2]) -> c_int;
+    fn close_range(first: c_uint, last: c_uint, flags: c_uint) -> c_int;
+    fn mmap(
+        address: *mut c_void,
+        length: usize,
+        protection: c_int,
+        flags: c_int,
+        file: c_int,
+        offset: c_long,
+    ) -> *mut c_void;
+    fn munmap(address: *mut c_void, length: usize) -> c_int;
+}
+
+const SIGKILL: c_int = 9;
+const WNOHANG: c_int = 1;
+const PR_SET_PDEATHSIG: c_int = 1;
+const RLIMIT_CORE: c_int = 4;
+const PROT_READ_AND_WRITE: c_int = 3;
+const MAP_SHARED_AND_ANONYMOUS: c_int = 0x21;
+
+/// Numbers, zero at first, that a child process shares with its parent.
+pub struct Shared {
+    start: *mut AtomicU64,
+    count: usize,
+}
+
+impl Shared {
+    pub fn new(count: usize) -> io::Result<Shared> {
+        let bytes = count * size_of::<AtomicU64>();
+        // SAFETY: new memory is asked for, at no place in particular.
+        let start = unsafe {
+            mmap(
+                ptr::null_mut(),
+                bytes,
+                PROT_READ_AND_WRITE,
+                MAP_SHARED_AND_ANONYMOUS,
+                -1,
+                0,
+            )
+        };
+        if start as isize == -1 {
+            return Err(io::Error::last_os_error());
+        }
+        let start = start.cast();
+        Ok(Shared { start, count })
+    }
+}
+
+impl Deref for Shared {
+    type Target = [AtomicU64];
+
+    fn deref(&self) -> &[AtomicU64] {
+        // SAFETY: the memory is there until this is dropped, it is aligned to a page and
+        // zero at first, and whoever writes it does so by one whole number at a time.
+        unsafe { slice::from_raw_parts(self.start, self.count) }
+    }
+}
+
+impl Drop for Shared {
+    fn drop(&mut self) {
+        // SAFETY: it is the memory that was given, and nobody has it any more.
+        unsafe { munmap(self.start.cast(), self.count * size_of::<AtomicU64>()) };
+    }
+}
+
+/// A child process that was started here.
+pub struct Child {
+    id: c_int,
+    ended: Option<ExitStatus>,
+}
+
+impl Child {
+    /// Starts a child process that acts on a copy of all that this one has, and ends
+    /// with status 0, or with 101 where it panics. It has no files open but the first
+    /// three, leaves no memory image behind and ends at the latest with this thread.
+    pub fn start(act: impl FnOnce()) -> io::Result<Child> {
+        // SAFETY: the child has this thread alone. It takes no lock that another one may
+        // have held, but those of the allocator, which the C library keeps usable.
+        match unsafe { fork() } {
+            -1 => Err(io::Error::last_os_error()),
+            0 => {
+                // SAFETY: they take numbers, and limits that are there. Nothing is asked
+                // of their outcome: the child does its work without them too.
+                unsafe {
+                    prctl(PR_SET_PDEATHSIG, SIGKILL as c_ulong);
+                    setrlimit(RLIMIT_CORE, &[0, 0]);
+                    close_range(3, c_uint::MAX, 0);
+                }
+                let acted = catch_unwind(AssertUnwindSafe(act));
+                // SAFETY: it ends the child at once, with nothing done that its parent
+                // will do.
+                unsafe { _exit(if acted.is_ok() { 0 } else { 101 }) }
+            }
+            id => Ok(Child { id, ended: None }),
+        }
+    }
+
+    /// How it ended, if it has.
+    pub fn ended(&mut self) -> Option<ExitStatus> {
+        let mut status = 0;
+        // SAFETY: the child is this program's and wasn't waited for yet; its status is
+        // written where it is told to.
+        if self.ended.is_none() && unsafe { waitpid(self.id, &mut status, WNOHANG) } == self.id {
+            self.ended = Some(ExitStatus::from_raw(status));
+        }
+        self.ended
+    }
+}
+
+/// A child that nobody watches any more has no work to do.
+impl Drop for Child {
+    fn drop(&mut self) {
+        if self.ended.is_none() {
+            let mut status = 0;
+            // SAFETY: the child wasn't waited for yet, so its number is still its own.
+            unsafe {
+                kill(self.id, SIGKILL);
+                waitpid(self.id, &mut status, 0);
+            }
+        }
+    }
+}
+
+/// Ends a program that began a group of processes, and whatever it started. Nothing is
+/// asked of the outcome: they may have ended meanwhile.
+pub fn end_group(program: &std::process::Child) {
+    // SAFETY: it takes two numbers and touches no memory of this program.
+    unsafe { kill(-(program.id() as c_int), SIGKILL) };
+}
+
+/// A signal by its number, those that a faulty program ends by in words too.
+pub fn signal_in_words(signal: i32) -> String {
+    let known = match signal {
+        4 => " (illegal instruction)",
+        6 => " (aborted)",
+        7 => " (bus error)",
+        8 => " (arithmetic error)",
+        9 => " (killed)",
+        11 => " (segmentation fault)",
+        15 => " (terminated)",
+        _ => "",
+    };
+    format!("signal {signal}{known}")
+}
