@@ -1,5 +1,6 @@
 //! Links the proved archive, and compiles the plain C kernel to measure it
-//! against: by gcc, and by clang where there is one.
+//! against: by gcc, and by clang where there is one. Compiles the wrong kernels of
+//! bench/c/wrong too, by which the bench is tested in its turn.
 //!
 //! The archive is target/staticlib/libbalkwizu.a of the repository, or the file
 //! that BALKWIZU_ARCHIVE names; the program then calls it by that name, since nobody
@@ -46,6 +47,7 @@ fn build() -> Result<(), Box<dyn Error>> {
     let out = PathBuf::from(env::var("OUT_DIR")?);
     link_kernel(&out)?;
     link_step(&out)?;
+    compile_wrong(&out)?;
     compile_plain("gcc", &out)?;
     let mut compilers = vec![version("gcc").ok_or("no gcc")?];
     if let Some(clang) = version("clang") {
@@ -157,6 +159,40 @@ fn compile_plain(compiler: &str, out: &Path) -> Result<(), Box<dyn Error>> {
     let _ = fs::remove_file(&archive);
     finish(Command::new("ar").arg("crs").arg(&archive).args(&objects))?;
     println!("cargo::rustc-link-lib=static={library}");
+    Ok(())
+}
+
+/// Compiles the wrong kernels into libwrong.a, the functions `wrong_NAME` of each file
+/// called `wrong_FILE_NAME` in it, and writes the list of them for the program.
+fn compile_wrong(out: &Path) -> Result<(), Box<dyn Error>> {
+    let mut files: Vec<PathBuf> = fs::read_dir("c/wrong")?
+        .map(|entry| Ok(entry?.path()))
+        .collect::<Result<_, std::io::Error>>()?;
+    files.retain(|file| file.extension().is_some_and(|kind| kind == "c"));
+    files.sort();
+    let mut listed = String::from("&[\n");
+    let mut objects = Vec::new();
+    for file in &files {
+        let stem = file.file_stem().unwrap_or_default().to_string_lossy();
+        let object = out.join(format!("wrong_{stem}.o"));
+        let mut command = Command::new("gcc");
+        command.args(FLAGS).arg("-c");
+        for name in ["table_check", "run"] {
+            command.arg(format!("-Dplain_{name}=plain_gcc_{name}"));
+            command.arg(format!("-Dwrong_{name}=wrong_{stem}_{name}"));
+        }
+        finish(command.arg(file).arg("-o").arg(&object))?;
+        objects.push(object);
+        let name = format!("wrong-{}", stem.replace('_', "-"));
+        listed += &format!(
+            "kernel!(\"{name}\", \"kernel {name}\", wrong_{stem}_table_check, wrong_{stem}_run),\n"
+        );
+    }
+    let archive = out.join("libwrong.a");
+    let _ = fs::remove_file(&archive);
+    finish(Command::new("ar").arg("crs").arg(&archive).args(&objects))?;
+    println!("cargo::rustc-link-lib=static=wrong");
+    fs::write(out.join("wrong.rs"), listed + "]\n")?;
     Ok(())
 }
 

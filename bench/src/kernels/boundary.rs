@@ -181,9 +181,13 @@ pub const KERNELS: &[Kernel] = &[
     PLAIN_CLANG,
 ];
 
-/// The kernel that has the name.
+/// Kernels with a fault each, of bench/c/wrong: commissioning and fuzz must find it.
+pub const WRONG: &[Kernel] = include!(concat!(env!("OUT_DIR"), "/wrong.rs"));
+
+/// The kernel that has the name, a right one or a wrong one.
 pub fn kernel(name: &str) -> Result<Kernel, String> {
-    let found = KERNELS.iter().find(|kernel| kernel.name == name);
+    let mut all = KERNELS.iter().chain(WRONG);
+    let found = all.find(|kernel| kernel.name == name);
     found.copied().ok_or_else(|| {
         let names: Vec<&str> = KERNELS.iter().map(|kernel| kernel.name).collect();
         format!("no kernel `{name}`: there are {}", names.join(", "))
