@@ -1,6 +1,7 @@
 //! The command line: options, their values and what else is given.
 
 use std::ops::Range;
+use std::time::Duration;
 
 /// A command's line taken apart.
 #[derive(Debug, Clone, PartialEq, Eq)]
@@ -75,6 +76,14 @@ impl Options {
         }
     }
 
+    /// The time that `--time` gives, in whole seconds.
+    pub fn time(&self, seconds: u64) -> Result<Duration, String> {
+        match self.number("--time")?.unwrap_or(seconds) {
+            0 => Err("--time 0 leaves no time".to_string()),
+            seconds => Ok(Duration::from_secs(seconds)),
+        }
+    }
+
     /// The one file that a command is about.
     pub fn file(&self) -> Result<&str, String> {
         match self.files.as_slice() {
@@ -99,7 +108,11 @@ mod tests {
 
     fn parsed(line: &str) -> Result<Options, String> {
         let words: Vec<String> = line.split_whitespace().map(str::to_string).collect();
-        Options::parse(&words, &["--seed", "--cases", "--from"], &["--quiet"])
+        Options::parse(
+            &words,
+            &["--seed", "--cases", "--from", "--time"],
+            &["--quiet"],
+        )
     }
 
     #[test]
@@ -129,6 +142,14 @@ mod tests {
         );
         let wrong = parsed("--seed x").unwrap().number("--seed");
         assert_eq!(wrong, Err("--seed needs a whole number, not `x`".into()));
+    }
+
+    #[test]
+    fn a_time_is_some_seconds() {
+        let time = |line: &str| parsed(line).unwrap().time(10);
+        assert_eq!(time(""), Ok(Duration::from_secs(10)));
+        assert_eq!(time("--time 3"), Ok(Duration::from_secs(3)));
+        assert_eq!(time("--time 0"), Err("--time 0 leaves no time".into()));
     }
 
     #[test]

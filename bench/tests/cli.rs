@@ -220,6 +220,54 @@ fn one_run_can_be_tried_again_by_itself() {
     assert_eq!(status(&["fuzz", "--cases", "0", "--table-checks", "1"]), 0);
 }
 
+/// What the fuzz tells of a kernel that stops, and the input that it gives with it.
+fn stopped_fuzz(kernel: &str) -> (String, Vec<u8>) {
+    let line = ["fuzz", "--cases", "100", "--kernel", kernel, "--time", "1"];
+    let ran = bench(&line);
+    let report = String::from_utf8(ran.stdout).expect("text");
+    assert_eq!(ran.status.code(), Some(1), "{report}");
+    assert!(report.ends_with(&format!("fuzz of {kernel} with seed 1: FAILED\n")));
+    let (_, words) = report
+        .split_once("as `bench words` takes them:\n")
+        .expect("the words are given");
+    let (words, _) = words.split_once("# answer space").expect("the space");
+    let input = bench(&["words", &file(&format!("{kernel}.txt"), words.as_bytes())]);
+    assert_eq!(input.status.code(), Some(0), "{report}");
+    (report, input.stdout)
+}
+
+#[test]
+fn a_kernel_that_faults_is_told_by_the_fuzz_with_its_input() {
+    let (report, input) = stopped_fuzz("wrong-faults");
+    assert!(report.contains("STOPPED in run "), "{report}");
+    assert!(report.contains("ended by signal 11 (segmentation fault)\nTo see it again"));
+    assert!(report.contains("Cut down to 1 call:"), "{report}");
+    assert_eq!(input.last().expect("a call") >> 4, 7);
+}
+
+#[test]
+fn a_kernel_that_loops_is_told_by_the_fuzz_with_its_input() {
+    let (report, _) = stopped_fuzz("wrong-loops");
+    assert!(report.contains("STOPPED in run "), "{report}");
+    assert!(report.contains("the kernel had not returned after 1 s\nTo see it again"));
+    assert!(report.contains("Cut down to 1 call:"), "{report}");
+    assert!(report.contains("\nlist\n1"), "{report}");
+}
+
+#[test]
+fn a_kernel_that_stops_fails_a_line_of_the_checklist_and_the_others_go_on() {
+    let remove = to_bytes(&[&[34], &TABLE_T[..], &[0x7042_0001]].concat());
+    let input = file("remove.bin", &remove);
+    let list = printed(&["commission", &input, "--kernel", "wrong-faults"]);
+    for line in ["line 1 ", "line 2 failed ", "line 3 ", "line 4 "] {
+        assert!(list.contains(&format!("\n{line}")), "{list}");
+    }
+    assert!(list.contains("ended by signal 11 (segmentation fault)\nCut down to 1 call:"));
+    assert!(list.contains("\nlist\n70420001\n"), "{list}");
+    let line = ["commission", &input, "--kernel", "wrong-faults"];
+    assert_eq!(status(&line), 1);
+}
+
 #[test]
 fn a_program_that_is_no_linerun_differs() {
     let line = ["linerun", "/bin/cat", "--cases", "3"];

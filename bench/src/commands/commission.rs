@@ -8,6 +8,7 @@ use reference::{check_table, cut};
 use crate::args::Options;
 use crate::judging::compare::{difference, isolation, kept_calls, separate_run};
 use crate::judging::counts;
+use crate::judging::report;
 use crate::judging::variants::{case_of, damaged_tables, scrambled_lists, Variant};
 use crate::kernels::boundary::{kernel, Kernel};
 use crate::kernels::child;
@@ -147,12 +148,17 @@ impl Checklist {
         }
     }
 
+    /// The kernel's run of a case, or what it did instead.
+    fn run(&self, case: &Case) -> Result<Ran, String> {
+        let ran = child::run(&self.kernel, case, child::LIMIT);
+        ran.map_err(|failure| report::failed(&self.kernel, case, failure, child::LIMIT))
+    }
+
     /// Line 1.
     fn refusals(&self) -> Line {
         let mut refused = 0;
         for Variant { what, case } in &self.variants {
-            let ran = child::run(&self.kernel, case, child::LIMIT)
-                .map_err(|why| format!("{what}: {why}"))?;
+            let ran = self.run(case).map_err(|why| format!("{what}: {why}"))?;
             refusal_difference(case, &ran).map_or(Ok(()), |why| Err(format!("{what}: {why}")))?;
             refused += usize::from(ran.outcome.code != 0);
         }
@@ -173,8 +179,7 @@ impl Checklist {
         let variants = self.variants.iter().map(|v| (v.what.as_str(), &v.case));
         for (what, case) in whole.chain(variants) {
             let told = |why: String| format!("{what}: {why}");
-            let ran = child::run(&self.kernel, case, child::LIMIT);
-            let ran = ran.map_err(|why| told(why.into()))?;
+            let ran = self.run(case).map_err(told)?;
             let separate = separate_run(case).map_err(told)?;
             if let Some(why) = difference(case, &ran, &separate) {
                 return Err(told(why));
@@ -189,7 +194,7 @@ impl Checklist {
 
     /// Line 3.
     fn isolation(&self) -> Line {
-        let ran = child::run(&self.kernel, &self.case, child::LIMIT)?;
+        let ran = self.run(&self.case)?;
         let n = domains(&self.case.table);
         let mut struck = Vec::new();
         for domain in 0..n {
@@ -204,7 +209,7 @@ impl Checklist {
 
     /// Line 4.
     fn counts(&self) -> Line {
-        let ran = child::run(&self.kernel, &self.case, child::LIMIT)?;
+        let ran = self.run(&self.case)?;
         let calls = cut(&self.case.list);
         if ran.outcome.calls as usize != calls.len() {
             return Err(format!(

@@ -73,7 +73,7 @@ pub fn command(line: &[String]) -> Result<bool, String> {
     let program = options.file().map_err(|why| format!("PROGRAM: {why}"))?;
     let cases = options.number("--cases")?.unwrap_or(2000);
     let seed = options.number("--seed")?.unwrap_or(1);
-    let time = Duration::from_secs(options.number("--time")?.unwrap_or(10));
+    let time = options.time(10)?;
     if cases == 0 {
         return Err("--cases 0 leaves nothing to compare".to_string());
     }

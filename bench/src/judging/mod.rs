@@ -1,10 +1,15 @@
 //! What a kernel did, beside what it should have done: the comparison with the
 //! separate machine, the counts of the queues, the variants of a line that are tried,
-//! what was met in all, and a difference cut down.
+//! the random runs and table images, what was met in all, and what is wrong cut down
+//! and told.
 
 pub mod compare;
 pub mod counts;
+pub mod images;
 pub mod panics;
+pub mod report;
+pub mod runs;
 pub mod shrink;
 pub mod tally;
+pub mod trying;
 pub mod variants;

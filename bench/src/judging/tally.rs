@@ -7,6 +7,7 @@ use reference::table::{domains, endpoints};
 use reference::words::bits;
 
 use crate::judging::counts::Counts;
+use crate::judging::trying::Counted;
 use crate::kernels::lent::Ran;
 use crate::line::explain::{counted, meaning};
 
@@ -47,12 +48,33 @@ pub struct Tally {
     image: [u64; 24],
     domains_met: u64,
     endpoints_met: u64,
-    longest: usize,
+    longest: u64,
     full: u64,
     at_top: u64,
     emptied: u64,
     views: u64,
     struck: u64,
+}
+
+impl Counted for Tally {
+    fn numbers(&mut self) -> impl Iterator<Item = &mut u64> {
+        let single = [
+            &mut self.runs,
+            &mut self.images,
+            &mut self.calls,
+            &mut self.domains_met,
+            &mut self.endpoints_met,
+            &mut self.longest,
+            &mut self.full,
+            &mut self.at_top,
+            &mut self.emptied,
+            &mut self.views,
+            &mut self.struck,
+        ];
+        let by_code = self.entry.iter_mut().chain(&mut self.call);
+        let by_code = by_code.chain(&mut self.image);
+        single.into_iter().chain(by_code)
+    }
 }
 
 impl Tally {
@@ -61,7 +83,7 @@ impl Tally {
         let outcome = tried.ran.outcome;
         self.runs += 1;
         self.entry[outcome.code as usize] += 1;
-        self.longest = self.longest.max(case.list.len());
+        self.longest = self.longest.max(case.list.len() as u64);
         self.full += tried.counts.full;
         self.at_top += tried.counts.at_top;
         self.emptied += tried.counts.emptied;

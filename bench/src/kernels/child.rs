@@ -51,10 +51,14 @@ impl Board {
         self.0[NUMBER].load(Relaxed)
     }
 
+    /// Leaves words from a place on, as far as there are places.
     pub fn leave(&self, place: usize, words: impl IntoIterator<Item = u64>) {
-        for (at, word) in self.0[LEFT + place..].iter().zip(words) {
-            at.store(word, Relaxed);
-        }
+        let mut places = self.0[LEFT + place..].iter();
+        words.into_iter().for_each(|word| {
+            if let Some(place) = places.next() {
+                place.store(word, Relaxed);
+            }
+        });
     }
 
     pub fn left(&self, places: Range<usize>) -> impl Iterator<Item = u64> + '_ {

@@ -1,0 +1,171 @@
+//! Random runs of a kernel: each beside the separate machine, the counts of its queues,
+//! and what domains see of it.
+
+use std::ops::Range;
+
+use reference::cut;
+use reference::generate::Case;
+use reference::table::domains;
+
+use crate::cases::random::run_case;
+use crate::judging::compare::{difference, isolation, separate_run};
+use crate::judging::counts;
+use crate::judging::report::cut_down;
+use crate::judging::tally::{Tally, Tried};
+use crate::judging::trying::{try_all, Draws, Found};
+use crate::kernels::boundary::Kernel;
+use crate::kernels::child::{self, LIMIT};
+use crate::kernels::lent::{run_here, Ran};
+
+/// Runs with no more words to look at than this are looked at for every domain,
+/// others for one of them.
+const WORDS_FOR_EVERY_DOMAIN: usize = 40_000;
+
+/// Tries the runs; the first that is wrong, in words and with its own words.
+pub fn try_runs(kernel: &Kernel, draws: &Draws, tally: &mut Tally) -> Result<(), String> {
+    let found = try_all("runs", draws, tally, |number, tally| {
+        let case = run_case(draws.seed, number);
+        let tried = judged(&case, run_here(kernel, &case)?, number)?;
+        tally.add_run(&case, &tried);
+        Ok(())
+    });
+    found.map_err(|found| report(kernel, draws, &found))
+}
+
+/// What a run came to, or what is wrong with it. `pick` chooses the domain whose view
+/// is looked at where not every domain's is.
+fn judged(case: &Case, ran: Ran, pick: u64) -> Result<Tried, String> {
+    if let Some(told) = difference(case, &ran, &separate_run(case)?) {
+        return Err(told);
+    }
+    if ran.outcome.code != 0 {
+        return Ok(Tried::refused(ran));
+    }
+    let calls = cut(&case.list);
+    if let Some(told) = counts::difference(&case.table, &ran.table, &calls, &ran.answers) {
+        return Err(told);
+    }
+    let (mut views, mut struck) = (0, 0);
+    for domain in domains_to_see(case, calls.len(), pick) {
+        struck += isolation(case, &ran, domain)? as u64;
+        views += 1;
+    }
+    let counts = counts::follow(&case.table, &calls, &ran.answers);
+    Ok(Tried {
+        ran,
+        counts,
+        views,
+        struck,
+    })
+}
+
+fn domains_to_see(case: &Case, calls: usize, pick: u64) -> Range<usize> {
+    let n = domains(&case.table);
+    if n * calls * case.table.len() <= WORDS_FOR_EVERY_DOMAIN {
+        return 0..n;
+    }
+    let one = (pick / 8) as usize % n;
+    one..one + 1
+}
+
+/// What to show of a run that is wrong: where it came from, what is wrong, and the words
+/// of a shorter run that still is.
+fn report(kernel: &Kernel, draws: &Draws, found: &Found) -> String {
+    let Found { number, told, .. } = found;
+    let (seed, first, name) = (draws.seed, draws.numbers.start, kernel.name);
+    let head = format!(
+        "{} in run {number} of seed {seed}:\n  {told}\n",
+        found.headline()
+    );
+    let again = |from, cases| {
+        format!(
+            "To see it again: bench fuzz --kernel {name} --seed {seed} --from {from} \
+             --cases {cases} --table-checks 0\n"
+        )
+    };
+    let wrong = |case: &Case, limit| {
+        let ran = child::run(kernel, case, limit).map_err(String::from);
+        ran.and_then(|ran| judged(case, ran, *number)).err()
+    };
+    match cut_down(&run_case(seed, *number), draws.limit.min(LIMIT), wrong) {
+        Some(shorter) => head + &again(*number, 1) + &shorter,
+        None => {
+            let before = "Only behind the runs before it: by itself this run is right.\n";
+            head + before + &again(first, number - first + 1)
+        }
+    }
+}
+
+#[cfg(test)]
+mod tests {
+    use super::*;
+    use crate::judging::trying::tests::draws;
+    use crate::kernels::boundary::{KERNELS, PROVED};
+    use crate::kernels::faulty;
+
+    fn found(kernel: Kernel) -> String {
+        let found = try_runs(&kernel, &draws(0..1500), &mut Tally::default());
+        found.expect_err(kernel.name)
+    }
+
+    #[test]
+    fn no_kernel_differs_and_every_code_is_met() {
+        for kernel in KERNELS {
+            let mut tally = Tally::default();
+            let found = try_runs(kernel, &draws(0..1500), &mut tally);
+            assert_eq!(found, Ok(()), "{}", kernel.name);
+            assert_eq!(tally.never_met(true, false), Vec::<String>::new());
+        }
+    }
+
+    #[test]
+    fn every_faulty_kernel_is_found() {
+        let faulty = [
+            faulty::WRONG_ANSWER,
+            faulty::WRONG_TABLE,
+            faulty::WRONG_CODE,
+            faulty::WRONG_COUNT,
+            faulty::WRITES_BEYOND_ANSWERS,
+            faulty::WRITES_OUTSIDE,
+            faulty::WRITES_LIST,
+            faulty::LOSES_COUNT,
+        ];
+        for kernel in faulty {
+            let told = found(kernel);
+            assert!(told.starts_with("DIFFERENCE in run"), "{told}");
+            assert!(
+                told.contains("table\n") && told.contains("list\n"),
+                "{told}"
+            );
+        }
+    }
+
+    #[test]
+    fn a_kernel_that_stops_is_found_with_the_call_that_does_it() {
+        for kernel in [
+            faulty::FAULTS_AT_A_GRANT,
+            faulty::LOOPS_AT_A_GRANT,
+            faulty::EXITS_AT_A_GRANT,
+        ] {
+            let told = found(kernel);
+            assert!(told.starts_with("STOPPED in run"), "{told}");
+            assert!(told.contains("Cut down to 1 call:\n  the kernel"), "{told}");
+            let list = told.split_once("list\n").expect("a list").1;
+            assert!(list.starts_with('6'), "{told}");
+        }
+    }
+
+    #[test]
+    fn a_kernel_that_is_wrong_only_behind_other_runs_is_told_so() {
+        use std::sync::atomic::{AtomicU32, Ordering::Relaxed};
+        static RUNS: AtomicU32 = AtomicU32::new(0);
+        let kernel = PROVED.with_run("tires", |table, list, answers| unsafe {
+            let outcome = PROVED.run(&mut *table, &*list, &mut *answers);
+            outcome.calls << 16 | outcome.code | u32::from(RUNS.fetch_add(1, Relaxed) == 20)
+        });
+        let told = found(kernel);
+        assert!(told.starts_with("DIFFERENCE in run 20 of seed 1:\n  the kernel ends with"));
+        assert!(told.contains("Only behind the runs before it"), "{told}");
+        assert!(told.contains("--from 0 --cases 21 "), "{told}");
+    }
+}
