@@ -1,7 +1,7 @@
 //! What a kernel did, beside what it should have done: the comparison with the
 //! separate machine, the counts of the queues, the variants of a line that are tried,
-//! the random runs and table images, what was met in all, and what is wrong cut down
-//! and told.
+//! the random runs, table images and single calls, what was met in all, and what is
+//! wrong cut down and told.
 
 pub mod compare;
 pub mod counts;
@@ -10,6 +10,7 @@ pub mod panics;
 pub mod report;
 pub mod runs;
 pub mod shrink;
+pub mod steps;
 pub mod tally;
 pub mod trying;
 pub mod variants;

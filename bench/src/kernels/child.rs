@@ -10,9 +10,10 @@ use std::time::{Duration, Instant};
 use std::{io, thread};
 
 use reference::generate::Case;
+use reference::Call;
 
-use crate::kernels::boundary::{Kernel, Outcome};
-use crate::kernels::lent::{run_here, Failure, Forbidden, Ran, Stopped};
+use crate::kernels::boundary::{Kernel, Outcome, Step};
+use crate::kernels::lent::{run_here, step_here, Failure, Forbidden, Ran, Stopped};
 use crate::kernels::process::{Child, Shared};
 
 /// How long a kernel may take for one run or one check: thousands of times what the
@@ -112,13 +113,29 @@ fn or_give_up<T>(given: io::Result<T>) -> T {
 
 /// A kernel's run of a case, in a child process.
 pub fn run(kernel: &Kernel, case: &Case, limit: Duration) -> Result<Ran, Failure> {
-    let mut only = runs(kernel, &[case], limit);
-    only.pop().expect("one case has one result")
+    only(runs(kernel, &[case], limit))
 }
 
 /// A kernel's runs of cases, one after another in one child process. The first that
 /// stops is the last: those behind it are not run.
 pub fn runs(kernel: &Kernel, cases: &[&Case], limit: Duration) -> Vec<Result<Ran, Failure>> {
+    runs_by(cases, limit, |case| run_here(kernel, case))
+}
+
+/// A step on a table with one call, in a child process.
+pub fn step(step: Step, case: &Case, call: &Call, limit: Duration) -> Result<Ran, Failure> {
+    only(runs_by(&[case], limit, |case| step_here(step, case, call)))
+}
+
+fn only(mut ran: Vec<Result<Ran, Failure>>) -> Result<Ran, Failure> {
+    ran.pop().expect("one case has one result")
+}
+
+fn runs_by(
+    cases: &[&Case],
+    limit: Duration,
+    run: impl Fn(&Case) -> Result<Ran, Failure>,
+) -> Vec<Result<Ran, Failure>> {
     let mut places = Vec::with_capacity(cases.len());
     let mut words = 0;
     for case in cases {
@@ -129,7 +146,7 @@ pub fn runs(kernel: &Kernel, cases: &[&Case], limit: Duration) -> Vec<Result<Ran
     let watched = watch(&board, limit, || {
         for (number, (case, &place)) in cases.iter().zip(&places).enumerate() {
             board.announce(number as u64);
-            leave_run(&board, place, &run_here(kernel, case));
+            leave_run(&board, place, &run(case));
         }
         true
     });

@@ -5,8 +5,9 @@ use std::fmt::{self, Display};
 use std::time::Duration;
 
 use reference::generate::Case;
+use reference::Call;
 
-use crate::kernels::boundary::{Kernel, Outcome};
+use crate::kernels::boundary::{Kernel, Outcome, Step};
 use crate::kernels::process::signal_in_words;
 
 /// What a run returned and left.
@@ -90,7 +91,7 @@ impl From<Failure> for String {
 
 /// Words lent from the middle of a larger space, with words around them that
 /// nobody was lent.
-pub struct Fenced {
+struct Fenced {
     words: Vec<u32>,
     end: usize,
 }
@@ -98,23 +99,25 @@ pub struct Fenced {
 const FENCE: [u32; 4] = [0xA5A5_5A5A; 4];
 
 impl Fenced {
-    pub fn new(lent: &[u32]) -> Fenced {
+    fn new(lent: &[u32]) -> Fenced {
         Fenced {
             words: [&FENCE, lent, &FENCE].concat(),
             end: FENCE.len() + lent.len(),
         }
     }
 
-    pub fn lent(&mut self) -> &mut [u32] {
+    fn lent(&mut self) -> &mut [u32] {
         &mut self.words[FENCE.len()..self.end]
     }
 
-    /// The lent words as they are now, unless a word around them was written.
-    pub fn words(&self, around: Forbidden) -> Result<&[u32], Failure> {
+    /// The lent words as they were left, unless a word around them was written.
+    fn words(mut self, around: Forbidden) -> Result<Vec<u32>, Failure> {
         if self.words[..FENCE.len()] != FENCE || self.words[self.end..] != FENCE {
             return Err(Failure::Wrote(around));
         }
-        Ok(&self.words[FENCE.len()..self.end])
+        self.words.truncate(self.end);
+        self.words.drain(..FENCE.len());
+        Ok(self.words)
     }
 }
 
@@ -129,7 +132,19 @@ pub fn run_here(kernel: &Kernel, case: &Case) -> Result<Ran, Failure> {
     }
     Ok(Ran {
         outcome,
-        table: table.words(Forbidden::AroundTable)?.to_vec(),
-        answers: answers.words(Forbidden::AroundAnswers)?.to_vec(),
+        table: table.words(Forbidden::AroundTable)?,
+        answers: answers.words(Forbidden::AroundAnswers)?,
+    })
+}
+
+/// A step on a table with one call, in this process.
+pub fn step_here(step: Step, case: &Case, call: &Call) -> Result<Ran, Failure> {
+    let mut table = Fenced::new(&case.table);
+    let mut answers = Fenced::new(&case.answers);
+    let code = step(table.lent(), call, answers.lent());
+    Ok(Ran {
+        outcome: Outcome { code, calls: 1 },
+        table: table.words(Forbidden::AroundTable)?,
+        answers: answers.words(Forbidden::AroundAnswers)?,
     })
 }

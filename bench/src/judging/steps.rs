@@ -1,0 +1,399 @@
+//! Single calls of random lists: the proved kernel's public step beside the separate
+//! machine's.
+//!
+//! The calls are those of the fuzz's random lists, on its random tables. Some get a
+//! second word that no list would give them: a kind that takes none gets one, or the
+//! second word of a look up or a send is of another kind than 15. The step's contract
+//! is for any first and second word: a kind that takes none ignores it, and of another
+//! kind only bits 27–0 count, which is how the separate machine takes them too.
+
+use reference::calls::{cut, Call, LOOK_UP, SEND, STRAY};
+use reference::check_table;
+use reference::entry::ANSWER_WORDS;
+use reference::generate::{Case, Rng};
+use reference::words::{bits, content, kind, word};
+
+use crate::cases::random::{rng_for, run_case};
+use crate::judging::compare::{answer_as_printed, first_unequal};
+use crate::judging::panics::or_panic;
+use crate::judging::trying::{try_all, Counted, Draws, Found};
+use crate::kernels::boundary::{Outcome, Step, NO_SPACE};
+use crate::kernels::child::{self, LIMIT};
+use crate::kernels::lent::{step_here, Failure, Ran};
+use crate::line::explain::{call_in_words, counted, meaning, place_in_words};
+use crate::line::input::Input;
+use crate::line::text;
+
+/// No more calls of one list are tried than this.
+const CALLS_MAX: usize = 64;
+
+/// The codes of the step, and those of its answers.
+const STEP_CODES: [u32; 6] = [0, 2, 3, 4, 5, NO_SPACE];
+const CALL_CODES: std::ops::RangeInclusive<u32> = 10..=23;
+
+/// What the steps came to.
+#[derive(Default)]
+pub struct Met {
+    steps: u64,
+    /// What the step returned, in the order of [`STEP_CODES`].
+    step: [u64; STEP_CODES.len()],
+    /// By code, what its answers say.
+    call: [u64; 24],
+    /// Second words given to a kind that takes none, and of another kind than 15.
+    not_taken: u64,
+    of_another_kind: u64,
+}
+
+impl Counted for Met {
+    fn numbers(&mut self) -> impl Iterator<Item = &mut u64> {
+        let single = [
+            &mut self.steps,
+            &mut self.not_taken,
+            &mut self.of_another_kind,
+        ];
+        let by_code = self.step.iter_mut().chain(&mut self.call);
+        single.into_iter().chain(by_code)
+    }
+}
+
+impl Met {
+    fn add(&mut self, call: &Call, code: u32, answer: Option<[u32; 3]>) {
+        self.steps += 1;
+        for (known, count) in STEP_CODES.iter().zip(&mut self.step) {
+            *count += u64::from(*known == code);
+        }
+        let Some(answer) = answer else { return };
+        self.call[bits(answer[0], 15, 0) as usize] += 1;
+        let Some(second) = call.second else { return };
+        match call.kind() {
+            LOOK_UP | SEND => self.of_another_kind += u64::from(kind(second) != STRAY),
+            _ => self.not_taken += 1,
+        }
+    }
+
+    /// What was never met.
+    pub fn missing(&self) -> Vec<String> {
+        let step = STEP_CODES.map(|code| format!("code {code}"));
+        let step = step.into_iter().zip(self.step);
+        let call = CALL_CODES.map(|code| (format!("answer code {code}"), self.call[code as usize]));
+        let others = [
+            ("a call that is done", self.call[0]),
+            ("a second word not taken", self.not_taken),
+            ("a second word of another kind", self.of_another_kind),
+        ];
+        let others = others.map(|(name, count)| (name.to_string(), count));
+        let all = step.chain(call).chain(others);
+        all.filter(|(_, count)| *count == 0)
+            .map(|(name, _)| name)
+            .collect()
+    }
+
+    pub fn in_words(&self) -> String {
+        let [answered, refused @ .., no_space] = self.step;
+        format!(
+            "{}: {answered} answered, {} done; {} with the table refused, {no_space} with too \
+             little space; {} not taken, {} of another kind than 15",
+            counted(self.steps, "step"),
+            self.call[0],
+            refused.iter().sum::<u64>(),
+            counted(self.not_taken, "second word"),
+            self.of_another_kind
+        )
+    }
+}
+
+/// Tries the lists; the first that is wrong, with the call and the table before it.
+pub fn try_steps(step: Step, draws: &Draws, met: &mut Met) -> Result<(), String> {
+    let found = try_all("lists", draws, met, |number, met| {
+        try_list(draws.seed, number, met, |case, call| {
+            step_here(step, case, call)
+        })
+    });
+    found.map_err(|found| report(step, draws, &found))
+}
+
+/// What to show of a list that is wrong: where it came from, what is wrong, and with
+/// which call.
+fn report(step: Step, draws: &Draws, found: &Found) -> String {
+    let (seed, first, number) = (draws.seed, draws.numbers.start, found.number);
+    let head = format!("{} in list {number} of seed {seed}:\n", found.headline());
+    let again = |from, cases| {
+        format!("To see it again: bench step --seed {seed} --from {from} --cases {cases}")
+    };
+    let limit = draws.limit.min(LIMIT);
+    let by_itself = try_list(seed, number, &mut Met::default(), |case, call| {
+        child::step(step, case, call, limit)
+    });
+    match by_itself {
+        Err(told) => format!("{head}  {told}\n{}", again(number, 1)),
+        Ok(()) => format!(
+            "{head}  {}\nOnly behind the lists before it: by itself this list is right.\n{}",
+            found.told,
+            again(first, number - first + 1)
+        ),
+    }
+}
+
+/// Feeds the calls of one list to a step, each on the table that the one before it left.
+fn try_list(
+    seed: u64,
+    number: u64,
+    met: &mut Met,
+    step: impl Fn(&Case, &Call) -> Result<Ran, Failure>,
+) -> Result<(), String> {
+    let list = run_case(seed, number);
+    let rng = &mut rng_for(seed.rotate_left(32), number);
+    let mut table = list.table;
+    for call in cut(&list.list).iter().take(CALLS_MAX) {
+        let call = &with_any_second(rng, call);
+        let case = Case {
+            table,
+            list: call.words(),
+            answers: space(rng),
+        };
+        let wanted = separate_step(&case, call)?;
+        let told = match step(&case, call) {
+            Ok(ran) => difference(&case, &ran, &wanted),
+            Err(failure) => Some(failure.to_string()),
+        };
+        if let Some(told) = told {
+            return Err(with_words(&case, call, &told));
+        }
+        let code = wanted.outcome.code;
+        let answer = wanted.answers.first_chunk().copied();
+        met.add(call, code, answer.filter(|_| code == 0));
+        table = wanted.table;
+    }
+    Ok(())
+}
+
+/// A call, now and then with a second word that no list gives it.
+fn with_any_second(rng: &mut Rng, call: &Call) -> Call {
+    if !rng.chance(1, 8) {
+        return *call;
+    }
+    let second = match call.second {
+        Some(second) => word(rng.below(16) as u32, content(second)),
+        None => rng.word(),
+    };
+    Call {
+        second: Some(second),
+        ..*call
+    }
+}
+
+/// An answer space, mostly large enough.
+fn space(rng: &mut Rng) -> Vec<u32> {
+    let words = match rng.below(32) {
+        0 => rng.below(3),
+        _ => rng.between(3, 5),
+    };
+    (0..words).map(|_| rng.word()).collect()
+}
+
+/// The separate machine's step; an error where it panics, which is a difference from
+/// a kernel that answers.
+fn separate_step(case: &Case, call: &Call) -> Result<Ran, String> {
+    or_panic(|| {
+        let (mut table, mut answers) = (case.table.clone(), case.answers.clone());
+        let code = match answers.first_chunk_mut::<ANSWER_WORDS>() {
+            None => NO_SPACE,
+            Some(answer) => {
+                let code = check_table(&table);
+                if code == 0 {
+                    *answer = reference::step(&mut table, call);
+                }
+                code
+            }
+        };
+        Ran {
+            outcome: Outcome { code, calls: 1 },
+            table,
+            answers,
+        }
+    })
+}
+
+/// The first difference between a step and what is wanted of it.
+fn difference(case: &Case, ran: &Ran, wanted: &Ran) -> Option<String> {
+    let (code, wanted_code) = (ran.outcome.code, wanted.outcome.code);
+    if code != wanted_code {
+        return Some(format!(
+            "the kernel's step returns {code} ({}), the separate machine {wanted_code} ({})",
+            meaning(code),
+            meaning(wanted_code)
+        ));
+    }
+    answer_difference(case, ran, wanted).or_else(|| table_difference(case, ran, wanted))
+}
+
+fn answer_difference(case: &Case, ran: &Ran, wanted: &Ran) -> Option<String> {
+    let place = first_unequal(&ran.answers, &wanted.answers)?;
+    if wanted.outcome.code != 0 || place >= ANSWER_WORDS {
+        return Some(format!(
+            "word {place} of the answer space is no answer's and was {:08X}: the kernel \
+             leaves {:08X}",
+            case.answers[place], ran.answers[place]
+        ));
+    }
+    Some(format!(
+        "the kernel answers {}, the separate machine {}",
+        answer_as_printed(&ran.answers),
+        answer_as_printed(&wanted.answers)
+    ))
+}
+
+fn table_difference(case: &Case, ran: &Ran, wanted: &Ran) -> Option<String> {
+    let place = first_unequal(&ran.table, &wanted.table)?;
+    let told = match wanted.outcome.code {
+        0 => place_in_words(&case.table, place),
+        code => format!("word {place} where the step returns {code}"),
+    };
+    Some(format!(
+        "{told}, was {:08X}: the kernel leaves {:08X}, the separate machine {:08X}",
+        case.table[place], ran.table[place], wanted.table[place]
+    ))
+}
+
+/// What is wrong, with the table before the call and the call.
+fn with_words(case: &Case, call: &Call, told: &str) -> String {
+    let input = Input {
+        table: case.table.clone(),
+        list: case.list.clone(),
+    };
+    format!(
+        "{told}\nThe call ({}) and the table before it, as `bench words` takes them:\n{}\
+         # answer space: {}",
+        call_in_words(call),
+        text::write(&input),
+        counted(case.answers.len(), "word")
+    )
+}
+
+#[cfg(all(test, step))]
+mod tests {
+    use super::*;
+    use crate::judging::trying::tests::draws;
+    use crate::kernels::boundary::PROVED_STEP;
+
+    const PROVED: Step = match PROVED_STEP {
+        Some(step) => step,
+        None => panic!("built without the step"),
+    };
+
+    fn first_difference(step: Step) -> Option<String> {
+        try_steps(step, &draws(0..2000), &mut Met::default()).err()
+    }
+
+    /// What is told of a step that does one more thing once the proved one is done.
+    macro_rules! told {
+        (|$table:ident, $call:ident, $answer:ident, $code:ident| $fault:expr) => {
+            first_difference(|$table, $call, $answer| {
+                let $code = PROVED($table, $call, $answer);
+                $fault
+            })
+            .expect("it is found")
+        };
+    }
+
+    #[test]
+    fn the_proved_step_does_not_differ_and_everything_is_met() {
+        let mut met = Met::default();
+        assert_eq!(try_steps(PROVED, &draws(0..5000), &mut met), Ok(()));
+        assert_eq!(met.missing(), Vec::<String>::new());
+    }
+
+    #[test]
+    fn a_step_that_stops_is_found_with_its_call() {
+        let fault = told!(|_t, call, _a, code| {
+            if call.kind() == SEND {
+                std::process::abort();
+            }
+            code
+        });
+        assert!(fault.starts_with("STOPPED in list "), "{fault}");
+        assert!(fault.contains("ended by signal 6 (aborted)\nThe call (domain "));
+        assert!(fault.contains(" sends "), "{fault}");
+        let endless = told!(|_t, call, _a, code| {
+            while call.kind() == SEND {
+                std::hint::spin_loop();
+            }
+            code
+        });
+        assert!(
+            endless.contains("not returned after 0.5 s\nThe call"),
+            "{endless}"
+        );
+    }
+
+    #[test]
+    fn a_step_that_is_wrong_only_behind_others_is_told_so() {
+        use std::sync::atomic::{AtomicU32, Ordering::Relaxed};
+        static STEPS: AtomicU32 = AtomicU32::new(0);
+        let tires = told!(|_t, _c, _a, code| code + u32::from(STEPS.fetch_add(1, Relaxed) == 200));
+        assert!(tires.contains("Only behind the lists before it"), "{tires}");
+        assert!(tires.contains(" --from 0 --cases "), "{tires}");
+    }
+
+    #[test]
+    fn a_faulty_step_is_found() {
+        let code = told!(|_t, _c, _a, code| if code == 5 { 0 } else { code });
+        assert!(code.contains("the separate machine 5 (an endpoint"));
+        let space = told!(|_t, _c, _a, code| code % 99);
+        assert!(space.contains("returns 0 (done), the separate machine 99"));
+        let answer = told!(|_t, _c, answer, code| {
+            if code == 0 {
+                answer[2] ^= 1;
+            }
+            code
+        });
+        assert!(answer.contains("\n  the kernel answers"), "{answer}");
+        let table = told!(|table, _c, _a, code| {
+            if code == 0 {
+                table[1] ^= 1;
+            }
+            code
+        });
+        assert!(table.contains("\n  word 1, the rights of"), "{table}");
+    }
+
+    #[test]
+    fn a_step_that_writes_what_it_should_leave_is_found() {
+        let beyond = told!(|_t, _c, answer, code| {
+            if let Some(word) = answer.get_mut(3) {
+                *word ^= 1;
+            }
+            code
+        });
+        assert!(beyond.contains("\n  word 3 of the answer space is no answer's"));
+        let refused = told!(|table, _c, _a, code| {
+            if let (4, Some(word)) = (code, table.last_mut()) {
+                *word ^= 1;
+            }
+            code
+        });
+        assert!(refused.contains("where the step returns 4"), "{refused}");
+    }
+
+    #[test]
+    fn a_step_that_takes_second_words_otherwise_is_found() {
+        let stray_only = first_difference(|table, call, answer| {
+            let second = call.second.filter(|&word| kind(word) == STRAY);
+            PROVED(table, &Call { second, ..*call }, answer)
+        });
+        assert!(stray_only.expect("it is found").contains("code 14"));
+        let table = [0x1000_0100, 0x2000_0000];
+        let call = Call {
+            first: 0x5000_0000,
+            second: Some(0x1234_5678),
+        };
+        let case = Case {
+            table: table.to_vec(),
+            list: call.words(),
+            answers: vec![7; 4],
+        };
+        let wanted = separate_step(&case, &call).unwrap();
+        assert_eq!(wanted.answers, [0x5000_0000, 0, 0, 7]);
+        assert_eq!(step_here(PROVED, &case, &call), Ok(wanted));
+    }
+}
