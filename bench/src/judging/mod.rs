@@ -1,16 +1,18 @@
 //! What a kernel did, beside what it should have done: the comparison with the
 //! separate machine, the counts of the queues, the variants of a line that are tried,
-//! the random runs, table images and single calls, what was met in all, and what is
-//! wrong cut down and told.
+//! the random runs, table images and single calls, what `linerun` prints, what was met
+//! in all, what is wrong cut down and told, and how long it takes.
 
 pub mod compare;
 pub mod counts;
 pub mod images;
 pub mod panics;
+pub mod printed;
 pub mod report;
 pub mod runs;
 pub mod shrink;
 pub mod steps;
 pub mod tally;
+pub mod timing;
 pub mod trying;
 pub mod variants;

@@ -1,4 +1,6 @@
-//! A line as a picture, and the shapes that it is drawn with.
+//! A line to look at: in words with a small diagram, and as a picture with the shapes
+//! that it is drawn with.
 
+pub mod diagram;
 pub mod picture;
 pub mod svg;
