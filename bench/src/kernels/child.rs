@@ -5,8 +5,10 @@
 //! number on a board that both see, so that it is known what the kernel stopped at.
 
 use std::ops::Range;
+use std::os::unix::process::ExitStatusExt;
+use std::process::ExitStatus;
 use std::sync::atomic::Ordering::Relaxed;
-use std::time::{Duration, Instant};
+use std::time::Duration;
 use std::{io, thread};
 
 use reference::generate::Case;
@@ -76,31 +78,35 @@ pub fn watch(board: &Board, limit: Duration, act: impl FnOnce() -> bool) -> Resu
     let mut child = or_give_up(Child::start(|| {
         ended(if act() { WITH_TRUE } else { WITH_FALSE });
     }));
-    let (mut number, mut since) = (board.announced(), Instant::now());
-    let mut pause = LOOK_AGAIN;
-    let status = loop {
-        if let Some(status) = child.ended() {
-            break status;
-        }
-        if board.announced() != number {
-            (number, since) = (board.announced(), Instant::now());
-        }
-        if since.elapsed() > limit {
-            return Err(Stopped::Loop(limit));
-        }
-        thread::sleep(pause);
-        pause = (2 * pause).min(LOOK_AGAIN_AT_LATEST);
-    };
+    let status = end_of(&mut child, board, limit)?;
     match (board.0[ENDED].load(Relaxed), status.code()) {
         (WITH_TRUE, _) => Ok(true),
         (WITH_FALSE, _) => Ok(false),
         (_, Some(101)) => panic!("the child process panicked"),
         (_, Some(status)) => Err(Stopped::Exit(status)),
-        (_, None) => {
-            use std::os::unix::process::ExitStatusExt;
-            Err(Stopped::Fault(status.signal().unwrap_or_default()))
+        (_, None) => Err(Stopped::Fault(status.signal().unwrap_or_default())),
+    }
+}
+
+/// Waits for a child to end, or to take too long for what it announced last.
+fn end_of(child: &mut Child, board: &Board, limit: Duration) -> Result<ExitStatus, Stopped> {
+    let mut number = board.announced();
+    // The pauses alone are counted, so that a program that is stopped for a while or a
+    // machine that has no time for it is not taken for a loop.
+    let (mut waited, mut pause) = (Duration::ZERO, LOOK_AGAIN);
+    while waited < limit {
+        if let Some(status) = child.ended() {
+            return Ok(status);
+        }
+        thread::sleep(pause);
+        waited += pause;
+        pause = (2 * pause).min(LOOK_AGAIN_AT_LATEST);
+        let now = board.announced();
+        if now != number {
+            (number, waited) = (now, Duration::ZERO);
         }
     }
+    Err(Stopped::Loop(limit))
 }
 
 /// What the system gives, or the end of the program with 2.

@@ -17,6 +17,7 @@ extern "C" {
     fn waitpid(process: c_int, status: *mut c_int, options: c_int) -> c_int;
     fn kill(process: c_int, signal: c_int) -> c_int;
     fn prctl(option: c_int, ...) -> c_int;
+    fn signal(signal: c_int, handler: usize) -> usize;
     fn setrlimit(resource: c_int, limits: *const [c_ulong; 2]) -> c_int;
     fn close_range(first: c_uint, last: c_uint, flags: c_uint) -> c_int;
     fn mmap(
@@ -31,6 +32,8 @@ extern "C" {
 }
 
 const SIGKILL: c_int = 9;
+const SIGCHLD: c_int = 17;
+const SIG_DFL: usize = 0;
 const WNOHANG: c_int = 1;
 const PR_SET_PDEATHSIG: c_int = 1;
 const RLIMIT_CORE: c_int = 4;
@@ -93,25 +96,30 @@ impl Child {
     /// with status 0, or with 101 where it panics. It has no files open but the first
     /// three, leaves no memory image behind and ends at the latest with this thread.
     pub fn start(act: impl FnOnce()) -> io::Result<Child> {
+        // SAFETY: it takes two numbers. Whoever started this program may have asked that
+        // ended children are forgotten; then nobody could tell how one ended.
+        unsafe { signal(SIGCHLD, SIG_DFL) };
         // SAFETY: the child has this thread alone. It takes no lock that another one may
         // have held, but those of the allocator, which the C library keeps usable.
         match unsafe { fork() } {
             -1 => Err(io::Error::last_os_error()),
-            0 => {
-                // SAFETY: they take numbers, and limits that are there. Nothing is asked
-                // of their outcome: the child does its work without them too.
-                unsafe {
-                    prctl(PR_SET_PDEATHSIG, SIGKILL as c_ulong);
-                    setrlimit(RLIMIT_CORE, &[0, 0]);
-                    close_range(3, c_uint::MAX, 0);
-                }
-                let acted = catch_unwind(AssertUnwindSafe(act));
-                // SAFETY: it ends the child at once, with nothing done that its parent
-                // will do.
-                unsafe { _exit(if acted.is_ok() { 0 } else { 101 }) }
-            }
+            0 => Child::act(act),
             id => Ok(Child { id, ended: None }),
         }
+    }
+
+    /// What the child itself does.
+    fn act(act: impl FnOnce()) -> ! {
+        // SAFETY: they take numbers, and limits that are there. Nothing is asked of their
+        // outcome: the child does its work without them too.
+        unsafe {
+            prctl(PR_SET_PDEATHSIG, SIGKILL as c_ulong);
+            setrlimit(RLIMIT_CORE, &[0, 0]);
+            close_range(3, c_uint::MAX, 0);
+        }
+        let acted = catch_unwind(AssertUnwindSafe(act));
+        // SAFETY: it ends the child at once, and does nothing that its parent will do.
+        unsafe { _exit(if acted.is_ok() { 0 } else { 101 }) }
     }
 
     /// How it ended, if it has.
