@@ -24,13 +24,16 @@ cut short, too long, of odd lengths, any bytes.
   --table-checks N  table images to try (default 4 for each run)
   --seed S          the seed that everything is drawn from (default 1)
   --from K          the number of the first run and image (default 0)
-  --kernel NAME     balkwizu (default), plain-gcc or plain-clang
+  --kernel NAME     balkwizu (default), plain-gcc or plain-clang; or a wrong one of
+                    bench/c/wrong, as wrong-faults
   --time T          the seconds that one run or image may take (default 10)
 
 The first difference ends it, with the words that show it as `bench words` takes
 them. The kernel runs in a child process: one that faults, that takes longer or
-that ends the program is told in the same way, as STOPPED. From 10,000 runs on, a code that no run was answered with is a failure too,
-and likewise from 10,000 table images on; fewer may miss one by chance. A line of
+that ends the program is told in the same way, as STOPPED.
+
+From 10,000 runs on, a code that no run was answered with is a failure too, and
+likewise from 10,000 table images on; fewer may miss one by chance. A line of
 progress is shown on a terminal only.
 
 Exit status: 0 nothing differs, and every code was met where that is asked; 1

@@ -18,11 +18,11 @@ bench speed [--by-kind] [--rounds N]
 Measures the proved kernel beside the plain C kernel of bench/c as gcc -O3 and,
 where there is one, clang -O3 make it, and prints a Markdown table: table checks,
 and calls on four lists of 4,096 words. With --by-kind the lists have one kind of
-call each, or two that undo each other, on a small table and on the largest. All kernels take turns in each of
-N rounds (1 to 100,000, default 301); a figure is the median of the rounds, a
-ratio the median of the rounds' ratios, the proved kernel's time over the other's:
-above 1 the proved kernel is slower. Every kernel's run is first compared with the
-separate machine.
+call each, or two that undo each other, on a small table and on the largest. All
+kernels take turns in each of N rounds (1 to 100,000, default 301); a figure is the
+median of the rounds, a ratio the median of the rounds' ratios, the proved kernel's
+time over the other's: above 1 the proved kernel is slower. Every kernel's run is
+first compared with the separate machine.
 
 Exit status: 0 measured; 1 a kernel's run differs; 2 bad usage.
 ";

@@ -24,8 +24,10 @@ kind that takes none gets one, or it is of another kind than 15.
 
 The first difference ends it, with the table before the call and the call's words
 as `bench words` takes them. The step runs in a child process: one that faults,
-that takes longer or that ends the program is told in the same way, as STOPPED. From 5,000 lists on, a code that no call met is a
-failure too, and so is a second word of either sort that was never given.
+that takes longer or that ends the program is told in the same way, as STOPPED.
+
+From 5,000 lists on, a code that no call met is a failure too, and so is a second
+word of either sort that was never given.
 
 The step is in the archive of the crate step_export (`rt staticlib step_export`),
 which the program is built with where it is there.

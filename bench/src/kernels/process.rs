@@ -1,9 +1,10 @@
 //! What the system is asked for beyond Rust's library: a child process that does part
-//! of this program's work, memory that both see, and an end put to a process. This and
-//! the boundary have all of the bench's `unsafe`.
+//! of this program's work, memory that both see, an end put to a program, and what a
+//! pipe holds. This file and the boundary have all of the bench's `unsafe` but its tests'.
 
 use std::ffi::{c_int, c_long, c_uint, c_ulong, c_void};
 use std::ops::Deref;
+use std::os::fd::AsRawFd;
 use std::os::unix::process::ExitStatusExt;
 use std::panic::{catch_unwind, AssertUnwindSafe};
 use std::process::ExitStatus;
@@ -15,6 +16,7 @@ extern "C" {
     fn fork() -> c_int;
     fn _exit(status: c_int) -> !;
     fn waitpid(process: c_int, status: *mut c_int, options: c_int) -> c_int;
+    fn ioctl(file: c_int, request: c_ulong, ...) -> c_int;
     fn kill(process: c_int, signal: c_int) -> c_int;
     fn prctl(option: c_int, ...) -> c_int;
     fn signal(signal: c_int, handler: usize) -> usize;
@@ -35,6 +37,7 @@ const SIGKILL: c_int = 9;
 const SIGCHLD: c_int = 17;
 const SIG_DFL: usize = 0;
 const WNOHANG: c_int = 1;
+const FIONREAD: c_ulong = 0x541B;
 const PR_SET_PDEATHSIG: c_int = 1;
 const RLIMIT_CORE: c_int = 4;
 const PROT_READ_AND_WRITE: c_int = 3;
@@ -153,6 +156,14 @@ impl Drop for Child {
 pub fn end_group(program: &std::process::Child) {
     // SAFETY: it takes two numbers and touches no memory of this program.
     unsafe { kill(-(program.id() as c_int), SIGKILL) };
+}
+
+/// How many bytes of a pipe nobody has read yet.
+pub fn unread(pipe: &impl AsRawFd) -> i32 {
+    let mut count: c_int = 0;
+    // SAFETY: the file is open, and the request writes one number where it is told to.
+    unsafe { ioctl(pipe.as_raw_fd(), FIONREAD, &mut count as *mut c_int) };
+    count
 }
 
 /// A signal by its number, those that a faulty program ends by in words too.

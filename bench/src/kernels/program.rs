@@ -4,7 +4,6 @@
 //! of processes of its own, so that what it started ends with it.
 
 use std::io::{self, ErrorKind, Read, Write};
-use std::os::fd::AsRawFd;
 use std::os::unix::process::{CommandExt, ExitStatusExt};
 use std::path::Path;
 use std::process::{Child, ChildStdin, Command, ExitStatus, Stdio};
@@ -12,7 +11,7 @@ use std::sync::mpsc::{channel, sync_channel, Receiver, RecvTimeoutError, Sender}
 use std::thread;
 use std::time::{Duration, Instant};
 
-use crate::kernels::process::{end_group, signal_in_words};
+use crate::kernels::process::{end_group, signal_in_words, unread};
 
 /// How often it is looked whether a part of the input was read.
 const LOOK_AGAIN: Duration = Duration::from_micros(20);
@@ -155,18 +154,6 @@ fn give(stdin: Option<ChildStdin>, input: Vec<u8>, feed: Feed) -> Sender<()> {
         Some(())
     });
     running
-}
-
-/// How many bytes of a pipe nobody has read yet.
-fn unread(pipe: &ChildStdin) -> i32 {
-    extern "C" {
-        fn ioctl(file: i32, request: std::ffi::c_ulong, ...) -> i32;
-    }
-    const FIONREAD: std::ffi::c_ulong = 0x541B;
-    let mut count = 0;
-    // SAFETY: the file is open, and the request writes one number where it is told to.
-    unsafe { ioctl(pipe.as_raw_fd(), FIONREAD, &mut count as *mut i32) };
-    count
 }
 
 /// What is read from a program, part by part; one part at most waits to be taken.
