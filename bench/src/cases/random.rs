@@ -4,11 +4,13 @@
 //! be made again by itself. What is aimed at goes round with the number, so that
 //! every code is met on every run of some hundreds.
 
-use reference::calls::{cut, LIST_WORDS_MAX};
+use reference::calls::{cut, LIST_WORDS_MAX, STRAY};
 use reference::entry::ANSWER_WORDS;
 use reference::generate::{call_word, case, damaged_table, list, table, table_of, Case, Rng};
-use reference::table::{check_table, domains, endpoint_place, endpoints, name, owner};
-use reference::words::to_bytes;
+use reference::table::{
+    check_table, domains, endpoint_place, endpoints, name, owner, HEADER, NAME,
+};
+use reference::words::{to_bytes, word};
 
 /// How often one of the runs has a list that may be as long as a list can be.
 const LONG_EVERY: u64 = 1024;
@@ -57,7 +59,7 @@ fn queues_case(rng: &mut Rng) -> Case {
         let owner = owner(&table, e);
         for _ in 0..rng.between(0, 10) {
             list.push(call_word(2, owner, 0, e, 0));
-            list.push(0xF000_0000 | rng.below(1000) as u32);
+            list.push(word(STRAY, rng.below(1000) as u32));
         }
         let receives = rng.between(0, 10);
         list.extend(vec![call_word(3, owner, 0, e, 0); receives]);
@@ -80,7 +82,7 @@ fn fields_case(rng: &mut Rng) -> Case {
         let caller = rng.below(n + 1);
         list.push(call_word(kind, caller, a, b, c));
         if rng.chance(1, 3) {
-            list.push(0xF000_0000 | near_name(rng, &table));
+            list.push(word(STRAY, near_name(rng, &table)));
         }
     }
     with_space(rng, table, list)
@@ -116,7 +118,7 @@ fn bring_names_near(rng: &mut Rng, table: &mut [u32]) {
     }
     let place = endpoint_place(table, rng.below(endpoints(table)));
     let named = table[place];
-    table[place] = 0x3000_0000 | near_name(rng, table);
+    table[place] = word(NAME, near_name(rng, table));
     if check_table(table) != 0 {
         table[place] = named;
     }
@@ -207,7 +209,7 @@ fn any_bytes(rng: &mut Rng) -> Vec<u8> {
     let mut bytes: Vec<u8> = (0..count).map(|_| rng.word() as u8).collect();
     if bytes.len() >= 4 && rng.chance(3, 4) {
         let n = rng.between(1, 16) as u32;
-        let header = 0x1000_0000 | n << 8 | rng.below(33) as u32;
+        let header = word(HEADER, n << 8 | rng.below(33) as u32);
         bytes[..4].copy_from_slice(&header.to_le_bytes());
         if rng.chance(1, 2) {
             bytes.resize(4 * reference::table::length(header), 0x20);

@@ -5,10 +5,11 @@
 //! they stand in it.
 
 use reference::calls::{
-    GRANT, LIST_WORDS_MAX, LOOK_UP, MY_ENDPOINTS, MY_RIGHTS, RECEIVE, REMOVE, SEND,
+    GRANT, LIST_WORDS_MAX, LOOK_UP, MY_ENDPOINTS, MY_RIGHTS, RECEIVE, REMOVE, SEND, STRAY,
 };
 use reference::generate::{call_word, table_of, Rng};
-use reference::table::name;
+use reference::table::{name, HEADER, INFO, LOST, NAME, RIGHTS, SLOTS, WAITING};
+use reference::words::{word, EMPTY_SLOT};
 
 /// A table and a list to run on it.
 pub struct Workload {
@@ -95,19 +96,19 @@ fn of_each_kind(n: usize, m: usize) -> Vec<Workload> {
 /// A table with the given rights, row by row, and endpoints of capacity 8, empty,
 /// named from 101 on.
 fn table_with(rights: &[u32], n: usize, owners: &[usize]) -> Vec<u32> {
-    let mut table = vec![0x1000_0000 | (n << 8 | owners.len()) as u32];
-    table.extend(rights.iter().map(|set| 0x2000_0000 | set));
+    let mut table = vec![word(HEADER, (n << 8 | owners.len()) as u32)];
+    table.extend(rights.iter().map(|&set| word(RIGHTS, set)));
     for (endpoint, owner) in owners.iter().enumerate() {
-        table.push(0x3000_0000 | (101 + endpoint) as u32);
-        table.push(0x4000_0008 | (owner << 8) as u32);
-        table.extend([0x5000_0000, 0x6000_0000]);
-        table.extend([0xF000_0000; 8]);
+        table.push(word(NAME, (101 + endpoint) as u32));
+        table.push(word(INFO, (owner << 8 | SLOTS) as u32));
+        table.extend([word(WAITING, 0), word(LOST, 0)]);
+        table.extend([EMPTY_SLOT; SLOTS]);
     }
     table
 }
 
 fn second(content: u32) -> u32 {
-    0xF000_0000 | content
+    word(STRAY, content)
 }
 
 /// Repeats what `more` draws until the list has 4,096 words; where the last of it

@@ -2,6 +2,8 @@
 //! comparison must tell them from a right one.
 
 use reference::calls::GRANT;
+use reference::table::LOST;
+use reference::words::kind;
 
 use crate::kernels::boundary::{Kernel, PROVED};
 
@@ -67,8 +69,8 @@ pub const WRITES_LIST: Kernel = faulty!("writes the list", |_t, list, _a, result
 });
 
 pub const LOSES_COUNT: Kernel = faulty!("loses the lost count", |table, _l, _a, result| {
-    for word in table.iter_mut().filter(|word| **word >> 28 == 6) {
-        *word = 0x6000_0000;
+    for word in table.iter_mut().filter(|word| kind(**word) == LOST) {
+        *word = reference::words::word(LOST, 0);
     }
     result
 });

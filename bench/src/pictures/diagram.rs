@@ -4,7 +4,8 @@
 use reference::cut;
 use reference::entry::ANSWER_WORDS;
 use reference::table::{
-    capacity, domains, endpoint_words, endpoints, lost, name, owner, rights, waiting, SLOTS_PLACE,
+    capacity, domains, endpoint_words, endpoints, lost, name, owner, right, rights, waiting,
+    SLOTS_PLACE,
 };
 use reference::words::content;
 
@@ -76,7 +77,7 @@ fn queues_in_words(table: &[u32]) -> String {
 /// The domains that may send to an endpoint: its owner, and who has SEND on it.
 fn senders_in_words(table: &[u32], endpoint: usize) -> String {
     let to = owner(table, endpoint);
-    let may = |&from: &usize| from == to || rights(table, from, to) & 1 != 0;
+    let may = |&from: &usize| from == to || rights(table, from, to) & right::SEND != 0;
     let senders: Vec<String> = (0..domains(table))
         .filter(may)
         .map(|d| d.to_string())
