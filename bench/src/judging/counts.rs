@@ -7,26 +7,29 @@ use reference::table::{capacity, endpoints, lost, waiting};
 use reference::words::{bits, CONTENT_MAX};
 
 /// One endpoint's queue, from the table before the run and what was answered.
-#[derive(Debug, Clone, Copy, PartialEq, Eq)]
+#[derive(Debug, Clone, Copy, Default, PartialEq, Eq)]
 pub struct Queue {
     capacity: u64,
     /// Waiting and lost now; lost without the top that the table's count has.
     waiting: u64,
     lost: u64,
-    sent: u64,
-    received: u64,
-}
-
-/// All queues of a table, and how often something worth counting happened.
-#[derive(Debug, Clone, Default, PartialEq, Eq)]
-pub struct Counts {
-    pub queues: Vec<Queue>,
+    pub sent: u64,
+    pub received: u64,
     /// Sends that found the queue full.
     pub full: u64,
     /// Such sends with the lost count at its top already.
     pub at_top: u64,
-    /// Receives that left the queue empty.
+    /// Receives that left the queue empty, and those that left others waiting.
     pub emptied: u64,
+    pub in_turn: u64,
+}
+
+/// All queues of a table.
+#[derive(Debug, Clone, Default, PartialEq, Eq)]
+pub struct Counts {
+    pub queues: Vec<Queue>,
+    /// The first receive that tells another lost count than was counted.
+    told_wrong: Option<String>,
 }
 
 /// Follows the queues through a run of calls on an accepted table.
@@ -35,9 +38,10 @@ pub fn follow(table: &[u32], calls: &[Call], answers: &[u32]) -> Counts {
         queues: (0..endpoints(table)).map(|e| queue(table, e)).collect(),
         ..Counts::default()
     };
-    for (call, answer) in calls.iter().zip(answers.chunks_exact(ANSWER_WORDS)) {
+    let answered = calls.iter().zip(answers.chunks_exact(ANSWER_WORDS));
+    for (number, (call, answer)) in answered.enumerate() {
         if bits(answer[0], 15, 0) == 0 {
-            counts.take(call);
+            counts.take(call, number, answer[2]);
         }
     }
     counts
@@ -48,35 +52,70 @@ fn queue(table: &[u32], endpoint: usize) -> Queue {
         capacity: capacity(table, endpoint) as u64,
         waiting: waiting(table, endpoint) as u64,
         lost: u64::from(lost(table, endpoint)),
-        sent: 0,
-        received: 0,
+        ..Queue::default()
     }
 }
 
 impl Counts {
-    /// A call that was done.
-    fn take(&mut self, call: &Call) {
-        let Some(queue) = self.queues.get_mut(call.b() as usize) else {
+    /// A call that was done, by its number, with its second data word.
+    fn take(&mut self, call: &Call, number: usize, told: u32) {
+        let endpoint = call.b() as usize;
+        let Some(queue) = self.queues.get_mut(endpoint) else {
             return;
         };
         match call.kind() {
-            SEND if queue.waiting == queue.capacity => {
-                self.full += 1;
-                self.at_top += u64::from(queue.lost >= u64::from(CONTENT_MAX));
-                queue.sent += 1;
-                queue.lost += 1;
-            }
-            SEND => {
-                queue.sent += 1;
-                queue.waiting += 1;
-            }
+            SEND => queue.send(),
             RECEIVE => {
-                queue.received += 1;
-                queue.waiting = queue.waiting.saturating_sub(1);
-                self.emptied += u64::from(queue.waiting == 0);
+                queue.receive();
+                let counted = queue.lost_count();
+                if u64::from(told) != counted && self.told_wrong.is_none() {
+                    self.told_wrong = Some(format!(
+                        "endpoint {endpoint}: call {number} is told {told} lost, it should be {counted}"
+                    ));
+                }
             }
             _ => {}
         }
+    }
+
+    /// How often something happened, over all queues.
+    pub fn sum(&self, of: impl Fn(&Queue) -> u64) -> u64 {
+        self.queues.iter().map(of).sum()
+    }
+}
+
+impl Queue {
+    fn send(&mut self) {
+        self.sent += 1;
+        if self.waiting < self.capacity {
+            self.waiting += 1;
+            return;
+        }
+        self.full += 1;
+        self.at_top += u64::from(self.lost >= u64::from(CONTENT_MAX));
+        self.lost += 1;
+    }
+
+    fn receive(&mut self) {
+        self.received += 1;
+        self.waiting = self.waiting.saturating_sub(1);
+        self.emptied += u64::from(self.waiting == 0);
+        self.in_turn += u64::from(self.waiting != 0);
+    }
+
+    /// The lost count as a table has it, which stays at its top.
+    fn lost_count(&self) -> u64 {
+        self.lost.min(u64::from(CONTENT_MAX))
+    }
+
+    /// What was met in another run of the same endpoint, put to what was met here.
+    pub fn add(&mut self, other: &Queue) {
+        self.sent += other.sent;
+        self.received += other.received;
+        self.full += other.full;
+        self.at_top += other.at_top;
+        self.emptied += other.emptied;
+        self.in_turn += other.in_turn;
     }
 }
 
@@ -89,23 +128,21 @@ pub fn difference(
     answers: &[u32],
 ) -> Option<String> {
     let counts = follow(before, calls, answers);
-    (0..endpoints(before)).find_map(|e| endpoint_difference(before, after, e, &counts.queues[e]))
+    let mut all = 0..endpoints(before);
+    all.find_map(|e| endpoint_difference(before, after, e, &counts.queues[e]))
+        .or(counts.told_wrong)
 }
 
 fn endpoint_difference(before: &[u32], after: &[u32], e: usize, run: &Queue) -> Option<String> {
     let (start, end) = (waiting(before, e) as u64, waiting(after, e) as u64);
-    let stays = u64::from(CONTENT_MAX);
-    if start + run.sent != run.received + (run.lost - u64::from(lost(before, e))) + end {
+    if start + run.sent != run.received + run.full + end {
         return Some(format!(
             "endpoint {e}: waiting before {start}, sent {}, received {}, dropped {}; waiting \
              should be {}, the table says {end}",
-            run.sent,
-            run.received,
-            run.lost - u64::from(lost(before, e)),
-            run.waiting
+            run.sent, run.received, run.full, run.waiting
         ));
     }
-    let should = run.lost.min(stays);
+    let should = run.lost_count();
     let says = u64::from(lost(after, e));
     (says != should)
         .then(|| format!("endpoint {e}: the lost count should be {should}; the table says {says}"))
@@ -130,7 +167,10 @@ mod tests {
         let (after, calls, answers) = ran(&TABLE_T, &LIST_L);
         assert_eq!(difference(&TABLE_T, &after, &calls, &answers), None);
         let counts = follow(&TABLE_T, &calls, &answers);
-        assert_eq!((counts.full, counts.at_top, counts.emptied), (1, 0, 1));
+        let met = [counts.sum(|q| q.full), counts.sum(|q| q.at_top)];
+        assert_eq!(met, [1, 0]);
+        let received = [counts.sum(|q| q.emptied), counts.sum(|q| q.in_turn)];
+        assert_eq!(received, [1, 0]);
     }
 
     #[test]
@@ -141,7 +181,7 @@ mod tests {
         let (after, calls, answers) = ran(&table, &list);
         assert_eq!(after[25], 0x6FFF_FFFF);
         assert_eq!(difference(&table, &after, &calls, &answers), None);
-        assert_eq!(follow(&table, &calls, &answers).at_top, 2);
+        assert_eq!(follow(&table, &calls, &answers).sum(|q| q.at_top), 2);
     }
 
     #[test]
@@ -157,5 +197,14 @@ mod tests {
         let told = difference(&TABLE_T, &after, &calls, &answers).unwrap();
         let should = "endpoint 1: waiting before 0, sent 2, received 1, dropped 1; waiting should";
         assert!(told.starts_with(should), "{told}");
+    }
+
+    #[test]
+    fn a_receive_that_tells_another_lost_count_is_found() {
+        let (after, calls, mut answers) = ran(&TABLE_T, &LIST_L);
+        answers[3 * 4 + 2] = 2;
+        let told = difference(&TABLE_T, &after, &calls, &answers).unwrap();
+        let should = "endpoint 1: call 4 is told 2 lost, it should be 1";
+        assert_eq!(told, should);
     }
 }

@@ -84,9 +84,9 @@ impl Tally {
         self.runs += 1;
         self.entry[outcome.code as usize] += 1;
         self.longest = self.longest.max(case.list.len() as u64);
-        self.full += tried.counts.full;
-        self.at_top += tried.counts.at_top;
-        self.emptied += tried.counts.emptied;
+        self.full += tried.counts.sum(|queue| queue.full);
+        self.at_top += tried.counts.sum(|queue| queue.at_top);
+        self.emptied += tried.counts.sum(|queue| queue.emptied);
         self.views += tried.views;
         self.struck += tried.struck;
         if outcome.code == 0 {

@@ -4,11 +4,17 @@
 use reference::calls::{cut, Call, LIST_WORDS_MAX};
 use reference::entry::ANSWER_WORDS;
 use reference::generate::{Case, Rng};
+use reference::table::{
+    capacity, domains, endpoint_place, endpoints, name, owner, DOMAINS_MAX, ENDPOINTS_MAX,
+    ENDPOINT_WORDS, HEADER, INFO, INFO_PLACE, NAME, NAME_PLACE, SLOTS, WAITING, WAITING_PLACE,
+};
+use reference::words::{word, CONTENT_MAX};
 
 use crate::line::explain::counted;
 use crate::line::input::Input;
 
 /// One variant, with what was done to make it.
+#[derive(Clone)]
 pub struct Variant {
     pub what: String,
     pub case: Case,
@@ -29,40 +35,83 @@ pub fn case_of(input: &Input) -> Case {
     }
 }
 
-/// Damaged variants of the table: every word with another kind, every word with
-/// one bit turned, several words at once, cut short and too long.
+/// Damaged variants of the table: every word with another kind, each bit of each kind of
+/// word turned, numbers at their edges and just past them, several words at once, cut
+/// short and too long. Some of them are sound all the same.
 pub fn damaged_tables(input: &Input, rng: &mut Rng) -> Vec<Variant> {
-    let mut variants = Vec::new();
-    let mut add = |what: String, table: Vec<u32>| {
-        let list = input.list.clone();
-        let case = case_of(&Input { table, list });
-        variants.push(Variant { what, case });
-    };
-    for place in 0..input.table.len() {
+    let table = &input.table;
+    let mut damaged = Vec::new();
+    for place in 0..table.len() {
         let kind = (rng.between(1, 15) as u32) << 28;
-        add(
-            format!("table word {place} with another kind"),
-            altered(&input.table, place, kind),
-        );
-        let bit = rng.below(32);
-        add(
-            format!("table word {place} with bit {bit} turned"),
-            altered(&input.table, place, 1 << bit),
-        );
+        let what = format!("table word {place} with another kind");
+        damaged.push((what, altered(table, place, kind)));
     }
+    for (place, bit) in turned_bits(table) {
+        let what = format!("table word {place} with bit {bit} turned");
+        damaged.push((what, altered(table, place, 1 << bit)));
+    }
+    damaged.extend(at_their_edges(table));
     for _ in 0..SEVERAL {
-        add(
-            "several table words altered".to_string(),
-            several_altered(&input.table, rng),
-        );
+        let what = "several table words altered".to_string();
+        damaged.push((what, several_altered(table, rng)));
     }
-    for length in [0, 1, input.table.len().saturating_sub(1)] {
-        let cut = input.table[..length].to_vec();
-        add(format!("the table cut to {}", counted(length, "word")), cut);
+    for length in [0, 1, table.len().saturating_sub(1)] {
+        let what = format!("the table cut to {}", counted(length, "word"));
+        damaged.push((what, table[..length].to_vec()));
     }
-    let longer = [&input.table[..], &[0xF000_0000]].concat();
-    add("a word behind the table".to_string(), longer);
-    variants
+    let longer = [&table[..], &[0xF000_0000]].concat();
+    damaged.push(("a word behind the table".to_string(), longer));
+    let list = || input.list.clone();
+    let made = damaged.into_iter().map(|(what, table)| Variant {
+        what,
+        case: case_of(&Input {
+            table,
+            list: list(),
+        }),
+    });
+    made.collect()
+}
+
+/// Places and bits such that each bit is turned in some word of each kind of place, and
+/// each word has one.
+fn turned_bits(table: &[u32]) -> Vec<(usize, u32)> {
+    let first = endpoint_place(table, 0);
+    let of_endpoints = |at: usize| (first + at..table.len()).step_by(ENDPOINT_WORDS).collect();
+    let mut alike: Vec<Vec<usize>> = vec![vec![0], (1..first).collect()];
+    alike.extend((0..ENDPOINT_WORDS).map(of_endpoints));
+    let turned = alike.iter().filter(|places| !places.is_empty());
+    let turned = turned.flat_map(|places| {
+        (0..places.len().max(32)).map(|i| (places[i % places.len()], i as u32 % 32))
+    });
+    turned.collect()
+}
+
+/// The table with a number at its edge or just past it, or a name that is 0 or repeats.
+fn at_their_edges(table: &[u32]) -> Vec<(String, Vec<u32>)> {
+    let (n, m) = (domains(table) as u32, endpoints(table) as u32);
+    let (most_n, most_m) = (DOMAINS_MAX as u32, ENDPOINTS_MAX as u32);
+    let headers = [m, (most_n + 1) << 8 | m, n << 8 | (most_m + 1)];
+    let mut altered: Vec<(usize, u32)> = headers.map(|sizes| (0, word(HEADER, sizes))).to_vec();
+    for e in 0..endpoints(table) {
+        let start = endpoint_place(table, e);
+        let (owner, capacity) = (owner(table, e) as u32, capacity(table, e) as u32);
+        let slots = SLOTS as u32;
+        let other = name(table, (e + 1) % endpoints(table));
+        let names = [0, other, 1 << 27, CONTENT_MAX];
+        altered.extend(names.map(|name| (start + NAME_PLACE, word(NAME, name))));
+        let owners = [n - 1, n].map(|owner| owner << 8 | capacity);
+        let capacities = [0, 1, slots, slots + 1].map(|capacity| owner << 8 | capacity);
+        let infos = owners.into_iter().chain(capacities);
+        altered.extend(infos.map(|info| (start + INFO_PLACE, word(INFO, info))));
+        let waits = [capacity, capacity + 1];
+        altered.extend(waits.map(|waits| (start + WAITING_PLACE, word(WAITING, waits))));
+    }
+    let made = altered.into_iter().map(|(place, word)| {
+        let mut table = table.to_vec();
+        table[place] = word;
+        (format!("table word {place} as {word:08X}"), table)
+    });
+    made.collect()
 }
 
 fn altered(table: &[u32], place: usize, bits: u32) -> Vec<u32> {
@@ -84,9 +133,9 @@ fn several_altered(table: &[u32], rng: &mut Rng) -> Vec<u32> {
     table
 }
 
-/// Scrambled variants of the list, and the answer space one word too short.
+/// Scrambled variants of the list, and those at the entry's edges.
 pub fn scrambled_lists(input: &Input, rng: &mut Rng) -> Vec<Variant> {
-    let mut variants = vec![narrow(input), too_long(input)];
+    let mut variants = entry_edges(input).to_vec();
     while variants.len() < SCRAMBLED {
         let (what, list) = scrambled(&input.list, rng);
         let table = input.table.clone();
@@ -98,26 +147,38 @@ pub fn scrambled_lists(input: &Input, rng: &mut Rng) -> Vec<Variant> {
     variants
 }
 
-/// The list as it is, with answer space for all calls but one.
-fn narrow(input: &Input) -> Variant {
+/// The list on both sides of what the entry refuses: with the answer space that it needs
+/// and one word less, and repeated to 4,096 words and one more.
+pub fn entry_edges(input: &Input) -> [Variant; 4] {
+    let longest = "the list repeated to 4,096 words";
+    let too_long = "the list repeated to 4,097 words";
+    [
+        spaced(input, 0, "the answer space just as it is needed"),
+        spaced(input, 1, "the answer space one word too short"),
+        repeated(input, LIST_WORDS_MAX, longest),
+        repeated(input, LIST_WORDS_MAX + 1, too_long),
+    ]
+}
+
+/// The list as it is, with so many answer words less than it needs.
+fn spaced(input: &Input, less: usize, what: &str) -> Variant {
     let mut case = case_of(input);
-    let enough = case.answers.len() - 4;
-    case.answers.truncate(enough.saturating_sub(1));
+    let enough = ANSWER_WORDS * cut(&input.list).len();
+    case.answers.truncate(enough.saturating_sub(less));
     Variant {
-        what: "the answer space one word too short".to_string(),
+        what: what.to_string(),
         case,
     }
 }
 
-/// The list repeated to 4,097 words.
-fn too_long(input: &Input) -> Variant {
+/// The list repeated to so many words.
+fn repeated(input: &Input, words: usize, what: &str) -> Variant {
     let mut list = input.list.clone();
     list.push(0xF000_0000);
-    let list = list.repeat(LIST_WORDS_MAX + 1);
-    let list = list[..LIST_WORDS_MAX + 1].to_vec();
+    let list = list.into_iter().cycle().take(words).collect();
     let table = input.table.clone();
     Variant {
-        what: "the list repeated to 4,097 words".to_string(),
+        what: what.to_string(),
         case: case_of(&Input { table, list }),
     }
 }
@@ -180,7 +241,8 @@ mod tests {
         let input = Input::example();
         let mut rng = Rng::new(1);
         let mut variants = damaged_tables(&input, &mut rng);
-        assert_eq!(variants.len(), 2 * 34 + 104);
+        let (kinds_of_place, edges) = (14, 3 + 12 * 2);
+        assert_eq!(variants.len(), 34 + 32 * kinds_of_place + edges + 104);
         variants.extend(scrambled_lists(&input, &mut rng));
         let mut met = [0; 7];
         for Variant { case, .. } in &variants {
@@ -197,7 +259,7 @@ mod tests {
             list: vec![],
         };
         let mut rng = Rng::new(1);
-        assert_eq!(damaged_tables(&input, &mut rng).len(), 108);
+        assert_eq!(damaged_tables(&input, &mut rng).len(), 2 + 2 * 32 + 3 + 104);
         assert_eq!(scrambled_lists(&input, &mut rng).len(), 300);
     }
 }

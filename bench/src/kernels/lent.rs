@@ -96,27 +96,31 @@ struct Fenced {
     end: usize,
 }
 
-const FENCE: [u32; 4] = [0xA5A5_5A5A; 4];
+/// What stands before lent words and behind them: a first word that takes a second one,
+/// and a second word, so that a kernel which reads past a list's end joins what it should
+/// not.
+const BEFORE: [u32; 4] = [0x25A5_5A5A; 4];
+const BEHIND: [u32; 4] = [0xF5A5_5A5A; 4];
 
 impl Fenced {
     fn new(lent: &[u32]) -> Fenced {
         Fenced {
-            words: [&FENCE, lent, &FENCE].concat(),
-            end: FENCE.len() + lent.len(),
+            words: [&BEFORE, lent, &BEHIND].concat(),
+            end: BEFORE.len() + lent.len(),
         }
     }
 
     fn lent(&mut self) -> &mut [u32] {
-        &mut self.words[FENCE.len()..self.end]
+        &mut self.words[BEFORE.len()..self.end]
     }
 
     /// The lent words as they were left, unless a word around them was written.
     fn words(mut self, around: Forbidden) -> Result<Vec<u32>, Failure> {
-        if self.words[..FENCE.len()] != FENCE || self.words[self.end..] != FENCE {
+        if self.words[..BEFORE.len()] != BEFORE || self.words[self.end..] != BEHIND {
             return Err(Failure::Wrote(around));
         }
         self.words.truncate(self.end);
-        self.words.drain(..FENCE.len());
+        self.words.drain(..BEFORE.len());
         Ok(self.words)
     }
 }
