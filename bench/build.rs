@@ -30,6 +30,8 @@ const FLAGS: [&str; 6] = [
     "-Werror",
     "-pedantic",
 ];
+/// Quick to compile, and a fault may leave something unused.
+const WRONG_FLAGS: [&str; 4] = ["-std=c11", "-O1", "-pedantic-errors", "-w"];
 
 fn main() {
     println!("cargo::rerun-if-env-changed=BALKWIZU_ARCHIVE");
@@ -162,31 +164,24 @@ fn compile_plain(compiler: &str, out: &Path) -> Result<(), Box<dyn Error>> {
     Ok(())
 }
 
-/// Compiles the wrong kernels into libwrong.a, the functions `wrong_NAME` of each file
-/// called `wrong_FILE_NAME` in it, and writes the list of them for the program.
+/// Compiles the wrong kernels of bench/c/wrong into libwrong.a, the functions
+/// `plain_NAME` of each called `wrong_FILE_NAME` in it, and writes the list of them for
+/// the program.
 fn compile_wrong(out: &Path) -> Result<(), Box<dyn Error>> {
     let mut files: Vec<PathBuf> = fs::read_dir("c/wrong")?
         .map(|entry| Ok(entry?.path()))
         .collect::<Result<_, std::io::Error>>()?;
-    files.retain(|file| file.extension().is_some_and(|kind| kind == "c"));
+    files.retain(|file| file.extension().is_some_and(|kind| kind == "edit"));
     files.sort();
     let mut listed = String::from("&[\n");
     let mut objects = Vec::new();
     for file in &files {
-        let stem = file.file_stem().unwrap_or_default().to_string_lossy();
-        let object = out.join(format!("wrong_{stem}.o"));
-        let mut command = Command::new("gcc");
-        command.args(FLAGS).arg("-c");
-        for name in ["table_check", "run"] {
-            command.arg(format!("-Dplain_{name}=plain_gcc_{name}"));
-            command.arg(format!("-Dwrong_{name}=wrong_{stem}_{name}"));
-        }
-        finish(command.arg(file).arg("-o").arg(&object))?;
-        objects.push(object);
-        let name = format!("wrong-{}", stem.replace('_', "-"));
-        listed += &format!(
-            "kernel!(\"{name}\", \"kernel {name}\", wrong_{stem}_table_check, wrong_{stem}_run),\n"
-        );
+        let edit = Edit::read(file).map_err(|why| format!("{}: {why}", file.display()))?;
+        objects.extend(compile_edited(&edit, out)?);
+        let name = format!("wrong-{}", edit.name);
+        let title = format!("kernel {name} ({})", edit.what);
+        let (check, run) = (edit.function("table_check"), edit.function("run"));
+        listed += &format!("kernel!({name:?}, {title:?}, {check}, {run}),\n");
     }
     let archive = out.join("libwrong.a");
     let _ = fs::remove_file(&archive);
@@ -194,6 +189,80 @@ fn compile_wrong(out: &Path) -> Result<(), Box<dyn Error>> {
     println!("cargo::rustc-link-lib=static=wrong");
     fs::write(out.join("wrong.rs"), listed + "]\n")?;
     Ok(())
+}
+
+/// A fault in the plain C kernel, as a file of bench/c/wrong has it:
+///
+///     what: the fault in words
+///     file: plain_run.c
+///     line: the line of the checklist that must fail for it
+///     --- old
+///     whole lines that stand in the file just once
+///     --- new
+///     the lines that take their place, or none
+struct Edit {
+    name: String,
+    what: String,
+    source: String,
+    text: String,
+}
+
+impl Edit {
+    fn read(file: &Path) -> Result<Edit, Box<dyn Error>> {
+        let edit = fs::read_to_string(file)?;
+        let (head, body) = edit.split_once("--- old\n").ok_or("no line `--- old`")?;
+        let (old, new) = body.split_once("--- new\n").ok_or("no line `--- new`")?;
+        let fields: Vec<(&str, &str)> = head.lines().filter_map(|l| l.split_once(": ")).collect();
+        let [("what", what), ("file", source), ("line", "1" | "2" | "3" | "4")] = fields[..] else {
+            return Err("needs what, file and line, which is 1 to 4, before `--- old`".into());
+        };
+        let text = fs::read_to_string(format!("c/{source}"))?;
+        match text.matches(old).count() {
+            1 if !old.is_empty() && old != new => {}
+            times => return Err(format!("its old lines stand {times} times in {source}").into()),
+        }
+        Ok(Edit {
+            name: file
+                .file_stem()
+                .unwrap_or_default()
+                .to_string_lossy()
+                .into_owned(),
+            what: what.to_string(),
+            source: source.to_string(),
+            text: text.replacen(old, new, 1),
+        })
+    }
+
+    /// What a function of the plain kernel is called here: the check is the plain one
+    /// where the fault is in the run.
+    fn function(&self, function: &str) -> String {
+        match (self.source.as_str(), function) {
+            ("plain_run.c", "table_check") => format!("plain_gcc_{function}"),
+            _ => format!("wrong_{}_{function}", self.name.replace('-', "_")),
+        }
+    }
+}
+
+/// Compiles what an edit alters: the check, and the run that calls it.
+fn compile_edited(edit: &Edit, out: &Path) -> Result<Vec<PathBuf>, Box<dyn Error>> {
+    let edited = out.join(format!("wrong_{}.c", edit.name));
+    fs::write(&edited, &edit.text)?;
+    let mut sources = vec![edited];
+    if edit.source != "plain_run.c" {
+        sources.push(PathBuf::from("c/plain_run.c"));
+    }
+    let mut objects = Vec::new();
+    for (number, source) in sources.iter().enumerate() {
+        let object = out.join(format!("wrong_{}_{number}.o", edit.name));
+        let mut command = Command::new("gcc");
+        command.args(WRONG_FLAGS).arg("-c").arg("-Ic");
+        for function in ["table_check", "run"] {
+            command.arg(format!("-Dplain_{function}={}", edit.function(function)));
+        }
+        finish(command.arg(source).arg("-o").arg(&object))?;
+        objects.push(object);
+    }
+    Ok(objects)
 }
 
 /// Runs a command to its end; its own messages go to cargo's.
