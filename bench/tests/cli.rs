@@ -129,7 +129,10 @@ fn the_worked_example_is_commissioned() {
     for line in 1..=4 {
         assert!(list.contains(&format!("line {line} passed")), "{list}");
     }
-    assert!(list.ends_with("summary: 4 passed, 0 failed\n"), "{list}");
+    assert!(
+        list.ends_with("summary: 4 passed, 0 failed, 4 not shown\n"),
+        "{list}"
+    );
     assert_eq!(status(&["commission", &input]), 0);
     assert_eq!(status(&["commission", &input, "--struck", "3"]), 2);
 }
@@ -259,15 +262,41 @@ fn a_kernel_that_loops_is_told_by_the_fuzz_with_its_input() {
 
 #[test]
 fn a_kernel_that_stops_fails_a_line_of_the_checklist_and_the_others_go_on() {
-    let remove = to_bytes(&[&[34], &TABLE_T[..], &[0x7042_0001]].concat());
-    let input = file("remove.bin", &remove);
-    let list = printed(&["commission", &input, "--kernel", "wrong-faults"]);
-    for line in ["line 1 ", "line 2 failed ", "line 3 ", "line 4 "] {
-        assert!(list.contains(&format!("\n{line}")), "{list}");
+    let input = file("stops.bin", &example());
+    let line = ["commission", &input, "--kernel", "wrong-faults"];
+    let list = printed(&line);
+    for number in 1..=4 {
+        assert!(list.contains(&format!("\nline {number} failed ")), "{list}");
     }
     assert!(list.contains("ended by signal 11 (segmentation fault)\nCut down to 1 call:"));
-    assert!(list.contains("\nlist\n70420001\n"), "{list}");
-    let line = ["commission", &input, "--kernel", "wrong-faults"];
+    assert!(list.contains("\nlist\n7"), "{list}");
+    assert!(
+        list.contains("lists were finished and are right\n"),
+        "{list}"
+    );
+    assert!(list.ends_with("summary: 0 passed, 4 failed\n"), "{list}");
+    assert_eq!(status(&line), 1);
+}
+
+#[test]
+fn a_table_on_which_everything_can_be_shown_leaves_nothing_unshown() {
+    let ring = concat!(env!("CARGO_MANIFEST_DIR"), "/examples/ring.txt");
+    let input = file("ring.bin", &bench(&["words", ring]).stdout);
+    let list = printed(&["commission", &input]);
+    assert!(!list.contains("not shown"), "{list}");
+    assert!(list.ends_with("summary: 4 passed, 0 failed\n"), "{list}");
+}
+
+#[test]
+fn a_wrong_kernel_is_named_with_its_fault() {
+    let input = file("wrong.bin", &example());
+    let line = ["commission", &input, "--kernel", "wrong-newest-first"];
+    let list = printed(&line);
+    let title = "kernel wrong-newest-first (the newest message is received first)";
+    assert!(
+        list.contains(title) && list.contains("\nline 2 failed "),
+        "{list}"
+    );
     assert_eq!(status(&line), 1);
 }
 

@@ -1,18 +1,14 @@
 //! `bench commission`: the checklist that a field engineer runs on the controller's
 //! own table and list before a line is put into service.
 
-use reference::generate::{Case, Rng};
-use reference::table::{domains, endpoints};
-use reference::{check_table, cut};
+use reference::generate::Case;
+use reference::table::domains;
 
 use crate::args::Options;
-use crate::judging::compare::{difference, isolation, kept_calls, separate_run};
-use crate::judging::counts;
-use crate::judging::report;
-use crate::judging::variants::{case_of, damaged_tables, scrambled_lists, Variant};
-use crate::kernels::boundary::{kernel, Kernel};
-use crate::kernels::child;
-use crate::kernels::lent::Ran;
+use crate::judging::checklist::{Checklist, Line};
+use crate::judging::compare::kept_calls;
+use crate::judging::variants::case_of;
+use crate::kernels::boundary::kernel;
 use crate::line::explain::{call_in_words, counted, meaning, table_fault};
 use crate::line::input::{read_input, shown, Input};
 use crate::output::{self, say};
@@ -20,39 +16,36 @@ use crate::output::{self, say};
 pub const HELP: &str = "\
 bench commission FILE [--struck D] [--seed S] [--kernel NAME]
 
-Goes through the checklist with the table and the list of an input of linerun:
+Goes through the checklist with the table and the list of an input of linerun, and
+with an exercise: lists made from the table that go through everything it allows.
 
-  line 1  refusals: hundreds of damaged variants of the table and scrambled ones
-          of the list, each refused by its number with nothing changed, or run
-          to the end
+  line 1  refusals: hundreds of damaged variants of the table, lists that are
+          scrambled, too long or have too little answer space, and every refused
+          call of the exercise and of the list: each refused by its number with
+          nothing changed, and all else finished
   line 2  answers and table: every word equal to the separate machine's
   line 3  isolation: for every domain, the calls kept for it, run again without
           the others, give it the same answers, rights, queues and lost counts
   line 4  counts: the number of calls, and at every endpoint what was sent is
           received, lost or waiting
 
-Each line says passed, or failed with the first difference.
+Each line says passed, with what it stands on, or failed with the first
+difference. What this table and list don't allow to be shown, and what holds only
+because there is nothing to show, is said as `not shown`, with the reason.
+
+A kernel that faults or loops fails the line that met it, with the words that do
+it; the other lines go on.
 
   --struck D     list the calls that are struck for domain D
   --seed S       the seed that the variants are drawn from (default 1)
-  --kernel NAME  balkwizu (default), plain-gcc or plain-clang
+  --kernel NAME  balkwizu (default), plain-gcc, plain-clang, or wrong-NAME, which
+                 has the fault of bench/c/wrong/NAME.edit
 
-Exit status: 0 all four lines passed; 1 a line failed, or the input is refused;
-2 bad usage, or a file that can't be read.
+Exit status: 0 no line failed; 1 a line failed, or the input is refused; 2 bad
+usage, or a file that can't be read.
 ";
 
-/// What is gone through.
-struct Checklist {
-    kernel: Kernel,
-    case: Case,
-    variants: Vec<Variant>,
-    damaged: usize,
-}
-
-/// A line of the checklist: what was found in order, or the first difference.
-type Line = Result<String, String>;
-
-/// The command: whether all four lines passed.
+/// The command: whether no line failed.
 pub fn command(options: &[String]) -> Result<bool, String> {
     let valued = ["--struck", "--seed", "--kernel"];
     let options = Options::parse(options, &valued, &[])?;
@@ -113,193 +106,107 @@ fn struck_calls(case: &Case, domain: usize) -> String {
     )
 }
 
-/// Prints the four lines and the summary; whether all passed.
+/// Prints the four lines and the summary; whether none failed.
 fn go_through(list: &Checklist) -> bool {
-    let lines = [
-        ("refusals", list.refusals()),
-        ("answers and table", list.answers_and_table()),
-        ("isolation", list.isolation()),
-        ("counts", list.counts()),
-    ];
-    let mut passed = 0;
-    for (number, (name, line)) in lines.iter().enumerate() {
-        let (verdict, told) = match line {
-            Ok(told) => ("passed", told),
-            Err(told) => ("failed", told),
-        };
-        passed += usize::from(line.is_ok());
-        say!("line {} {verdict}  {name}: {told}", number + 1);
-    }
-    say!("summary: {passed} passed, {} failed", lines.len() - passed);
-    passed == lines.len()
-}
-
-impl Checklist {
-    fn new(kernel: Kernel, input: &Input, seed: u64) -> Checklist {
-        let mut rng = Rng::new(seed);
-        let mut variants = damaged_tables(input, &mut rng);
-        let damaged = variants.len();
-        variants.extend(scrambled_lists(input, &mut rng));
-        Checklist {
-            kernel,
-            case: case_of(input),
-            variants,
-            damaged,
-        }
-    }
-
-    /// The kernel's run of a case, or what it did instead.
-    fn run(&self, case: &Case) -> Result<Ran, String> {
-        let ran = child::run(&self.kernel, case, child::LIMIT);
-        ran.map_err(|failure| report::failed(&self.kernel, case, failure, child::LIMIT))
-    }
-
-    /// Line 1.
-    fn refusals(&self) -> Line {
-        let mut refused = 0;
-        for Variant { what, case } in &self.variants {
-            let ran = self.run(case).map_err(|why| format!("{what}: {why}"))?;
-            refusal_difference(case, &ran).map_or(Ok(()), |why| Err(format!("{what}: {why}")))?;
-            refused += usize::from(ran.outcome.code != 0);
-        }
-        let all = self.variants.len();
-        Ok(format!(
-            "{} damaged tables and {} scrambled lists, {refused} refused by their number with \
-             nothing changed, {} run to the end",
-            self.damaged,
-            all - self.damaged,
-            all - refused
-        ))
-    }
-
-    /// Line 2.
-    fn answers_and_table(&self) -> Line {
-        let mut ran_to_the_end = 0;
-        let whole = [("this list", &self.case)].into_iter();
-        let variants = self.variants.iter().map(|v| (v.what.as_str(), &v.case));
-        for (what, case) in whole.chain(variants) {
-            let told = |why: String| format!("{what}: {why}");
-            let ran = self.run(case).map_err(told)?;
-            let separate = separate_run(case).map_err(told)?;
-            if let Some(why) = difference(case, &ran, &separate) {
-                return Err(told(why));
+    say!("exercise made from this table: {}", list.size());
+    let (mut passed, mut failed, mut not_shown) = (0, 0, 0);
+    for (number, line) in list.lines().iter().enumerate() {
+        match &line.judged {
+            Err(_) => failed += 1,
+            Ok(found) => {
+                passed += usize::from(found.shown);
+                not_shown += found.not_shown.len();
             }
-            ran_to_the_end += usize::from(ran.outcome.code == 0);
         }
-        Ok(format!(
-            "every word equal to the separate machine's, on this list and {} that ran",
-            counted(ran_to_the_end - 1, "variant")
-        ))
+        output::write(in_words(number + 1, line).as_bytes());
     }
+    let not_shown = or_nothing(not_shown);
+    say!("summary: {passed} passed, {failed} failed{not_shown}");
+    failed == 0
+}
 
-    /// Line 3.
-    fn isolation(&self) -> Line {
-        let ran = self.run(&self.case)?;
-        let n = domains(&self.case.table);
-        let mut struck = Vec::new();
-        for domain in 0..n {
-            struck.push(isolation(&self.case, &ran, domain)?.to_string());
-        }
-        Ok(format!(
-            "every domain sees the same without the calls struck for it; calls struck, from \
-             domain 0 on: {}",
-            struck.join(", ")
-        ))
-    }
-
-    /// Line 4.
-    fn counts(&self) -> Line {
-        let ran = self.run(&self.case)?;
-        let calls = cut(&self.case.list);
-        if ran.outcome.calls as usize != calls.len() {
-            return Err(format!(
-                "the list has {} and the kernel says {}",
-                counted(calls.len(), "call"),
-                ran.outcome.calls
-            ));
-        }
-        let before = &self.case.table;
-        match counts::difference(before, &ran.table, &calls, &ran.answers) {
-            Some(why) => Err(why),
-            None => Ok(format!(
-                "{}, {}: what was sent to each is received, lost or waiting",
-                counted(calls.len(), "call"),
-                counted(endpoints(before), "endpoint")
-            )),
-        }
+/// How many things aren't shown, where there are some.
+fn or_nothing(not_shown: usize) -> String {
+    match not_shown {
+        0 => String::new(),
+        some => format!(", {some} not shown"),
     }
 }
 
-/// What is wrong with how a run ended: refused by another number than its own, or
-/// something changed all the same.
-fn refusal_difference(case: &Case, ran: &Ran) -> Option<String> {
-    let expected = entry_code(case);
-    if ran.outcome.code != expected {
-        return Some(format!(
-            "the kernel ends with code {} ({}), it should be {expected} ({})",
-            ran.outcome.code,
-            meaning(ran.outcome.code),
-            meaning(expected)
-        ));
+/// A line with its verdict, what it stands on and what isn't shown.
+fn in_words(number: usize, line: &Line) -> String {
+    let name = line.name;
+    let found = match &line.judged {
+        Err(why) => return format!("line {number} failed  {name}: {why}\n"),
+        Ok(found) => found,
+    };
+    let verdict = match found.shown {
+        true => format!("passed{}", or_nothing(found.not_shown.len())),
+        false => "not shown".to_string(),
+    };
+    let mut text = format!("line {number} {verdict}  {name}: {}\n", found.in_order);
+    let not_shown = found
+        .not_shown
+        .iter()
+        .map(|thing| format!("not shown: {thing}"));
+    for more in found.stands_on.iter().cloned().chain(not_shown) {
+        text += &format!("    {more}\n");
     }
-    let changed = ran.table != case.table || ran.answers != case.answers;
-    if expected != 0 && (changed || ran.outcome.calls != 0) {
-        return Some(format!(
-            "refused with {expected}, and yet it counts {} or a word was changed",
-            counted(ran.outcome.calls, "call")
-        ));
-    }
-    None
-}
-
-/// The number that the entry refuses a run with, or 0.
-fn entry_code(case: &Case) -> u32 {
-    if case.list.len() > reference::calls::LIST_WORDS_MAX {
-        return 1;
-    }
-    match check_table(&case.table) {
-        0 if case.answers.len() < 3 * cut(&case.list).len() => 6,
-        code => code,
-    }
+    text
 }
 
 #[cfg(test)]
 mod tests {
     use super::*;
-    use crate::kernels::boundary::KERNELS;
+    use crate::kernels::boundary::{Kernel, KERNELS, PROVED};
     use crate::kernels::faulty;
-
-    fn checklist(kernel: Kernel) -> Checklist {
-        Checklist::new(kernel, &Input::example(), 1)
-    }
 
     #[test]
     fn every_kernel_is_commissioned_on_the_worked_example() {
         for kernel in KERNELS {
-            assert!(go_through(&checklist(*kernel)), "{}", kernel.name);
+            let list = Checklist::new(*kernel, &Input::example(), 1);
+            assert!(go_through(&list), "{}", kernel.name);
         }
     }
 
     #[test]
     fn struck_calls_are_told_in_words() {
-        let told = struck_calls(&checklist(KERNELS[0]).case, 1);
+        let told = struck_calls(&case_of(&Input::example()), 1);
         assert!(told.starts_with("struck for domain 1: 4 of 9 calls\n  call 4: domain 2 receives"));
         assert!(told.ends_with("call 8: domain 2 asks for its endpoints\n"));
     }
 
+    fn lines(kernel: Kernel, table: &[u32]) -> [String; 4] {
+        let input = Input {
+            table: table.to_vec(),
+            list: vec![],
+        };
+        let mut number = 0;
+        Checklist::new(kernel, &input, 1).lines().map(|line| {
+            number += 1;
+            in_words(number, &line)
+        })
+    }
+
     #[test]
-    fn each_line_fails_for_the_fault_that_it_is_for() {
-        let code = checklist(faulty::WRONG_CODE).refusals().unwrap_err();
-        assert!(code.contains("the kernel ends with code 6"), "{code}");
-        let changed = checklist(faulty::WRONG_TABLE).refusals().unwrap_err();
-        assert!(changed.contains("a word was changed"), "{changed}");
-        let answer = checklist(faulty::WRONG_ANSWER).answers_and_table();
-        assert!(answer.unwrap_err().starts_with("this list: call 8"));
-        let seen = checklist(faulty::WRONG_ANSWER).isolation().unwrap_err();
-        assert!(seen.starts_with("domain 2, with"), "{seen}");
-        let lost = checklist(faulty::LOSES_COUNT).counts().unwrap_err();
-        assert!(lost.starts_with("endpoint 1: the lost count"), "{lost}");
-        let count = checklist(faulty::WRONG_COUNT).counts().unwrap_err();
-        assert_eq!(count, "the list has 9 calls and the kernel says 10");
+    fn a_line_is_no_bare_passed_where_something_is_not_shown() {
+        let [refusals, answers, isolation, counts] = lines(PROVED, &[0x1000_0100, 0x2000_0000]);
+        assert!(refusals.starts_with("line 1 passed, 4 not shown  refusals: "));
+        assert!(answers.starts_with("line 2 passed, 4 not shown  answers and table: "));
+        assert!(answers.contains("\n    not shown: anything by this list: it has no call\n"));
+        assert!(isolation.starts_with("line 3 not shown  isolation: "));
+        assert!(isolation.ends_with("not shown: isolation of domain 0: there is no other domain\n"));
+        assert!(counts.starts_with("line 4 passed, 1 not shown  counts: "));
+    }
+
+    #[test]
+    fn a_line_that_fails_says_why_and_no_more() {
+        let table = Input::example().table;
+        let [refusals, answers, isolation, counts] = lines(faulty::WRONG_ANSWER, &table);
+        assert!(refusals.starts_with("line 1 failed  refusals: exercise list 0"));
+        assert!(answers.starts_with("line 2 failed  answers and table: exercise list 0"));
+        assert!(answers.ends_with("data 0 0\n") && !answers.contains("not shown"));
+        assert!(isolation.starts_with("line 3 failed  isolation: exercise list"));
+        assert!(counts.starts_with("line 4 passed  counts: "), "{counts}");
     }
 }

@@ -5,7 +5,7 @@ use reference::calls::{cut, Call};
 use reference::entry::ANSWER_WORDS;
 use reference::generate::Case;
 use reference::influence::{QueueView, View};
-use reference::table::rights_place;
+use reference::table::{domains, rights_place};
 use reference::words::bits;
 use reference::{purge, step, view};
 
@@ -107,10 +107,25 @@ pub fn kept_calls(case: &Case, domain: usize) -> Vec<(Call, bool)> {
     calls.into_iter().zip(kept).collect()
 }
 
+/// How many calls were struck for a domain, and how many of them by other domains: a
+/// stray and a call of nobody are struck for everyone.
+#[derive(Debug, Clone, Copy, Default, PartialEq, Eq)]
+pub struct Struck {
+    pub calls: usize,
+    pub by_domains: usize,
+}
+
+impl Struck {
+    pub fn add(&mut self, other: Struck) {
+        self.calls += other.calls;
+        self.by_domains += other.by_domains;
+    }
+}
+
 /// Compares what a domain sees of the kernel's run of the whole list and of the
 /// separate machine's run of the calls kept for it: the number of calls struck,
 /// or the first difference.
-pub fn isolation(case: &Case, kernel: &Ran, domain: usize) -> Result<usize, String> {
+pub fn isolation(case: &Case, kernel: &Ran, domain: usize) -> Result<Struck, String> {
     let calls = kept_calls(case, domain);
     let kept: Vec<Call> = calls.iter().filter(|(_, k)| *k).map(|(c, _)| *c).collect();
     let mut table = case.table.clone();
@@ -121,13 +136,24 @@ pub fn isolation(case: &Case, kernel: &Ran, domain: usize) -> Result<usize, Stri
     let again = view(&table, &kept, &answers, domain);
     let all: Vec<Call> = calls.iter().map(|(call, _)| *call).collect();
     let whole = view(&kernel.table, &all, &kernel.answers, domain);
-    let struck = all.len() - kept.len();
+    let struck = struck(&calls, domains(&case.table));
     match view_difference(case, &all, &whole, &again, domain) {
         None => Ok(struck),
         Some(told) => Err(format!(
-            "domain {domain}, with {struck} of {} struck: {told}",
+            "domain {domain}, with {} of {} struck: {told}",
+            struck.calls,
             counted(all.len(), "call")
         )),
+    }
+}
+
+/// What is struck among calls that are kept or not, in a table of n domains.
+fn struck(calls: &[(Call, bool)], n: usize) -> Struck {
+    let struck = calls.iter().filter(|(_, kept)| !kept);
+    let of_a_domain = |call: &Call| call.caller().is_some_and(|caller| (caller as usize) < n);
+    Struck {
+        calls: struck.clone().count(),
+        by_domains: struck.filter(|(call, _)| of_a_domain(call)).count(),
     }
 }
 
@@ -220,10 +246,9 @@ mod tests {
         assert_eq!(told(&PROVED), None);
         let case = example();
         let ran = run_here(&PROVED, &case).unwrap();
-        let struck: Vec<usize> = (0..3)
-            .map(|domain| isolation(&case, &ran, domain).unwrap())
-            .collect();
-        assert_eq!(struck, [4, 4, 1]);
+        let struck = [0, 1, 2].map(|domain| isolation(&case, &ran, domain).unwrap());
+        assert_eq!(struck.map(|struck| struck.calls), [4, 4, 1]);
+        assert_eq!(struck.map(|struck| struck.by_domains), [3, 3, 0]);
     }
 
     #[test]

@@ -47,7 +47,7 @@ fn judged(case: &Case, ran: Ran, pick: u64) -> Result<Tried, String> {
     }
     let (mut views, mut struck) = (0, 0);
     for domain in domains_to_see(case, calls.len(), pick) {
-        struck += isolation(case, &ran, domain)? as u64;
+        struck += isolation(case, &ran, domain)?.calls as u64;
         views += 1;
     }
     let counts = counts::follow(&case.table, &calls, &ran.answers);

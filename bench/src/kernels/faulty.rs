@@ -40,6 +40,13 @@ pub const WRONG_TABLE: Kernel = faulty!("wrong table", |table, _l, _a, result| {
     result
 });
 
+pub const WRITES_WORD_0: Kernel = faulty!("writes word 0", |table, _l, _a, result| {
+    if let Some(first) = table.first_mut() {
+        *first = 0x1000_1020;
+    }
+    result
+});
+
 pub const WRONG_CODE: Kernel = faulty!("wrong code", |_t, _l, _a, result| {
     result & 0xFFFF_0000 | 6
 });

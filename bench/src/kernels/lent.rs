@@ -96,11 +96,11 @@ struct Fenced {
     end: usize,
 }
 
-/// What stands before lent words and behind them: a first word that takes a second one,
-/// and a second word, so that a kernel which reads past a list's end joins what it should
-/// not.
+/// What stands behind lent words, and before them: a second word, and a first word that
+/// takes one, so that a kernel which reads past a list's end joins what it should not.
+pub const OUTSIDE: u32 = 0xF5A5_5A5A;
+const BEHIND: [u32; 4] = [OUTSIDE; 4];
 const BEFORE: [u32; 4] = [0x25A5_5A5A; 4];
-const BEHIND: [u32; 4] = [0xF5A5_5A5A; 4];
 
 impl Fenced {
     fn new(lent: &[u32]) -> Fenced {

@@ -1,0 +1,215 @@
+//! Lines 2, 3 and 4: answers and table, isolation, counts.
+
+use reference::calls::cut;
+use reference::generate::Case;
+use reference::table::{domains, endpoints, lost, waiting};
+use reference::words::CONTENT_MAX;
+
+use super::{each_run, Checklist, Found, Judged, Runs};
+use crate::judging::checklist::basis::Basis;
+use crate::judging::checklist::shown;
+use crate::judging::compare::{difference, isolation, separate_run, Struck};
+use crate::judging::counts;
+use crate::judging::variants::Variant;
+use crate::kernels::lent::Ran;
+use crate::line::explain::counted;
+
+impl Checklist {
+    /// Line 2.
+    pub(super) fn answers_and_table(&self, runs: &Runs) -> Judged {
+        self.judged(runs, |_, case, ran| word_difference(case, ran))?;
+        let variants = self.variants()?;
+        let list = Basis::of([self.this_list()]);
+        Ok(Found {
+            in_order: "every word is the separate machine's",
+            stands_on: vec![
+                format!("done in the exercise: {}", self.exercise.done_in_words()),
+                format!("done in this list: {}", list.done_in_words()),
+                format!(
+                    "and {} of this table and list",
+                    counted(variants, "variant")
+                ),
+            ],
+            not_shown: shown::answers_and_table(&self.this_list().table, &self.exercise, &list),
+            shown: true,
+        })
+    }
+
+    /// The variants of the table and the list that ran, none of which differs.
+    fn variants(&self) -> Result<usize, String> {
+        let variants: Vec<&Variant> = self.damaged.iter().chain(&self.scrambled).collect();
+        let cases: Vec<&Case> = variants.iter().map(|variant| &variant.case).collect();
+        let (mut first, mut ran_to_the_end) = (Ok(()), 0);
+        each_run(&self.kernel, &cases, |number, ran| {
+            let judged = ran.map_err(String::from).and_then(|ran| {
+                ran_to_the_end += usize::from(ran.outcome.code == 0);
+                word_difference(cases[number], &ran)
+            });
+            first = judged.map_err(|why| format!("{}: {why}", variants[number].what));
+            first.is_ok()
+        });
+        first.map(|()| ran_to_the_end)
+    }
+
+    /// Line 3.
+    pub(super) fn isolation(&self, runs: &Runs) -> Judged {
+        let nothing = vec![Struck::default(); domains(&self.this_list().table)];
+        let (mut exercise, mut list) = (nothing.clone(), nothing);
+        self.judged(runs, |number, case, ran| {
+            let struck = match number < self.exercise_lists().len() {
+                true => &mut exercise,
+                false => &mut list,
+            };
+            for (domain, struck) in struck.iter_mut().enumerate() {
+                struck.add(isolation(case, ran, domain)?);
+            }
+            Ok(())
+        })?;
+        let has_calls = !self.this_list().list.is_empty();
+        let of_list = has_calls.then_some(&list[..]);
+        Ok(Found {
+            in_order: "every domain sees the same without the calls struck for it",
+            stands_on: vec![struck_in_words(&list, &exercise)],
+            not_shown: shown::isolation(&self.this_list().table, &exercise, of_list),
+            shown: exercise.iter().any(|struck| struck.by_domains != 0),
+        })
+    }
+
+    /// Line 4.
+    pub(super) fn counts(&self, runs: &Runs) -> Judged {
+        self.judged(runs, |_, case, ran| count_difference(case, ran))?;
+        let mut stands_on = vec![format!(
+            "call totals: {} for this list, {} for the exercise",
+            cut(&self.this_list().list).len(),
+            self.exercise.calls
+        )];
+        let table = &self.this_list().table;
+        if let Some(Ok(after)) = runs.last() {
+            let read = |endpoint| self.read_back(endpoint, after);
+            stands_on.extend((0..endpoints(table)).map(read));
+        }
+        if self.exercise.at.iter().any(|at| at.queue.at_top != 0) {
+            stands_on.push(self.tops_in_words());
+        }
+        Ok(Found {
+            in_order: "what was sent is received, lost or waiting",
+            stands_on,
+            not_shown: shown::counts(table, &self.exercise),
+            shown: true,
+        })
+    }
+
+    /// An endpoint's counts in this list and in the exercise.
+    fn read_back(&self, endpoint: usize, after: &Ran) -> String {
+        let before = &self.this_list().table;
+        let calls = cut(&self.this_list().list);
+        let run = counts::follow(before, &calls, &after.answers).queues[endpoint];
+        let lost_count = lost(&after.table, endpoint);
+        let top = match lost_count {
+            CONTENT_MAX => ", at its top: it tells no further loss",
+            _ => "",
+        };
+        let exercise = self.exercise.at[endpoint].queue;
+        format!(
+            "endpoint {endpoint}: sent {}, received {}, lost {}, waiting {} before and {} after, \
+             lost count {lost_count}{top}; in the exercise: sent {}, received {}, lost {}",
+            run.sent,
+            run.received,
+            run.full,
+            waiting(before, endpoint),
+            waiting(&after.table, endpoint),
+            exercise.sent,
+            exercise.received,
+            exercise.full
+        )
+    }
+
+    /// Where the lost counts that stand at their top come from.
+    fn tops_in_words(&self) -> String {
+        let table = &self.this_list().table;
+        let at_top = |&e: &usize| lost(table, e) >= CONTENT_MAX - 1;
+        let own = (0..endpoints(table)).filter(at_top).count();
+        let at_top: u64 = self.exercise.at.iter().map(|at| at.queue.at_top).sum();
+        let copy = match own {
+            0 => ", on a copy of this table with its lost counts one below it",
+            _ => ", on this table and on a copy with all lost counts one below it",
+        };
+        format!(
+            "{} with the lost count at its top{copy}",
+            counted(at_top, "full send")
+        )
+    }
+
+    /// The first difference that `judge` finds in a run, given its list's number;
+    /// otherwise, the first list that the kernel didn't come to the end of.
+    fn judged(
+        &self,
+        runs: &Runs,
+        mut judge: impl FnMut(usize, &Case, &Ran) -> Result<(), String>,
+    ) -> Result<(), String> {
+        let (mut finished, mut unfinished) = (0, None);
+        for (number, (list, ran)) in self.listed(runs).enumerate() {
+            let told = |why: String| format!("{}: {why}", list.what);
+            match ran {
+                Ok(ran) => {
+                    let judged = same_size(&list.case, ran);
+                    let judged = judged.and_then(|()| judge(number, &list.case, ran));
+                    judged.map_err(told)?;
+                    finished += 1;
+                }
+                Err(why) => unfinished = unfinished.or(Some(told(why.to_string()))),
+            }
+        }
+        let all = counted(self.lists.len(), "list");
+        let others = || format!("; {finished} of {all} were finished and are right");
+        unfinished.map_or(Ok(()), |why| Err(why + &others()))
+    }
+}
+
+/// That the table is left with the numbers that it is read by.
+fn same_size(case: &Case, ran: &Ran) -> Result<(), String> {
+    match case.table[0] == ran.table[0] {
+        true => Ok(()),
+        false => Err("the kernel alters word 0 of the table".to_string()),
+    }
+}
+
+fn word_difference(case: &Case, ran: &Ran) -> Result<(), String> {
+    match difference(case, ran, &separate_run(case)?) {
+        Some(why) => Err(why),
+        None => Ok(()),
+    }
+}
+
+fn count_difference(case: &Case, ran: &Ran) -> Result<(), String> {
+    let calls = cut(&case.list);
+    if ran.outcome.calls as usize != calls.len() {
+        let calls = counted(calls.len(), "call");
+        return Err(format!(
+            "it has {calls} and the kernel says {}",
+            ran.outcome.calls
+        ));
+    }
+    match counts::difference(&case.table, &ran.table, &calls, &ran.answers) {
+        Some(why) => Err(why),
+        None => Ok(()),
+    }
+}
+
+/// The calls struck for each domain, those of other domains apart from those that are
+/// struck for everyone.
+fn struck_in_words(list: &[Struck], exercise: &[Struck]) -> String {
+    let each = (0..).zip(list.iter().zip(exercise));
+    let each = each.map(|(domain, (list, exercise))| {
+        let (list, exercise) = (list.by_domains, exercise.by_domains);
+        format!("domain {domain}: {list} and {exercise}")
+    });
+    let nobody = |struck: &Struck| struck.calls - struck.by_domains;
+    format!(
+        "calls of other domains struck in this list and in the exercise: {}; strays and calls of \
+         nobody, struck for everyone: {} and {}",
+        each.collect::<Vec<_>>().join(", "),
+        list.first().map_or(0, nobody),
+        exercise.first().map_or(0, nobody)
+    )
+}

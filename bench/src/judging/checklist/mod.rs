@@ -1,0 +1,266 @@
+//! The four lines of the checklist, judged on the exercise and on the list that was
+//! handed in. Each says what it stands on, and what of it this table can't show.
+
+pub mod basis;
+mod lines;
+mod refusals;
+mod shown;
+
+use reference::generate::{Case, Rng};
+
+use crate::judging::checklist::basis::Basis;
+use crate::judging::checklist::shown::NotShown;
+use crate::judging::exercise::{exercise, Planned};
+use crate::judging::variants::{case_of, damaged_tables, scrambled_lists, Variant};
+use crate::kernels::boundary::Kernel;
+use crate::kernels::child;
+use crate::kernels::lent::{Failure, Ran, Stopped};
+use crate::line::explain::counted;
+use crate::line::input::Input;
+
+/// What the list that was handed in is called.
+pub const THIS_LIST: &str = "this list";
+
+/// So many runs that don't return are waited for; what is behind them isn't run.
+const LOOPS: usize = 2;
+
+/// So many words are lent in one child process, or those of one run that has more.
+const WORDS_AT_A_TIME: usize = 400_000;
+
+/// What is gone through.
+pub struct Checklist {
+    kernel: Kernel,
+    /// The exercise's lists, then the one that was handed in.
+    lists: Vec<Planned>,
+    exercise: Basis,
+    damaged: Vec<Variant>,
+    scrambled: Vec<Variant>,
+}
+
+/// The kernel's runs of all lists, as far as they were made.
+type Runs = [Result<Ran, Failure>];
+
+/// A line that was judged: what was found in order, or the first difference.
+pub struct Line {
+    pub name: &'static str,
+    pub judged: Judged,
+}
+
+pub type Judged = Result<Found, String>;
+
+/// What a line that didn't fail was found to be.
+pub struct Found {
+    pub in_order: &'static str,
+    pub stands_on: Vec<String>,
+    pub not_shown: NotShown,
+    /// False where all that the line is about holds only because there is nothing to show.
+    pub shown: bool,
+}
+
+impl Checklist {
+    pub fn new(kernel: Kernel, input: &Input, seed: u64) -> Checklist {
+        let mut rng = Rng::new(seed);
+        let damaged = damaged_tables(input, &mut rng);
+        let scrambled = scrambled_lists(input, &mut rng);
+        let mut lists = exercise(&input.table);
+        let basis = Basis::of(lists.iter().map(|list| &list.case));
+        lists.push(Planned {
+            what: THIS_LIST.to_string(),
+            case: case_of(input),
+        });
+        Checklist {
+            kernel,
+            lists,
+            exercise: basis,
+            damaged,
+            scrambled,
+        }
+    }
+
+    /// How much there is of the exercise.
+    pub fn size(&self) -> String {
+        let lists = self.exercise_lists();
+        let words: usize = lists.iter().map(|list| list.case.list.len()).sum();
+        format!(
+            "{}, {} in {}",
+            counted(lists.len(), "list"),
+            counted(self.exercise.calls, "call"),
+            counted(words, "word")
+        )
+    }
+
+    pub fn lines(&self) -> [Line; 4] {
+        let runs = self.runs();
+        let line = |name, judged| Line { name, judged };
+        [
+            line("refusals", self.refusals(&runs)),
+            line("answers and table", self.answers_and_table(&runs)),
+            line("isolation", self.isolation(&runs)),
+            line("counts", self.counts(&runs)),
+        ]
+    }
+
+    fn exercise_lists(&self) -> &[Planned] {
+        &self.lists[..self.lists.len() - 1]
+    }
+
+    fn this_list(&self) -> &Case {
+        &self.lists[self.lists.len() - 1].case
+    }
+
+    /// The kernel's runs of all lists, as far as they were made.
+    fn runs(&self) -> Vec<Result<Ran, Failure>> {
+        let cases: Vec<&Case> = self.lists.iter().map(|list| &list.case).collect();
+        let mut runs = Vec::new();
+        each_run(&self.kernel, &cases, |_, ran| {
+            runs.push(ran);
+            true
+        });
+        runs
+    }
+
+    /// Each list with its run, as far as they were made.
+    fn listed<'a>(
+        &'a self,
+        runs: &'a Runs,
+    ) -> impl Iterator<Item = (&'a Planned, &'a Result<Ran, Failure>)> {
+        self.lists.iter().zip(runs)
+    }
+}
+
+/// Hands on a kernel's runs of cases, each with its number, as long as `take` goes on;
+/// where one stops, those behind it are run in another child process.
+fn each_run(
+    kernel: &Kernel,
+    cases: &[&Case],
+    mut take: impl FnMut(usize, Result<Ran, Failure>) -> bool,
+) {
+    let (mut next, mut loops) = (0, 0);
+    while next < cases.len() && loops < LOOPS {
+        let together = at_a_time(&cases[next..]);
+        for ran in child::runs(kernel, &cases[next..next + together], child::LIMIT) {
+            let looped = Err(Failure::Stopped(Stopped::Loop(child::LIMIT)));
+            loops += usize::from(ran == looped);
+            if !take(next, ran) {
+                return;
+            }
+            next += 1;
+        }
+    }
+}
+
+/// How many of some cases go together into one child process.
+fn at_a_time(cases: &[&Case]) -> usize {
+    let mut words = 0;
+    let fits = |case: &&&Case| {
+        words += case.table.len() + case.answers.len();
+        words <= WORDS_AT_A_TIME
+    };
+    cases.iter().take_while(fits).count().max(1)
+}
+
+#[cfg(test)]
+mod tests {
+    use super::*;
+    use crate::kernels::boundary::PROVED;
+    use crate::kernels::faulty;
+
+    fn lines(kernel: Kernel) -> [Judged; 4] {
+        let lines = Checklist::new(kernel, &Input::example(), 1).lines();
+        lines.map(|line| line.judged)
+    }
+
+    fn failed(kernel: Kernel, line: usize) -> String {
+        let mut lines = lines(kernel);
+        let judged = std::mem::replace(&mut lines[line - 1], Err(String::new()));
+        judged.err().expect("the line fails")
+    }
+
+    #[test]
+    fn each_line_fails_for_the_fault_that_it_is_for() {
+        let code = failed(faulty::WRONG_CODE, 1);
+        assert!(code.contains("the kernel ends with code 6"), "{code}");
+        let changed = failed(faulty::WRONG_TABLE, 1);
+        assert!(changed.contains("a word was changed"), "{changed}");
+        let answer = failed(faulty::WRONG_ANSWER, 2);
+        assert!(answer.starts_with("exercise list 0 ("), "{answer}");
+        let seen = failed(faulty::WRONG_ANSWER, 3);
+        assert!(
+            seen.starts_with("exercise list ") && seen.contains("): domain "),
+            "{seen}"
+        );
+        let lost = failed(faulty::LOSES_COUNT, 4);
+        assert!(
+            lost.contains("): endpoint 1: the lost count should"),
+            "{lost}"
+        );
+        let count = failed(faulty::WRONG_COUNT, 4);
+        assert!(count.contains("): it has ") && count.contains(" and the kernel says "));
+    }
+
+    #[test]
+    fn a_kernel_that_alters_word_0_is_judged_all_the_same() {
+        for line in [1, 2, 3, 4] {
+            failed(faulty::WRITES_WORD_0, line);
+        }
+        let told = failed(faulty::WRITES_WORD_0, 3);
+        assert!(
+            told.ends_with("the kernel alters word 0 of the table"),
+            "{told}"
+        );
+    }
+
+    #[test]
+    fn a_wrong_check_of_images_fails_line_1() {
+        let told = failed(faulty::LENIENT_CHECK, 1);
+        assert!(
+            told.ends_with("its image is checked with 0, it should be 5"),
+            "{told}"
+        );
+    }
+
+    #[test]
+    fn a_kernel_that_stops_fails_line_1_with_the_call_that_does_it() {
+        let told = failed(faulty::FAULTS_AT_A_GRANT, 1);
+        assert!(told.starts_with("exercise list 0 ("), "{told}");
+        assert!(
+            told.contains("signal 11 (segmentation fault)\nCut down to 1 call:"),
+            "{told}"
+        );
+        let list = told.split_once("\nlist\n").expect("a list").1;
+        assert!(list.starts_with('6'), "{told}");
+        let others = failed(faulty::FAULTS_AT_A_GRANT, 4);
+        assert!(others.contains("were finished and are right"), "{others}");
+    }
+
+    #[test]
+    fn what_a_line_stands_on_is_told() {
+        let [refusals, answers, isolation, counts] = lines(PROVED).map(|judged| {
+            let found = judged.ok().expect("no line fails");
+            found.stands_on.join("\n")
+        });
+        assert!(refusals.contains(" damaged tables: ") && refusals.contains(" with another name"));
+        assert!(answers.contains("done in this list: 2 sends (1 to a full queue), 1 receive, "));
+        assert!(isolation.contains(": domain 0: 3 and "), "{isolation}");
+        assert!(
+            counts.starts_with("call totals: 9 for this list, "),
+            "{counts}"
+        );
+        let read_back =
+            "endpoint 1: sent 2, received 1, lost 1, waiting 0 before and 0 after, lost \
+                         count 1; in the exercise: sent ";
+        assert!(counts.contains(read_back), "{counts}");
+        assert!(counts.ends_with("on a copy of this table with its lost counts one below it"));
+    }
+
+    #[test]
+    fn a_count_at_its_top_is_told() {
+        let mut input = Input::example();
+        input.table[25] = 0x6FFF_FFFF;
+        let lines = Checklist::new(PROVED, &input, 1).lines();
+        let counts = lines[3].judged.as_ref().ok().expect("it passes");
+        let told = counts.stands_on.join("\n");
+        assert!(told.contains("lost count 268435455, at its top: it tells no further loss; in"));
+        assert!(told.ends_with("on this table and on a copy with all lost counts one below it"));
+    }
+}

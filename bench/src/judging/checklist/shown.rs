@@ -1,0 +1,220 @@
+//! What the exercise can't show on a table, and why: what could be shown in all, less
+//! what it does show.
+
+use reference::table::{capacity, domains, endpoints};
+
+use crate::judging::checklist::basis::{AtEndpoint, Basis, OnTarget, CALL_CODES};
+use crate::judging::compare::Struck;
+use crate::line::explain::meaning;
+
+/// Things that aren't shown, each in words.
+pub type NotShown = Vec<String>;
+
+/// Of line 1: the numbers that no call is refused by.
+pub fn numbers(table: &[u32], basis: &Basis) -> NotShown {
+    let never = CALL_CODES.filter(|&code| basis.refused_by(code) == 0);
+    let told = |code| {
+        let why = match code {
+            17..=19 if endpoints(table) == 0 => "there is no endpoint",
+            _ if domains(table) == 1 => "there is one domain only",
+            _ => "the rights of this table lead to no such call",
+        };
+        format!("a call refused with {code} ({}): {why}", meaning(code))
+    };
+    never.map(told).collect()
+}
+
+/// Of line 2: queues that go in turn, who may not send, and rights given and given up.
+pub fn answers_and_table(table: &[u32], basis: &Basis, list: &Basis) -> NotShown {
+    let mut all = NotShown::new();
+    if list.calls == 0 {
+        all.push("anything by this list: it has no call".into());
+    }
+    if endpoints(table) == 0 {
+        all.push("a look up, a send and a receive that are done: there is no endpoint".into());
+    }
+    let at = |why: &dyn Fn(usize, &AtEndpoint) -> bool| {
+        let all = basis.at.iter().enumerate();
+        all.filter(|(e, at)| why(*e, at)).map(|(e, _)| e).collect()
+    };
+    let one = at(&|e, at| at.queue.in_turn == 0 && capacity(table, e) == 1);
+    all.extend(told(
+        "messages in turn at endpoint",
+        one,
+        "there is room for one",
+    ));
+    let none = at(&|e, at| at.queue.in_turn == 0 && capacity(table, e) > 1);
+    all.extend(told(
+        "messages in turn at endpoint",
+        none,
+        "nobody may send there",
+    ));
+    let open = at(&|_, at| at.outsiders == 0);
+    all.extend(told(
+        "a sender that may not, at endpoint",
+        open,
+        "everyone may, for good",
+    ));
+    all.extend(rights(basis));
+    all
+}
+
+fn rights(basis: &Basis) -> NotShown {
+    let on = |why: fn(&OnTarget) -> bool| {
+        let all = basis.on.iter().enumerate();
+        all.filter(|(_, on)| why(on)).map(|(d, _)| d).collect()
+    };
+    let never = on(|on| on.given + on.given_again == 0);
+    let nothing = on(|on| on.given == 0 && on.given_again != 0);
+    let kept = on(|on| on.given_up == 0);
+    let grant = "a grant of rights on domain";
+    let mut all = [
+        told(grant, never, "nobody can give one"),
+        told(grant, nothing, "whoever can be given one has it"),
+        told("a right given up on domain", kept, "nobody can give one up"),
+    ]
+    .concat();
+    let can_give = basis.on.iter().any(|on| on.given + on.given_again != 0);
+    if can_give && basis.to_another == 0 {
+        all.push("a grant to another domain: who can give has no right on another".into());
+    }
+    all
+}
+
+/// Of line 3: domains for which no call of another domain is struck, in the exercise and
+/// in the list that was handed in.
+pub fn isolation(table: &[u32], exercise: &[Struck], list: Option<&[Struck]>) -> NotShown {
+    let nothing = |struck: &[Struck]| -> Vec<usize> {
+        let all = (0..domains(table)).zip(struck);
+        let none = all.filter(|(_, struck)| struck.by_domains == 0);
+        none.map(|(domain, _)| domain).collect()
+    };
+    let why = match domains(table) {
+        1 => "there is no other domain",
+        _ => "every other domain has a right on it for good, so nothing is struck",
+    };
+    let everyone = "each domain that calls reaches it, so nothing is struck";
+    let mut all = told("isolation of domain", nothing(exercise), why);
+    all.extend(match list {
+        Some(list) if domains(table) > 1 => {
+            told("by this list, isolation of domain", nothing(list), everyone)
+        }
+        _ => NotShown::new(),
+    });
+    all
+}
+
+/// Of line 4: endpoints that nothing was sent to.
+pub fn counts(table: &[u32], basis: &Basis) -> NotShown {
+    if endpoints(table) == 0 {
+        return vec!["counts of a queue: there is no endpoint".to_string()];
+    }
+    let all = basis.at.iter().enumerate();
+    let silent = all.filter(|(_, at)| at.queue.sent == 0).map(|(e, _)| e);
+    told(
+        "counts of endpoint",
+        silent.collect(),
+        "nobody may send there",
+    )
+}
+
+/// One thing that isn't shown of some numbers, and why; nothing where there are none.
+fn told(thing: &str, of: Vec<usize>, why: &str) -> NotShown {
+    let numbers: Vec<String> = of.iter().map(usize::to_string).collect();
+    let (many, numbers) = match numbers.as_slice() {
+        [] => return NotShown::new(),
+        [one] => ("", one.clone()),
+        [first @ .., last] => ("s", format!("{} and {last}", first.join(", "))),
+    };
+    vec![format!("{thing}{many} {numbers}: {why}")]
+}
+
+#[cfg(test)]
+mod tests {
+    use super::*;
+    use crate::judging::exercise::exercise;
+    use reference::example::TABLE_T;
+
+    /// What isn't shown of answers and table, with a list that has calls.
+    fn missing(table: &[u32]) -> NotShown {
+        let lists = exercise(table);
+        let basis = Basis::of(lists.iter().map(|list| &list.case));
+        [
+            numbers(table, &basis),
+            answers_and_table(table, &basis, &basis),
+            counts(table, &basis),
+        ]
+        .concat()
+    }
+
+    /// A table of two domains with these rights, and an endpoint of domain 0.
+    fn two_domains(rights: [u32; 4], capacity: u32) -> Vec<u32> {
+        let mut table = vec![0x1000_0201];
+        table.extend(rights.map(|set| 0x2000_0000 | set));
+        table.extend([
+            0x3000_0001,
+            0x4000_0000 | capacity,
+            0x5000_0000,
+            0x6000_0000,
+        ]);
+        table.extend([0xF000_0000; 8]);
+        table
+    }
+
+    #[test]
+    fn what_the_worked_example_does_not_allow() {
+        let missing = missing(&TABLE_T);
+        let told = [
+            "messages in turn at endpoint 1: there is room for one",
+            "a grant of rights on domains 0 and 1: nobody can give one",
+            "a right given up on domains 0 and 1: nobody can give one up",
+        ];
+        assert_eq!(missing, told);
+    }
+
+    #[test]
+    fn a_table_on_which_all_may_send_and_no_more() {
+        let missing = missing(&two_domains([1; 4], 8));
+        assert!(
+            missing[0].starts_with("a call refused with 17 ("),
+            "{missing:?}"
+        );
+        assert!(missing[0].ends_with(": the rights of this table lead to no such call"));
+        assert!(
+            missing[1].starts_with("a call refused with 23 ("),
+            "{missing:?}"
+        );
+        assert_eq!(
+            missing[2],
+            "a sender that may not, at endpoint 0: everyone may, for good"
+        );
+    }
+
+    #[test]
+    fn rights_that_lead_to_nobody_else() {
+        // Domain 0 holds all rights on itself alone: it can give to nobody but itself.
+        let missing = missing(&two_domains([7, 0, 0, 0], 2));
+        let another = "a grant to another domain: who can give has no right on another";
+        assert!(missing.iter().any(|told| told == another), "{missing:?}");
+        let has = "a grant of rights on domain 0: whoever can be given one has it";
+        assert!(missing.iter().any(|told| told == has), "{missing:?}");
+    }
+
+    #[test]
+    fn isolation_that_holds_since_nothing_is_struck() {
+        let some = Struck {
+            calls: 3,
+            by_domains: 1,
+        };
+        let strays = Struck {
+            calls: 3,
+            by_domains: 0,
+        };
+        let table = two_domains([1; 4], 1);
+        assert!(isolation(&table, &[some, some], Some(&[some, some])).is_empty());
+        let told = isolation(&table, &[some, strays], Some(&[strays, some]));
+        assert!(told[0].starts_with("isolation of domain 1: every other domain has a right on it"));
+        assert!(told[1].starts_with("by this list, isolation of domain 0: each domain that calls"));
+        assert_eq!(isolation(&table, &[some, some], None), NotShown::new());
+    }
+}
