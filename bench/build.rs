@@ -7,9 +7,10 @@
 //! knows here whether it is the proved one. Each compiler's functions get a prefix of
 //! their own, so that all of them stand in one program.
 //!
-//! Where it is there, the archive of the crate step_export is linked too: it has the
-//! kernel's public step for `bench step`, which the firmware's archive hasn't got. An
-//! archive of the kit shows its exported functions only, so the two don't meet.
+//! Where they are there, the archives of the crates step_export and queue_export are
+//! linked too: they have the kernel's public step for `bench step` and the queue's
+//! functions for `bench queue`, which the firmware's archive hasn't got. An archive of
+//! the kit shows its exported functions only, so they don't meet.
 
 use std::env;
 use std::error::Error;
@@ -19,8 +20,31 @@ use std::process::Command;
 
 const ARCHIVE: &str = "target/staticlib/libbalkwizu.a";
 const EXPORTS: [&str; 2] = ["balkwizu_table_check", "balkwizu_run"];
-const STEP_ARCHIVE: &str = "target/staticlib/libstep_export.a";
-const STEP_EXPORTS: [&str; 1] = ["balkwizu_test_step"];
+
+/// An archive for tests alone: the crate, the variable that names another archive,
+/// what the program is told where it is linked, and what it exports.
+struct TestArchive {
+    name: &'static str,
+    variable: &'static str,
+    told: &'static str,
+    exports: &'static [&'static str],
+}
+
+const TEST_ARCHIVES: [TestArchive; 2] = [
+    TestArchive {
+        name: "step_export",
+        variable: "BALKWIZU_STEP_ARCHIVE",
+        told: "step",
+        exports: &["balkwizu_test_step"],
+    },
+    TestArchive {
+        name: "queue_export",
+        variable: "BALKWIZU_QUEUE_ARCHIVE",
+        told: "queue",
+        exports: &["balkwizu_test_send", "balkwizu_test_receive"],
+    },
+];
+
 const PLAIN_SOURCES: [&str; 2] = ["plain_check", "plain_run"];
 const FLAGS: [&str; 6] = [
     "-std=c11",
@@ -35,11 +59,13 @@ const WRONG_FLAGS: [&str; 4] = ["-std=c11", "-O1", "-pedantic-errors", "-w"];
 
 fn main() {
     println!("cargo::rerun-if-env-changed=BALKWIZU_ARCHIVE");
-    println!("cargo::rerun-if-env-changed=BALKWIZU_STEP_ARCHIVE");
+    for archive in &TEST_ARCHIVES {
+        println!("cargo::rerun-if-env-changed={}", archive.variable);
+        println!("cargo::rustc-check-cfg=cfg({})", archive.told);
+    }
     println!("cargo::rerun-if-changed=build.rs");
     println!("cargo::rerun-if-changed=c");
     println!("cargo::rustc-check-cfg=cfg(clang)");
-    println!("cargo::rustc-check-cfg=cfg(step)");
     if let Err(wrong) = build() {
         println!("cargo::error={wrong}");
     }
@@ -48,7 +74,9 @@ fn main() {
 fn build() -> Result<(), Box<dyn Error>> {
     let out = PathBuf::from(env::var("OUT_DIR")?);
     link_kernel(&out)?;
-    link_step(&out)?;
+    for archive in &TEST_ARCHIVES {
+        link_test_archive(&out, archive)?;
+    }
     compile_wrong(&out)?;
     compile_plain("gcc", &out)?;
     let mut compilers = vec![version("gcc").ok_or("no gcc")?];
@@ -88,7 +116,8 @@ fn link_kernel(out: &Path) -> Result<(), Box<dyn Error>> {
         let shown = archive.display();
         format!("no archive {shown} ({why}): `rt staticlib balkwizu` makes {ARCHIVE}")
     })?;
-    if let Some(name) = STEP_EXPORTS.iter().find(|name| has(&bytes, name)) {
+    let mut for_tests = TEST_ARCHIVES.iter().flat_map(|archive| archive.exports);
+    if let Some(name) = for_tests.find(|name| has(&bytes, name)) {
         let shown = archive.display();
         return Err(
             format!("{shown} is for the firmware and has {name}, which is for tests").into(),
@@ -104,17 +133,18 @@ fn has(archive: &[u8], name: &str) -> bool {
         .any(|part| part == name.as_bytes())
 }
 
-/// Links the archive with the public step, where there is one.
-fn link_step(out: &Path) -> Result<(), Box<dyn Error>> {
-    let named = env::var_os("BALKWIZU_STEP_ARCHIVE").map(PathBuf::from);
-    let archive = named.map_or_else(|| in_repository(STEP_ARCHIVE), Ok)?;
+/// Links an archive for tests, where there is one.
+fn link_test_archive(out: &Path, wanted: &TestArchive) -> Result<(), Box<dyn Error>> {
+    let named = env::var_os(wanted.variable).map(PathBuf::from);
+    let made = format!("target/staticlib/lib{}.a", wanted.name);
+    let archive = named.map_or_else(|| in_repository(&made), Ok)?;
     let Ok(bytes) = fs::read(&archive) else {
         // Looked for again by the next build, so that it is found once it is made.
         println!("cargo::rerun-if-changed={}", archive.display());
         return Ok(());
     };
-    println!("cargo::rustc-cfg=step");
-    link_archive(out, &archive, "step_export", &bytes, &STEP_EXPORTS)
+    println!("cargo::rustc-cfg={}", wanted.told);
+    link_archive(out, &archive, wanted.name, &bytes, wanted.exports)
 }
 
 /// Links an archive that has the exports. It is copied beside the others, so that it

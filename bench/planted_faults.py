@@ -1,20 +1,23 @@
 #!/usr/bin/env python3
-"""Shows that `bench fuzz` and `bench step` report a difference when there is one.
+"""Shows that `bench fuzz`, `bench step` and `bench queue` report a difference when
+there is one.
 
 The faults are those of the separate implementation's own mutants, by edits as
 reference/edits.py has them. The bench is built against a copy of the separate
 implementation with the faults in it, and with each of them switched on the same
 seeded fuzz must end with a reported difference between that and the kernel, and so
-must the same seeded steps where the fault is one of a single call. With none
-switched on both must pass. A panic, a run that doesn't end and a code never met are
-no reported difference.
+must the same seeded steps where the fault is one of a single call. A fault that shows
+only on words that no check accepts must be reported by the same seeded queues. With
+none switched on all must pass. A panic, a run that doesn't end and a code never met
+are no reported difference.
 
     python3 bench/planted_faults.py            all faults
     python3 bench/planted_faults.py NAME...    some of them
 
 The copy and its build stand under build/planted. The kernel is the archive
-target/staticlib/libbalkwizu.a, or the one that BALKWIZU_ARCHIVE names, and its step
-target/staticlib/libstep_export.a, or what BALKWIZU_STEP_ARCHIVE names.
+target/staticlib/libbalkwizu.a, or the one that BALKWIZU_ARCHIVE names; its step and
+its queue are target/staticlib/libstep_export.a and libqueue_export.a, or what
+BALKWIZU_STEP_ARCHIVE and BALKWIZU_QUEUE_ARCHIVE name.
 """
 
 import os
@@ -28,9 +31,11 @@ from edits import ROOT, Copy, Wrong, edit_files, run, try_all  # noqa: E402
 ARCHIVES = {
     "BALKWIZU_ARCHIVE": "libbalkwizu.a",
     "BALKWIZU_STEP_ARCHIVE": "libstep_export.a",
+    "BALKWIZU_QUEUE_ARCHIVE": "libqueue_export.a",
 }
 FUZZ = ["fuzz", "--seed", "20", "--cases", "10000", "--table-checks", "10000"]
 STEP = ["step", "--seed", "20", "--cases", "5000"]
+QUEUE = ["queue", "--seed", "20", "--cases", "10000"]
 LEAST = 20
 
 # Faults that no comparison with the kernel can show, by name, each with why. They
@@ -43,6 +48,16 @@ UNSEEN = {
     "sources_without_refused_calls": "a refused call alters nothing that a member "
     "of the set sees",
     "view_*": "the same view is taken of both runs",
+    "send_past_the_slots_fills_the_last": "words that can't be served, where the "
+    "papers leave the answer free",
+}
+
+# Faults that no accepted table shows: the slots from the waiting count on are empty
+# there. Queues of any words show them.
+BY_QUEUES = {
+    "receive_clears_the_slots_from_the_free_one_on",
+    "receive_moves_all_eight",
+    "receive_up_to_the_capacity",
 }
 
 # The same for steps, which run one call and check the table before it.
@@ -75,8 +90,8 @@ def make(copy):
 
 
 def check_unedited(bench):
-    """Against the separate implementation as it stands both must pass."""
-    for command in FUZZ, STEP:
+    """Against the separate implementation as it stands all must pass."""
+    for command in FUZZ, STEP, QUEUE:
         ran = run([bench, *command], 0)
         if ran.returncode != 0:
             raise Wrong(f"{command[0]} fails:\n{ran.stdout}{ran.stderr}")
@@ -94,7 +109,10 @@ def difference(bench, command, fault):
 
 
 def reported(bench, fault, name, edit):
-    """What the fuzz reports, and the steps where the fault is one of a call."""
+    """What the queues report, or the fuzz, and the steps where the fault is one of a
+    call."""
+    if name in BY_QUEUES:
+        return f"by queues: {difference(bench, QUEUE, fault)}"
     told = difference(bench, FUZZ, fault)
     if not any(fnmatch(name, pattern) for pattern in UNSEEN_BY_STEPS):
         told += f"; by steps: {difference(bench, STEP, fault)}"

@@ -14,7 +14,7 @@ mod progress;
 
 use std::process::ExitCode;
 
-use commands::{commission, fuzz, linerun, show, speed, step, words};
+use commands::{commission, fuzz, linerun, queue, show, speed, step, words};
 
 /// The help before the list of commands, and after it.
 const HEAD: &str = "\
@@ -41,7 +41,7 @@ struct Command {
     act: fn(&[String]) -> Result<bool, String>,
 }
 
-const COMMANDS: [Command; 7] = [
+const COMMANDS: [Command; 8] = [
     Command {
         name: "commission",
         given: "FILE",
@@ -62,6 +62,13 @@ const COMMANDS: [Command; 7] = [
         purpose: "single calls beside the separate machine",
         help: step::HELP,
         act: step::command,
+    },
+    Command {
+        name: "queue",
+        given: "",
+        purpose: "the queue's functions on any words",
+        help: queue::HELP,
+        act: queue::command,
     },
     Command {
         name: "linerun",

@@ -376,7 +376,7 @@ fn an_input_that_differs_comes_back_through_words() {
 
 #[test]
 fn speed_prints_a_table() {
-    for (flag, wanted) in [(None, 11), (Some("--by-kind"), 13)] {
+    for (flag, wanted) in [(None, 11), (Some("--by-kind"), 15)] {
         let line = ["speed", "--rounds", "1"].into_iter().chain(flag);
         let table = printed(&line.collect::<Vec<_>>());
         let rows = table.lines().filter(|line| line.starts_with("| ")).count();

@@ -9,10 +9,11 @@ use crate::calls::{
 };
 use crate::entry::ANSWER_WORDS;
 use crate::machine::step;
+use crate::queue::Endpoint;
 use crate::table::{
     capacity, check_table, domains, endpoint_place, endpoints, name, owner, right, rights, waiting,
-    DOMAINS_MAX, ENDPOINTS_MAX, HEADER, INFO, INFO_PLACE, LOST, LOST_PLACE, MESSAGE, NAME,
-    NAME_PLACE, RIGHTS, SLOTS, SLOTS_PLACE, TABLE_WORDS_MAX, WAITING, WAITING_PLACE,
+    DOMAINS_MAX, ENDPOINTS_MAX, ENDPOINT_WORDS, HEADER, INFO, INFO_PLACE, LOST, LOST_PLACE,
+    MESSAGE, NAME, NAME_PLACE, RIGHTS, SLOTS, SLOTS_PLACE, TABLE_WORDS_MAX, WAITING, WAITING_PLACE,
 };
 use crate::words::{content, to_bytes, word, CONTENT_MAX, EMPTY_SLOT};
 
@@ -140,6 +141,23 @@ fn endpoint(rng: &mut Rng, n: usize, name: u32) -> Vec<u32> {
         } else {
             EMPTY_SLOT
         });
+    }
+    words
+}
+
+/// Any twelve words, of which an accepted table may have none: the waiting count
+/// and the capacity are mostly near those that count, all else is drawn.
+pub fn any_endpoint(rng: &mut Rng) -> Endpoint {
+    let mut words = [0; ENDPOINT_WORDS];
+    words.fill_with(|| wild_word(rng));
+    if rng.chance(7, 8) {
+        words[INFO_PLACE] = (words[INFO_PLACE] & !255) | rng.between(0, SLOTS + 2) as u32;
+    }
+    if rng.chance(7, 8) {
+        words[WAITING_PLACE] = word(WAITING, rng.between(0, SLOTS + 1) as u32);
+    }
+    if rng.chance(1, 2) {
+        words[LOST_PLACE] = word(LOST, lost_count(rng));
     }
     words
 }

@@ -10,6 +10,7 @@
 //! | [`words`] | the fields of a word |
 //! | [`table`] | "The table", and its check, codes 2 to 5 |
 //! | [`calls`] | "The calls": the cutting of a list |
+//! | [`queue`] | a receive and a send on any twelve words |
 //! | [`machine`] | the call-by-call machine, codes 10 to 23 |
 //! | [`entry`] | the run of a whole list, codes 1 to 6 |
 //! | [`influence`] | "Influence" and "The striking rule" |
@@ -26,6 +27,7 @@ pub mod generate;
 pub mod influence;
 mod linerun;
 pub mod machine;
+pub mod queue;
 pub mod table;
 pub mod words;
 

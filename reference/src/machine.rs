@@ -6,11 +6,12 @@
 //! that isn't refused is done.
 
 use crate::calls::{Call, GRANT, LOOK_UP, MY_ENDPOINTS, MY_RIGHTS, RECEIVE, REMOVE, SEND};
+use crate::queue;
 use crate::table::{
-    capacity, domains, endpoint_place, endpoints, lost, name, owner, right, rights, rights_place,
-    waiting, LOST, LOST_PLACE, MESSAGE, RIGHTS, SLOTS_PLACE, WAITING, WAITING_PLACE,
+    domains, endpoint_words_mut, endpoints, name, owner, right, rights, rights_place, waiting,
+    RIGHTS,
 };
-use crate::words::{content, word, CONTENT_MAX, EMPTY_SLOT};
+use crate::words::word;
 
 /// Two data words of an answer where nothing is named.
 const NO_DATA: [u32; 2] = [0, 0];
@@ -176,49 +177,13 @@ fn look_up(table: &[u32], call: &Call) -> [u32; 2] {
 
 /// A send answers the same whether or not there was space.
 fn send(table: &mut [u32], call: &Call) -> [u32; 2] {
-    let endpoint = call.b() as usize;
     let message = call.second_content().expect("a send has a second word");
-    if waiting(table, endpoint) < capacity(table, endpoint) {
-        put_last(table, endpoint, message);
-    } else {
-        count_lost(table, endpoint);
-    }
+    queue::send(endpoint_words_mut(table, call.b() as usize), message);
     NO_DATA
 }
 
-/// Fills the slot at the waiting count; waiting rises by 1.
-fn put_last(table: &mut [u32], endpoint: usize, message: u32) {
-    let place = endpoint_place(table, endpoint);
-    let count = waiting(table, endpoint);
-    table[place + SLOTS_PLACE + count] = word(MESSAGE, message);
-    table[place + WAITING_PLACE] = word(WAITING, count as u32 + 1);
-}
-
-/// Lost rises by 1 and stays at its largest.
-fn count_lost(table: &mut [u32], endpoint: usize) {
-    let risen = CONTENT_MAX.min(lost(table, endpoint) + 1);
-    table[endpoint_place(table, endpoint) + LOST_PLACE] = word(LOST, risen);
-}
-
 fn receive(table: &mut [u32], call: &Call) -> [u32; 2] {
-    let endpoint = call.b() as usize;
-    let message = take_oldest(table, endpoint);
-    [message, lost(table, endpoint)]
-}
-
-/// Takes the oldest message out; the others move up, the slot that comes free
-/// is emptied, waiting falls by 1. Slots past the waiting count stay.
-fn take_oldest(table: &mut [u32], endpoint: usize) -> u32 {
-    let place = endpoint_place(table, endpoint);
-    let count = waiting(table, endpoint);
-    let slots = place + SLOTS_PLACE;
-    let message = content(table[slots]);
-    for slot in 1..count {
-        table[slots + slot - 1] = table[slots + slot];
-    }
-    table[slots + count - 1] = EMPTY_SLOT;
-    table[place + WAITING_PLACE] = word(WAITING, count as u32 - 1);
-    message
+    queue::receive(endpoint_words_mut(table, call.b() as usize)).expect("a message waits")
 }
 
 fn my_endpoints(table: &[u32], call: &Call) -> [u32; 2] {

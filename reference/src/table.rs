@@ -68,6 +68,13 @@ pub fn endpoint_words(table: &[u32], endpoint: usize) -> &[u32] {
     &table[place..place + ENDPOINT_WORDS]
 }
 
+/// The same, to be written.
+pub fn endpoint_words_mut(table: &mut [u32], endpoint: usize) -> &mut [u32; ENDPOINT_WORDS] {
+    let place = endpoint_place(table, endpoint);
+    let words = &mut table[place..place + ENDPOINT_WORDS];
+    words.try_into().expect("twelve words")
+}
+
 pub fn name(table: &[u32], endpoint: usize) -> u32 {
     content(endpoint_words(table, endpoint)[NAME_PLACE])
 }

@@ -8,7 +8,10 @@ use reference::calls::{
     GRANT, LIST_WORDS_MAX, LOOK_UP, MY_ENDPOINTS, MY_RIGHTS, RECEIVE, REMOVE, SEND, STRAY,
 };
 use reference::generate::{call_word, table_of, Rng};
-use reference::table::{name, HEADER, INFO, LOST, NAME, RIGHTS, SLOTS, WAITING};
+use reference::table::{
+    endpoint_place, name, HEADER, INFO, LOST, NAME, RIGHTS, SLOTS, SLOTS_PLACE, WAITING,
+    WAITING_PLACE,
+};
 use reference::words::{word, EMPTY_SLOT};
 
 /// A table and a list to run on it.
@@ -24,13 +27,12 @@ pub fn workloads() -> Vec<Workload> {
 }
 
 /// A small table and the largest, each with lists of one kind of call, or of two that
-/// undo each other, done or refused: what a call costs by itself.
+/// undo each other, done or refused: what a call costs by itself. Then receives from
+/// a queue with one message, and with eight.
 pub fn by_kind() -> Vec<Workload> {
     let sizes = [(4, 4), (16, 32)];
-    sizes
-        .iter()
-        .flat_map(|&(n, m)| of_each_kind(n, m))
-        .collect()
+    let of_sizes = sizes.iter().flat_map(|&(n, m)| of_each_kind(n, m));
+    of_sizes.chain([1, 8].map(send_and_receive_at)).collect()
 }
 
 /// Who calls, somebody else, an endpoint and its owner.
@@ -140,6 +142,27 @@ fn send_and_receive() -> Workload {
         name: "send and receive between two domains".to_string(),
         table: table_with(&[0, 1, 0, 0], 2, &[1]),
         list,
+    }
+}
+
+/// Domain 0 sends and domain 1 receives, with so many messages waiting at each
+/// receive. All messages are the same, so that the queue is as it was after each.
+fn send_and_receive_at(waiting: usize) -> Workload {
+    const MESSAGE: u32 = 7;
+    let mut table = table_with(&[0, 1, 0, 0], 2, &[1]);
+    let queue = endpoint_place(&table, 0);
+    table[queue + WAITING_PLACE] += waiting as u32 - 1;
+    table[queue + SLOTS_PLACE..][..waiting - 1].fill(second(MESSAGE));
+    Workload {
+        name: format!("send and receive, {waiting} waiting"),
+        table,
+        list: filled(call_word(MY_RIGHTS, 0, 0, 0, 0), || {
+            vec![
+                call_word(SEND, 0, 0, 0, 0),
+                second(MESSAGE),
+                call_word(RECEIVE, 1, 0, 0, 0),
+            ]
+        }),
     }
 }
 
@@ -268,8 +291,13 @@ mod tests {
     fn a_list_of_one_kind_has_no_other_but_for_its_filling() {
         let all = by_kind();
         let kinds: [&[usize]; 6] = [&[1], &[2, 3], &[4], &[5], &[6, 7], &[9]];
-        assert_eq!(all.len(), 2 * kinds.len());
-        for (workload, own) in all.iter().zip(kinds.iter().chain(&kinds)) {
+        let (of_sizes, of_queues) = all.split_at(2 * kinds.len());
+        assert_eq!(of_queues.len(), 2);
+        for workload in of_queues {
+            let (codes, counts) = counted(workload);
+            assert_eq!((counts[2], counts[3], codes[0]), (1365, 1365, 2731));
+        }
+        for (workload, own) in of_sizes.iter().zip(kinds.iter().chain(&kinds)) {
             let (codes, counts) = counted(workload);
             let calls: usize = counts.iter().sum();
             let of_own: usize = own.iter().map(|&kind| counts[kind]).sum();

@@ -4,6 +4,7 @@
 pub mod commission;
 pub mod fuzz;
 pub mod linerun;
+pub mod queue;
 pub mod show;
 pub mod speed;
 pub mod step;

@@ -1,8 +1,8 @@
 //! What a kernel did, beside what it should have done: the comparison with the
 //! separate machine, the counts of the queues, the exercise made from a table and the
-//! variants of a line that are tried, the checklist, the random runs, table images and
-//! single calls, what `linerun` prints, what was met in all, what is wrong cut down and
-//! told, and how long it takes.
+//! variants of a line that are tried, the checklist, the random runs, table images,
+//! single calls and single queues, what `linerun` prints, what was met in all, what is
+//! wrong cut down and told, and how long it takes.
 
 pub mod checklist;
 pub mod compare;
@@ -11,6 +11,7 @@ pub mod exercise;
 pub mod images;
 pub mod panics;
 pub mod printed;
+pub mod queues;
 pub mod report;
 pub mod runs;
 pub mod shrink;

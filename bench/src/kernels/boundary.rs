@@ -173,6 +173,38 @@ pub const PROVED_STEP: Option<Step> = Some(|table, call, answer| {
     }
 });
 
+/// A send of a message to an endpoint's words, and a receive from them: whether it
+/// was done, or the words stayed as they were.
+#[derive(Clone, Copy)]
+pub struct Queue {
+    pub send: fn(words: &mut [u32], message: u32) -> bool,
+    pub receive: fn(words: &mut [u32]) -> bool,
+}
+
+/// The queue's functions of the proved kernel, where the program was built with them.
+#[cfg(not(queue))]
+pub const PROVED_QUEUE: Option<Queue> = None;
+
+#[cfg(queue)]
+pub const PROVED_QUEUE: Option<Queue> = Some(Queue {
+    send: |words, message| {
+        extern "C" {
+            fn balkwizu_test_send(words: *mut u32, words_len: usize, message: u32) -> u32;
+        }
+        // SAFETY: a slice, valid for its length, aligned and borrowed alone.
+        let done = unsafe { balkwizu_test_send(words.as_mut_ptr(), words.len(), message) };
+        done != 0
+    },
+    receive: |words| {
+        extern "C" {
+            fn balkwizu_test_receive(words: *mut u32, words_len: usize) -> u32;
+        }
+        // SAFETY: as above.
+        let done = unsafe { balkwizu_test_receive(words.as_mut_ptr(), words.len()) };
+        done != 0
+    },
+});
+
 /// Every kernel of this program, the proved one first.
 pub const KERNELS: &[Kernel] = &[
     PROVED,

@@ -43,6 +43,7 @@ pub enum Forbidden {
     AroundList,
     AroundTable,
     AroundAnswers,
+    AroundWords,
 }
 
 impl Display for Failure {
@@ -78,6 +79,7 @@ impl Display for Forbidden {
             Forbidden::AroundList => "list",
             Forbidden::AroundTable => "table",
             Forbidden::AroundAnswers => "answer space",
+            Forbidden::AroundWords => "words",
         };
         write!(to, "the kernel wrote outside the {what} it was lent")
     }
@@ -123,6 +125,16 @@ impl Fenced {
         self.words.drain(..BEFORE.len());
         Ok(self.words)
     }
+}
+
+/// What a function answers and leaves of words that it is lent, in this process.
+pub fn words_here<T>(
+    words: &[u32],
+    act: impl FnOnce(&mut [u32]) -> T,
+) -> Result<(T, Vec<u32>), Failure> {
+    let mut lent = Fenced::new(words);
+    let answer = act(lent.lent());
+    Ok((answer, lent.words(Forbidden::AroundWords)?))
 }
 
 /// A kernel's run of a case in this process, which ends with the kernel if that stops.

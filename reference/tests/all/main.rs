@@ -1,9 +1,10 @@
 //! The tests of the separate implementation, in one binary.
 //!
 //! `example` is document 01's list L and its edges P1 to P12, `codes` each code
-//! on both sides of its condition, `rows` what each call does, `influence` rows
-//! for sources, purge and view. The others are property tests over seeded random
-//! tables and lists; on failure they show the seed and the words.
+//! on both sides of its condition, `rows` what each call does, `queue` a receive
+//! and a send on any twelve words, `influence` rows for sources, purge and view.
+//! The others are property tests over seeded random tables and lists; on failure
+//! they show the seed and the words.
 
 mod codes;
 mod counts;
@@ -12,6 +13,7 @@ mod generator;
 mod influence;
 mod linerun;
 mod noninterference;
+mod queue;
 mod rows;
 mod steps;
 mod support;

@@ -1,0 +1,30 @@
+-- The slots from the waiting count on stay (specs/LaterSlots): of any words that a receive is done with, and in the rows.
+-- Assumes nothing.
+use Prim.Native.Nat.{ℕ, _+_, _-_}
+use mathlib.Core.Path.{_≡_, refl, sym, ap, _∙_}
+use mathlib.Core.List.{_∷_, _++_}
+use native.Mathlib.Omega.{arith}
+use lib.ListN.{length, take, drop, length-drop}
+use lib.Seq.{length-take-le, drop-drop, drop-append-add}
+use Rattle.machine.specs.Queue.{waiting, emptySlot, received}
+use Rattle.machine.specs.Everything.{everything}
+use Rattle.machine.proofs.Queue.{received-drop}
+use Rattle.queue.specs.Queue.{receivable, leftByReceive}
+use Rattle.queue.specs.LaterSlots.{LaterSlotsStay, EveryReceive, receiveRows}
+use Rattle.queue.proofs.Laws.{may-receive, received-there}
+
+pub later-slots-stay : LaterSlotsStay
+later-slots-stay q h =
+    let may = may-receive q h in
+    let left = waiting q - 1 in
+    let moved = take left (drop 5 q) in
+    let all : waiting q ≡ length moved + 1 = omega (arith, length-take-le left (drop 5 q) (rw length-drop (omega arith))) in
+    ap (drop (4 + waiting q)) (sym (received-there q h))
+    ∙ sym (drop-drop (waiting q) 4 (received q))
+    ∙ ap (drop (waiting q)) (received-drop q (may .twelve) (λ none. omega arith) (may .slots))
+    ∙ ap (λ (k : ℕ). drop k (moved ++ (emptySlot ∷ drop (4 + waiting q) q))) all
+    ∙ drop-append-add moved (emptySlot ∷ drop (4 + waiting q) q) 1
+
+pub every-receive : EveryReceive receiveRows
+unfolding everything receivable leftByReceive
+every-receive = (refl, (refl, (refl, (refl, (refl, (refl, (refl, tt)))))))

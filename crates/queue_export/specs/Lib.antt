@@ -1,0 +1,2 @@
+-- What the exported send and receive promise.
+pub mod Exported
