@@ -264,7 +264,8 @@ static void edges(void)
     run(EXAMPLE_TABLE_WORDS, p8, WORDS(p8));
     IS(code_of(0), 14);
     run(EXAMPLE_TABLE_WORDS, p10, WORDS(p10));
-    IS(code_of(0), 21);
+    IS(code_of(0), 0);
+    IS(balkwizu_table_rights(table, 1, 2), BALKWIZU_RIGHT_REMOVE);
     IS(run(EXAMPLE_TABLE_WORDS, list, WORDS(list)), BALKWIZU_LIST_TOO_LONG);
     IS(BALKWIZU_LIST_TOO_LONG, 1);
     IS(BALKWIZU_TABLE_BAD_HEADER, 2);

@@ -110,10 +110,10 @@ enum balkwizu_code {
     BALKWIZU_NOT_OWNER = 18,       /* receive: caller isn't the owner */
     BALKWIZU_NOTHING_WAITING = 19, /* receive: the queue is empty */
     BALKWIZU_NO_SUCH_DOMAIN = 20,  /* grant, remove: a domain named isn't below n */
-    BALKWIZU_BAD_RIGHTS = 21,      /* grant: 0 or above BALKWIZU_RIGHTS_ALL;
-                                      remove: not just one right */
-    BALKWIZU_LACKS_RIGHT = 22,     /* grant: no GRANT, or a right of C, on the
-                                      target; remove: no REMOVE or not that right */
+    BALKWIZU_BAD_RIGHTS = 21,      /* grant, remove: C is 0 or above
+                                      BALKWIZU_RIGHTS_ALL */
+    BALKWIZU_LACKS_RIGHT = 22,     /* on the target: grant: no GRANT, or not every
+                                      right of C; remove: no REMOVE, or likewise */
     BALKWIZU_MAY_NOT_GIVE = 23     /* grant: to another, with no right on it */
 };
 
@@ -273,7 +273,7 @@ static inline uint32_t balkwizu_table_message(const uint32_t *table,
  *                                              15 likewise in the second word
  *   grant         A target, B recipient,       0; 0
  *                 C rights
- *   remove        A target, C one right        0; 0
+ *   remove        A target, C rights           0; 0
  *
  * A full queue: the message of a send is dropped and the endpoint's lost count
  * rises by 1, up to BALKWIZU_LOST_MAX. The send answers 0 as if there had been
@@ -305,8 +305,8 @@ static inline uint32_t balkwizu_table_message(const uint32_t *table,
     BALKWIZU_FIRST(BALKWIZU_KIND_MY_RIGHTS, caller, 0, 0, 0)
 #define BALKWIZU_GRANT(caller, target, recipient, rights)                      \
     BALKWIZU_FIRST(BALKWIZU_KIND_GRANT, caller, target, recipient, rights)
-#define BALKWIZU_REMOVE(caller, target, right)                                 \
-    BALKWIZU_FIRST(BALKWIZU_KIND_REMOVE, caller, target, 0, right)
+#define BALKWIZU_REMOVE(caller, target, rights)                                \
+    BALKWIZU_FIRST(BALKWIZU_KIND_REMOVE, caller, target, 0, rights)
 
 /* Where a call's three answer words stand; calls are numbered from 0. */
 #define BALKWIZU_ANSWER_AT(call) (BALKWIZU_ANSWER_WORDS * (call))

@@ -162,18 +162,18 @@ static uint32_t grant(struct line *line, struct call call)
     return 0;
 }
 
-static uint32_t remove_right(struct line *line, struct call call)
+static uint32_t remove_rights(struct line *line, struct call call)
 {
     uint32_t caller = caller_of(call.first), target = field_a(call.first);
-    uint32_t right = field_c(call.first);
+    uint32_t set = field_c(call.first);
     if (target >= line->n)
         return 20;
-    if (right != SEND && right != GRANT && right != REMOVE)
+    if (set - 1u >= 7u)
         return 21;
-    if ((right | REMOVE) & ~rights_on(line, caller, target))
+    if ((set | REMOVE) & ~rights_on(line, caller, target))
         return 22;
-    line->rights[caller] &= ~((uint64_t)right << (4 * target));
-    line->table[1 + caller * line->n + target] &= ~right;
+    line->rights[caller] &= ~((uint64_t)set << (4 * target));
+    line->table[1 + caller * line->n + target] &= ~set;
     return 0;
 }
 
@@ -217,7 +217,7 @@ static inline uint32_t serve(struct line *line, struct call call, uint32_t *data
     case 6:
         return grant(line, call);
     default:
-        return remove_right(line, call);
+        return remove_rights(line, call);
     }
 }
 

@@ -451,10 +451,25 @@ fn remove_word(rng: &mut Rng, table: &[u32]) -> u32 {
     let can_remove = |caller, target| rights(table, caller, target) & right::REMOVE != 0;
     let caller = mostly(rng, n, |c| (0..n).any(|t| can_remove(c, t)));
     let target = mostly(rng, n, |t| can_remove(caller, t));
-    let held = rights(table, caller, target);
-    let single = [right::SEND, right::GRANT, right::REMOVE];
-    let c = single[mostly(rng, 3, |i| held & single[i] != 0)];
-    call_word(REMOVE, caller, target, 0, c)
+    let set = set_to_give_up(rng, rights(table, caller, target));
+    call_word(REMOVE, caller, target, 0, set)
+}
+
+/// Mostly rights that are held, one or several; now and then with one that isn't.
+fn set_to_give_up(rng: &mut Rng, held: u32) -> u32 {
+    let some = held & rng.between(1, right::ALL as usize) as u32;
+    let with = |rng: &mut Rng, wanted| {
+        let at = mostly(rng, right::EACH.len(), |i| {
+            (held & right::EACH[i] != 0) == wanted
+        });
+        right::EACH[at]
+    };
+    match rng.below(8) {
+        0 => some | with(rng, false),
+        1 => held.max(1),
+        2..=4 => some | with(rng, true),
+        _ => with(rng, true),
+    }
 }
 
 // Whole runs.

@@ -1,7 +1,8 @@
 //! The separate implementation of the capability kernel.
 //!
-//! It is written from document 01 alone, to be plain rather than fast, and is
-//! what the kernel is compared with. It shares no code with the kernel.
+//! It is written from document 01 and the requests of document 02 alone, to be
+//! plain rather than fast, and is what the kernel is compared with. It shares no
+//! code with the kernel.
 //!
 //! One module stands for one section of document 01:
 //!

@@ -1,5 +1,6 @@
 //! The call-by-call machine (document 01, "The striking rule", with the rows of
-//! "The calls" and the places 10 to 23 of "Where each number is checked").
+//! "The calls" and the places 10 to 23 of "Where each number is checked"), with
+//! what document 02 has altered.
 //!
 //! Its state is the table's words; it is fed one call at a time. First it is
 //! decided whether the call is refused, by reading alone; then the row of a call
@@ -128,7 +129,7 @@ fn grant_refusal(table: &[u32], call: &Call) -> Option<u32> {
     if target >= domains(table) || recipient >= domains(table) {
         return Some(20);
     }
-    if call.c() == 0 || call.c() > right::ALL {
+    if !names_a_set(call) {
         return Some(21);
     }
     let needed = right::GRANT | call.c();
@@ -141,12 +142,18 @@ fn grant_refusal(table: &[u32], call: &Call) -> Option<u32> {
     None
 }
 
+/// Whether C is a set of rights and not the empty one.
+fn names_a_set(call: &Call) -> bool {
+    (1..=right::ALL).contains(&call.c())
+}
+
+/// REMOVE and every right of the set must be held (document 02, request (b)).
 fn remove_refusal(table: &[u32], call: &Call) -> Option<u32> {
     let target = call.a() as usize;
     if target >= domains(table) {
         return Some(20);
     }
-    if !matches!(call.c(), right::SEND | right::GRANT | right::REMOVE) {
+    if !names_a_set(call) {
         return Some(21);
     }
     let needed = right::REMOVE | call.c();
@@ -212,6 +219,7 @@ fn grant(table: &mut [u32], call: &Call) -> [u32; 2] {
     NO_DATA
 }
 
+/// Clears all rights of the set together.
 fn remove(table: &mut [u32], call: &Call) -> [u32; 2] {
     let target = call.a() as usize;
     let set = rights(table, caller(call), target) & !call.c();

@@ -35,6 +35,8 @@ pub mod right {
     pub const REMOVE: u32 = 4;
     /// All three together, the largest set.
     pub const ALL: u32 = 7;
+    /// One by one.
+    pub const EACH: [u32; 3] = [SEND, GRANT, REMOVE];
 }
 
 /// n, the number of domains.

@@ -214,7 +214,7 @@ fn refusals() -> Workload {
         vec![call_word(RECEIVE, 2, 0, 0, 0)],
         vec![call_word(RECEIVE, 1, 0, 0, 0)],
         grant(0, 1, 5, 1),
-        vec![call_word(REMOVE, 0, 1, 0, 3)],
+        vec![call_word(REMOVE, 0, 1, 0, 0)],
         vec![call_word(REMOVE, 0, 1, 0, 1)],
         grant(0, 1, 2, 1),
     ];

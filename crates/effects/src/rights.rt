@@ -21,7 +21,7 @@ pub fn granted(table: &[u32], target: u32, recipient: u32, given: u32) -> Effect
     }
 }
 
-// The right is cleared from the caller's own on the target.
+// The rights are cleared from the caller's own on the target.
 pub fn removed(table: &[u32], target: u32, caller: u32, given: u32) -> Effect
     ensures { λ r. ⌜ r ≡ effectFor (now (table .entry)) (machine.removes target caller given) ⌝ }
 {

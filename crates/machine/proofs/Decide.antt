@@ -8,9 +8,9 @@ use mathlib.Core.Option.{Option, none, some}
 use Prim.Native.Nat.{ℕ, _<_, _≤_}
 use native.Mathlib.Omega.{arith}
 use borrow.Author.Tests.{ltb-true, leb-true, eqb-true, eqb-false, not-false}
-use lib.Dec.{eqb, ltb}
+use lib.Dec.{eqb, leb, ltb}
 use Rattle.machine.specs.Word.{kind, caller, fieldA, fieldB, fieldC}
-use Rattle.machine.specs.Right.{GRANT, REMOVE, allRights, holds}
+use Rattle.machine.specs.Right.{GRANT, REMOVE, allRights, isSet, holds}
 use Rattle.machine.specs.Table.{domains, endpoints, rights, endpoint}
 use Rattle.machine.specs.Queue.{owner, waiting}
 use Rattle.machine.specs.Call.{Call, Kind, first, kindOf, callKind, callerOf, wantsSecond, unusedFields, allZero, hasSecond, wordPlaces, secondPayload}
@@ -18,7 +18,7 @@ use Rattle.machine.specs.Call.{Kind.lookUp, Kind.send, Kind.receive, Kin
 use Rattle.machine.specs.Machine.{Decision, place, maySend, named, lookUpPlaces, sendPlaces, receivePlaces, grantPlaces, removePlaces, framed, places, decide}
 use Rattle.machine.specs.Machine.{Decision.refused, Decision.lookedUp, Decision.sends, Decision.receives, Decision.listsEndpoints, Decision.listsRights, Decision.grants, Decision.removes}
 use Rattle.machine.specs.Influence.{influences}
-use Rattle.machine.proofs.Bools.{and-left, and-right, cond-elim, or-none-right}
+use Rattle.machine.proofs.Bools.{and-left, and-right, cond-elim}
 
 -- a number is the kind of one of the seven calls, of a stray, or unknown
 pub kind-elim : (k : ℕ) (P : Kind → Type 0) → (k ≡ 1 → P lookUp) → (k ≡ 2 → P send) → (k ≡ 3 → P receive) → (k ≡ 4 → P myEndpoints) → (k ≡ 5 → P myRights) → (k ≡ 6 → P grant) → (k ≡ 7 → P remove) → (k ≡ 15 → P stray) → P unknown → P (kindOf k)
@@ -108,7 +108,7 @@ module _ (t : List ℕ) (c : Call) (P : Decision → Type 0) (rows : Rows t c P)
       (λ w. rows .receiving k e (ltb-true _ _ (not-false _ b)) (eqb-true _ _ (not-false _ o)) (eqb-false _ _ w))))
 
   grant-elim : Known t c → kind (first c) ≡ 6 → P (grantPlaces t (caller (first c)) (fieldA (first c)) (fieldB (first c)) (fieldC (first c)))
-  unfolding grantPlaces
+  unfolding grantPlaces isSet
   grant-elim k e =
       place-elim P _ 20 (refuse 20 (omega arith) (omega arith))
       (λ b. place-elim P _ 21 (refuse 21 (omega arith) (omega arith))
@@ -120,7 +120,7 @@ module _ (t : List ℕ) (c : Call) (P : Decision → Type 0) (rows : Rows t c P)
       rows .granting k e
       (ltb-true _ _ (and-left (ltb (fieldA (first c)) (domains t)) (ltb (fieldB (first c)) (domains t)) b′))
       (ltb-true _ _ (and-right (ltb (fieldA (first c)) (domains t)) (ltb (fieldB (first c)) (domains t)) b′))
-      (leb-true _ _ (not-false _ (or-none-right (eqb (fieldC (first c)) 0) _ r)))
+      (leb-true _ _ (and-right (leb 1 (fieldC (first c))) (leb (fieldC (first c)) allRights) (not-false _ r)))
       (and-left (holds mine GRANT) (holds mine (fieldC (first c))) h′)
       (and-right (holds mine GRANT) (holds mine (fieldC (first c))) h′)
       (not-false _ g)))))

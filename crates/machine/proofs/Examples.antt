@@ -6,7 +6,7 @@ use Rattle.machine.specs.Everything.{everything}
 use Rattle.machine.specs.Examples.{EveryRow, rows}
 use Rattle.machine.specs.CodeExamples.{codeRows}
 use Rattle.machine.specs.TableExamples.{EveryTable, tableRows, altered, namedCodes, foundCodes, endpointsNamed}
-use Rattle.machine.specs.FieldExamples.{fieldRows, each}
+use Rattle.machine.specs.FieldExamples.{fieldRows, each, removedOfAll}
 use Rattle.machine.specs.AnyWordsExamples.{AnyWordsHold, ofAnyWords}
 use Rattle.machine.specs.CountExamples.{CountRowHolds, counted}
 use Rattle.machine.specs.PurgeExamples.{EveryPurgeRow, purgeRows, bitsOf, setsAt, purged}
@@ -29,7 +29,7 @@ unfolding everything altered namedCodes foundCodes endpointsNamed
 every-table = (refl, (refl, (refl, (refl, (refl, (refl, (refl, (refl, (refl, tt)))))))))
 
 pub every-field-row : EveryRow fieldRows
-unfolding everything each endpointsNamed
+unfolding everything each removedOfAll endpointsNamed
 every-field-row = (refl, (refl, (refl, (refl, (refl, (refl, (refl, tt)))))))
 
 pub any-words-row : AnyWordsHold

@@ -1,27 +1,30 @@
 -- No right from nowhere, and none lost but by its holder (specs/MachineClaims: EveryCallEachRight), call by call; the first from
--- there along every run (EveryRunNoRightFromNowhere).
+-- there along every run (EveryRunNoRightFromNowhere). A remove is all or nothing, and of one right it is document 01's
+-- (EveryRemoveAllOrNothing, EveryRemoveOfOne).
 -- Assumes nothing.
 use mathlib.Core.Path.{_≡_, refl, sym, ap, ap₂, subst, _∙_}
-use mathlib.Core.Bool.{true, false, not, _&&_, or-true, and-false}
+use mathlib.Core.Bool.{true, false, not, _&&_, _||_, or-true, and-true, and-false}
 use mathlib.Core.Logic.{_⊎_, _⊎_.inl, _⊎_.inr, ⊎-elim}
 use mathlib.Core.List.{List, [], _∷_}
 use mathlib.Core.Option.{some}
 use Prim.Native.Nat.{ℕ, _^_, _<_}
 use native.Mathlib.Omega.{arith}
+use borrow.Author.Tests.{eqb-true}
+use lib.Dec.{eqb}
 use lib.ListN.{drop}
 use Rattle.machine.specs.Word.{payload}
-use Rattle.machine.specs.Right.{SEND, GRANT, REMOVE, holds, adds, without}
+use Rattle.machine.specs.Right.{SEND, GRANT, REMOVE, isSet, holds, adds, without}
 use Rattle.machine.specs.Table.{domains, rights, setRights, setEndpoint}
 use Rattle.machine.specs.Check.{Accepted}
 use Rattle.machine.specs.Call.{Call, Call.one, Call.two, callerOf, cut}
-use Rattle.machine.specs.Machine.{Decision, decide, effect, after, step}
+use Rattle.machine.specs.Machine.{Decision, removePlaces, decide, effect, after, step}
 use Rattle.machine.specs.Influence.{influences}
 use Rattle.machine.specs.Machine.{Decision.grants, Decision.removes, Effect.newRights, Effect.newEndpoint}
 use Rattle.machine.specs.Run.{run}
 use Rattle.machine.specs.Everything.{everything}
 use Rattle.machine.specs.Examples.{T, L}
 use Rattle.machine.specs.Trail.{GivenBy, GivenAlong, RemovedBy}
-use Rattle.machine.specs.MachineClaims.{StaysAccepted, EveryCallEachRight, EveryRunNoRightFromNowhere}
+use Rattle.machine.specs.MachineClaims.{StaysAccepted, EveryCallEachRight, AllOrNothing, EveryRemoveAllOrNothing, removeOfOne, EveryRemoveOfOne, EveryRunNoRightFromNowhere}
 use Rattle.machine.proofs.Bools.{and-left, or-cases, either}
 use Rattle.machine.proofs.Table as table
 use Rattle.machine.proofs.Right.{holds-adds, holds-without, holds-trans, rights-payload}
@@ -138,6 +141,47 @@ each-right t c a h g k ph pg =
       given = given-now t c a h g k ph pg;
       removed = removed-now t c a h g k ph pg;
     }
+
+-- ---- a remove of several rights, and of one
+
+-- Of a call of kind 7 only the remove's own row writes.
+pub all-or-nothing : EveryRemoveAllOrNothing
+unfolding step effect after
+all-or-nothing t c a seven =
+    decide-elim t c (λ d. InOrder t (effect t d) → AllOrNothing t c (after t (effect t d)))
+    (record {
+      refuses = λ _ _ _. inr refl;
+      looksUp = λ _ _ _ _ _. inr refl;
+      sending = λ _ other _ _ _. absurd (omega arith);
+      receiving = λ _ other _ _ _ _. absurd (omega arith);
+      endpointsListed = λ _ _ _. inr refl;
+      rightsListed = λ _ _ _. inr refl;
+      granting = λ _ other _ _ _ _ _ _ _. absurd (omega arith);
+      removing =
+          λ _ _ _ may had o.
+          let now = written t a _ _ _ o in
+          inl
+          (record {
+            mayRemove = may;
+            held = had;
+            cleared = λ k among. rw (now, holds-without, among, and-false);
+            others = λ k among. rw (now, holds-without, among, and-true);
+          });
+    })
+    (call-in-order t c a)
+
+pub remove-of-one : EveryRemoveOfOne
+unfolding removePlaces isSet
+remove-of-one t u g r single =
+    ⊎-elim
+    (λ x.
+    ⊎-elim (λ is. same SEND (eqb-true r SEND is) refl) (λ is. same GRANT (eqb-true r GRANT is) refl)
+    (or-cases (eqb r SEND) (eqb r GRANT) x))
+    (λ is. same REMOVE (eqb-true r REMOVE is) refl)
+    (or-cases (eqb r SEND || eqb r GRANT) (eqb r REMOVE) single)
+  where
+    same : (k : ℕ) → r ≡ k → removePlaces t u g k ≡ removeOfOne t u g k → removePlaces t u g r ≡ removeOfOne t u g r
+    same k is e = rw is e
 
 -- ---- along calls
 

@@ -90,26 +90,29 @@ everyCode =
     -- a grant that adds to it
     ∷ answered (0x6001_0203 ∷ []) (0x6000_0000 ∷ 0 ∷ 0 ∷ [])
     -- 20, before 21
-    ∷ answered (0x7084_0003 ∷ []) (0x7080_0014 ∷ 0 ∷ 0 ∷ [])
-    -- 21, before 22: two rights, one of them not held
-    ∷ answered (0x7081_0003 ∷ []) (0x7080_0015 ∷ 0 ∷ 0 ∷ [])
-    -- 22: REMOVE is held and the right is not
+    ∷ answered (0x7084_0000 ∷ []) (0x7080_0014 ∷ 0 ∷ 0 ∷ [])
+    -- 21, before 22: no right at all, and a bit more than there are rights; nothing is held on the target
+    ∷ answered (0x7080_0000 ∷ []) (0x7080_0015 ∷ 0 ∷ 0 ∷ [])
+    ∷ answered (0x7080_0008 ∷ []) (0x7080_0015 ∷ 0 ∷ 0 ∷ [])
+    -- 22: REMOVE is held and the right is not; two rights, REMOVE and one that is not held
     ∷ answered (0x7082_0001 ∷ []) (0x7080_0016 ∷ 0 ∷ 0 ∷ [])
-    -- 22: REMOVE is not held
+    ∷ answered (0x7082_0005 ∷ []) (0x7080_0016 ∷ 0 ∷ 0 ∷ [])
+    -- 22: the right is held, or both of two are, and REMOVE is not
     ∷ answered (0x7001_0001 ∷ []) (0x7000_0016 ∷ 0 ∷ 0 ∷ [])
+    ∷ answered (0x7001_0003 ∷ []) (0x7000_0016 ∷ 0 ∷ 0 ∷ [])
     -- 13: field B of a remove
     ∷ answered (0x7081_0101 ∷ []) (0x7080_000D ∷ 0 ∷ 0 ∷ [])
-    -- a remove
-    ∷ answered (0x7081_0001 ∷ []) (0x7080_0000 ∷ 0 ∷ 0 ∷ [])
+    -- a remove of two rights at once
+    ∷ answered (0x7081_0003 ∷ []) (0x7080_0000 ∷ 0 ∷ 0 ∷ [])
     ∷ []
 
 abbrev pub codeRows : List Row
 codeRows =
-    leaves fourDomains (callWords everyCode) (spaceOf 99)
+    leaves fourDomains (callWords everyCode) (spaceOf 108)
     (record {
       code = 0;
-      calls = 33;
-      table = set (set fourDomains 10 0x2000_0006) 21 0xF000_0009;
+      calls = 36;
+      table = set (set fourDomains 10 0x2000_0004) 21 0xF000_0009;
       answers = callAnswers everyCode;
     })
     -- nine domains: a right on target 8 shows in the second data word

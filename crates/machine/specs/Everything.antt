@@ -1,6 +1,6 @@
 -- One name for the definitions of the machine and its counts, for a proof that computes with them: `unfolding everything`.
 use Rattle.machine.specs.Below.{allBelow, numbersBelow, firstBelow, sumBelow}
-use Rattle.machine.specs.Right.{holds, adds, without, hasAny}
+use Rattle.machine.specs.Right.{isSet, holds, adds, without, hasAny}
 use Rattle.machine.specs.Table.{domains, endpoints, rightsWord, rights, endpoint, setRights, setEndpoint}
 use Rattle.machine.specs.Check as check
 use Rattle.machine.specs.Call as call
@@ -15,7 +15,7 @@ use Rattle.machine.specs.Counts as counts
 
 unfoldable pub everything : Unit {0}
 unfolding allBelow numbersBelow firstBelow sumBelow
-    holds adds without hasAny
+    isSet holds adds without hasAny
     domains endpoints rightsWord rights endpoint setRights setEndpoint
     check.headerWordOk check.rightsWordOk check.nameWordOk check.infoWordOk check.waitingWordOk check.lostWordOk
     check.slotWordOk check.identityOk check.queueOk check.endpointOk check.nameNew check.headerOk check.lengthOk

@@ -133,9 +133,9 @@ rows =
     -- P9
     ∷ leaves T (0x50C0_0000 ∷ []) (spaceOf 3)
     (record { code = 0; calls = 1; table = T; answers = 0x50C0_000C ∷ 0 ∷ 0 ∷ [] })
-    -- P10
+    -- P10: done (document 02 (b))
     ∷ leaves T (0x7042_0003 ∷ []) (spaceOf 3)
-    (record { code = 0; calls = 1; table = T; answers = 0x7040_0015 ∷ 0 ∷ 0 ∷ [] })
+    (record { code = 0; calls = 1; table = set T 6 0x2000_0004; answers = 0x7040_0000 ∷ 0 ∷ 0 ∷ [] })
     -- P11: both of its calls
     ∷ leaves T (0x7042_0004 ∷ 0x7042_0004 ∷ []) (spaceOf 6)
     (record {

@@ -1,7 +1,7 @@
 -- Rows that pin the fields of a call and what each call reads and writes by them: every bit of a spare field and of the caller,
 -- every unknown kind, which words make one call, which right each call asks for, the sets that a grant and a
 -- remove take, a queue through all its slots, and both ends of the largest table. Worked out by hand from document 01.
-use Prim.Native.Nat.{ℕ}
+use Prim.Native.Nat.{ℕ, _+_, _*_}
 use mathlib.Core.List.{List, [], _∷_, _++_}
 use lib.ListN.{set, replicate}
 use Rattle.machine.specs.Examples.{Row, Row.leaves, spaceOf, unchanged, T}
@@ -99,18 +99,37 @@ rightAsked =
     ∷ answered (0x60C3_0307 ∷ []) (0x60C0_0000 ∷ 0 ∷ 0 ∷ [])
     ∷ []
 
--- a remove of each set there is, by one that holds them all: SEND and GRANT go, and then REMOVE
+-- domain 1 gives domain 3 every right on 3; 3 removes the set r of them, and its rights on 3 are then left
+unfoldable pub removedOfAll : ℕ → ℕ → List Answered
+removedOfAll r left =
+    answered (0x6043_0307 ∷ []) (0x6040_0000 ∷ 0 ∷ 0 ∷ [])
+    ∷ answered ((0x70C3_0000 + r) ∷ []) (0x70C0_0000 ∷ 0 ∷ 0 ∷ [])
+    ∷ answered (0x50C0_0000 ∷ []) (0x50C0_0000 ∷ (0x40 + 0x1000 * left) ∷ 0 ∷ [])
+    ∷ []
+
+-- removes by one that holds every right
 abbrev pub removes : List Answered
 removes =
+    -- 21: no right at all, and bits that are no right
     each
-    (0x70C3_0000 ∷ 0x70C3_0003 ∷ 0x70C3_0005 ∷ 0x70C3_0006 ∷ 0x70C3_0007 ∷ 0x70C3_0008 ∷ 0x70C3_0009 ∷ 0x70C3_0011
-    ∷ 0x70C3_0010 ∷ 0x70C3_0022 ∷ 0x70C3_0044 ∷ 0x70C3_0081 ∷ 0x70C3_0080 ∷ [])
+    (0x70C3_0000 ∷ 0x70C3_0008 ∷ 0x70C3_0009 ∷ 0x70C3_000F ∷ 0x70C3_0010 ∷ 0x70C3_0011 ∷ 0x70C3_0022 ∷ 0x70C3_0044
+    ∷ 0x70C3_0080 ∷ 0x70C3_0081 ∷ 0x70C3_00FF ∷ [])
     0x70C0_0015
-    ++ (answered (0x70C3_0002 ∷ []) (0x70C0_0000 ∷ 0 ∷ 0 ∷ [])
-    ∷ answered (0x50C0_0000 ∷ []) (0x50C0_0000 ∷ 0x5040 ∷ 0 ∷ [])
-    ∷ answered (0x70C3_0001 ∷ []) (0x70C0_0000 ∷ 0 ∷ 0 ∷ [])
+    -- each set there is, out of all of them
+    ++ removedOfAll 1 6
+    ++ removedOfAll 2 5
+    ++ removedOfAll 3 4
+    ++ removedOfAll 4 3
+    ++ removedOfAll 5 2
+    ++ removedOfAll 6 1
+    ++ removedOfAll 7 0
+    -- 22: REMOVE went with the others; then GRANT goes alone, and of a set with it nothing is cleared
+    ++ (answered (0x70C3_0004 ∷ []) (0x70C0_0016 ∷ 0 ∷ 0 ∷ []) ∷ [])
+    ++ removedOfAll 2 5
+    ++ each (0x70C3_0003 ∷ 0x70C3_0006 ∷ 0x70C3_0007 ∷ []) 0x70C0_0016
+    ++ (answered (0x50C0_0000 ∷ []) (0x50C0_0000 ∷ 0x5040 ∷ 0 ∷ [])
+    -- what domain 1 holds is as it was
     ∷ answered (0x5040_0000 ∷ []) (0x5040_0000 ∷ 0x7002 ∷ 0 ∷ [])
-    ∷ answered (0x70C3_0004 ∷ []) (0x70C0_0000 ∷ 0 ∷ 0 ∷ [])
     ∷ [])
 
 -- an endpoint of capacity 8 in which two wait: six more fill it, two are lost and the lost count stays at its largest, then
@@ -167,11 +186,11 @@ fieldRows =
       table = set (set oneRight 1 0x2000_0002) 8 0x2000_0007;
       answers = callAnswers rightAsked;
     })
-    ∷ leaves (set oneRight 8 0x2000_0007) (callWords removes) (spaceOf 54)
+    ∷ leaves (set oneRight 8 0x2000_0007) (callWords removes) (spaceOf 123)
     (record {
       code = 0;
-      calls = 18;
-      table = set (set oneRight 8 0x2000_0007) 16 0x2000_0000;
+      calls = 41;
+      table = set (set oneRight 8 0x2000_0007) 16 0x2000_0005;
       answers = callAnswers removes;
     })
     -- the queue has five left, from 0x0001_0000 on, and three free slots

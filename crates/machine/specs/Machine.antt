@@ -5,10 +5,10 @@ use Prim.Native.Nat.{ℕ, _+_, _*_, _^_}
 use mathlib.Core.Bool.{Bool, true, false, cond, not, _&&_, _||_}
 use mathlib.Core.List.{List, [], _∷_}
 use mathlib.Core.Option.{Option, none, some}
-use lib.Dec.{eqb, leb, ltb}
+use lib.Dec.{eqb, ltb}
 use Rattle.machine.specs.Below.{firstBelow, sumBelow}
 use Rattle.machine.specs.Word.{kind, caller, fieldA, fieldB, fieldC}
-use Rattle.machine.specs.Right.{SEND, GRANT, REMOVE, allRights, holds, adds, without}
+use Rattle.machine.specs.Right.{SEND, GRANT, REMOVE, isSet, holds, adds, without}
 use Rattle.machine.specs.Table.{domains, endpoints, rights, endpoint, setRights, setEndpoint}
 use Rattle.machine.specs.Influence.{influences}
 use Rattle.machine.specs.Queue.{name, owner, waiting, lost, oldest, sent, received}
@@ -59,15 +59,15 @@ receivePlaces t u e =
 unfoldable pub grantPlaces : List ℕ → ℕ → ℕ → ℕ → ℕ → Decision
 grantPlaces t u g h r =
     place (not (ltb g (domains t) && ltb h (domains t))) 20
-    (place (eqb r 0 || not (leb r allRights)) 21
+    (place (not (isSet r)) 21
     (place (not (holds (rights t u g) GRANT && holds (rights t u g) r)) 22
     (place (not (influences t u h)) 23 (grants g h r))))
 
--- the places 20 to 22, and then the remove's row: u clears the right r from its own on the target g
+-- the places 20 to 22, and then the remove's row: u clears the rights r, all of which it must hold, from its own on the target g
+-- (document 02 (b))
 unfoldable pub removePlaces : List ℕ → ℕ → ℕ → ℕ → Decision
 removePlaces t u g r =
-    place (not (ltb g (domains t))) 20
-    (place (not (eqb r SEND || eqb r GRANT || eqb r REMOVE)) 21
+    place (not (ltb g (domains t))) 20 (place (not (isSet r)) 21
     (place (not (holds (rights t u g) REMOVE && holds (rights t u g) r)) 22 (removes g u r)))
 
 -- the places 12, 13 and 14, which every known kind has, and then the kind's own

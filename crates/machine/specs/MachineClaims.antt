@@ -3,17 +3,18 @@
 -- theorem in proofs/.
 use Prim.Native.Nat.{ℕ, _*_, _<_, _≤_, _^_}
 use mathlib.Core.Path.{_≡_}
-use mathlib.Core.Bool.{Bool, true, false, _&&_}
+use mathlib.Core.Bool.{Bool, true, false, not, _&&_, _||_}
 use mathlib.Core.Logic.{_⊎_}
 use mathlib.Core.List.{List, _++_}
 use mathlib.Core.Option.{Option, none, some}
-use lib.Dec.{ltb}
+use lib.Dec.{eqb, ltb}
 use lib.ListN.{length}
-use Rattle.machine.specs.Right.{holds}
+use Rattle.machine.specs.Word.{kind, caller, fieldA, fieldC}
+use Rattle.machine.specs.Right.{SEND, GRANT, REMOVE, holds}
 use Rattle.machine.specs.Table.{domains, endpoints, rights}
 use Rattle.machine.specs.Check.{Accepted}
-use Rattle.machine.specs.Call.{Call, callerOf}
-use Rattle.machine.specs.Machine.{decide, step, answer, Decision.refused}
+use Rattle.machine.specs.Call.{Call, first, callerOf}
+use Rattle.machine.specs.Machine.{Decision, place, removePlaces, decide, step, answer, Decision.refused, Decision.removes}
 use Rattle.machine.specs.Run.{run, answers}
 use Rattle.machine.specs.Influence.{influences}
 use Rattle.machine.specs.SameParts.{SameFrame, SamePart}
@@ -72,6 +73,36 @@ pub record EachRight (h g k : ℕ) (t : List ℕ) (c : Call) : Type 0 where
 abbrev pub EveryCallEachRight : Type 0
 EveryCallEachRight =
     (t : List ℕ) (c : Call) → Accepted t → (h g k : ℕ) → h < domains t → g < domains t → EachRight h g k t c
+
+-- The rights r of h on g went all together from the table t to t′: h held REMOVE and every one of them, holds none of them any
+-- more, and every other right on g as before.
+pub record AllRemoved (h g r : ℕ) (t t′ : List ℕ) : Type 0 where
+  pub mayRemove : holds (rights t h g) REMOVE ≡ true
+  pub held : holds (rights t h g) r ≡ true
+  pub cleared : (k : ℕ) → holds r (2 ^ k) ≡ true → holds (rights t′ h g) (2 ^ k) ≡ false
+  pub others : (k : ℕ) → holds r (2 ^ k) ≡ false → holds (rights t′ h g) (2 ^ k) ≡ holds (rights t h g) (2 ^ k)
+
+-- From the table t to t′ the rights that the word of the remove c names went all together, or nothing was altered.
+abbrev pub AllOrNothing : List ℕ → Call → List ℕ → Type 0
+AllOrNothing t c t′ = AllRemoved (caller (first c)) (fieldA (first c)) (fieldC (first c)) t t′ ⊎ (t′ ≡ t)
+
+-- A remove is all or nothing (document 02 (b)), on an accepted table.
+abbrev pub EveryRemoveAllOrNothing : Type 0
+EveryRemoveAllOrNothing = (t : List ℕ) (c : Call) → Accepted t → kind (first c) ≡ 7 → AllOrNothing t c (step t c)
+
+-- the places 20 to 22 of a remove as document 01 has them, where it takes one right
+abbrev pub removeOfOne : List ℕ → ℕ → ℕ → ℕ → Decision
+removeOfOne t u g r =
+    place (not (ltb g (domains t))) 20
+    (place (not (eqb r SEND || eqb r GRANT || eqb r REMOVE)) 21
+    (place (not (holds (rights t u g) REMOVE && holds (rights t u g) r)) 22 (removes g u r)))
+
+-- A remove of one right comes to what it does in document 01 (document 02 (b)), on any table.
+abbrev pub EveryRemoveOfOne : Type 0
+EveryRemoveOfOne =
+    (t : List ℕ) (u g r : ℕ)
+    → (eqb r SEND || eqb r GRANT || eqb r REMOVE) ≡ true
+    → removePlaces t u g r ≡ removeOfOne t u g r
 
 -- ---- calls of any number, run from an accepted table; the words rest may follow the answers, as in a larger answer space
 

@@ -1,7 +1,7 @@
 -- The rights that one domain holds on another: a set, as a number with a bit for each right (document 01, 'The table').
 use Prim.Native.Nat.{ℕ, _-_}
-use mathlib.Core.Bool.{Bool, not}
-use lib.Dec.{eqb}
+use mathlib.Core.Bool.{Bool, not, _&&_}
+use lib.Dec.{eqb, leb}
 use lib.Bits.{bitAnd, bitOr}
 
 -- to send to its endpoints
@@ -19,6 +19,10 @@ REMOVE = 4
 -- the largest set: every right there is
 abbrev pub allRights : ℕ
 allRights = 7
+
+-- a set of rights that a call may name: at least one right, and none that isn't a right
+unfoldable pub isSet : ℕ → Bool
+isSet r = leb 1 r && leb r allRights
 
 -- every right of r is in the set s
 unfoldable pub holds : ℕ → ℕ → Bool

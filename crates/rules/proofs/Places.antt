@@ -1,13 +1,8 @@
 -- The machine's places of a call are the tests of its numbers, followed by the tests of what the table holds, kind by kind.
 -- Assumes nothing.
 use mathlib.Core.Path.{_≡_, refl, ap₂, _∙_}
-use mathlib.Core.Bool.{not, _||_}
 use mathlib.Core.List.{List}
-use Prim.Native.Nat.{ℕ, zero, suc}
-use native.Mathlib.Omega.{arith}
-use lib.Dec.{eqb, leb}
-use borrow.Author.Tests.{le-leb, ne-eqb}
-use Rattle.machine.specs.Right.{allRights}
+use Prim.Native.Nat.{ℕ}
 use Rattle.machine.specs.Table.{domains, endpoints}
 use Rattle.machine.specs.Machine as machine
 use Rattle.machine.specs.Machine.{Decision, maySend}
@@ -16,24 +11,18 @@ use Rattle.calls.specs.Decide.{knownCaller, refusedCall, decideCall}
 use Rattle.calls.specs.declared.Call.{Call}
 use Rattle.calls.specs.declared.Call.the-variants.{LookUp, Send, Receive, MyEndpoints, MyRights, Grant, Remove, Refused}
 use Rattle.rules.specs.declared.range.Range.{Range}
-use Rattle.rules.specs.Range.{followed, isSet, isRight, callerNumber, refusedNumbers, endpointNumbers, grantNumbers, removeNumbers, callNumbers}
+use Rattle.rules.specs.Range.{followed, callerNumber, refusedNumbers, endpointNumbers, grantNumbers, removeNumbers, callNumbers}
 use Rattle.rules.specs.Access.{sendAccess, receiveAccess, grantAccess, removeAccess, callAccess}
 
--- no set of rights: none at all, or one that isn't a right
-pub no-set : (r : ℕ) → not (isSet r) ≡ (eqb r 0 || not (leb r allRights))
-unfolding isSet
-no-set zero = refl
-no-set (suc r) = rw (le-leb 1 (suc r) (omega arith), ne-eqb (suc r) 0 (λ same. omega arith))
-
 pub decide-places : (t : List ℕ) (call : Call) → callNumbers (domains t) (endpoints t) call (callAccess t call) ≡ decideCall t call
-unfolding callNumbers callAccess decideCall callerNumber knownCaller refusedNumbers refusedCall endpointNumbers grantNumbers removeNumbers isRight sendAccess receiveAccess grantAccess removeAccess maySend influences reaches machine.sendPlaces machine.receivePlaces machine.grantPlaces machine.removePlaces
+unfolding callNumbers callAccess decideCall callerNumber knownCaller refusedNumbers refusedCall endpointNumbers grantNumbers removeNumbers sendAccess receiveAccess grantAccess removeAccess maySend influences reaches machine.sendPlaces machine.receivePlaces machine.grantPlaces machine.removePlaces
 decide-places t (Refused u r) = refl
 decide-places t (LookUp u x) = refl
 decide-places t (Send u e message) = refl
 decide-places t (Receive u e) = refl
 decide-places t (MyEndpoints u) = refl
 decide-places t (MyRights u) = refl
-decide-places t (Grant u g h r) = rw (no-set r)
+decide-places t (Grant u g h r) = refl
 decide-places t (Remove u g r) = refl
 
 -- so whatever tested the numbers by n and m of the table goes on with what the table holds

@@ -34,7 +34,7 @@ unfoldable pub grantAccess : ℕ → ℕ → ℕ → ℕ → ℕ → ℕ → Dec
 grantAccess u g h r s toward =
     place (not (holds s GRANT && holds s r)) 22 (place (not (eqb u h || hasAny toward)) 23 (grants g h r))
 
--- place 22: u clears the right r from its own on the target g, which are s
+-- place 22: u clears the rights r from its own on the target g, which are s
 unfoldable pub removeAccess : ℕ → ℕ → ℕ → ℕ → Decision
 removeAccess u g r s = place (not (holds s REMOVE && holds s r)) 22 (removes g u r)
 

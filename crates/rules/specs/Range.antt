@@ -1,8 +1,8 @@
 -- The places that test a call's numbers by n and m alone: 12, 16, 20 and 21 (document 01, 'Where each number is checked').
 use Prim.Native.Nat.{ℕ}
-use mathlib.Core.Bool.{Bool, cond, not, _&&_, _||_}
-use lib.Dec.{eqb, leb, ltb}
-use Rattle.machine.specs.Right.{SEND, GRANT, REMOVE, allRights}
+use mathlib.Core.Bool.{cond, not, _&&_}
+use lib.Dec.{ltb}
+use Rattle.machine.specs.Right.{isSet}
 use Rattle.machine.specs.Machine.{Decision, Decision.refused, place}
 use Rattle.calls.specs.Number.{numberOf}
 use Rattle.calls.specs.declared.Refusal.{Refusal}
@@ -10,14 +10,6 @@ use Rattle.calls.specs.declared.Call.{Call}
 use Rattle.calls.specs.declared.Call.the-variants.{LookUp, Send, Receive, MyEndpoints, MyRights, Grant, Remove, Refused}
 use Rattle.rules.specs.declared.range.Range.{Range}
 use Rattle.rules.specs.declared.range.Range.the-variants.{Within, Outside}
-
--- at least one right, and none that isn't a right
-unfoldable pub isSet : ℕ → Bool
-isSet r = leb 1 r && leb r allRights
-
--- one right, and no more
-unfoldable pub isRight : ℕ → Bool
-isRight r = eqb r SEND || eqb r GRANT || eqb r REMOVE
 
 -- the tests' result, and where none failed what comes next
 unfoldable pub followed : Range → Decision → Decision
@@ -41,9 +33,9 @@ unfoldable pub grantNumbers : ℕ → ℕ → ℕ → ℕ → ℕ → Decision �
 grantNumbers n u g h r next =
     callerNumber n u (place (not (ltb g n && ltb h n)) 20 (place (not (isSet r)) 21 next))
 
--- places 12, 20 and 21 of a remove: the target g, the right r
+-- places 12, 20 and 21 of a remove: the target g, the rights r
 unfoldable pub removeNumbers : ℕ → ℕ → ℕ → ℕ → Decision → Decision
-removeNumbers n u g r next = callerNumber n u (place (not (ltb g n)) 20 (place (not (isRight r)) 21 next))
+removeNumbers n u g r next = callerNumber n u (place (not (ltb g n)) 20 (place (not (isSet r)) 21 next))
 
 -- all of a call's, before what comes next
 unfoldable pub callNumbers : ℕ → ℕ → Call → Decision → Decision

@@ -4,9 +4,10 @@ use calls::Refusal;
 use right::Rights;
 ghost use mathlib.Core.Path.{_≡_};
 ghost use mathlib.Core.Bool.{not};
+ghost use Rattle.machine.specs.Right.{isSet};
 ghost use Rattle.machine.specs.Machine.{Decision, place};
 ghost use Rattle.calls.specs.Number.{numberOf};
-ghost use Rattle.rules.specs.Range.{isSet, isRight, followed, callerNumber, refusedNumbers, endpointNumbers, grantNumbers, removeNumbers};
+ghost use Rattle.rules.specs.Range.{followed, callerNumber, refusedNumbers, endpointNumbers, grantNumbers, removeNumbers};
 
 // What the tests come to: all numbers are within their range, or the refusal by the first that isn't.
 pub enum Range {
@@ -31,18 +32,11 @@ impl Range {
     }
 }
 
-// A set of rights: at least one, and none that isn't a right.
+// A set of rights that a call may name: at least one, and none that isn't a right.
 fn is_set(given: u32) -> bool
     ensures { λ b. ⌜ b ≡ isSet given ⌝ }
 {
     (1 <= given) & (given <= Rights::ALL.bits)
-}
-
-// One right, and no more.
-fn is_right(given: u32) -> bool
-    ensures { λ b. ⌜ b ≡ isRight given ⌝ }
-{
-    (given == Rights::SEND.bits) | (given == Rights::GRANT.bits) | (given == Rights::REMOVE.bits)
 }
 
 // Place 12.
@@ -85,5 +79,5 @@ pub fn of_remove(n: u32, caller: u32, target: u32, given: u32) -> Range
 {
     of_caller(n, caller)
         .then(target < n, Refusal::NoSuchDomain)
-        .then(is_right(given), Refusal::BadRights)
+        .then(is_set(given), Refusal::BadRights)
 }

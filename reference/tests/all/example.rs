@@ -1,5 +1,5 @@
 //! List L of document 01 with its printed output, and the edges P1 to P12, each
-//! on table T.
+//! on table T, as document 02 has altered them.
 
 use crate::support::{code, codes, place, run_from, table_with, UNTOUCHED};
 use reference::example::{LIST_L, PRINTED, TABLE_T};
@@ -99,7 +99,10 @@ fn p9_unknown_caller() {
 
 #[test]
 fn p10_two_rights_removed_at_once() {
-    assert_eq!(code(&TABLE_T, &[0x7042_0003]), 21);
+    let ran = run_from(&TABLE_T, &[0x7042_0003]);
+    let expected = table_with(&[(place::rights(1, 2), 0x2000_0004)]);
+    assert_eq!(ran.table, expected);
+    assert_eq!(codes(&TABLE_T, &[0x7042_0003, 0x7042_0003]), [0, 22]);
 }
 
 #[test]

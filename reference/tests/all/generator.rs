@@ -5,7 +5,7 @@ use std::collections::BTreeSet;
 
 use crate::support::{code_of, shown};
 use reference::generate::{case, damaged_table, linerun_input, list, table, table_of, Rng};
-use reference::table::{capacity, domains, endpoints, lost, waiting};
+use reference::table::{capacity, domains, endpoints, lost, right, rights, waiting};
 use reference::words::CONTENT_MAX;
 use reference::{check_table, cut, linerun, run, step};
 
@@ -62,6 +62,31 @@ fn every_code_of_a_call_is_met() {
     let expected: BTreeSet<u32> = std::iter::once(0).chain(10..=23).collect();
     assert_eq!(met, expected);
     assert!(2 * done > calls, "{done} of {calls} calls did something");
+}
+
+/// Removes of several rights that are done, and removes of sets of which just one
+/// right isn't held although REMOVE is.
+#[test]
+fn removes_name_sets_and_sets_with_one_right_missing() {
+    let (mut several, mut one_missing) = (0, 0);
+    for seed in 0..600 {
+        let rng = &mut Rng::new(seed);
+        let mut now = table(rng, 6, 6);
+        for call in cut(&list(rng, &now, 60)) {
+            let before = now.clone();
+            let code = code_of(&step(&mut now, &call));
+            if call.kind() == 7 && (code == 0 || code == 22) {
+                let caller = call.caller().unwrap() as usize;
+                let held = rights(&before, caller, call.a() as usize);
+                let missing = call.c() & !held;
+                several += usize::from(code == 0 && call.c().count_ones() > 1);
+                let one = missing.count_ones() == 1 && missing != call.c();
+                one_missing += usize::from(one && held & right::REMOVE != 0);
+            }
+        }
+    }
+    assert!(several > 150, "several rights {several}");
+    assert!(one_missing > 30, "one right missing {one_missing}");
 }
 
 #[test]

@@ -146,11 +146,15 @@ fn grant_adds_to_the_recipients_rights_on_the_target() {
 }
 
 #[test]
-fn remove_clears_one_right_of_the_callers_own() {
+fn remove_clears_a_set_of_the_callers_own_together() {
     let at = place::rights(1, 2);
-    for (right, left) in [(1, 6), (2, 5), (4, 3)] {
-        let changes = [(at, 0x2000_0000 | left)];
-        done(&TABLE_T, &[call_word(7, 1, 2, 0, right)], [0, 0], &changes);
+    // Whatever set with REMOVE is held, and each set within it.
+    for held in 4..8 {
+        let table = table_with(&[(at, 0x2000_0000 | held)]);
+        for set in (1..8).filter(|set| held & set == *set) {
+            let changes = [(at, 0x2000_0000 | (held - set))];
+            done(&table, &[call_word(7, 1, 2, 0, set)], [0, 0], &changes);
+        }
     }
     let table = table_with(&[(place::rights(0, 0), 0x2000_0004)]);
     let changes = [(place::rights(0, 0), 0x2000_0000)];

@@ -12,16 +12,16 @@ use super::planner::{grant, my_rights, remove, send, Planned, Planner};
 /// Every grant that gives something, twice, until none does; the table that is left
 /// stands beside the lists. Of those that give nothing or are refused, each caller
 /// makes one for each target and number, to itself and to another; and whatever part
-/// of the rights on a target it has, it tries to give itself each set, and to give the
-/// target something.
+/// of the rights on a target it has, it tries to give itself and to give up each set,
+/// and to give the target something.
 pub fn grown(table: &[u32]) -> (Vec<Planned>, Vec<u32>) {
     let mut plan = Planner::new("every grant, as far as rights lead", table);
     let mut tried = BTreeSet::new();
-    let mut to_itself = BTreeSet::new();
+    let mut own = BTreeSet::new();
     for (holder, target) in pairs(domains(table)) {
-        give_itself(&mut plan, &mut to_itself, holder, target);
+        try_own(&mut plan, &mut own, holder, target);
     }
-    while grow(&mut plan, &mut tried, &mut to_itself) {}
+    while grow(&mut plan, &mut tried, &mut own) {}
     let table = plan.table().to_vec();
     (plan.lists(), table)
 }
@@ -29,11 +29,11 @@ pub fn grown(table: &[u32]) -> (Vec<Planned>, Vec<u32>) {
 /// What tells one try from another: caller, target, whether it is to itself, number.
 type Tried = BTreeSet<(usize, usize, bool, u32)>;
 
-/// And of those to itself: holder, target, what it has and what it tries to give.
-type ToItself = BTreeSet<(usize, usize, u32, u32)>;
+/// And of those with its own rights: kind, holder, target, what it has and what it names.
+type OwnRights = BTreeSet<(u32, usize, usize, u32, u32)>;
 
 /// Goes once through all grants; whether one of them gave something.
-fn grow(plan: &mut Planner, tried: &mut Tried, to_itself: &mut ToItself) -> bool {
+fn grow(plan: &mut Planner, tried: &mut Tried, own: &mut OwnRights) -> bool {
     let mut gave = false;
     for (caller, target, recipient) in triples(domains(plan.table())) {
         for set in 1..=right::ALL {
@@ -45,7 +45,7 @@ fn grow(plan: &mut Planner, tried: &mut Tried, to_itself: &mut ToItself) -> bool
                 use_right(plan, recipient, target);
                 plan.make(call);
                 plan.make(my_rights(recipient));
-                give_itself(plan, to_itself, recipient, target);
+                try_own(plan, own, recipient, target);
                 give_to(plan, recipient, target);
             } else if tried.insert((caller, target, caller == recipient, plan.code(&call))) {
                 plan.make(call);
@@ -56,14 +56,19 @@ fn grow(plan: &mut Planner, tried: &mut Tried, to_itself: &mut ToItself) -> bool
     gave
 }
 
-/// A holder tries to give itself each set of rights on a target that it can't, once for
-/// each part of the rights that it has there.
-fn give_itself(plan: &mut Planner, tried: &mut ToItself, holder: usize, target: usize) {
+/// A holder tries to give itself and to give up each set of rights on a target that it
+/// can't, once for each part of the rights that it has there.
+fn try_own(plan: &mut Planner, tried: &mut OwnRights, holder: usize, target: usize) {
     let has = rights(plan.table(), holder, target);
     for set in 1..=right::ALL {
-        let call = grant(holder, target, holder, set);
-        if plan.code(&call) != 0 && tried.insert((holder, target, has, set)) {
-            plan.make(call);
+        for call in [
+            grant(holder, target, holder, set),
+            remove(holder, target, set),
+        ] {
+            let what = (call.kind(), holder, target, has, set);
+            if plan.code(&call) != 0 && tried.insert(what) {
+                plan.make(call);
+            }
         }
     }
 }
@@ -105,12 +110,12 @@ fn use_right(plan: &mut Planner, holder: usize, target: usize) {
 /// given up for good, and everybody tries everything.
 pub fn given_up(what: &str, table: &[u32]) -> Vec<Planned> {
     let mut plan = Planner::new(what, table);
-    let mut to_itself = BTreeSet::new();
+    let mut own = BTreeSet::new();
     for (holder, target) in pairs(domains(table)) {
         for set in 1..=right::ALL {
             if plan.alters(&remove(holder, target, set)) {
                 give_up(&mut plan, holder, target, set);
-                give_itself(&mut plan, &mut to_itself, holder, target);
+                try_own(&mut plan, &mut own, holder, target);
                 give_to(&mut plan, holder, target);
                 give_back(&mut plan, holder, target, set);
             }

@@ -1,6 +1,6 @@
 -- `range::is_set` meets its contract. Assumes nothing.
 use mathlib.Core.Path.{refl}
-use Rattle.rules.specs.Range.{isSet}
+use Rattle.machine.specs.Right.{isSet}
 use Rattle.rules.proofs.range.is_set.Statement.{statement}
 use Rattle.rules.proofs.range.is_set.Tie as tie
 

@@ -8,7 +8,7 @@ returns : tie.Need-returns
 unfolding removeNumbers
 returns c next =
     let named = c .before .before in
-    rw (sym (c .before .is-right .ensures)) (c .then2 .ensures next ∙ named .then .ensures _ ∙ named .before .of-caller .ensures _)
+    rw (sym (c .before .is-set .ensures)) (c .then2 .ensures next ∙ named .then .ensures _ ∙ named .before .of-caller .ensures _)
 
 pub of-remove-spec : {M : Type 1} → statement M
 of-remove-spec = tie.close (tie.spec (λ c κs. tt) (λ c κs. tt) (λ c κs. tt) (λ c κs. tt) returns)
