@@ -29,7 +29,7 @@ static inline const char *code_meaning(uint32_t code)
         [BALKWIZU_NO_SUCH_NAME] = "no endpoint has the name",
         [BALKWIZU_NO_SUCH_ENDPOINT] = "the table has no such endpoint",
         [BALKWIZU_MAY_NOT_SEND] =
-            "the caller neither owns the endpoint nor has SEND on its owner",
+            "the caller has no SEND on the endpoint's owner",
         [BALKWIZU_NOT_OWNER] = "the caller does not own the endpoint",
         [BALKWIZU_NOTHING_WAITING] = "nothing waits",
         [BALKWIZU_NO_SUCH_DOMAIN] = "a domain named is not in the table",

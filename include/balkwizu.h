@@ -106,7 +106,8 @@ enum balkwizu_code {
     BALKWIZU_NO_SECOND_WORD = 14,  /* look up or send without its second word */
     BALKWIZU_NO_SUCH_NAME = 15,    /* look up: no endpoint has the name */
     BALKWIZU_NO_SUCH_ENDPOINT = 16, /* send, receive: endpoint not below m */
-    BALKWIZU_MAY_NOT_SEND = 17,    /* send: neither owner nor SEND on the owner */
+    BALKWIZU_MAY_NOT_SEND = 17,    /* send: no SEND on the endpoint's owner, which
+                                      the owner itself needs too */
     BALKWIZU_NOT_OWNER = 18,       /* receive: caller isn't the owner */
     BALKWIZU_NOTHING_WAITING = 19, /* receive: the queue is empty */
     BALKWIZU_NO_SUCH_DOMAIN = 20,  /* grant, remove: a domain named isn't below n */

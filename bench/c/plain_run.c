@@ -113,7 +113,7 @@ static uint32_t send(struct line *line, struct call call)
         return 16;
     uint32_t *words = line->endpoints + ENDPOINT_WORDS * (size_t)endpoint;
     uint32_t owner = (words[INFO] >> 8) & 255u;
-    if (caller != owner && !(rights_on(line, caller, owner) & SEND))
+    if (!(rights_on(line, caller, owner) & SEND))
         return 17;
     uint32_t waiting = words[WAITING] & CONTENT;
     if (waiting < (words[INFO] & 255u)) {

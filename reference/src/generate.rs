@@ -85,12 +85,17 @@ pub fn table(rng: &mut Rng, max_n: usize, max_m: usize) -> Vec<u32> {
 pub fn table_of(rng: &mut Rng, n: usize, m: usize) -> Vec<u32> {
     let mut words = vec![word(HEADER, ((n << 8) | m) as u32)];
     let density = rng.pick(&[1, 2, 4, 8]);
-    for _ in 0..n * n {
-        let set = if rng.chance(density, 8) {
+    let own_sends = rng.pick(&[2, 8, 8, 8]);
+    for place in 0..n * n {
+        let mut set = if rng.chance(density, 8) {
             rights_set(rng)
         } else {
             0
         };
+        // Mostly with SEND on oneself, so that owners can fill their queues.
+        if place % (n + 1) == 0 && rng.chance(own_sends, 8) {
+            set |= right::SEND;
+        }
         words.push(word(RIGHTS, set));
     }
     for name in names(rng, m) {
@@ -374,7 +379,7 @@ fn slipped_call(rng: &mut Rng, table: &[u32]) -> Vec<u32> {
 /// A call by some domain that is seldom refused.
 fn sensible_call(rng: &mut Rng, table: &[u32]) -> Vec<u32> {
     let anyone = rng.below(domains(table));
-    let kinds = [2, 2, 2, 2, 3, 3, 3, 6, 6, 6, 6, 7, 7, 1, 4, 5, 5];
+    let kinds = [2, 2, 2, 2, 2, 3, 3, 3, 6, 6, 6, 6, 7, 7, 1, 4, 5, 5];
     match rng.pick(&kinds) {
         LOOK_UP => look_up_words(rng, table, anyone),
         SEND => send_words(rng, table),
@@ -409,17 +414,16 @@ fn look_up_words(rng: &mut Rng, table: &[u32], caller: usize) -> Vec<u32> {
 }
 
 fn send_words(rng: &mut Rng, table: &[u32]) -> Vec<u32> {
-    let e = rng.below(endpoints(table).max(1));
-    let caller = mostly(rng, domains(table), |caller| may_send(table, caller, e));
+    let n = domains(table);
+    let reached = |e| (0..n).any(|caller| may_send(table, caller, e));
+    let e = mostly(rng, endpoints(table), reached);
+    let caller = mostly(rng, n, |caller| may_send(table, caller, e));
     let message = word(STRAY, message(rng));
     vec![call_word(SEND, caller, 0, e, 0), message]
 }
 
 fn may_send(table: &[u32], caller: usize, e: usize) -> bool {
-    e < endpoints(table) && {
-        let to = owner(table, e);
-        to == caller || rights(table, caller, to) & right::SEND != 0
-    }
+    e < endpoints(table) && rights(table, caller, owner(table, e)) & right::SEND != 0
 }
 
 fn receive_word(rng: &mut Rng, table: &[u32]) -> u32 {

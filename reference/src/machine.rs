@@ -98,13 +98,14 @@ fn endpoint_named(table: &[u32], call: &Call) -> Option<usize> {
     (0..endpoints(table)).find(|&e| Some(name(table, e)) == call.second_content())
 }
 
+/// Whoever sends needs SEND on the owner, the owner too (document 02, request (f)).
 fn send_refusal(table: &[u32], call: &Call) -> Option<u32> {
     let endpoint = call.b() as usize;
     if endpoint >= endpoints(table) {
         return Some(16);
     }
     let to = owner(table, endpoint);
-    if caller(call) != to && rights(table, caller(call), to) & right::SEND == 0 {
+    if rights(table, caller(call), to) & right::SEND == 0 {
         return Some(17);
     }
     None

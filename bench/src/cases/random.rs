@@ -48,11 +48,15 @@ pub fn run_case(seed: u64, number: u64) -> Case {
 }
 
 /// A small table of which the queues are driven full and empty: runs of sends by
-/// the owner, then runs of receives.
+/// the owner, who mostly may, then runs of receives.
 fn queues_case(rng: &mut Rng) -> Case {
     let n = rng.between(1, 3);
     let m = rng.between(1, 2);
-    let table = table_of(rng, n, m);
+    let mut table = table_of(rng, n, m);
+    for domain in 0..n {
+        // without a right on itself an owner fills no queue
+        table[1 + domain * n + domain] |= u32::from(!rng.chance(1, 8));
+    }
     let mut list = list(rng, &table, 12);
     for _ in 0..rng.between(1, 4) {
         let e = rng.below(m);

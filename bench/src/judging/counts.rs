@@ -176,6 +176,7 @@ mod tests {
     #[test]
     fn the_lost_count_stays_at_its_top() {
         let mut table = TABLE_T;
+        table[9] = 0x2000_0001; // domain 2 may send to itself
         table[25] = 0x6FFF_FFFE;
         let list = [[0x2080_0100, 0xF000_0001]; 4].concat();
         let (after, calls, answers) = ran(&table, &list);

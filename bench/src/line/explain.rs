@@ -9,8 +9,8 @@ use reference::calls::{
 use reference::check_table;
 use reference::table::{
     capacity, domains, endpoint_place, endpoint_words, endpoints, header_is_right, length, name,
-    right, waiting, ENDPOINT_WORDS, INFO, INFO_PLACE, LOST, LOST_PLACE, MESSAGE, NAME, NAME_PLACE,
-    RIGHTS, SLOTS, SLOTS_PLACE, WAITING, WAITING_PLACE,
+    owner, right, rights, waiting, ENDPOINT_WORDS, INFO, INFO_PLACE, LOST, LOST_PLACE, MESSAGE,
+    NAME, NAME_PLACE, RIGHTS, SLOTS, SLOTS_PLACE, WAITING, WAITING_PLACE,
 };
 use reference::words::{bits, content, kind, EMPTY_SLOT};
 
@@ -38,7 +38,7 @@ pub fn meaning(code: u32) -> &'static str {
         14 => "the second word is missing",
         15 => "no endpoint has the name",
         16 => "the table has no such endpoint",
-        17 => "the caller neither owns the endpoint nor has SEND on its owner",
+        17 => "the caller has no SEND on the endpoint's owner",
         18 => "the caller does not own the endpoint",
         19 => "nothing waits",
         20 => "a domain named is not in the table",
@@ -47,6 +47,14 @@ pub fn meaning(code: u32) -> &'static str {
         23 => "the caller isn't the recipient and has no right on it",
         _ => "not a number of the kernel",
     }
+}
+
+/// The domains that may send to an endpoint: those with SEND on its owner.
+pub fn senders(table: &[u32], endpoint: usize) -> Vec<usize> {
+    let to = owner(table, endpoint);
+    (0..domains(table))
+        .filter(|&from| rights(table, from, to) & right::SEND != 0)
+        .collect()
 }
 
 /// A set of rights in letters: S for SEND, G for GRANT, R for REMOVE.

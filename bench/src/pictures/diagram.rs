@@ -4,13 +4,12 @@
 use reference::cut;
 use reference::entry::ANSWER_WORDS;
 use reference::table::{
-    capacity, domains, endpoint_words, endpoints, lost, name, owner, right, rights, waiting,
-    SLOTS_PLACE,
+    capacity, domains, endpoint_words, endpoints, lost, name, owner, rights, waiting, SLOTS_PLACE,
 };
 use reference::words::content;
 
 use crate::kernels::lent::Ran;
-use crate::line::explain::{answer_in_words, call_in_words, counted, letters};
+use crate::line::explain::{answer_in_words, call_in_words, counted, letters, senders};
 use crate::line::input::Input;
 
 /// An accepted table and a list in words, and what was left where it was run.
@@ -74,15 +73,14 @@ fn queues_in_words(table: &[u32]) -> String {
     text
 }
 
-/// The domains that may send to an endpoint: its owner, and who has SEND on it.
+/// The domains that may send to an endpoint.
 fn senders_in_words(table: &[u32], endpoint: usize) -> String {
-    let to = owner(table, endpoint);
-    let may = |&from: &usize| from == to || rights(table, from, to) & right::SEND != 0;
-    let senders: Vec<String> = (0..domains(table))
-        .filter(may)
-        .map(|d| d.to_string())
-        .collect();
-    format!("from {}", senders.join(" "))
+    let senders = senders(table, endpoint);
+    let numbers: Vec<String> = senders.iter().map(usize::to_string).collect();
+    match numbers.is_empty() {
+        true => "from nobody".to_string(),
+        false => format!("from {}", numbers.join(" ")),
+    }
 }
 
 /// A dash for each free place and then the messages that wait, the oldest last: it
@@ -135,9 +133,7 @@ mod tests {
         let told = in_words(&Input::example(), None, 2);
         assert!(told.starts_with("Table: 3 domains, 2 endpoints, 34 words\n"));
         assert!(told.contains("domain  1    S   . SGR\n"), "{told}");
-        assert!(
-            told.contains("from 0 1 ==> endpoint 0 (name 17) [- -] ==> domain 1; 0 of 2 waiting")
-        );
+        assert!(told.contains("from 0 ==> endpoint 0 (name 17) [- -] ==> domain 1; 0 of 2 waiting"));
         assert!(told.contains("   0  20000100 F0000005  domain 0 sends 5 to endpoint 1\n"));
         assert!(told.ends_with("  and 7 more\n"), "{told}");
     }
@@ -152,7 +148,7 @@ mod tests {
             .filter_map(|line| line.trim().strip_prefix("-> "))
             .collect();
         let wanted = [
-            "refused with 17: the caller neither owns the endpoint nor has SEND on its owner",
+            "refused with 17: the caller has no SEND on the endpoint's owner",
             "done",
             "done",
             "done",

@@ -12,7 +12,7 @@ use reference::table::{
 };
 use reference::words::{content, hex};
 
-use crate::line::explain::{call_in_words, counted};
+use crate::line::explain::{call_in_words, counted, senders};
 use crate::line::input::Input;
 use crate::pictures::svg::{Drawing, Style, INK, LINE, QUIET};
 
@@ -385,9 +385,7 @@ fn queue_row(drawing: &mut Drawing, table: &[u32], e: usize, y: f64) {
     let style = if lost == 0 { SMALL } else { LOST };
     drawing.text(left + 108.0, y + 9.0, style, &format!("lost {lost}"));
     let to = owner(table, e);
-    let senders = (0..domains(table))
-        .filter(|&from| from == to || rights(table, from, to) & right::SEND != 0)
-        .collect::<Vec<_>>();
+    let senders = senders(table, e);
     let boxes = left + 236.0 + 16.0 * domains(table) as f64;
     for (place, domain) in senders.iter().rev().enumerate() {
         chip(drawing, boxes - 36.0 - 16.0 * place as f64, y, 7.5, *domain);

@@ -58,7 +58,7 @@ pub fn send(table: &[u32], n: u32, m: u32, caller: u32, e: u32, message: u32) ->
     let info = endpoint_word(table, n, e, 1);
     let owner = info / 256 % 256;
     let held = rights(table, n, caller, owner);
-    access::send(caller, owner, held, e, message)
+    access::send(held, e, message)
 }
 
 pub fn receive(table: &[u32], n: u32, m: u32, caller: u32, e: u32) -> Decision

@@ -78,8 +78,8 @@ module _ (s t : List ℕ) (f : SameFrame s t) where
     maySend-same : Known t c → (e : ℕ) → e < endpoints t → maySend s u e ≡ maySend t u e
     unfolding maySend
     maySend-same k e l =
-        ap (λ (o : ℕ). eqb o u || holds (rights s u o) SEND) (owner-same e l)
-        ∙ ap (λ (r : ℕ). eqb (owner (endpoint t e)) u || holds r SEND) (rights-same u (mine k) (owner (endpoint t e)) (accepted-owner t a e l))
+        ap (λ (o : ℕ). holds (rights s u o) SEND) (owner-same e l)
+        ∙ ap (λ (r : ℕ). holds r SEND) (rights-same u (mine k) (owner (endpoint t e)) (accepted-owner t a e l))
 
     send-same : Known t c → (e m : ℕ) → sendPlaces s u e m ≡ sendPlaces t u e m
     unfolding sendPlaces

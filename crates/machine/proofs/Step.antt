@@ -9,7 +9,7 @@ use mathlib.Core.Option.{Option, none, some}
 use Prim.Native.Nat.{ℕ, _<_, _≤_}
 use native.Mathlib.Nat.{le-trans}
 use native.Mathlib.Omega.{arith}
-use borrow.Author.Tests.{lt-ltb, eqb-true, eq-eqb}
+use borrow.Author.Tests.{lt-ltb, eq-eqb}
 use lib.Dec.{eqb, ltb}
 use lib.ListN.{length, take, drop}
 use Rattle.machine.specs.Word.{payload, word, caller, fieldA, fieldB, fieldC}
@@ -24,7 +24,7 @@ use Rattle.machine.specs.Run.{run}
 use Rattle.machine.specs.Influence.{reaches, influences}
 use Rattle.machine.specs.SameParts.{SameFrame, SamePart, Agree}
 use Rattle.machine.specs.MachineClaims.{callerInfluences, EveryCallStaysAccepted, EveryCallAltersOnly, EveryRunStaysAccepted}
-use Rattle.machine.proofs.Bools.{and-intro, or-cases, or-right}
+use Rattle.machine.proofs.Bools.{and-intro, or-right}
 use Rattle.machine.proofs.Table as table
 use Rattle.machine.proofs.Table.{Sized}
 use Rattle.machine.proofs.Right.{adds-within, without-le, rights-word-ok, rights-within, holds-any}
@@ -161,11 +161,7 @@ module _ (t : List ℕ) (u : ℕ) where
 
   by-send : (e : ℕ) → maySend t u e ≡ true → influences t u (owner (endpoint t e)) ≡ true
   unfolding maySend
-  by-send e h =
-      let o = owner (endpoint t e) in
-      ⊎-elim (λ own. subst (λ (x : ℕ). influences t u x ≡ true) (sym (eqb-true o u own)) by-itself)
-      (by-right o SEND (λ z. omega arith))
-      (or-cases (eqb o u) (holds (rights t u o) SEND) h)
+  by-send e h = by-right (owner (endpoint t e)) SEND (λ z. omega arith) h
 
 -- v, which a known caller doesn't influence, is none of those that it influences
 not-influenced : (t : List ℕ) (c : Call) (v x : ℕ) → callerInfluences t (callerOf c) v ≡ false → Known t c → influences t (caller (first c)) x ≡ true → x ≡ v → ⊥

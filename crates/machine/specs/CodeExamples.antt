@@ -18,13 +18,13 @@ abbrev pub callAnswers : List Answered → List ℕ
 callAnswers [] = []
 callAnswers (answered _ a ∷ rest) = a ++ callAnswers rest
 
--- four domains: 0 has SEND and GRANT on 1 and SEND on 2, 1 has GRANT on 0, 2 has SEND and REMOVE on 1 and REMOVE on 2;
+-- four domains: 0 has SEND and GRANT on 1 and SEND on 2, 1 has GRANT on 0 and SEND on itself, 2 has SEND and REMOVE on 1 and REMOVE on 2;
 -- endpoint 0 is 1's, holds one message of two and has lost as many as it can count; endpoints 1 and 2 are 0's
 abbrev pub fourDomains : List ℕ
 fourDomains =
     (0x1000_0403
     ∷ 0x2000_0000 ∷ 0x2000_0003 ∷ 0x2000_0001 ∷ 0x2000_0000
-    ∷ 0x2000_0002 ∷ 0x2000_0000 ∷ 0x2000_0000 ∷ 0x2000_0000
+    ∷ 0x2000_0002 ∷ 0x2000_0001 ∷ 0x2000_0000 ∷ 0x2000_0000
     ∷ 0x2000_0000 ∷ 0x2000_0005 ∷ 0x2000_0004 ∷ 0x2000_0000
     ∷ 0x2000_0000 ∷ 0x2000_0000 ∷ 0x2000_0000 ∷ 0x2000_0000
     ∷ [])
@@ -53,15 +53,16 @@ everyCode =
     ∷ answered (0x20C0_0300 ∷ 0xF000_0001 ∷ []) (0x20C0_0010 ∷ 0 ∷ 0 ∷ [])
     -- 16, before 18
     ∷ answered (0x3040_0300 ∷ []) (0x3040_0010 ∷ 0 ∷ 0 ∷ [])
-    -- 17
+    -- 17; and for an owner with no right on itself
     ∷ answered (0x20C0_0000 ∷ 0xF000_0001 ∷ []) (0x20C0_0011 ∷ 0 ∷ 0 ∷ [])
+    ∷ answered (0x2000_0100 ∷ 0xF000_0001 ∷ []) (0x2000_0011 ∷ 0 ∷ 0 ∷ [])
     -- 18, before 19
     ∷ answered (0x3040_0100 ∷ []) (0x3040_0012 ∷ 0 ∷ 0 ∷ [])
     -- 19
     ∷ answered (0x3000_0100 ∷ []) (0x3000_0013 ∷ 0 ∷ 0 ∷ [])
     -- a send by a SEND right, with space
     ∷ answered (0x2000_0000 ∷ 0xF000_0009 ∷ []) (0x2000_0000 ∷ 0 ∷ 0 ∷ [])
-    -- a send by the owner, to a full queue whose lost count is at its largest
+    -- a send by the owner, which has SEND on itself, to a full queue whose lost count is at its largest
     ∷ answered (0x2040_0000 ∷ 0xF000_000A ∷ []) (0x2040_0000 ∷ 0 ∷ 0 ∷ [])
     -- a receive: the message, and the lost count
     ∷ answered (0x3040_0000 ∷ []) (0x3040_0000 ∷ 0x0ABC_DEF1 ∷ 0x0FFF_FFFF ∷ [])
@@ -108,10 +109,10 @@ everyCode =
 
 abbrev pub codeRows : List Row
 codeRows =
-    leaves fourDomains (callWords everyCode) (spaceOf 108)
+    leaves fourDomains (callWords everyCode) (spaceOf 111)
     (record {
       code = 0;
-      calls = 36;
+      calls = 37;
       table = set (set fourDomains 10 0x2000_0004) 21 0xF000_0009;
       answers = callAnswers everyCode;
     })

@@ -59,9 +59,10 @@ cutting =
     ∷ answered (0x2000_0000 ∷ 0x1000_0000 ∷ 0xF000_0005 ∷ []) (0x2000_000E ∷ 0 ∷ 0 ∷ 0x1000_0000 ∷ 1 ∷ 0 ∷ [])
     ∷ []
 
--- four domains in which 3 has REMOVE alone on 1 and every right on itself, 1 has GRANT alone on 0, and 0 has SEND on 3
+-- four domains in which 3 has REMOVE alone on 1 and every right on itself, 1 has GRANT alone on 0 and none on itself, and 0 has
+-- SEND on 3
 abbrev pub oneRight : List ℕ
-oneRight = set (set (set fourDomains 4 0x2000_0001) 14 0x2000_0004) 16 0x2000_0007
+oneRight = set (set (set (set fourDomains 4 0x2000_0001) 6 0x2000_0000) 14 0x2000_0004) 16 0x2000_0007
 
 -- which right a call asks for: calls on that table
 abbrev pub rightAsked : List Answered
@@ -97,6 +98,8 @@ rightAsked =
     ∷ answered (0x6040_0002 ∷ []) (0x6040_0000 ∷ 0 ∷ 0 ∷ [])
     ∷ answered (0x60C3_0107 ∷ []) (0x60C0_0000 ∷ 0 ∷ 0 ∷ [])
     ∷ answered (0x60C3_0307 ∷ []) (0x60C0_0000 ∷ 0 ∷ 0 ∷ [])
+    -- 17: an owner that was given GRANT on itself has no SEND on itself
+    ∷ answered (0x2000_0100 ∷ 0xF000_0001 ∷ []) (0x2000_0011 ∷ 0 ∷ 0 ∷ [])
     ∷ []
 
 -- domain 1 gives domain 3 every right on 3; 3 removes the set r of them, and its rights on 3 are then left
@@ -131,6 +134,10 @@ removes =
     -- what domain 1 holds is as it was
     ∷ answered (0x5040_0000 ∷ []) (0x5040_0000 ∷ 0x7002 ∷ 0 ∷ [])
     ∷ [])
+
+-- four domains in which 0 has SEND on itself
+abbrev pub selfSender : List ℕ
+selfSender = set fourDomains 1 0x2000_0001
 
 -- an endpoint of capacity 8 in which two wait: six more fill it, two are lost and the lost count stays at its largest, then
 -- four go out in turn, and one comes in behind the first of them
@@ -179,10 +186,10 @@ fieldRows =
     ∷ leaves oneRight (callWords (unknowns ++ cutting)) (spaceOf 114)
     (record { code = 0; calls = 38; table = oneRight; answers = callAnswers (unknowns ++ cutting) })
     -- what was given: GRANT on 0 to 0, and every right on 3 to 1
-    ∷ leaves oneRight (callWords rightAsked) (spaceOf 66)
+    ∷ leaves oneRight (callWords rightAsked) (spaceOf 69)
     (record {
       code = 0;
-      calls = 22;
+      calls = 23;
       table = set (set oneRight 1 0x2000_0002) 8 0x2000_0007;
       answers = callAnswers rightAsked;
     })
@@ -194,7 +201,7 @@ fieldRows =
       answers = callAnswers removes;
     })
     -- the queue has five left, from 0x0001_0000 on, and three free slots
-    ∷ leaves (set fourDomains 44 0x6FFF_FFFE) (callWords wholeQueue) (spaceOf 39)
+    ∷ leaves (set selfSender 44 0x6FFF_FFFE) (callWords wholeQueue) (spaceOf 39)
     (record {
       code = 0;
       calls = 13;
@@ -202,7 +209,7 @@ fieldRows =
           set
           (set
           (set
-          (set (set (set (set fourDomains 44 0x6FFF_FFFF) 43 0x5000_0005) 45 0xF001_0000) 46 0xF000_0100)
+          (set (set (set (set selfSender 44 0x6FFF_FFFF) 43 0x5000_0005) 45 0xF001_0000) 46 0xF000_0100)
           47 0xF000_0000)
           48 0xF000_0008)
           49 0xF000_000B;

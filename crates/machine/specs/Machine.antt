@@ -2,7 +2,7 @@
 -- (document 01, 'The calls', 'Where each number is checked' and 'The striking rule').
 -- To decide reads only; only an effect writes.
 use Prim.Native.Nat.{ℕ, _+_, _*_, _^_}
-use mathlib.Core.Bool.{Bool, true, false, cond, not, _&&_, _||_}
+use mathlib.Core.Bool.{Bool, true, false, cond, not, _&&_}
 use mathlib.Core.List.{List, [], _∷_}
 use mathlib.Core.Option.{Option, none, some}
 use lib.Dec.{eqb, ltb}
@@ -31,9 +31,9 @@ unfoldable pub place : Bool → ℕ → Decision → Decision
 place true code next = refused code
 place false code next = next
 
--- u may send to the endpoint e: it owns it or has SEND on its owner
+-- u may send to the endpoint e: it has SEND on its owner, be that itself or another (document 02 (f))
 unfoldable pub maySend : List ℕ → ℕ → ℕ → Bool
-maySend t u e = eqb (owner (endpoint t e)) u || holds (rights t u (owner (endpoint t e))) SEND
+maySend t u e = holds (rights t u (owner (endpoint t e))) SEND
 
 -- the endpoint that has a name
 unfoldable pub named : List ℕ → ℕ → Option ℕ

@@ -21,9 +21,9 @@ unfoldable pub foundOf : Found → Option ℕ
 foundOf (At e) = some e
 foundOf Nothing = none
 
--- place 17: u sends to the endpoint e of the owner o, on whom it holds the rights s
-unfoldable pub sendAccess : ℕ → ℕ → ℕ → ℕ → ℕ → Decision
-sendAccess u o s e message = place (not (eqb o u || holds s SEND)) 17 (sends e message)
+-- place 17: a message is sent to the endpoint e by one that holds the rights s on its owner
+unfoldable pub sendAccess : ℕ → ℕ → ℕ → Decision
+sendAccess s e message = place (not (holds s SEND)) 17 (sends e message)
 
 -- places 18 and 19: u receives from the endpoint e of the owner o, where count messages wait
 unfoldable pub receiveAccess : ℕ → ℕ → ℕ → ℕ → Decision
@@ -42,7 +42,7 @@ removeAccess u g r s = place (not (holds s REMOVE && holds s r)) 22 (removes g u
 unfoldable pub callAccess : List ℕ → Call → Decision
 callAccess t (Refused u r) = refused (numberOf r)
 callAccess t (LookUp u x) = lookUpPlaces (named t x)
-callAccess t (Send u e message) = sendAccess u (owner (endpoint t e)) (rights t u (owner (endpoint t e))) e message
+callAccess t (Send u e message) = sendAccess (rights t u (owner (endpoint t e))) e message
 callAccess t (Receive u e) = receiveAccess u (owner (endpoint t e)) (waiting (endpoint t e)) e
 callAccess t (MyEndpoints u) = listsEndpoints u
 callAccess t (MyRights u) = listsRights u

@@ -27,14 +27,14 @@ pub fn look_up(found: Found) -> Decision
 }
 
 // Place 17: held are the caller's rights on the endpoint's owner.
-pub fn send(caller: u32, owner: u32, held: Rights, endpoint: u32, message: u32) -> Decision
-    ensures { λ d. ⌜ decisionOf d ≡ sendAccess caller owner (held .bits) endpoint message ⌝ }
+pub fn send(held: Rights, endpoint: u32, message: u32) -> Decision
+    ensures { λ d. ⌜ decisionOf d ≡ sendAccess (held .bits) endpoint message ⌝ }
 {
-    let by_right = held.holds(Rights::SEND);
-    if (owner == caller) | by_right {
-        return Decision::Sends { endpoint, message };
+    let holds = held.holds(Rights::SEND);
+    if !holds {
+        return Decision::Refused(Refusal::MayNotSend);
     }
-    Decision::Refused(Refusal::MayNotSend)
+    Decision::Sends { endpoint, message }
 }
 
 // Places 18 and 19.

@@ -180,7 +180,7 @@ fn code_10_stray() {
     for stray in [0xF000_0009, 0xFFFF_FFFF, 0xF0C0_0000] {
         assert_eq!(code(&TABLE_T, &[stray]), 10);
         assert_eq!(code(&TABLE_T, &[0x1000_0000, stray]), 15);
-        assert_eq!(codes(&TABLE_T, &[0x2040_0000, stray, stray]), [0, 10]);
+        assert_eq!(codes(&TABLE_T, &[0x2000_0000, stray, stray]), [0, 10]);
         assert_eq!(codes(&TABLE_T, &[0x3000_0000, stray]), [18, 10]);
     }
     // Its caller is 0 whatever its bits hold.
@@ -303,9 +303,14 @@ fn code_17_no_send_right() {
         let expected = if set & right::SEND == 0 { 17 } else { 0 };
         assert_eq!(code(&table, &[0x2000_0100, SECOND]), expected);
     }
-    // The owner needs no right; a right that the owner has on the caller, or that
-    // the caller has on another, is none.
-    assert_eq!(code(&TABLE_T, &[0x2080_0100, SECOND]), 0);
+    // The owner itself needs SEND on itself, like anybody else.
+    for set in 0..8 {
+        let table = table_with(&[(place::rights(2, 2), 0x2000_0000 | set)]);
+        let expected = if set & right::SEND == 0 { 17 } else { 0 };
+        assert_eq!(code(&table, &[0x2080_0100, SECOND]), expected);
+    }
+    // A right that the owner has on the caller, or that the caller has on another,
+    // is none.
     let backwards = table_with(&[(place::rights(2, 0), 0x2000_0007)]);
     assert_eq!(code(&backwards, &[0x2000_0100, SECOND]), 17);
     // A full queue is no reason to answer otherwise, before or after 17.

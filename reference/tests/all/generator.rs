@@ -5,7 +5,7 @@ use std::collections::BTreeSet;
 
 use crate::support::{code_of, shown};
 use reference::generate::{case, damaged_table, linerun_input, list, table, table_of, Rng};
-use reference::table::{capacity, domains, endpoints, lost, right, rights, waiting};
+use reference::table::{capacity, domains, endpoints, lost, owner, right, rights, waiting};
 use reference::words::CONTENT_MAX;
 use reference::{check_table, cut, linerun, run, step};
 
@@ -136,4 +136,28 @@ fn queues_fill_and_empty_and_lost_counts_reach_the_top() {
     assert!(filled > 100, "filled {filled}");
     assert!(emptied > 100, "emptied {emptied}");
     assert!(topped > 20, "reached the top {topped}");
+}
+
+/// Sends that are done on a full queue, also where lost is at its top already, and
+/// of owners into their own endpoints.
+#[test]
+fn full_queues_are_sent_into() {
+    let (mut full, mut at_top, mut own) = (0, 0, 0);
+    for seed in 0..300 {
+        let rng = &mut Rng::new(seed);
+        let mut now = table(rng, 6, 6);
+        for call in cut(&list(rng, &now, 60)) {
+            let before = now.clone();
+            let done = code_of(&step(&mut now, &call)) == 0;
+            let e = call.b() as usize;
+            if call.kind() == 2 && done && waiting(&before, e) == capacity(&before, e) {
+                full += 1;
+                at_top += usize::from(lost(&before, e) == CONTENT_MAX);
+                own += usize::from(call.caller() == Some(owner(&before, e) as u32));
+            }
+        }
+    }
+    assert!(full > 400, "full {full}");
+    assert!(at_top > 120, "lost at its top {at_top}");
+    assert!(own > 200 && full - own > 100, "by owners {own} of {full}");
 }

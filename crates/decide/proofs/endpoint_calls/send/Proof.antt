@@ -1,5 +1,5 @@
 -- `endpoint_calls::send` meets its contract: 12 and 16, then the owner is read, and what the caller holds on it. Assumes nothing.
-use mathlib.Core.Path.{ap, ap₂, _∙_}
+use mathlib.Core.Path.{ap, _∙_}
 use Prim.Native.Nat.{ℕ}
 use Rattle.machine.specs.Table.{rights}
 use Rattle.rules.specs.Decision.{decisionOf}
@@ -29,7 +29,7 @@ returns-2 c =
     let a = start .args in
     let own = owner-is _ _ (start .pre .0) _ (info .endpoint-word .ensures) in
     c .send .ensures
-    ∙ ap₂ (λ (o s : ℕ). sendAccess (a .caller) o s (a .e) (a .message)) own
+    ∙ ap (λ (s : ℕ). sendAccess s (a .e) (a .message))
     (rights-are _ _ (start .pre .0) _ _ (held .rights .ensures) ∙ ap (rights (a .table .now) (a .caller)) own)
     ∙ within _ (told .enum-told .given .1) (decided _ _ _ _ _ (start .pre .0) (start .pre .1) (numbers .of-endpoint .ensures))
 
