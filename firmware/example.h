@@ -30,7 +30,7 @@ static const uint32_t example_list[] = {
     BALKWIZU_SEND(0, 1), BALKWIZU_SECOND(5), /* refused: no SEND on domain 2 */
     BALKWIZU_GRANT(1, 2, 0, BALKWIZU_RIGHT_SEND),
     BALKWIZU_SEND(0, 1), BALKWIZU_SECOND(5),
-    BALKWIZU_SEND(0, 1), BALKWIZU_SECOND(6), /* the queue is full: lost */
+    BALKWIZU_SEND(0, 1), BALKWIZU_SECOND(6), /* the queue is full: 5 is lost */
     BALKWIZU_RECEIVE(2, 1),
     BALKWIZU_RECEIVE(2, 1), /* refused: nothing waits */
     BALKWIZU_SECOND(9),     /* refused: belongs to no call */

@@ -109,10 +109,11 @@ static void words_of_l(void)
     IS(BALKWIZU_REMOVE(1, 2, BALKWIZU_RIGHT_REMOVE), 0x70420004); /* P11 */
 }
 
-/* The lines that document 01 prints for L: caller, kind, code, data. */
+/* The lines of document 01 for L, call 4 as document 02 (a) has it: caller, kind,
+ * code, data. */
 static const uint32_t lines_of_l[][5] = {
     { 0, 2, 17, 0, 0 },  { 1, 6, 0, 0, 0 },   { 0, 2, 0, 0, 0 },
-    { 0, 2, 0, 0, 0 },   { 2, 3, 0, 5, 1 },   { 2, 3, 19, 0, 0 },
+    { 0, 2, 0, 0, 0 },   { 2, 3, 0, 6, 1 },   { 2, 3, 19, 0, 0 },
     { 0, 15, 10, 0, 0 }, { 0, 5, 0, 272, 0 }, { 2, 4, 0, 2, 0 },
 };
 
@@ -321,6 +322,8 @@ static void largest_table(void)
     IS(balkwizu_table_waiting(table, 31), 8);
     IS(balkwizu_table_lost(table, 31), 268435455);
     IS(balkwizu_table_message(table, 30, 7), 307);
+    IS(balkwizu_table_message(table, 31, 0), 311); /* 310, the oldest, is gone */
+    IS(balkwizu_table_message(table, 31, 7), 1);
 }
 
 /* Every field with all its bits set, which no table and no answer has. */

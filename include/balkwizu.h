@@ -276,9 +276,10 @@ static inline uint32_t balkwizu_table_message(const uint32_t *table,
  *                 C rights
  *   remove        A target, C rights           0; 0
  *
- * A full queue: the message of a send is dropped and the endpoint's lost count
- * rises by 1, up to BALKWIZU_LOST_MAX. The send answers 0 as if there had been
- * space: the sender is never told. The owner reads it in the lost count.
+ * A full queue: the oldest message is dropped, the send's own goes last, and the
+ * endpoint's lost count rises by 1, up to BALKWIZU_LOST_MAX. The send answers 0 as
+ * if there had been space: the sender is never told. The owner reads it in the
+ * lost count, and what waits is always the latest.
  *
  * Words as constants: every field must be within its bits (caller and target 6,
  * endpoint, recipient and rights 8, name and message 28). A look up and a send are

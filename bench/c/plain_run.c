@@ -106,6 +106,13 @@ static uint32_t look_up(const struct line *line, struct call call, uint32_t *dat
     return 0;
 }
 
+/* The messages behind the oldest move up by one slot; 1 or more wait. */
+static inline void move_up(uint32_t *words, uint32_t waiting)
+{
+    for (uint32_t i = 1; i < waiting; i++)
+        words[SLOTS + i - 1] = words[SLOTS + i];
+}
+
 static uint32_t send(struct line *line, struct call call)
 {
     uint32_t endpoint = field_b(call.first), caller = caller_of(call.first);
@@ -119,8 +126,10 @@ static uint32_t send(struct line *line, struct call call)
     if (waiting < (words[INFO] & 255u)) {
         words[SLOTS + waiting] = call.second;
         words[WAITING]++;
-    } else if ((words[LOST] & CONTENT) != CONTENT) {
-        words[LOST]++;
+    } else {
+        move_up(words, waiting);
+        words[SLOTS + waiting - 1] = call.second;
+        words[LOST] += (words[LOST] & CONTENT) != CONTENT;
     }
     return 0;
 }
@@ -138,8 +147,7 @@ static uint32_t receive(struct line *line, struct call call, uint32_t *data)
         return 19;
     data[0] = words[SLOTS] & CONTENT;
     data[1] = words[LOST] & CONTENT;
-    for (uint32_t i = 1; i < waiting; i++)
-        words[SLOTS + i - 1] = words[SLOTS + i];
+    move_up(words, waiting);
     words[SLOTS + waiting - 1] = EMPTY_SLOT;
     words[WAITING]--;
     return 0;

@@ -173,7 +173,7 @@ fn an_input_is_shown_in_words_and_as_a_picture() {
     assert!(shown.contains("domain 1 grants domain 0 SEND on domain 2"));
     assert!(!shown.contains("->"), "{shown}");
     let ran = printed(&["show", &input, "--run"]);
-    assert!(ran.contains("-> message 5; 1 lost so far\n"), "{ran}");
+    assert!(ran.contains("-> message 6; 1 lost so far\n"), "{ran}");
     let picture = fs::read_to_string(&out).expect("the picture is there");
     assert!(picture.starts_with("<svg ") && picture.ends_with("</svg>\n"));
 }

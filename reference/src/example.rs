@@ -1,4 +1,5 @@
-//! Document 01's worked example: table T, list L, and what `linerun` prints.
+//! Document 01's worked example: table T, list L, and what `linerun` prints, as
+//! document 02 has altered it.
 
 /// Table T: three domains, two endpoints, 34 words.
 #[rustfmt::skip]
@@ -29,7 +30,7 @@ call 0 caller 0 kind 2 code 17 data 0 0
 call 1 caller 1 kind 6 code 0 data 0 0
 call 2 caller 0 kind 2 code 0 data 0 0
 call 3 caller 0 kind 2 code 0 data 0 0
-call 4 caller 2 kind 3 code 0 data 5 1
+call 4 caller 2 kind 3 code 0 data 6 1
 call 5 caller 2 kind 3 code 19 data 0 0
 call 6 caller 0 kind 15 code 10 data 0 0
 call 7 caller 0 kind 5 code 0 data 272 0

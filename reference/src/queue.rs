@@ -1,5 +1,5 @@
 //! A receive and a send on the twelve words of one endpoint (document 01, "The
-//! calls" and "The striking rule"; document 02, request (d)).
+//! calls" and "The striking rule"; document 02, requests (d) and (a)).
 //!
 //! They are told for any twelve words, not only for those of an accepted table:
 //! what a row doesn't name stays, whatever it holds. What becomes of words that
@@ -35,11 +35,13 @@ pub fn receive(endpoint: &mut Endpoint) -> Option<[u32; 2]> {
     Some([message, lost(endpoint)])
 }
 
-/// Puts a message last, or counts it as lost where the queue is full.
+/// Puts a message last. A full queue drops its oldest one for it and lost rises;
+/// where not 1 to 8 are waiting in a full queue the words stay.
 pub fn send(endpoint: &mut Endpoint, message: u32) {
     if waiting(endpoint) < capacity(endpoint) {
         put_last(endpoint, message);
-    } else {
+    } else if receive(endpoint).is_some() {
+        put_last(endpoint, message);
         count_lost(endpoint);
     }
 }

@@ -158,11 +158,13 @@ fn capacity(words: &[u32]) -> u32 {
     bits(words[INFO_PLACE], 7, 0)
 }
 
-/// What a send leaves where it is done: twelve words with a capacity of at most 8,
-/// and a message of 28 bits.
+/// What a send leaves where it is done: twelve words with a capacity of 1 to 8 and at
+/// most 8 waiting, and a message of 28 bits.
 fn separate_send(words: &[u32], message: u32) -> Option<Endpoint> {
     let mut endpoint: Endpoint = words.try_into().ok()?;
-    if capacity(words) > SLOTS as u32 || message > CONTENT_MAX {
+    let slots = SLOTS as u32;
+    let queue = (1..=slots).contains(&capacity(words)) && waiting(words) <= slots;
+    if !queue || message > CONTENT_MAX {
         return None;
     }
     reference::queue::send(&mut endpoint, message);

@@ -238,7 +238,7 @@ mod tests {
             let mut answers = [7; 28];
             let outcome = kernel.run(&mut table, &LIST_L, &mut answers);
             assert_eq!(outcome, Outcome { code: 0, calls: 9 }, "{}", kernel.name);
-            assert_eq!(answers[12..15], [0x3080_0000, 5, 1], "{}", kernel.name);
+            assert_eq!(answers[12..15], [0x3080_0000, 6, 1], "{}", kernel.name);
             assert_eq!(answers[27], 7, "{}", kernel.name);
         }
     }

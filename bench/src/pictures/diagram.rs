@@ -152,7 +152,7 @@ mod tests {
             "done",
             "done",
             "done",
-            "message 5; 1 lost so far",
+            "message 6; 1 lost so far",
             "refused with 19: nothing waits",
             "refused with 10: a word of kind 15 stands alone",
             "S on domain 1, S on domain 2",

@@ -161,7 +161,10 @@ module _ (t : List ℕ) (a : Accepted t) where
         refuses = λ _ _. refl;
         looksUp = λ _ _ _ _. refl;
         sending =
-            λ _ _ l _. may-be-sent _ _ (twelve _ l) (info-of (domains t) _ (accepted-endpoint t a _ l) .2) (message-small c);
+            λ _ _ l _.
+            let ok = accepted-endpoint t a (fieldB (first c)) l in
+            let info = info-of (domains t) _ ok in
+            may-be-sent _ _ (twelve _ l) (info .1) (info .2) (waiting-most (domains t) _ ok) (message-small c);
         receiving =
             λ _ _ l _ some. may-be-received _ (twelve _ l) (omega (arith, some)) (waiting-most (domains t) _ (accepted-endpoint t a _ l));
         endpointsListed = λ _ _. refl;

@@ -26,7 +26,7 @@ rows =
     record {
       input = bytesOf (34 ∷ T ++ L);
       printed =
-          "calls 9 code 0\ncall 0 caller 0 kind 2 code 17 data 0 0\ncall 1 caller 1 kind 6 code 0 data 0 0\ncall 2 caller 0 kind 2 code 0 data 0 0\ncall 3 caller 0 kind 2 code 0 data 0 0\ncall 4 caller 2 kind 3 code 0 data 5 1\ncall 5 caller 2 kind 3 code 19 data 0 0\ncall 6 caller 0 kind 15 code 10 data 0 0\ncall 7 caller 0 kind 5 code 0 data 272 0\ncall 8 caller 2 kind 4 code 0 data 2 0\n";
+          "calls 9 code 0\ncall 0 caller 0 kind 2 code 17 data 0 0\ncall 1 caller 1 kind 6 code 0 data 0 0\ncall 2 caller 0 kind 2 code 0 data 0 0\ncall 3 caller 0 kind 2 code 0 data 0 0\ncall 4 caller 2 kind 3 code 0 data 6 1\ncall 5 caller 2 kind 3 code 19 data 0 0\ncall 6 caller 0 kind 15 code 10 data 0 0\ncall 7 caller 0 kind 5 code 0 data 272 0\ncall 8 caller 2 kind 4 code 0 data 2 0\n";
     }
     -- an empty list
     ∷ record { input = bytesOf (34 ∷ T); printed = "calls 0 code 0\n" }

@@ -5,77 +5,94 @@
 use mathlib.Core.Path.{_≡_, refl, sym, ap, subst, _∙_}
 use mathlib.Core.Logic.{_≢_, ⊎-elim}
 use mathlib.Core.Bool.{Bool, true, false, cond, not, _&&_, and-false}
-use mathlib.Core.List.{List, [], _∷_, _++_, append-assoc, append-nil}
+use mathlib.Core.List.{List, [], _∷_, _++_, map, append-assoc, append-nil}
 use Prim.Native.Nat.{ℕ, _+_, _<_, _≤_, min}
 use native.Mathlib.Omega.{arith}
-use borrow.Author.Tests.{ltb-true, eq-eqb, ne-eqb}
+use borrow.Author.Tests.{eq-eqb, ne-eqb}
 use lib.Dec.{eqb}
 use lib.ListN.{length}
 use Rattle.machine.specs.Word.{kind, fieldB, answerCode}
 use Rattle.machine.specs.Table.{domains, endpoints, endpoint, setEndpoint}
-use Rattle.machine.specs.Queue.{capacity, waiting, lost, oldest, mostLost, hasSpace, sent, received}
+use Rattle.machine.specs.Queue.{waiting, lost, oldest, mostLost, hasSpace, sent, received}
 use Rattle.machine.specs.Check.{endpointOk, Accepted}
 use Rattle.machine.specs.Call.{Call, Kind, first, kindOf, callKind, secondPayload}
 use Rattle.machine.specs.Call.{Kind.lookUp, Kind.send, Kind.receive, Kind.myEndpoints, Kind.myRights, Kind.grant, Kind.remove}
 use Rattle.machine.specs.Machine.{Decision, decide, effect, after, step, code, firstData, answerWord, answerTo, answer}
 use Rattle.machine.specs.Machine.{Decision.refused}
 use Rattle.machine.specs.Run.{run, answers}
-use Rattle.machine.specs.Counts.{isSend, isReceive, doneOn, countDone, messagesFrom, sendsTo, fullSends, messagesTo, messages}
+use Rattle.machine.specs.Counts.{isSend, isReceive, doneOn, countDone, messagesFrom, messagesTo, receivesFrom, sendsTo, pushesOut, fullSends, messages}
+use Rattle.machine.specs.Counts.{Gone, Gone.told, Gone.pushed, messageOf, toldOf, countPushed, gone}
 use Rattle.machine.specs.MachineClaims.{EveryRunAnswered, EveryRunCountsBorneOut, EveryRunInTurn}
 use Rattle.machine.proofs.Table as table
 use Rattle.machine.proofs.Table.{Sized}
-use Rattle.machine.proofs.Accepted.{accepted-sized, accepted-endpoint, info-of}
+use Rattle.machine.proofs.Accepted.{accepted-sized, accepted-endpoint}
 use Rattle.machine.proofs.Decide.{Number, decide-elim}
 use Rattle.machine.proofs.Step.{stays-accepted}
 use Rattle.machine.proofs.Queue as queue
 
 -- ---- What one call does to one endpoint's queue q, which it leaves as q′. The two tests say whether it is a send to it or a
--- receive from it, answered 0; told is the message in the answer.
-record Served (sends receives : Bool) (message told : ℕ) (q q′ : List ℕ) : Type 0 where
+-- receive from it, answered 0; shown is the message in the answer.
+
+-- what leaves q by its front by the call, followed by what leaves later
+abbrev leaving : Bool → Bool → List ℕ → List Gone → List Gone
+leaving sends receives q later =
+    cond (sends && not (hasSpace q)) (pushed (oldest q) ∷ later) (cond receives (told (oldest q) ∷ later) later)
+
+record Served (sends receives : Bool) (message shown : ℕ) (q q′ : List ℕ) : Type 0 where
   balance : cond sends 1 0 + waiting q ≡ cond receives 1 0 + cond (sends && not (hasSpace q)) 1 0 + waiting q′
   raised : lost q′ ≡ min (lost q + cond (sends && not (hasSpace q)) 1 0) mostLost
-  -- in turn from after the call on (what is received later, then what is left, is what waits, then what comes later), hence
-  -- in turn from before it on
-  inTurn : (out left later : List ℕ) → out ++ left ≡ messages q′ ++ later → cond receives (told ∷ out) out ++ left ≡ messages q ++ cond (sends && hasSpace q) (message ∷ later) later
+  -- in order from after the call on (what leaves later, then what is left, is what waits, then what comes later), hence in
+  -- order from before it on
+  order : (out : List Gone) (left later : List ℕ) → map messageOf out ++ left ≡ messages q′ ++ later → map messageOf (leaving sends receives q out) ++ left ≡ messages q ++ cond sends (message ∷ later) later
+  -- those received are the ones that the answers show, from after the call on, hence from before it on
+  shows : (out : List Gone) (later : List ℕ) → later ≡ toldOf out → cond receives (shown ∷ later) later ≡ toldOf (leaving sends receives q out)
 
-untouched : {message told : ℕ} (q : List ℕ) → Served false false message told q q
+untouched : {message shown : ℕ} (q : List ℕ) → Served false false message shown q q
 untouched q =
-    record { balance = omega arith; raised = omega (arith, queue.lost-small q); inTurn = λ _ _ _ p. p }
+    record { balance = omega arith; raised = omega (arith, queue.lost-small q); order = λ _ _ _ p. p; shows = λ _ _ p. p }
 
 module _ (n : ℕ) (q : List ℕ) (twelve : length q ≡ 12) (ok : endpointOk n q ≡ true) where
-  served-send : {told : ℕ} (m : ℕ) → m ≤ mostLost → Served true false m told q (sent q m)
-  unfolding hasSpace
-  served-send {told} m small =
-      queue.sent-elim q twelve m (Served true false m told q)
-      (λ b.
-      let w : waiting q < 8 = omega (arith, ltb-true (waiting q) (capacity q) b, info-of n q ok) in
+  most : waiting q ≤ 8
+  most = queue.waiting-most n q ok
+
+  served-send : {shown : ℕ} (m : ℕ) → m ≤ mostLost → Served true false m shown q (sent q m)
+  unfolding messageOf toldOf
+  served-send {shown} m small =
+      queue.sent-elim n q twelve ok m (Served true false m shown q)
+      (λ b w.
       record {
         balance = rw (b, queue.sendWithSpace-waiting q twelve m w) (omega arith);
         raised = rw (b, queue.sendWithSpace-lost q twelve m) (omega (arith, queue.lost-small q));
-        inTurn =
+        order = λ _ _ later p. rw b (p ∙ ap (λ (x : List ℕ). x ++ later) (queue.sendWithSpace-messages q twelve m small w) ∙ last later);
+        shows = λ _ _ p. rw b p;
+      })
+      (λ b some.
+      record {
+        balance = rw (b, queue.sendToFull-waiting q twelve some most m) (omega arith);
+        raised = rw b (queue.sendToFull-lost q twelve some most m);
+        order =
             λ _ _ later p.
             rw b
-            (p
-            ∙ ap (λ (x : List ℕ). x ++ later) (queue.sendWithSpace-messages q twelve m small w)
-            ∙ append-assoc (messages q) (m ∷ []) later);
+            (ap (λ (x : List ℕ). oldest q ∷ x) p
+            ∙ ap (λ (x : List ℕ). x ++ later) (queue.sendToFull-messages q twelve some most m small)
+            ∙ last later);
+        shows = λ _ _ p. rw b p;
       })
-      (λ b.
-      record {
-        balance = rw (b, queue.sendToFull-waiting q twelve m) (omega arith);
-        raised = rw b (queue.sendToFull-lost q twelve m);
-        inTurn = λ _ _ later p. rw b (p ∙ ap (λ (x : List ℕ). x ++ later) (queue.sendToFull-messages q twelve m));
-      })
+    where
+      last : (later : List ℕ) → (messages q ++ (m ∷ [])) ++ later ≡ messages q ++ (m ∷ later)
+      last later = append-assoc (messages q) (m ∷ []) later
 
   served-receive : {m : ℕ} → waiting q ≢ 0 → Served false true m (oldest q) q (received q)
+  unfolding messageOf toldOf
   served-receive some =
-      let most = queue.waiting-most n q ok in
       record {
         balance = rw (queue.received-waiting q twelve some most) (omega arith);
         raised = rw (queue.received-lost q twelve some most) (omega (arith, queue.lost-small q));
-        inTurn =
+        order =
             λ _ _ later p.
             ap (λ (x : List ℕ). oldest q ∷ x) p
             ∙ ap (λ (x : List ℕ). x ++ later) (queue.received-messages q twelve some most);
+        shows = λ _ _ p. ap (λ (x : List ℕ). oldest q ∷ x) p;
       }
 
 -- ---- which calls are done on the endpoint e, by their answers
@@ -148,8 +165,9 @@ module _ (t : List ℕ) (e : ℕ) (c : Call) where
           looksUp = λ _ k _ _. idle _ lookUp (by-number k) refl refl refl refl;
           sending =
               λ _ k l _.
-              served-at _ send _ (by-number k) refl l (queue.sent-length _ (twelve _ l) _)
-              (served-send (domains t) _ (twelve _ l) (accepted-endpoint t a _ l) (secondPayload c) (queue.message-small c));
+              let ok = accepted-endpoint t a (fieldB (first c)) l in
+              served-at _ send _ (by-number k) refl l (queue.sent-length (domains t) _ (twelve _ l) ok _)
+              (served-send (domains t) _ (twelve _ l) ok (secondPayload c) (queue.message-small c));
           receiving =
               λ _ k l _ some.
               let ok = accepted-endpoint t a (fieldB (first c)) l in
@@ -166,7 +184,7 @@ still-below : (t : List ℕ) (c : Call) → Accepted t → (e : ℕ) → e < end
 still-below t c a e l = rw (stays-accepted t c a .frame .sameEndpoints) l
 
 pub counts-borne-out : EveryRunCountsBorneOut
-unfolding run countDone fullSends sendsTo doneOn answers answer answerTo
+unfolding run countDone fullSends pushesOut sendsTo doneOn answers answer answerTo
 counts-borne-out t [] rest a e l = record { balance = omega arith; raised = omega (arith, queue.lost-small (endpoint t e)) }
 counts-borne-out t (c ∷ cs) rest a e l =
     let s = served t e c a l in
@@ -176,11 +194,25 @@ counts-borne-out t (c ∷ cs) rest a e l =
       raised = omega (arith, s .raised, later .raised);
     }
 
+-- one more is pushed out, received, or neither
+pushed-more : (pushes receives : Bool) (m n : ℕ) (out : List Gone) → n ≡ countPushed out → cond pushes 1 0 + n ≡ countPushed (cond pushes (pushed m ∷ out) (cond receives (told m ∷ out) out))
+unfolding countPushed
+pushed-more true receives m n out p = ap (λ (k : ℕ). 1 + k) p
+pushed-more false true m n out p = omega arith
+pushed-more false false m n out p = omega arith
+
 pub in-turn : EveryRunInTurn
-unfolding run messagesFrom messagesTo sendsTo doneOn answers answer answerTo
-in-turn t [] rest a e l = sym (append-nil (messages (endpoint t e)))
+unfolding run messagesFrom messagesTo gone toldOf countPushed fullSends pushesOut receivesFrom sendsTo doneOn answers answer answerTo
+in-turn t [] rest a e l =
+    record { order = sym (append-nil (messages (endpoint t e))); received = refl; pushedOut = refl }
 in-turn t (c ∷ cs) rest a e l =
-    served t e c a l .inTurn _ _ _ (in-turn (step t c) cs rest (stays-accepted t c a .accepted) e (still-below t c a e l))
+    let s = served t e c a l in
+    let later = in-turn (step t c) cs rest (stays-accepted t c a .accepted) e (still-below t c a e l) in
+    record {
+      order = s .order _ _ _ (later .order);
+      received = s .shows _ _ (later .received);
+      pushedOut = pushed-more (pushesOut e t c) (receivesFrom e t c) (oldest (endpoint t e)) _ (gone e (step t c) cs) (later .pushedOut);
+    }
 
 -- ---- the call total
 pub answers-length : EveryRunAnswered

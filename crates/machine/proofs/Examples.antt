@@ -38,4 +38,4 @@ any-words-row = refl
 
 pub count-row : CountRowHolds
 unfolding everything counted
-count-row = refl
+count-row = (refl, refl)

@@ -9,7 +9,7 @@ use Prim.Native.Nat.{ℕ, suc, _+_, _-_, _<_, _≤_, min}
 use native.Mathlib.Decide.{decLt, ℕ-discrete}
 use native.Mathlib.Numerals.{add-one}
 use native.Mathlib.Omega.{arith}
-use borrow.Author.Tests.{ltb-true, ltb-false, leb-true, eqb-true, le-leb, eq-eqb}
+use borrow.Author.Tests.{ltb-true, ltb-false, leb-true, eqb-true, lt-ltb, le-leb, eq-eqb}
 use lib.Dec.{eqb, leb, ltb}
 use lib.ListN.{length, getD, take, drop, set, length-set, length-take, length-drop, length-append, List·getD-append}
 use lib.Seq.{lt-length-set, getD-set-same, getD-set-other, take-set-le, drop-set-lt, drop-set-add, take-suc-set, length-take-le, getD-take, getD-drop, take-append-le, take-take, take-at, drop-at, drop-cons, getD-append-add, getD-at}
@@ -206,46 +206,38 @@ module _ (q : List ℕ) (twelve : length q ≡ 12) (m : ℕ) where
       ∙ map-append payload (take (waiting q) (drop 4 q)) (word 15 m ∷ [])
       ∙ ap (λ (x : ℕ). messages q ++ (x ∷ [])) (payload-word 15 m small))
 
--- ---- a send to a full queue
-module _ (q : List ℕ) (twelve : length q ≡ 12) (m : ℕ) where
-  pub sendToFull-length : length (sendToFull q m) ≡ 12
-  unfolding sendToFull
-  sendToFull-length = simp length-set twelve
+-- ---- the lost count written alone
+abbrev withLost : List ℕ → ℕ → List ℕ
+withLost q n = set q 3 (word 6 n)
 
-  pub sendToFull-identity : take 2 (sendToFull q m) ≡ take 2 q
-  unfolding sendToFull
-  sendToFull-identity = take-set-le 2 q 3 _ (omega arith)
+module _ (q : List ℕ) (twelve : length q ≡ 12) (n : ℕ) where
+  withLost-identity : take 2 (withLost q n) ≡ take 2 q
+  withLost-identity = take-set-le 2 q 3 _ (omega arith)
 
   -- its words: the lost count, and every other
-  pub sendToFull-count : getD (sendToFull q m) 3 0 ≡ word 6 (min (lost q + 1) mostLost)
-  unfolding sendToFull
-  sendToFull-count = getD-set-same q 3 _ 0 (omega arith) ∙ omega arith
+  withLost-count : getD (withLost q n) 3 0 ≡ word 6 n
+  withLost-count = getD-set-same q 3 _ 0 (omega arith)
 
-  pub sendToFull-other : (k : ℕ) → k ≢ 3 → getD (sendToFull q m) k 0 ≡ getD q k 0
-  unfolding sendToFull
-  sendToFull-other k a = simp getD-set-other
+  withLost-other : (k : ℕ) → k ≢ 3 → getD (withLost q n) k 0 ≡ getD q k 0
+  withLost-other k a = simp getD-set-other
 
-  pub sendToFull-waiting : waiting (sendToFull q m) ≡ waiting q
+  withLost-waiting : waiting (withLost q n) ≡ waiting q
   unfolding waiting
-  sendToFull-waiting = ap payload (sendToFull-other 2 (omega arith))
+  withLost-waiting = ap payload (withLost-other 2 (omega arith))
 
-  pub sendToFull-lost : lost (sendToFull q m) ≡ min (lost q + 1) mostLost
-  unfolding lost
-  sendToFull-lost = ap payload sendToFull-count ∙ payload-word 6 (min (lost q + 1) mostLost) (omega arith)
-
-  pub sendToFull-sound : Sound q → Sound (sendToFull q m)
-  sendToFull-sound s =
+  withLost-sound : n ≤ mostLost → Sound q → Sound (withLost q n)
+  withLost-sound small s =
       record {
-        isWaiting = ap kind (sendToFull-other 2 (omega arith)) ∙ s .isWaiting;
-        fits = rw (sendToFull-waiting, capacity-kept (sendToFull q m) q sendToFull-identity) (s .fits);
-        isLost = ap kind sendToFull-count ∙ kind-word 6 (min (lost q + 1) mostLost) (omega arith);
-        slots = λ i l. rw (sendToFull-waiting, sendToFull-other (4 + i) (omega arith)) (s .slots i l);
+        isWaiting = ap kind (withLost-other 2 (omega arith)) ∙ s .isWaiting;
+        fits = rw (withLost-waiting, capacity-kept (withLost q n) q withLost-identity) (s .fits);
+        isLost = ap kind withLost-count ∙ kind-word 6 n small;
+        slots = λ i l. rw (withLost-waiting, withLost-other (4 + i) (omega arith)) (s .slots i l);
       }
 
   -- no message goes in or out
-  pub sendToFull-messages : messages (sendToFull q m) ≡ messages q
-  unfolding messages sendToFull
-  sendToFull-messages = rw sendToFull-waiting (ap (λ (l : List ℕ). map payload (take (waiting q) l)) (drop-set-lt 4 q 3 _ (omega arith)))
+  withLost-messages : messages (withLost q n) ≡ messages q
+  unfolding messages
+  withLost-messages = rw withLost-waiting (ap (λ (l : List ℕ). map payload (take (waiting q) l)) (drop-set-lt 4 q 3 _ (omega arith)))
 
 -- ---- a receive, of any twelve words with 1 to 8 messages waiting
 module _ (q : List ℕ) (twelve : length q ≡ 12) (some : waiting q ≢ 0) (most : waiting q ≤ 8) where
@@ -345,21 +337,81 @@ module _ (q : List ℕ) (twelve : length q ≡ 12) (some : waiting q ≢ 0) (mos
       (ap (λ (k : ℕ). map payload (take k (getD q 4 0 ∷ drop 5 q))) all
       ∙ ap (λ (l : List ℕ). map payload (take (waiting q) l)) (sym (drop-cons q 4 0 (omega arith))))
 
--- ---- a send, with space or without
-module _ (q : List ℕ) (twelve : length q ≡ 12) (m : ℕ) where
-  -- what holds of both sends holds of a send
-  pub sent-elim : (P : List ℕ → Type 0) → (hasSpace q ≡ true → P (sendWithSpace q m)) → (hasSpace q ≡ false → P (sendToFull q m)) → P (sent q m)
-  unfolding sent
-  sent-elim P f g = cond-elim P (hasSpace q) f g
+-- ---- a send to a full queue, of any twelve words with 1 to 8 messages waiting: a receive, a send with the space that it
+-- makes, and the lost count
+module _ (q : List ℕ) (twelve : length q ≡ 12) (some : waiting q ≢ 0) (most : waiting q ≤ 8) (m : ℕ) where
+  after-receive : length (received q) ≡ 12
+  after-receive = received-length q twelve some most
+
+  room : waiting (received q) < 8
+  room = omega (arith, received-waiting q twelve some most)
+
+  after-send : length (sendWithSpace (received q) m) ≡ 12
+  after-send = sendWithSpace-length (received q) after-receive m
+
+  -- the oldest message goes out, and the newcomer goes last
+  pub sendToFull-messages : m ≤ mostLost → oldest q ∷ messages (sendToFull q m) ≡ messages q ++ (m ∷ [])
+  unfolding sendToFull
+  sendToFull-messages small =
+      ap (λ (l : List ℕ). oldest q ∷ l) (withLost-messages _ after-send _ ∙ sendWithSpace-messages _ after-receive m small room)
+      ∙ ap (λ (l : List ℕ). l ++ (m ∷ [])) (received-messages q twelve some most)
+
+  pub sendToFull-waiting : waiting (sendToFull q m) ≡ waiting q
+  unfolding sendToFull
+  sendToFull-waiting =
+      withLost-waiting _ after-send _
+      ∙ sendWithSpace-waiting _ after-receive m room
+      ∙ omega (arith, received-waiting q twelve some most)
+
+  pub sendToFull-lost : lost (sendToFull q m) ≡ min (lost q + 1) mostLost
+  unfolding sendToFull lost
+  sendToFull-lost =
+      ap payload (withLost-count (sendWithSpace (received q) m) after-send _)
+      ∙ payload-word 6 (min (lost q + 1) mostLost) (omega arith)
+
+  pub sendToFull-length : length (sendToFull q m) ≡ 12
+  unfolding sendToFull
+  sendToFull-length = simp length-set after-send
+
+  pub sendToFull-identity : take 2 (sendToFull q m) ≡ take 2 q
+  unfolding sendToFull
+  sendToFull-identity =
+      withLost-identity (sendWithSpace (received q) m) after-send _
+      ∙ sendWithSpace-identity (received q) after-receive m
+      ∙ received-identity q twelve some most
+
+  pub sendToFull-sound : m ≤ mostLost → capacity q ≤ 8 → Sound q → Sound (sendToFull q m)
+  unfolding sendToFull hasSpace
+  sendToFull-sound small slots s =
+      let same = capacity-kept (received q) q (received-identity q twelve some most) in
+      let space : waiting (received q) < capacity (received q) = omega (arith, received-waiting q twelve some most, same, s .fits) in
+      withLost-sound _ after-send _ (omega arith)
+      (sendWithSpace-sound _ after-receive m small (omega arith) (lt-ltb _ _ space) (received-sound q twelve some most s))
+
+-- ---- a send, with space or without, to an endpoint that passes its test
+module _ (n : ℕ) (q : List ℕ) (twelve : length q ≡ 12) (ok : endpointOk n q ≡ true) (m : ℕ) where
+  most : waiting q ≤ 8
+  most = waiting-most n q ok
+
+  -- what holds of both sends holds of a send: with space there is a slot left, and in a full queue there is an oldest message
+  pub sent-elim : (P : List ℕ → Type 0) → (hasSpace q ≡ true → waiting q < 8 → P (sendWithSpace q m)) → (hasSpace q ≡ false → waiting q ≢ 0 → P (sendToFull q m)) → P (sent q m)
+  unfolding sent hasSpace
+  sent-elim P f g =
+      cond-elim P (hasSpace q)
+      (λ b. f b (omega (arith, ltb-true (waiting q) (capacity q) b, info-of n q ok)))
+      (λ b. g b (λ none. omega (arith, ltb-false (waiting q) (capacity q) b, info-of n q ok)))
 
   pub sent-length : length (sent q m) ≡ 12
-  sent-length = sent-elim (λ p. length p ≡ 12) (λ _. sendWithSpace-length q twelve m) (λ _. sendToFull-length q twelve m)
+  sent-length = sent-elim (λ p. length p ≡ 12) (λ _ _. sendWithSpace-length q twelve m) (λ _ some. sendToFull-length q twelve some most m)
 
   pub sent-identity : take 2 (sent q m) ≡ take 2 q
-  sent-identity = sent-elim (λ p. take 2 p ≡ take 2 q) (λ _. sendWithSpace-identity q twelve m) (λ _. sendToFull-identity q twelve m)
+  sent-identity = sent-elim (λ p. take 2 p ≡ take 2 q) (λ _ _. sendWithSpace-identity q twelve m) (λ _ some. sendToFull-identity q twelve some most m)
 
-  pub sent-sound : m ≤ mostLost → capacity q ≤ 8 → Sound q → Sound (sent q m)
-  sent-sound small most s = sent-elim Sound (λ b. sendWithSpace-sound q twelve m small most b s) (λ _. sendToFull-sound q twelve m s)
+  pub sent-sound : m ≤ mostLost → Sound (sent q m)
+  sent-sound small =
+      let s = endpoint-sound n q ok in
+      let slots = info-of n q ok .2 in
+      sent-elim Sound (λ b _. sendWithSpace-sound q twelve m small slots b s) (λ _ some. sendToFull-sound q twelve some most m small slots s)
 
 -- ---- an endpoint's test is kept by what keeps its first two words and leaves sound ones
 endpoint-kept : (n : ℕ) (p q : List ℕ) → take 2 p ≡ take 2 q → Sound p → endpointOk n q ≡ true → endpointOk n p ≡ true
@@ -369,8 +421,7 @@ endpoint-kept n p q same s h =
 
 pub sent-ok : (n : ℕ) (q : List ℕ) (m : ℕ) → length q ≡ 12 → m ≤ mostLost → endpointOk n q ≡ true → endpointOk n (sent q m) ≡ true
 sent-ok n q m twelve small h =
-    endpoint-kept n (sent q m) q (sent-identity q twelve m)
-    (sent-sound q twelve m small (info-of n q h .2) (endpoint-sound n q h)) h
+    endpoint-kept n (sent q m) q (sent-identity n q twelve h m) (sent-sound n q twelve h m small) h
 
 pub received-ok : (n : ℕ) (q : List ℕ) → length q ≡ 12 → waiting q ≢ 0 → endpointOk n q ≡ true → endpointOk n (received q) ≡ true
 received-ok n q twelve some h =

@@ -312,7 +312,8 @@ call-in-order t c a =
           λ _ _ l _.
           let q = endpoint t (fieldB (first c)) in
           let twelve = table.endpoint-length t (accepted-sized t a) (fieldB (first c)) l in
-          (l, sent-length q twelve (secondPayload c), sent-identity q twelve (secondPayload c), sent-ok (domains t) q (secondPayload c) twelve (message-small c) (accepted-endpoint t a _ l));
+          let ok = accepted-endpoint t a (fieldB (first c)) l in
+          (l, sent-length (domains t) q twelve ok (secondPayload c), sent-identity (domains t) q twelve ok (secondPayload c), sent-ok (domains t) q (secondPayload c) twelve (message-small c) ok);
       receiving =
           λ _ _ l _ w.
           let q = endpoint t (fieldB (first c)) in

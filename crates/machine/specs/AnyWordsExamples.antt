@@ -34,9 +34,11 @@ onOneWord =
 pub record OfAnyWords : Type 0 where
   -- a receive where two wait: the second slot comes free, and those behind it stay
   pub twoWait : List ℕ
-  -- a receive and a send where 258 wait, by the waiting word, and the capacity is 8
+  -- a receive and a send where 258 wait, by the waiting word, and the capacity is 8: the newcomer finds no slot
   pub manyWait : List ℕ
   pub manyWaitAndOne : List ℕ
+  -- a send where five wait and the capacity is 3: the oldest is pushed out, five wait again, and the slots behind them stay
+  pub fiveOfThree : List ℕ
   -- the rights that a word holds with bits set above the rights
   pub wideRights : ℕ
   -- calls on one word, their answers and what is left; and a caller on no word at all
@@ -51,6 +53,7 @@ ofAnyWords =
       twoWait = received (filled 0x5000_0002 0x6000_0000);
       manyWait = received (filled 0x5000_0102 0x6000_0000);
       manyWaitAndOne = sent (filled 0x5000_0102 0x6000_0000) 9;
+      fiveOfThree = sent (set (filled 0x5000_0005 0x6000_0000) 1 0x4000_0003) 9;
       wideRights = rights (set fourDomains 2 0x2800_0103) 0 1;
       oneWord = answers (0x1000_0401 ∷ []) (cut (callWords onOneWord));
       left = run (0x1000_0401 ∷ []) (cut (callWords onOneWord));
@@ -68,7 +71,12 @@ AnyWordsHold =
       manyWait =
           0x3000_0001 ∷ 0x4000_0008 ∷ 0x5000_0101 ∷ 0x6000_0000
           ∷ 0xF000_0002 ∷ 0xF000_0003 ∷ 0xF000_0004 ∷ 0xF000_0005 ∷ 0xF000_0006 ∷ 0xF000_0007 ∷ 0xF000_0008 ∷ 0xF000_0000 ∷ [];
-      manyWaitAndOne = filled 0x5000_0102 0x6000_0001;
+      manyWaitAndOne =
+          0x3000_0001 ∷ 0x4000_0008 ∷ 0x5000_0102 ∷ 0x6000_0001
+          ∷ 0xF000_0002 ∷ 0xF000_0003 ∷ 0xF000_0004 ∷ 0xF000_0005 ∷ 0xF000_0006 ∷ 0xF000_0007 ∷ 0xF000_0008 ∷ 0xF000_0000 ∷ [];
+      fiveOfThree =
+          0x3000_0001 ∷ 0x4000_0003 ∷ 0x5000_0005 ∷ 0x6000_0001
+          ∷ 0xF000_0002 ∷ 0xF000_0003 ∷ 0xF000_0004 ∷ 0xF000_0005 ∷ 0xF000_0009 ∷ 0xF000_0006 ∷ 0xF000_0007 ∷ 0xF000_0008 ∷ [];
       wideRights = 0x0800_0103;
       oneWord = callAnswers onOneWord;
       left = 0x1000_0401 ∷ [];

@@ -62,10 +62,11 @@ everyCode =
     ∷ answered (0x3000_0100 ∷ []) (0x3000_0013 ∷ 0 ∷ 0 ∷ [])
     -- a send by a SEND right, with space
     ∷ answered (0x2000_0000 ∷ 0xF000_0009 ∷ []) (0x2000_0000 ∷ 0 ∷ 0 ∷ [])
-    -- a send by the owner, which has SEND on itself, to a full queue whose lost count is at its largest
+    -- a send by the owner, which has SEND on itself, to a full queue whose lost count is at its largest: the oldest message is
+    -- pushed out
     ∷ answered (0x2040_0000 ∷ 0xF000_000A ∷ []) (0x2040_0000 ∷ 0 ∷ 0 ∷ [])
     -- a receive: the message, and the lost count
-    ∷ answered (0x3040_0000 ∷ []) (0x3040_0000 ∷ 0x0ABC_DEF1 ∷ 0x0FFF_FFFF ∷ [])
+    ∷ answered (0x3040_0000 ∷ []) (0x3040_0000 ∷ 9 ∷ 0x0FFF_FFFF ∷ [])
     -- my endpoints: 1 and 2
     ∷ answered (0x4000_0000 ∷ []) (0x4000_0000 ∷ 6 ∷ 0 ∷ [])
     -- my rights: 5 on target 1, 4 on target 2
@@ -113,7 +114,7 @@ codeRows =
     (record {
       code = 0;
       calls = 37;
-      table = set (set fourDomains 10 0x2000_0004) 21 0xF000_0009;
+      table = set (set fourDomains 10 0x2000_0004) 21 0xF000_000A;
       answers = callAnswers everyCode;
     })
     -- nine domains: a right on target 8 shows in the second data word

@@ -1,6 +1,6 @@
 -- What the fourth line of the checklist counts, and the messages of a queue in their order.
 -- Sent and received are told by calls and their answers alone, three words for each call and perhaps others behind them; which
--- sends found the queue full, by the run's tables.
+-- sends found the queue full, and what left it by its front, by the run's tables.
 use Prim.Native.Nat.{ℕ, _+_}
 use mathlib.Core.Bool.{Bool, true, false, cond, not, _&&_}
 use mathlib.Core.List.{List, [], _∷_, map}
@@ -8,7 +8,7 @@ use lib.ListN.{getD, take, drop}
 use lib.Dec.{eqb}
 use Rattle.machine.specs.Word.{payload, fieldB, answerCode}
 use Rattle.machine.specs.Table.{endpoint}
-use Rattle.machine.specs.Queue.{waiting, hasSpace}
+use Rattle.machine.specs.Queue.{waiting, oldest, hasSpace}
 use Rattle.machine.specs.Call.{Call, Kind, first, callKind, secondPayload}
 use Rattle.machine.specs.Call.{Kind.lookUp, Kind.send, Kind.receive, Kind.myEndpoints, Kind.myRights, Kind.grant, Kind.remove, Kind.stray, Kind.unknown}
 use Rattle.machine.specs.Machine.{step, answer}
@@ -61,22 +61,59 @@ messagesFrom e (c ∷ cs) answers =
     let rest = messagesFrom e cs (drop 3 answers) in
     cond (doneOn isReceive e c answers) (getD answers 1 0 ∷ rest) rest
 
+-- the messages sent to e, in order: that of each send answered 0
+unfoldable pub messagesTo : ℕ → List Call → List ℕ → List ℕ
+messagesTo e [] answers = []
+messagesTo e (c ∷ cs) answers =
+    let rest = messagesTo e cs (drop 3 answers) in
+    cond (doneOn isSend e c answers) (secondPayload c ∷ rest) rest
+
 -- a call that is a send to e, answered 0, run on the table t
 unfoldable pub sendsTo : ℕ → List ℕ → Call → Bool
 sendsTo e t c = doneOn isSend e c (answer t c)
 
+-- and one that is a receive from e
+unfoldable pub receivesFrom : ℕ → List ℕ → Call → Bool
+receivesFrom e t c = doneOn isReceive e c (answer t c)
+
+-- a send to e, answered 0, that finds the queue full and so pushes out its oldest message
+unfoldable pub pushesOut : ℕ → List ℕ → Call → Bool
+pushesOut e t c = sendsTo e t c && not (hasSpace (endpoint t e))
+
 -- how many sends to e, answered 0, found the queue full
 unfoldable pub fullSends : ℕ → List ℕ → List Call → ℕ
 fullSends e t [] = 0
-fullSends e t (c ∷ cs) =
-    cond (sendsTo e t c && not (hasSpace (endpoint t e))) 1 0 + fullSends e (step t c) cs
+fullSends e t (c ∷ cs) = cond (pushesOut e t c) 1 0 + fullSends e (step t c) cs
 
--- the messages of the sends to e that found space, in order
-unfoldable pub messagesTo : ℕ → List ℕ → List Call → List ℕ
-messagesTo e t [] = []
-messagesTo e t (c ∷ cs) =
-    let rest = messagesTo e (step t c) cs in
-    cond (sendsTo e t c && hasSpace (endpoint t e)) (secondPayload c ∷ rest) rest
+-- A message that left a queue by its front: a receive told it, or a send to the full queue pushed it out.
+pub data Gone : Type 0 where
+  told : (message : ℕ) → Gone
+  pushed : (message : ℕ) → Gone
+
+-- the message, either way
+unfoldable pub messageOf : Gone → ℕ
+messageOf (told m) = m
+messageOf (pushed m) = m
+
+-- those that were told, in order
+unfoldable pub toldOf : List Gone → List ℕ
+toldOf [] = []
+toldOf (told m ∷ out) = m ∷ toldOf out
+toldOf (pushed m ∷ out) = toldOf out
+
+-- how many were pushed out
+unfoldable pub countPushed : List Gone → ℕ
+countPushed [] = 0
+countPushed (told m ∷ out) = countPushed out
+countPushed (pushed m ∷ out) = 1 + countPushed out
+
+-- what left e's queue by its front, in order: at each receive and at each send that found it full, its oldest message then
+unfoldable pub gone : ℕ → List ℕ → List Call → List Gone
+gone e t [] = []
+gone e t (c ∷ cs) =
+    let later = gone e (step t c) cs in
+    cond (pushesOut e t c) (pushed (oldest (endpoint t e)) ∷ later)
+    (cond (receivesFrom e t c) (told (oldest (endpoint t e)) ∷ later) later)
 
 -- the messages that wait in an endpoint's twelve words, oldest first
 unfoldable pub messages : List ℕ → List ℕ

@@ -23,7 +23,7 @@ unfolding allBelow numbersBelow firstBelow sumBelow
     call.first call.wantsSecond call.pairs call.cut call.kindOf call.callKind call.callerOf
     call.unusedFields call.allZero call.hasSecond call.wordPlaces call.secondPayload
     queue.name queue.owner queue.capacity queue.waiting queue.lost queue.oldest queue.hasSpace queue.sendWithSpace
-    queue.sendToFull queue.sent queue.movedUp queue.received
+    queue.movedUp queue.received queue.sendToFull queue.sent
     machine.place machine.maySend machine.named machine.lookUpPlaces machine.sendPlaces
     machine.receivePlaces machine.grantPlaces machine.removePlaces machine.framed machine.places machine.decide
     machine.effect machine.after machine.step machine.ownedBits machine.rightsBits machine.code machine.firstData
@@ -34,6 +34,7 @@ unfolding allBelow numbersBelow firstBelow sumBelow
     member callerIn calledBy
     purge.reachesAny purge.joinedBy purge.sources purge.purge
     purge.answersOf purge.rightsOf purge.ownedBy purge.queuesOf purge.lostOf purge.view
-    counts.doneOn counts.countDone counts.messagesFrom counts.sendsTo counts.fullSends counts.messagesTo counts.messages
+    counts.doneOn counts.countDone counts.messagesFrom counts.messagesTo counts.receivesFrom counts.sendsTo counts.pushesOut
+    counts.fullSends counts.messageOf counts.toldOf counts.countPushed counts.gone counts.messages
     counts.isSend counts.isReceive
 everything = tt

@@ -67,14 +67,14 @@ L =
     ∷ 0x4080_0000
     ∷ []
 
--- its answers: call 0 code 17, call 4 data 5 and 1, call 5 code 19, call 6 code 10, call 7 data 272, call 8 data 2
+-- its answers: call 0 code 17, call 4 data 6 and 1, call 5 code 19, call 6 code 10, call 7 data 272, call 8 data 2
 abbrev pub answersL : List ℕ
 answersL =
     (0x2000_0011 ∷ 0 ∷ 0 ∷ [])
     ++ (0x6040_0000 ∷ 0 ∷ 0 ∷ [])
     ++ (0x2000_0000 ∷ 0 ∷ 0 ∷ [])
     ++ (0x2000_0000 ∷ 0 ∷ 0 ∷ [])
-    ++ (0x3080_0000 ∷ 5 ∷ 1 ∷ [])
+    ++ (0x3080_0000 ∷ 6 ∷ 1 ∷ [])
     ++ (0x3080_0013 ∷ 0 ∷ 0 ∷ [])
     ++ (0xF000_000A ∷ 0 ∷ 0 ∷ [])
     ++ (0x5000_0000 ∷ 272 ∷ 0 ∷ [])

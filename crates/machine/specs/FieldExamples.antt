@@ -139,8 +139,8 @@ removes =
 abbrev pub selfSender : List ℕ
 selfSender = set fourDomains 1 0x2000_0001
 
--- an endpoint of capacity 8 in which two wait: six more fill it, two are lost and the lost count stays at its largest, then
--- four go out in turn, and one comes in behind the first of them
+-- an endpoint of capacity 8 in which two wait: six more fill it, the next two push out those two and the lost count stays at
+-- its largest, then four go out in turn, and one comes in behind the first of them
 abbrev pub wholeQueue : List Answered
 wholeQueue =
     answered (0x2000_0200 ∷ 0xFFFF_FFFF ∷ []) (0x2000_0000 ∷ 0 ∷ 0 ∷ [])
@@ -151,11 +151,11 @@ wholeQueue =
     ∷ answered (0x2000_0200 ∷ 0xF000_0008 ∷ []) (0x2000_0000 ∷ 0 ∷ 0 ∷ [])
     ∷ answered (0x2000_0200 ∷ 0xF000_0009 ∷ []) (0x2000_0000 ∷ 0 ∷ 0 ∷ [])
     ∷ answered (0x2000_0200 ∷ 0xF000_000A ∷ []) (0x2000_0000 ∷ 0 ∷ 0 ∷ [])
-    ∷ answered (0x3000_0200 ∷ []) (0x3000_0000 ∷ 1 ∷ 0x0FFF_FFFF ∷ [])
-    ∷ answered (0x2000_0200 ∷ 0xF000_000B ∷ []) (0x2000_0000 ∷ 0 ∷ 0 ∷ [])
-    ∷ answered (0x3000_0200 ∷ []) (0x3000_0000 ∷ 2 ∷ 0x0FFF_FFFF ∷ [])
     ∷ answered (0x3000_0200 ∷ []) (0x3000_0000 ∷ 0x0FFF_FFFF ∷ 0x0FFF_FFFF ∷ [])
+    ∷ answered (0x2000_0200 ∷ 0xF000_000B ∷ []) (0x2000_0000 ∷ 0 ∷ 0 ∷ [])
     ∷ answered (0x3000_0200 ∷ []) (0x3000_0000 ∷ 0x0800_0000 ∷ 0x0FFF_FFFF ∷ [])
+    ∷ answered (0x3000_0200 ∷ []) (0x3000_0000 ∷ 0x0001_0000 ∷ 0x0FFF_FFFF ∷ [])
+    ∷ answered (0x3000_0200 ∷ []) (0x3000_0000 ∷ 0x0000_0100 ∷ 0x0FFF_FFFF ∷ [])
     ∷ []
 
 -- calls at both ends of the largest table
@@ -200,7 +200,7 @@ fieldRows =
       table = set (set oneRight 8 0x2000_0007) 16 0x2000_0005;
       answers = callAnswers removes;
     })
-    -- the queue has five left, from 0x0001_0000 on, and three free slots
+    -- the queue has five left, from 0 on, and three free slots
     ∷ leaves (set selfSender 44 0x6FFF_FFFE) (callWords wholeQueue) (spaceOf 39)
     (record {
       code = 0;
@@ -209,9 +209,9 @@ fieldRows =
           set
           (set
           (set
-          (set (set (set (set selfSender 44 0x6FFF_FFFF) 43 0x5000_0005) 45 0xF001_0000) 46 0xF000_0100)
-          47 0xF000_0000)
-          48 0xF000_0008)
+          (set (set (set (set selfSender 44 0x6FFF_FFFF) 43 0x5000_0005) 45 0xF000_0000) 46 0xF000_0008)
+          47 0xF000_0009)
+          48 0xF000_000A)
           49 0xF000_000B;
       answers = callAnswers wholeQueue;
     })

@@ -74,14 +74,14 @@ giver = threeDomains (none3 ++ (0x2000_0003 ∷ 0x2000_0000 ∷ 0x2000_0001 ∷ 
 abbrev pub quiet : List ℕ → View
 quiet ws = record { answers = ws; rights = none3; queues = (0, 0x5000_0000 ∷ emptySlots) ∷ []; lost = (0, 0x6000_0000) ∷ [] }
 
--- an endpoint's queue with the message 7 alone in it: its waiting word and its slots
-abbrev pub justSeven : List ℕ
-justSeven =
-    0x5000_0001 ∷ 0xF000_0007 ∷ 0xF000_0000 ∷ 0xF000_0000 ∷ 0xF000_0000 ∷ 0xF000_0000 ∷ 0xF000_0000 ∷ 0xF000_0000 ∷ 0xF000_0000 ∷ []
+-- an endpoint's queue with one message in it, by its slot word: the waiting word and the slots
+abbrev pub justOne : ℕ → List ℕ
+justOne w =
+    0x5000_0001 ∷ w ∷ 0xF000_0000 ∷ 0xF000_0000 ∷ 0xF000_0000 ∷ 0xF000_0000 ∷ 0xF000_0000 ∷ 0xF000_0000 ∷ 0xF000_0000 ∷ []
 
 -- domain 0's view with the message 7 in its queue, no right, no answer and no lost message
 abbrev pub gotSeven : View
-gotSeven = record { answers = []; rights = none3; queues = (0, justSeven) ∷ []; lost = (0, 0x6000_0000) ∷ [] }
+gotSeven = record { answers = []; rights = none3; queues = (0, justOne 0xF000_0007) ∷ []; lost = (0, 0x6000_0000) ∷ [] }
 
 -- the rows
 abbrev pub purgeRows : List PurgeRow
@@ -155,7 +155,8 @@ purgeRows =
       kept = [];
       seen = quiet [];
     })
-    -- a full queue: the second message is lost, which d sees in its lost word; and a right given to d, in its rights
+    -- a full queue: the second message pushes out the first, which d sees in its queue and in its lost word; and a right given
+    -- to d, in its rights
     ∷ pins (threeDomains (none3 ++ (0x2000_0001 ∷ 0x2000_0000 ∷ 0x2000_0003 ∷ []) ++ none3)) (0x2040_0000 ∷ 0xF000_0007 ∷ 0x2040_0000 ∷ 0xF000_0008 ∷ 0x6042_0001 ∷ []) 0
     (record {
       sets = 0b011 ∷ 0b011 ∷ 0b011 ∷ 0b001 ∷ [];
@@ -164,7 +165,7 @@ purgeRows =
           record {
             answers = [];
             rights = 0x2000_0000 ∷ 0x2000_0000 ∷ 0x2000_0001 ∷ [];
-            queues = (0, justSeven) ∷ [];
+            queues = (0, justOne 0xF000_0008) ∷ [];
             lost = (0, 0x6000_0001) ∷ [];
           };
     })

@@ -1,4 +1,5 @@
--- An endpoint's twelve words, and what a send and a receive make of them (document 01, 'The table' and 'The striking rule').
+-- An endpoint's twelve words, and what a send and a receive make of them (document 01, 'The table' and 'The striking rule';
+-- document 02 (a), a full queue).
 -- Nothing here sees the rest of the table.
 use Prim.Native.Nat.{ℕ, _+_, _-_, min}
 use mathlib.Core.Bool.{Bool, cond}
@@ -43,14 +44,6 @@ hasSpace q = ltb (waiting q) (capacity q)
 unfoldable pub sendWithSpace : List ℕ → ℕ → List ℕ
 sendWithSpace q message = set (set q (4 + waiting q) (word 15 message)) 2 (word 5 (waiting q + 1))
 
--- a send to a full queue: the message is dropped and lost rises by 1, staying at its largest
-unfoldable pub sendToFull : List ℕ → ℕ → List ℕ
-sendToFull q message = set q 3 (word 6 (min (lost q + 1) mostLost))
-
--- a send: with space, or to a full queue
-unfoldable pub sent : List ℕ → ℕ → List ℕ
-sent q message = cond (hasSpace q) (sendWithSpace q message) (sendToFull q message)
-
 -- the waiting messages move up by one slot, and the slot that comes free is empty; slots from the waiting count on stay
 unfoldable pub movedUp : List ℕ → ℕ → List ℕ
 movedUp q count = take 4 q ++ (take (count - 1) (drop 5 q) ++ (emptySlot ∷ drop (4 + count) q))
@@ -58,3 +51,12 @@ movedUp q count = take 4 q ++ (take (count - 1) (drop 5 q) ++ (emptySlot ∷ dro
 -- a receive: the oldest message goes out, the others move up, and waiting falls by 1
 unfoldable pub received : List ℕ → List ℕ
 received q = set (movedUp q (waiting q)) 2 (word 5 (waiting q - 1))
+
+-- A send to a full queue (document 02 (a)): the oldest message is pushed out as by a receive, the newcomer goes last, and
+-- lost rises by 1, staying at its largest.
+unfoldable pub sendToFull : List ℕ → ℕ → List ℕ
+sendToFull q message = set (sendWithSpace (received q) message) 3 (word 6 (min (lost q + 1) mostLost))
+
+-- a send: with space, or to a full queue
+unfoldable pub sent : List ℕ → ℕ → List ℕ
+sent q message = cond (hasSpace q) (sendWithSpace q message) (sendToFull q message)

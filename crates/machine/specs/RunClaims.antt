@@ -5,14 +5,14 @@ use Prim.Native.Nat.{ℕ, _+_, _<_, _^_, min}
 use mathlib.Core.Path.{_≡_}
 use mathlib.Core.Bool.{true}
 use mathlib.Core.Logic.{_⊎_}
-use mathlib.Core.List.{List, _++_}
+use mathlib.Core.List.{List, _++_, map}
 use Rattle.machine.specs.Right.{holds}
 use Rattle.machine.specs.Table.{domains, rights, endpoint}
 use Rattle.machine.specs.Queue.{waiting, lost, mostLost}
 use Rattle.machine.specs.Call.{Call}
 use Rattle.machine.specs.Run as machine
 use Rattle.machine.specs.Purge.{purge, view}
-use Rattle.machine.specs.Counts.{sentTo, receivedFrom, fullSends, messagesFrom, messagesTo, messages}
+use Rattle.machine.specs.Counts.{sentTo, receivedFrom, fullSends, messagesFrom, messagesTo, messageOf, toldOf, countPushed, gone, messages}
 use Rattle.machine.specs.Trail.{GivenAlong}
 
 -- Noninterference (document 01: the striking rule): for every domain d, what d sees of the run is what it sees of the machine
@@ -39,8 +39,10 @@ pub record CountsBorneOut (e : ℕ) (t : List ℕ) (cs : List Call) (answers end
   pub balance : sentTo e cs answers + waiting (endpoint t e) ≡ receivedFrom e cs answers + fullSends e t cs + waiting (endpoint end e)
   pub raised : lost (endpoint end e) ≡ min (lost (endpoint t e) + fullSends e t cs) mostLost
 
--- Queues in turn: what was received from the endpoint e, followed by what waits at the end, is what waited at the start,
--- followed by what was sent and found space, in order.
-abbrev pub InTurn : ℕ → List ℕ → List Call → List ℕ → List ℕ → Type 0
-InTurn e t cs answers end =
-    messagesFrom e cs answers ++ messages (endpoint end e) ≡ messages (endpoint t e) ++ messagesTo e t cs
+-- Queues in turn: what left the queue of the endpoint e by its front, received or pushed out, followed by what waits at the
+-- end, is what waited at the start, followed by everything that was sent, in order; those received are the ones that the
+-- answers showed; and as many were pushed out as sends found the queue full, each the oldest at its time.
+pub record InTurn (e : ℕ) (t : List ℕ) (cs : List Call) (answers end : List ℕ) : Type 0 where
+  pub order : map messageOf (gone e t cs) ++ messages (endpoint end e) ≡ messages (endpoint t e) ++ messagesTo e cs answers
+  pub received : messagesFrom e cs answers ≡ toldOf (gone e t cs)
+  pub pushedOut : fullSends e t cs ≡ countPushed (gone e t cs)

@@ -1,19 +1,25 @@
--- The tests of a send and of a receive, put together and taken apart. Assumes nothing.
-use Prim.Native.Nat.{ℕ, _≤_, _<_}
+-- The tests of a send and of a receive, put together and taken apart, and a send to a full queue in its parts.
+-- Assumes nothing.
+use Prim.Native.Nat.{ℕ, _+_, _≤_, _<_, min}
+use native.Mathlib.Omega.{arith}
 use mathlib.Core.Path.{_≡_}
+use mathlib.Core.Logic.{_≢_}
 use mathlib.Core.Bool.{true, false, _&&_}
 use mathlib.Core.List.{List}
 use borrow.Author.Tests.{eq-eqb, le-leb, eqb-true, leb-true, lt-ltb, le-ltb}
 use lib.Dec.{eqb, leb}
-use lib.ListN.{length}
-use Rattle.machine.specs.Queue.{capacity, waiting, mostLost, hasSpace, sendWithSpace, sendToFull, sent, received}
+use lib.ListN.{length, set}
+use Rattle.machine.specs.Word.{word}
+use Rattle.machine.specs.Queue.{capacity, waiting, lost, mostLost, hasSpace, sendWithSpace, sendToFull, sent, received}
 use Rattle.machine.proofs.Bools.{and-left, and-right}
-use Rattle.queue.specs.Queue.{sendable, leftBySend, receivable, leftByReceive, MayReceive}
+use Rattle.machine.proofs.Queue.{received-length, received-waiting}
+use Rattle.queue.specs.Queue.{sendable, leftBySend, receivable, leftByReceive, HasRoom, MayReceive, MayPushOut}
 
 -- ---- for callers: words that they know to pass the test
-pub may-be-sent : (q : List ℕ) (m : ℕ) → length q ≡ 12 → capacity q ≤ 8 → m ≤ mostLost → sendable q m ≡ true
+pub may-be-sent : (q : List ℕ) (m : ℕ) → length q ≡ 12 → 1 ≤ capacity q → capacity q ≤ 8 → waiting q ≤ 8 → m ≤ mostLost → sendable q m ≡ true
 unfolding sendable
-may-be-sent q m twelve slots small = rw (eq-eqb _ _ twelve, le-leb _ _ slots, le-leb _ _ small)
+may-be-sent q m twelve holds slots most small =
+    rw (eq-eqb _ _ twelve, le-leb _ _ holds, le-leb _ _ slots, le-leb _ _ most, le-leb _ _ small)
 
 pub may-be-received : (q : List ℕ) → length q ≡ 12 → 1 ≤ waiting q → waiting q ≤ 8 → receivable q ≡ true
 unfolding receivable
@@ -22,19 +28,27 @@ may-be-received q twelve some slots = rw (eq-eqb _ _ twelve, le-leb _ _ some, le
 -- ---- what the test of a send says, and what a send is on either side of it
 pub record MaySend (q : List ℕ) (message : ℕ) : Type 0 where
   pub twelve : length q ≡ 12
+  pub holds : 1 ≤ capacity q
   pub slots : capacity q ≤ 8
+  pub most : waiting q ≤ 8
   pub small : message ≤ mostLost
 
 pub may-send : (q : List ℕ) (m : ℕ) → sendable q m ≡ true → MaySend q m
 unfolding sendable
 may-send q m h =
     let twelve = eqb (length q) 12 in
+    let holds = leb 1 (capacity q) in
     let slots = leb (capacity q) 8 in
-    let both = and-left (twelve && slots) (leb m mostLost) h in
+    let most = leb (waiting q) 8 in
+    let four = and-left (twelve && holds && slots && most) (leb m mostLost) h in
+    let three = and-left (twelve && holds && slots) most four in
+    let two = and-left (twelve && holds) slots three in
     record {
-      twelve = eqb-true _ _ (and-left twelve slots both);
-      slots = leb-true _ _ (and-right twelve slots both);
-      small = leb-true _ _ (and-right (twelve && slots) (leb m mostLost) h);
+      twelve = eqb-true _ _ (and-left twelve holds two);
+      holds = leb-true _ _ (and-right twelve holds two);
+      slots = leb-true _ _ (and-right (twelve && holds) slots three);
+      most = leb-true _ _ (and-right (twelve && holds && slots) most four);
+      small = leb-true _ _ (and-right (twelve && holds && slots && most) (leb m mostLost) h);
     }
 
 pub not-sent : (q : List ℕ) (m : ℕ) → sendable q m ≡ false → q ≡ leftBySend q m
@@ -49,6 +63,21 @@ module _ (q : List ℕ) (m : ℕ) (passed : sendable q m ≡ true) where
   pub sent-to-full : capacity q ≤ waiting q → sendToFull q m ≡ leftBySend q m
   unfolding leftBySend sent hasSpace
   sent-to-full full = rw (passed, le-ltb _ _ full)
+
+-- ---- a send to a full queue: once the oldest message is out there is room for the newcomer,
+pub room-made : (q : List ℕ) (m : ℕ) → MayPushOut q m → HasRoom (received q) m
+room-made q m may =
+    let some : waiting q ≢ 0 = omega (arith, may .oldest .some) in
+    record {
+      twelve = received-length q (may .oldest .twelve) some (may .oldest .slots);
+      room = omega (arith, received-waiting q (may .oldest .twelve) some (may .oldest .slots), may .oldest .slots);
+      small = may .small;
+    }
+
+-- and the three writes leave what the machine's send leaves
+pub pushed-out : (q p r : List ℕ) (m n : ℕ) → p ≡ received q → r ≡ sendWithSpace p m → n ≡ min (lost q + 1) mostLost → set r 3 (word 6 n) ≡ sendToFull q m
+unfolding sendToFull
+pushed-out q p r m n took sent raised = rw (sent, took, raised)
 
 -- ---- what the test of a receive says, and what a receive is on either side of it
 pub may-receive : (q : List ℕ) → receivable q ≡ true → MayReceive q

@@ -1,4 +1,5 @@
 -- What is proved of a send and a receive besides the functions.
+pub mod Examples
 pub mod Laws
 pub mod Received
 pub mod LaterSlots

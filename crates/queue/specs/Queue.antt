@@ -7,9 +7,10 @@ use lib.Dec.{eqb, leb}
 use lib.ListN.{length}
 use Rattle.machine.specs.Queue.{capacity, waiting, mostLost, sent, received}
 
--- twelve words with a capacity of at most 8, and a message of 28 bits
+-- twelve words with a capacity of 1 to 8 and at most 8 waiting, and a message of 28 bits
 unfoldable pub sendable : List ℕ → ℕ → Bool
-sendable q message = eqb (length q) 12 && leb (capacity q) 8 && leb message mostLost
+sendable q message =
+    eqb (length q) 12 && leb 1 (capacity q) && leb (capacity q) 8 && leb (waiting q) 8 && leb message mostLost
 
 -- a send; other words stay as they are
 unfoldable pub leftBySend : List ℕ → ℕ → List ℕ
@@ -34,3 +35,8 @@ pub record MayReceive (q : List ℕ) : Type 0 where
   pub twelve : length q ≡ 12
   pub some : 1 ≤ waiting q
   pub slots : waiting q ≤ 8
+
+-- what `send_to_full` asks: an oldest message that can go out, and a newcomer of 28 bits
+pub record MayPushOut (q : List ℕ) (message : ℕ) : Type 0 where
+  pub oldest : MayReceive q
+  pub small : message ≤ mostLost

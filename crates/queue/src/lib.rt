@@ -3,22 +3,24 @@
 // A word of kind k that holds p is k × KIND + p.
 use words::KIND;
 ghost use mathlib.Core.Path.{_≡_};
-ghost use Prim.Native.Nat.{ℕ};
-ghost use lib.ListN.{length};
-ghost use Rattle.machine.specs.Queue.{sendWithSpace, sendToFull, received};
-ghost use Rattle.queue.specs.Queue.{sendable, leftBySend, receivable, leftByReceive, HasRoom, MayReceive};
+ghost use Prim.Native.Nat.{_+_, min};
+ghost use Rattle.machine.specs.Queue.{mostLost, sendWithSpace, sendToFull, received};
+ghost use Rattle.queue.specs.Queue.{sendable, leftBySend, receivable, leftByReceive, HasRoom, MayPushOut, MayReceive};
 
 // The largest lost count, and the largest message.
 const MOST_LOST: u32 = 268435455;
 
-// Twelve words with a capacity of at most 8, and a message of 28 bits.
+// Twelve words with a capacity of 1 to 8 and at most 8 messages waiting, and a message of 28 bits. So a full queue has a
+// message to push out, and its messages stand in slots.
 fn sendable(q: &[u32], message: u32) -> bool
     ensures { λ b. ⌜ b ≡ sendable (now (q .entry)) message ⌝ }
 {
     if q.len() != 12 {
         return false;
     }
-    (q[1] % 256 <= 8) & (message <= MOST_LOST)
+    let most = q[1] % 256;
+    let count = q[2] % KIND;
+    (1 <= most) & (most <= 8) & (count <= 8) & (message <= MOST_LOST)
 }
 
 // The message fills the slot at the waiting count, and waiting rises by 1.
@@ -32,17 +34,26 @@ fn send_with_space(q: &mut [u32], message: u32)
     q[2] = 0x5000_0000 + (count + 1);
 }
 
-// The message is dropped, and lost rises by 1, staying at its largest.
-fn send_to_full(q: &mut [u32])
-    requires { ⌜ length (now q) ≡ 12 ⌝ }
-    ensures { λ _. ⌜ ((message : ℕ) → now (q .exit) ≡ sendToFull (now (q .entry)) message) ⌝ }
+// What a lost count rises to: one more, staying at its largest.
+fn lost_after(count: u32) -> u32
+    ensures { λ r. ⌜ r ≡ min (count + 1) mostLost ⌝ }
+{
+    if count < MOST_LOST {
+        return count + 1;
+    }
+    MOST_LOST
+}
+
+// The oldest message is pushed out, the newcomer goes last, and lost rises by 1.
+fn send_to_full(q: &mut [u32], message: u32)
+    requires { ⌜ MayPushOut (now q) message ⌝ }
+    ensures { λ _. ⌜ now (q .exit) ≡ sendToFull (now (q .entry)) message ⌝ }
 {
     let count = q[3] % KIND;
-    if count < MOST_LOST {
-        q[3] = 0x6000_0000 + (count + 1);
-    } else {
-        q[3] = 0x6000_0000 + count;
-    }
+    let lost = lost_after(count);
+    take_oldest(q);
+    send_with_space(q, message);
+    q[3] = 0x6000_0000 + lost;
 }
 
 // A send: the waiting count and the capacity say whether there is space. The answer is the same either way.
@@ -56,7 +67,7 @@ pub fn send(q: &mut [u32], message: u32) -> bool
     let count = q[2] % KIND;
     let most = q[1] % 256;
     if most <= count {
-        send_to_full(q);
+        send_to_full(q, message);
         return true;
     }
     send_with_space(q, message);

@@ -1,7 +1,8 @@
 //! The queues' accounts over random tables and lists. For each endpoint, sends
 //! answered 0 plus waiting at the start equals messages received plus sends that
-//! found the queue full plus waiting at the end; the lost count rises by the full
-//! sends and stays at its top. Messages come out oldest first.
+//! found the queue full plus waiting at the end; each of those pushed the oldest
+//! message out. The lost count rises by the full sends and stays at its top.
+//! Messages come out oldest first.
 
 use std::collections::VecDeque;
 
@@ -45,10 +46,10 @@ impl Account {
     fn send(&mut self, message: u32) {
         self.sent += 1;
         if self.queue.len() == self.capacity {
+            self.queue.pop_front();
             self.full += 1;
-        } else {
-            self.queue.push_back(message);
         }
+        self.queue.push_back(message);
     }
 
     /// The data words that the receive must answer.

@@ -180,7 +180,7 @@ fn view_of_list_l() {
     assert_eq!(one.queues, [empty_queue(0, 0x6000_0000)]);
 
     let two = seen(2);
-    let receives = [[0x3080_0000, 5, 1], [0x3080_0013, 0, 0]];
+    let receives = [[0x3080_0000, 6, 1], [0x3080_0013, 0, 0]];
     assert_eq!(two.answers[..2], receives);
     assert_eq!(two.answers[2..], [[0x4080_0000, 2, 0]]);
     assert_eq!(two.rights, [0x2000_0000; 3]);

@@ -1,5 +1,5 @@
-//! A receive and a send on any twelve words (document 02, request (d)): just what
-//! their rows name changes, whatever the other words hold.
+//! A receive and a send on any twelve words (document 02, requests (d) and (a)):
+//! just what their rows name changes, whatever the other words hold.
 
 use reference::generate::{any_endpoint, Rng};
 use reference::queue::{receive, send, Endpoint};
@@ -42,11 +42,16 @@ fn sent(before: &Endpoint, message: u32) -> Endpoint {
     let mut after = *before;
     let (count, capacity) = (before[2] & 0x0FFF_FFFF, before[1] & 0xFF);
     let lost = before[3] & 0x0FFF_FFFF;
-    if count >= capacity {
-        after[3] = 0x6000_0000 | 0x0FFF_FFFF.min(lost + 1);
-    } else if count < 8 {
+    if count < capacity && count < 8 {
         after[4 + count as usize] = 0xF000_0000 | message;
         after[2] = 0x5000_0000 | (count + 1);
+    }
+    if count >= capacity && (1..=8).contains(&count) {
+        let last = 4 + count as usize;
+        after[4..last].rotate_left(1);
+        after[last - 1] = 0xF000_0000 | message;
+        after[2] = 0x5000_0000 | count;
+        after[3] = 0x6000_0000 | 0x0FFF_FFFF.min(lost + 1);
     }
     after
 }
@@ -94,6 +99,28 @@ fn receive_leaves_later_slots_that_are_not_empty() {
     assert_eq!(hex(&endpoint), hex(&expected));
 }
 
+/// One row written out: the oldest goes, the newcomer is last, later slots stay.
+#[test]
+fn send_to_a_full_queue_leaves_later_slots_that_are_not_empty() {
+    let mut endpoint = twelve(3, 3);
+    send(&mut endpoint, 0x63);
+    let expected = [
+        0x3000_0007,
+        0x4000_0503,
+        0x5000_0003,
+        0x6000_000A,
+        0x4444_4444,
+        0x5555_5555,
+        0xF000_0063,
+        0x6666_6666,
+        0x7777_7777,
+        0x8888_8888,
+        0x9999_9999,
+        0xAAAA_AAAA,
+    ];
+    assert_eq!(hex(&endpoint), hex(&expected));
+}
+
 #[test]
 fn send_on_any_twelve_words() {
     for count in COUNTS {
@@ -107,7 +134,7 @@ fn send_on_any_twelve_words() {
 /// Words drawn with every kind and field; the floors say that each side is met.
 #[test]
 fn receive_and_send_on_drawn_words() {
-    let (mut served, mut unserved, mut filled, mut full, mut past) = (0, 0, 0, 0, 0);
+    let (mut served, mut unserved, mut filled, mut pushed_out, mut left) = (0, 0, 0, 0, 0);
     for seed in 0..20_000 {
         let rng = &mut Rng::new(seed);
         let endpoint = any_endpoint(rng);
@@ -117,13 +144,15 @@ fn receive_and_send_on_drawn_words() {
         let can_serve = (1..=8).contains(&count);
         served += usize::from(can_serve);
         unserved += usize::from(!can_serve);
-        full += usize::from(count >= capacity);
-        filled += usize::from(count < capacity && count < 8);
-        past += usize::from(count < capacity && count >= 8);
+        let fills = count < capacity && count < 8;
+        let pushes_out = count >= capacity && can_serve;
+        filled += usize::from(fills);
+        pushed_out += usize::from(pushes_out);
+        left += usize::from(!fills && !pushes_out);
     }
     assert!(served > 8_000, "served {served}");
     assert!(unserved > 2_000, "unserved {unserved}");
     assert!(filled > 4_000, "filled {filled}");
-    assert!(full > 4_000, "full {full}");
-    assert!(past > 200, "past the slots {past}");
+    assert!(pushed_out > 4_000, "pushed out {pushed_out}");
+    assert!(left > 1_000, "left {left}");
 }

@@ -55,18 +55,22 @@ fn send_puts_the_message_last() {
 }
 
 #[test]
-fn send_to_a_full_queue_counts_as_lost() {
+fn send_to_a_full_queue_drops_the_oldest() {
     let send = [0x2000_0000, 0xF000_0063];
     for capacity in 1..=8 {
         let messages: Vec<u32> = (1..=capacity).collect();
         let mut table = holding(capacity, &messages);
-        for lost in [0, 1, 0x0FFF_FFFD, 0x0FFF_FFFE] {
+        // Messages 2, 3 and so on, then the newcomer.
+        let mut changes: Vec<(usize, u32)> = (2..=capacity)
+            .map(|message| (place::SLOTS_0 + message as usize - 2, 0xF000_0000 | message))
+            .collect();
+        changes.push((place::SLOTS_0 + capacity as usize - 1, 0xF000_0063));
+        for lost in [0, 1, 0x0FFF_FFFD, 0x0FFF_FFFE, 0x0FFF_FFFF] {
             table[place::LOST_0] = 0x6000_0000 | lost;
-            let changes = [(place::LOST_0, 0x6000_0001 + lost)];
+            let risen = 0x0FFF_FFFF.min(lost + 1);
+            changes.push((place::LOST_0, 0x6000_0000 | risen));
             done(&table, &send, [0, 0], &changes);
         }
-        table[place::LOST_0] = 0x6FFF_FFFF;
-        done(&table, &send, [0, 0], &[]);
     }
 }
 

@@ -27,6 +27,12 @@ returns c =
     let h = refused c in
     (sym h, not-sent _ _ h)
 
+send-to-full-requires : tie.Need-send-to-full-requires
+unfolding waiting capacity
+send-to-full-requires c κs =
+    let m = may (c .before .before .before .before) in
+    record { oldest = record { twelve = m .twelve; some = omega arith; slots = m .most }; small = m .small }
+
 -- to a full queue
 returns-2 : tie.Need-returns-2
 unfolding waiting capacity
@@ -34,7 +40,7 @@ returns-2 c =
     let call = c .before .before in
     let full = call .before .before in
     let h = passed (full .before .before .before) in
-    (sym h, call .send-to-full .ensures _ ∙ sent-to-full _ _ h (omega (arith, full .if2 .taken)))
+    (sym h, call .send-to-full .ensures ∙ sent-to-full _ _ h (omega (arith, full .if2 .taken)))
 
 send-with-space-requires : tie.Need-send-with-space-requires
 unfolding waiting capacity
@@ -60,7 +66,7 @@ send-spec =
     returns
     (λ c. omega (arith, may (c .before) .twelve))
     (λ c. omega (arith, may (c .before .before) .twelve))
-    (λ c κs. may (c .before .before .before .before) .twelve)
+    send-to-full-requires
     (λ c. c .before .q .given)
     returns-2
     send-with-space-requires

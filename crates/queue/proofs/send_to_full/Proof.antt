@@ -1,41 +1,47 @@
--- `send_to_full` meets its contract: lost is the lesser of what it would rise to and its largest. Assumes nothing.
-use borrow.Author.Needs.{needs}
-use mathlib.Core.Path.{_≡_, ap}
-use Prim.Native.Nat.{ℕ, _+_, min}
+-- `send_to_full` meets its contract: once the oldest message is out there is room for the newcomer. Assumes nothing.
 use native.Mathlib.Omega.{arith}
-use lib.ListN.{set}
-use Rattle.machine.specs.Word.{word}
-use Rattle.machine.specs.Queue.{lost, mostLost, sendToFull}
+use mathlib.Core.Path.{subst, sym, _∙_}
+use mathlib.Core.List.{List}
+use Prim.Native.Nat.{ℕ}
+use lib.ListN.{length-set}
+use Rattle.machine.specs.Queue.{lost}
+use Rattle.queue.specs.Queue.{HasRoom}
+use Rattle.queue.proofs.Laws.{room-made, pushed-out}
 use Rattle.queue.proofs.send_to_full.Statement.{statement}
 use Rattle.queue.proofs.send_to_full.Tie as tie
 
--- below its largest
-returns : tie.Need-returns
-unfolding sendToFull lost
-returns c message =
-    let q = c .before .before .args .q .now in
-    let risen : lost q + 1 ≡ min (lost q + 1) mostLost = omega arith in
-    ap (λ (n : ℕ). set q 3 (word 6 n)) risen
+send-with-space-requires : tie.Need-send-with-space-requires
+send-with-space-requires c κs =
+    let took = c .before .before .before in
+    let start = took .before .before .before .before .before in
+    subst (λ (q : List ℕ). HasRoom q (start .args .message)) (sym (took .take-oldest .ensures)) (room-made _ _ (start .pre))
 
--- at its largest
-returns-2 : tie.Need-returns-2
-unfolding sendToFull lost
-returns-2 c message =
-    let q = c .before .before .args .q .now in
-    let stays : lost q ≡ min (lost q + 1) mostLost = omega arith in
-    ap (λ (n : ℕ). set q 3 (word 6 n)) stays
+-- neither call alters how many words there are
+slice-write-q : tie.Need-slice-write-q
+slice-write-q c =
+    let took = c .before .before .before .before .before in
+    omega (arith, c .before .q2 .given, took .q .given, took .before .before .before .before .before .before .pre .oldest .twelve)
+
+same-length : tie.Need-same-length
+same-length c = simp length-set (c .before .q2 .given ∙ c .before .before .before .before .before .q .given)
+
+returns : tie.Need-returns
+unfolding lost
+returns c =
+    let call = c .before .before in
+    let took = call .before .before .before .before in
+    let raised = took .before .before .lost-after in
+    pushed-out _ _ _ _ _ (took .take-oldest .ensures) (call .send-with-space .ensures) (raised .ensures)
 
 pub send-to-full-spec : {M : Type 1} → statement M
 send-to-full-spec =
     tie.close
     (tie.spec
-    (λ c. search needs)
-    (λ c. search needs)
-    (λ c. search needs)
-    (λ c. search needs)
-    (λ c. search needs)
-    (λ c. search needs)
-    (λ c. search needs)
-    returns
-    (λ c. search needs)
-    returns-2)
+    (λ c. omega (arith, c .before .before .pre .oldest .twelve))
+    (λ c κs. tt)
+    (λ c κs. c .before .before .before .before .pre .oldest)
+    send-with-space-requires
+    (λ c. omega (arith, c .before .before .before .before .before .before .before .before .lost-after .ensures))
+    slice-write-q
+    same-length
+    returns)
