@@ -43,8 +43,8 @@ LEAST = 20
 UNSEEN = {
     "linerun_*": "linerun's reading: the fuzz runs the library",
     "purge_keeps_everything": "a run of all calls gives every domain its view",
-    "sources_by_the_table_after_the_call": "a call takes rights only from its own "
-    "caller, which leaves the views equal",
+    "sources_by_the_table_after_the_call": "a call that alters its caller's row "
+    "alters nothing else, which leaves the views equal",
     "sources_without_refused_calls": "a refused call alters nothing that a member "
     "of the set sees",
     "view_*": "the same view is taken of both runs",

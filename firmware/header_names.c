@@ -74,11 +74,12 @@ static void words_of_t(void)
     const uint32_t *word = example_table + BALKWIZU_ENDPOINT_AT(3, 1);
     IS(BALKWIZU_TABLE_HEADER(3, 2), 0x10000302);
     IS(BALKWIZU_RIGHTS_AT(3, 1, 2), 6);
-    IS(BALKWIZU_TABLE_RIGHTS(BALKWIZU_RIGHTS_ALL), 0x20000007);
+    IS(BALKWIZU_TABLE_RIGHTS(BALKWIZU_RIGHTS_ALL), 0x2000000F);
     IS(example_table[BALKWIZU_RIGHTS_AT(3, 1, 2)], 0x20000007);
     IS(BALKWIZU_RIGHT_SEND, 1);
     IS(BALKWIZU_RIGHT_GRANT, 2);
     IS(BALKWIZU_RIGHT_REMOVE, 4);
+    IS(BALKWIZU_RIGHT_REVOKE, 8);
     IS(BALKWIZU_ENDPOINT_AT(3, 0), 10);
     IS(BALKWIZU_ENDPOINT_AT(3, 1), 22);
     IS(word[BALKWIZU_PLACE_NAME], BALKWIZU_TABLE_NAME(0x12));
@@ -107,6 +108,8 @@ static void words_of_l(void)
         IS(example_list[i], paper[i]);
     IS(BALKWIZU_LOOK_UP(2), 0x10800000);
     IS(BALKWIZU_REMOVE(1, 2, BALKWIZU_RIGHT_REMOVE), 0x70420004); /* P11 */
+    IS(BALKWIZU_REVOKE(1, 2, 3, BALKWIZU_RIGHT_REVOKE), 0x80420308);
+    IS(BALKWIZU_FIRST(BALKWIZU_KIND_REVOKE, 1, 2, 3, 8), 0x80420308);
 }
 
 /* The lines of document 01 for L, call 4 as document 02 (a) has it: caller, kind,
@@ -191,7 +194,7 @@ static void messages_that_wait(void)
 }
 
 /* A call for each code of a call, in their order. For the last, 23, domain 2
- * first gets every right on itself, then gives one to a domain it has none on. */
+ * first gets rights on itself, then gives one to a domain it has none on. */
 static void codes_of_calls(void)
 {
     static const uint32_t calls[] = {
@@ -209,7 +212,7 @@ static void codes_of_calls(void)
         BALKWIZU_FIRST(BALKWIZU_KIND_REMOVE, 1, 3, 0, 1),
         BALKWIZU_FIRST(BALKWIZU_KIND_GRANT, 1, 2, 0, 0),
         BALKWIZU_GRANT(0, 1, 0, BALKWIZU_RIGHT_SEND),
-        BALKWIZU_GRANT(1, 2, 2, BALKWIZU_RIGHTS_ALL),
+        BALKWIZU_GRANT(1, 2, 2, 7),
         BALKWIZU_GRANT(2, 2, 0, BALKWIZU_RIGHT_SEND),
         BALKWIZU_FIRST(BALKWIZU_KIND_MY_RIGHTS, 2, 0, 0, 0),
         BALKWIZU_MY_ENDPOINTS(1),
@@ -259,7 +262,8 @@ static void edges(void)
     IS(check(33), BALKWIZU_TABLE_BAD_LENGTH);
     IS(check_with(0, 0x10001101), BALKWIZU_TABLE_BAD_HEADER);
     IS(check_with(0, 0x10000002), BALKWIZU_TABLE_BAD_HEADER);
-    IS(check_with(9, 0x20000008), BALKWIZU_TABLE_BAD_RIGHTS);
+    IS(check_with(9, 0x2000000F), BALKWIZU_OK);
+    IS(check_with(9, 0x20000010), BALKWIZU_TABLE_BAD_RIGHTS);
     IS(check_with(24, 0x50000002), BALKWIZU_TABLE_BAD_ENDPOINT);
     put_table_t();
     run(EXAMPLE_TABLE_WORDS, p8, WORDS(p8));
@@ -284,7 +288,7 @@ static void put_largest_table(void)
     for (int holder = 0; holder < 16; holder++)
         for (int target = 0; target < 16; target++)
             table[BALKWIZU_RIGHTS_AT(16, holder, target)] =
-                BALKWIZU_TABLE_RIGHTS(holder == 15 ? target % 8 : 0);
+                BALKWIZU_TABLE_RIGHTS(holder == 15 ? target : 0);
     for (int e = 0; e < 32; e++) {
         uint32_t *word = table + BALKWIZU_ENDPOINT_AT(16, e);
         word[BALKWIZU_PLACE_NAME] = BALKWIZU_TABLE_NAME(1 + e);
@@ -303,18 +307,24 @@ static void largest_table(void)
         BALKWIZU_MY_RIGHTS(15),
         BALKWIZU_MY_ENDPOINTS(15),
         BALKWIZU_SEND(15, 31), BALKWIZU_SECOND(1), /* the queue is full: 0 */
+        BALKWIZU_REVOKE(15, 14, 15, BALKWIZU_RIGHT_GRANT), /* of its own */
+        BALKWIZU_REVOKE(15, 14, 13, BALKWIZU_RIGHT_SEND), /* 13 hasn't got it */
+        BALKWIZU_REVOKE(15, 7, 15, BALKWIZU_RIGHT_SEND), /* 7 is no REVOKE: 22 */
     };
     put_largest_table();
     IS(check(BALKWIZU_TABLE_WORDS_MAX), 0);
-    IS(run(BALKWIZU_TABLE_WORDS_MAX, calls, WORDS(calls)), 0x00030000);
+    IS(run(BALKWIZU_TABLE_WORDS_MAX, calls, WORDS(calls)), 0x00060000);
     for (uint32_t target = 0; target < 16; target++) {
-        IS(balkwizu_answer_rights(answers, target), target % 8);
-        IS(balkwizu_table_rights(table, 15, target), target % 8);
+        IS(balkwizu_answer_rights(answers, target), target);
+        IS(balkwizu_table_rights(table, 15, target), target == 14 ? 12 : target);
     }
     IS(balkwizu_answer_owns(answers + BALKWIZU_ANSWER_AT(1), 29), 0);
     IS(balkwizu_answer_owns(answers + BALKWIZU_ANSWER_AT(1), 30), 1);
     IS(balkwizu_answer_owns(answers + BALKWIZU_ANSWER_AT(1), 31), 1);
     IS(code_of(2), 0);
+    IS(code_of(3), 0);
+    IS(code_of(4), 0);
+    IS(code_of(5), 22);
     IS(balkwizu_table_domains(table), 16);
     IS(balkwizu_table_endpoints(table), 32);
     IS(balkwizu_table_owner(table, 31), 15);

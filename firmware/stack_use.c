@@ -75,11 +75,12 @@ static void make_table(void)
     }
 }
 
-/* Sends that fill queues, receives that move them up, and every other kind. */
+/* Sends that fill queues and more, receives that move them up, and every other
+ * kind; the last words are of none. */
 static void make_list(void)
 {
-    for (uint32_t i = 0; i < BALKWIZU_LIST_WORDS_MAX; i += 16) {
-        uint32_t *word = list + i, e = i / 16 % ENDPOINTS, u = e % DOMAINS;
+    for (uint32_t i = 0; i + 17 <= BALKWIZU_LIST_WORDS_MAX; i += 17) {
+        uint32_t *word = list + i, e = i / 17 % ENDPOINTS, u = e % DOMAINS;
         for (int k = 0; k < 2; k++) {
             *word++ = BALKWIZU_SEND(u, e);
             *word++ = BALKWIZU_SECOND(i);
@@ -92,7 +93,8 @@ static void make_list(void)
         *word++ = BALKWIZU_MY_ENDPOINTS(u);
         *word++ = BALKWIZU_MY_RIGHTS(u);
         *word++ = BALKWIZU_GRANT(u, u, (u + 1) % DOMAINS, BALKWIZU_RIGHT_SEND);
-        *word++ = BALKWIZU_REMOVE(u, u, BALKWIZU_RIGHT_SEND);
+        *word++ = BALKWIZU_REMOVE(u, (u + 1) % DOMAINS, BALKWIZU_RIGHT_SEND);
+        *word++ = BALKWIZU_REVOKE(u, u, (u + 2) % DOMAINS, BALKWIZU_RIGHT_SEND);
     }
 }
 

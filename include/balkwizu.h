@@ -100,7 +100,7 @@ enum balkwizu_code {
     /* Of one call, the first that fails: the table is as before it, and the list
        goes on behind it. */
     BALKWIZU_STRAY = 10,           /* a word of kind 15 standing alone */
-    BALKWIZU_UNKNOWN_KIND = 11,    /* kind 0, or 8 to 14 */
+    BALKWIZU_UNKNOWN_KIND = 11,    /* kind 0, or 9 to 14 */
     BALKWIZU_UNKNOWN_CALLER = 12,  /* caller not below n */
     BALKWIZU_UNUSED_FIELD = 13,    /* an unused field isn't zero */
     BALKWIZU_NO_SECOND_WORD = 14,  /* look up or send without its second word */
@@ -110,12 +110,15 @@ enum balkwizu_code {
                                       the owner itself needs too */
     BALKWIZU_NOT_OWNER = 18,       /* receive: caller isn't the owner */
     BALKWIZU_NOTHING_WAITING = 19, /* receive: the queue is empty */
-    BALKWIZU_NO_SUCH_DOMAIN = 20,  /* grant, remove: a domain named isn't below n */
-    BALKWIZU_BAD_RIGHTS = 21,      /* grant, remove: C is 0 or above
+    BALKWIZU_NO_SUCH_DOMAIN = 20,  /* grant, remove, revoke: a domain named isn't
+                                      below n */
+    BALKWIZU_BAD_RIGHTS = 21,      /* grant, remove, revoke: C is 0 or above
                                       BALKWIZU_RIGHTS_ALL */
     BALKWIZU_LACKS_RIGHT = 22,     /* on the target: grant: no GRANT, or not every
-                                      right of C; remove: no REMOVE, or likewise */
-    BALKWIZU_MAY_NOT_GIVE = 23     /* grant: to another, with no right on it */
+                                      right of C; remove: no REMOVE, or likewise;
+                                      revoke: no REVOKE */
+    BALKWIZU_MAY_NOT_GIVE = 23     /* grant: to another, with no right on it;
+                                      revoke: from another, likewise */
 };
 
 /* The kinds of calls, bits 31-28 of a call's first word. */
@@ -127,6 +130,7 @@ enum balkwizu_kind {
     BALKWIZU_KIND_MY_RIGHTS = 5,
     BALKWIZU_KIND_GRANT = 6,
     BALKWIZU_KIND_REMOVE = 7,
+    BALKWIZU_KIND_REVOKE = 8,
     BALKWIZU_KIND_SECOND = 15 /* the second word of a look up or a send */
 };
 
@@ -135,7 +139,8 @@ enum balkwizu_right {
     BALKWIZU_RIGHT_SEND = 1,
     BALKWIZU_RIGHT_GRANT = 2,
     BALKWIZU_RIGHT_REMOVE = 4,
-    BALKWIZU_RIGHTS_ALL = 7
+    BALKWIZU_RIGHT_REVOKE = 8,
+    BALKWIZU_RIGHTS_ALL = 15
 };
 
 /*
@@ -275,6 +280,8 @@ static inline uint32_t balkwizu_table_message(const uint32_t *table,
  *   grant         A target, B recipient,       0; 0
  *                 C rights
  *   remove        A target, C rights           0; 0
+ *   revoke        A target, B holder,          0; 0, whether the holder had the
+ *                 C rights                     rights or not
  *
  * A full queue: the oldest message is dropped, the send's own goes last, and the
  * endpoint's lost count rises by 1, up to BALKWIZU_LOST_MAX. The send answers 0 as
@@ -282,7 +289,7 @@ static inline uint32_t balkwizu_table_message(const uint32_t *table,
  * lost count, and what waits is always the latest.
  *
  * Words as constants: every field must be within its bits (caller and target 6,
- * endpoint, recipient and rights 8, name and message 28). A look up and a send are
+ * endpoint, recipient, holder and rights 8, name and message 28). A look up and a send are
  * directly followed by BALKWIZU_SECOND of their name or message:
  *
  *     const uint32_t list[] = {
@@ -309,6 +316,8 @@ static inline uint32_t balkwizu_table_message(const uint32_t *table,
     BALKWIZU_FIRST(BALKWIZU_KIND_GRANT, caller, target, recipient, rights)
 #define BALKWIZU_REMOVE(caller, target, rights)                                \
     BALKWIZU_FIRST(BALKWIZU_KIND_REMOVE, caller, target, 0, rights)
+#define BALKWIZU_REVOKE(caller, target, holder, rights)                        \
+    BALKWIZU_FIRST(BALKWIZU_KIND_REVOKE, caller, target, holder, rights)
 
 /* Where a call's three answer words stand; calls are numbered from 0. */
 #define BALKWIZU_ANSWER_AT(call) (BALKWIZU_ANSWER_WORDS * (call))

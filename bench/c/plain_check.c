@@ -34,7 +34,7 @@ static int rights_are_right(const uint8_t *image, size_t count)
     uint32_t wrong = 0;
     for (size_t i = 0; i < count; i++)
         wrong |= word_at(image, i) ^ 0x20000000u;
-    return (wrong & ~7u) == 0;
+    return (wrong & ~15u) == 0;
 }
 
 /* Name, info, waiting and lost of one endpoint: 0 where they are right. */

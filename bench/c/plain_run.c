@@ -3,15 +3,15 @@
  *
  * Rights are taken in once for a run, one 64-bit row for each domain with four
  * bits for each target, so that a right is tested by a shift and `my rights` is
- * the row itself; a grant or a remove writes the row and the table's word. Names
- * stand side by side for look up, and so do the sets of endpoints owned. Queues
- * are worked on in the table.
+ * the row itself; a grant, a remove or a revoke writes the row and the table's word.
+ * Names stand side by side for look up, and so do the sets of endpoints owned.
+ * Queues are worked on in the table.
  */
 #include "plain.h"
 
 #include <string.h>
 
-enum { SEND = 1, GRANT = 2, REMOVE = 4 };
+enum { SEND = 1, GRANT = 2, REMOVE = 4, REVOKE = 8, ALL = 15 };
 enum { NAME, INFO, WAITING, LOST, SLOTS, ENDPOINT_WORDS = 12 };
 enum { LIST_WORDS_MAX = 4096, DOMAINS_MAX = 16, ENDPOINTS_MAX = 32 };
 
@@ -41,7 +41,7 @@ static inline uint32_t field_c(uint32_t first) { return first & 255u; }
 static inline uint32_t rights_on(const struct line *line, uint32_t holder,
                                  uint32_t target)
 {
-    return (uint32_t)(line->rights[holder] >> (4 * target)) & 7u;
+    return (uint32_t)(line->rights[holder] >> (4 * target)) & ALL;
 }
 
 /* 1 where two words make one call, otherwise 0. */
@@ -70,7 +70,7 @@ static void take_in_rights(struct line *line)
     for (uint32_t holder = 0; holder < line->n; holder++) {
         uint64_t row = 0;
         for (uint32_t target = 0; target < line->n; target++)
-            row |= (uint64_t)(*word++ & 7u) << (4 * target);
+            row |= (uint64_t)(*word++ & ALL) << (4 * target);
         line->rights[holder] = row;
     }
 }
@@ -159,7 +159,7 @@ static uint32_t grant(struct line *line, struct call call)
     uint32_t recipient = field_b(call.first), set = field_c(call.first);
     if (target >= line->n || recipient >= line->n)
         return 20;
-    if (set - 1u >= 7u)
+    if (set - 1u >= ALL)
         return 21;
     if ((set | GRANT) & ~rights_on(line, caller, target))
         return 22;
@@ -176,12 +176,29 @@ static uint32_t remove_rights(struct line *line, struct call call)
     uint32_t set = field_c(call.first);
     if (target >= line->n)
         return 20;
-    if (set - 1u >= 7u)
+    if (set - 1u >= ALL)
         return 21;
     if ((set | REMOVE) & ~rights_on(line, caller, target))
         return 22;
     line->rights[caller] &= ~((uint64_t)set << (4 * target));
     line->table[1 + caller * line->n + target] &= ~set;
+    return 0;
+}
+
+static uint32_t revoke(struct line *line, struct call call)
+{
+    uint32_t caller = caller_of(call.first), target = field_a(call.first);
+    uint32_t holder = field_b(call.first), set = field_c(call.first);
+    if (target >= line->n || holder >= line->n)
+        return 20;
+    if (set - 1u >= ALL)
+        return 21;
+    if (!(rights_on(line, caller, target) & REVOKE))
+        return 22;
+    if (caller != holder && rights_on(line, caller, holder) == 0)
+        return 23;
+    line->rights[holder] &= ~((uint64_t)set << (4 * target));
+    line->table[1 + holder * line->n + target] &= ~set;
     return 0;
 }
 
@@ -193,16 +210,16 @@ static uint32_t my_rights(const struct line *line, uint32_t caller, uint32_t *da
 }
 
 /* The bits of a first word that are unused, by kind. */
-static const uint32_t unused_bits[8] = {
-    0,           0x003FFFFFu, 0x003F00FFu, 0x003F00FFu,
-    0x003FFFFFu, 0x003FFFFFu, 0,           0x0000FF00u,
+static const uint32_t unused_bits[9] = {
+    0,           0x003FFFFFu, 0x003F00FFu, 0x003F00FFu, 0x003FFFFFu,
+    0x003FFFFFu, 0,           0x0000FF00u, 0,
 };
 
 /* One call: its code, its data words in data, which are zero on entry. */
 static inline uint32_t serve(struct line *line, struct call call, uint32_t *data)
 {
     uint32_t kind = kind_of(call.first), caller = caller_of(call.first);
-    if (kind - 1u >= 7u)
+    if (kind - 1u >= 8u)
         return kind == 15u ? 10 : 11;
     if (caller >= line->n)
         return 12;
@@ -224,8 +241,10 @@ static inline uint32_t serve(struct line *line, struct call call, uint32_t *data
         return my_rights(line, caller, data);
     case 6:
         return grant(line, call);
-    default:
+    case 7:
         return remove_rights(line, call);
+    default:
+        return revoke(line, call);
     }
 }
 

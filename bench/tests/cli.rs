@@ -130,7 +130,7 @@ fn the_worked_example_is_commissioned() {
         assert!(list.contains(&format!("line {line} passed")), "{list}");
     }
     assert!(
-        list.ends_with("summary: 4 passed, 0 failed, 4 not shown\n"),
+        list.ends_with("summary: 4 passed, 0 failed, 5 not shown\n"),
         "{list}"
     );
     assert_eq!(status(&["commission", &input]), 0);
@@ -140,7 +140,7 @@ fn the_worked_example_is_commissioned() {
 #[test]
 fn what_is_refused_is_not_commissioned_nor_shown() {
     let mut table = TABLE_T;
-    table[9] = 0x2000_0008;
+    table[9] = 0x2000_0010;
     let input = file("refused.bin", &to_bytes(&[&[34], &table[..]].concat()));
     let word = "refused with 4 (a rights word breaks its layout): word 9, the rights of domain 2";
     assert!(printed(&["commission", &input]).contains(word));
@@ -376,7 +376,7 @@ fn an_input_that_differs_comes_back_through_words() {
 
 #[test]
 fn speed_prints_a_table() {
-    for (flag, wanted) in [(None, 11), (Some("--by-kind"), 15)] {
+    for (flag, wanted) in [(None, 11), (Some("--by-kind"), 17)] {
         let line = ["speed", "--rounds", "1"].into_iter().chain(flag);
         let table = printed(&line.collect::<Vec<_>>());
         let rows = table.lines().filter(|line| line.starts_with("| ")).count();

@@ -5,7 +5,8 @@
 
 use crate::words::{bits, content, kind};
 
-/// The kinds of the seven calls, and of a stray word.
+/// The kinds of the eight calls, and of a stray word. Revoke is of document 02,
+/// request (i).
 pub const LOOK_UP: u32 = 1;
 pub const SEND: u32 = 2;
 pub const RECEIVE: u32 = 3;
@@ -13,6 +14,7 @@ pub const MY_ENDPOINTS: u32 = 4;
 pub const MY_RIGHTS: u32 = 5;
 pub const GRANT: u32 = 6;
 pub const REMOVE: u32 = 7;
+pub const REVOKE: u32 = 8;
 pub const STRAY: u32 = 15;
 
 /// The most words that a list can have.
@@ -35,9 +37,9 @@ impl Call {
         self.kind() == STRAY
     }
 
-    /// Kind 0 and kinds 8 to 14.
+    /// Kind 0 and kinds 9 to 14.
     pub fn is_unknown(&self) -> bool {
-        matches!(self.kind(), 0 | 8..=14)
+        matches!(self.kind(), 0 | 9..=14)
     }
 
     /// Bits 27–22 of the first word, as found. A stray has no caller.

@@ -5,7 +5,8 @@
 //! reach their top. `tests/all/generator.rs` counts that this is so.
 
 use crate::calls::{
-    cut, GRANT, LIST_WORDS_MAX, LOOK_UP, MY_ENDPOINTS, MY_RIGHTS, RECEIVE, REMOVE, SEND, STRAY,
+    cut, GRANT, LIST_WORDS_MAX, LOOK_UP, MY_ENDPOINTS, MY_RIGHTS, RECEIVE, REMOVE, REVOKE, SEND,
+    STRAY,
 };
 use crate::entry::ANSWER_WORDS;
 use crate::machine::step;
@@ -104,9 +105,18 @@ pub fn table_of(rng: &mut Rng, n: usize, m: usize) -> Vec<u32> {
     words
 }
 
-/// A set of rights, all three more often than the others.
+/// A set of rights, all four more often than the others.
 fn rights_set(rng: &mut Rng) -> u32 {
-    rng.pick(&[1, 2, 3, 4, 5, 6, 7, 7, 7])
+    if rng.chance(1, 3) {
+        right::ALL
+    } else {
+        any_set(rng)
+    }
+}
+
+/// Any set of rights but the empty one.
+fn any_set(rng: &mut Rng) -> u32 {
+    rng.between(1, right::ALL as usize) as u32
 }
 
 /// m names, none of them 0 and no two equal.
@@ -239,7 +249,7 @@ fn damage_rights(rng: &mut Rng, table: &mut [u32]) {
     table[place] = if rng.chance(1, 2) {
         other_kind(rng, table[place])
     } else {
-        table[place] | (1 << rng.size(3, 27))
+        table[place] | (1 << rng.size(4, 27))
     };
 }
 
@@ -356,7 +366,7 @@ fn wild_word(rng: &mut Rng) -> u32 {
 }
 
 fn unknown_word(rng: &mut Rng, table: &[u32]) -> u32 {
-    let kind = rng.pick(&[0, 8, 9, 10, 11, 12, 13, 14]);
+    let kind = rng.pick(&[0, 9, 10, 11, 12, 13, 14]);
     call_word(kind, rng.below(domains(table) + 1), 0, 0, 0)
 }
 
@@ -379,13 +389,14 @@ fn slipped_call(rng: &mut Rng, table: &[u32]) -> Vec<u32> {
 /// A call by some domain that is seldom refused.
 fn sensible_call(rng: &mut Rng, table: &[u32]) -> Vec<u32> {
     let anyone = rng.below(domains(table));
-    let kinds = [2, 2, 2, 2, 2, 3, 3, 3, 6, 6, 6, 6, 7, 7, 1, 4, 5, 5];
+    let kinds = [2, 2, 2, 2, 2, 3, 3, 3, 6, 6, 6, 6, 7, 7, 8, 8, 1, 4, 5, 5];
     match rng.pick(&kinds) {
         LOOK_UP => look_up_words(rng, table, anyone),
         SEND => send_words(rng, table),
         RECEIVE => vec![receive_word(rng, table)],
         GRANT => vec![grant_word(rng, table)],
         REMOVE => vec![remove_word(rng, table)],
+        REVOKE => vec![revoke_word(rng, table)],
         MY_ENDPOINTS => vec![call_word(MY_ENDPOINTS, anyone, 0, 0, 0)],
         _ => vec![call_word(MY_RIGHTS, anyone, 0, 0, 0)],
     }
@@ -443,8 +454,8 @@ fn grant_word(rng: &mut Rng, table: &[u32]) -> u32 {
     let recipient = mostly(rng, n, |r| {
         (r == caller || rights(table, caller, r) != 0) && !has(r, target, held)
     });
-    let set = match held & rng.between(1, 7) as u32 {
-        0 => rng.pick(&[held.max(1), 1, 2, 4]),
+    let set = match held & any_set(rng) {
+        0 => rng.pick(&[held.max(1), 1, 2, 4, 8]),
         some => some,
     };
     call_word(GRANT, caller, target, recipient, set)
@@ -461,7 +472,7 @@ fn remove_word(rng: &mut Rng, table: &[u32]) -> u32 {
 
 /// Mostly rights that are held, one or several; now and then with one that isn't.
 fn set_to_give_up(rng: &mut Rng, held: u32) -> u32 {
-    let some = held & rng.between(1, right::ALL as usize) as u32;
+    let some = held & any_set(rng);
     let with = |rng: &mut Rng, wanted| {
         let at = mostly(rng, right::EACH.len(), |i| {
             (held & right::EACH[i] != 0) == wanted
@@ -474,6 +485,24 @@ fn set_to_give_up(rng: &mut Rng, held: u32) -> u32 {
         2..=4 => some | with(rng, true),
         _ => with(rng, true),
     }
+}
+
+/// Mostly a revoke by a domain that may do it, itself the holder or not, of rights
+/// that the holder has or lacks.
+fn revoke_word(rng: &mut Rng, table: &[u32]) -> u32 {
+    let n = domains(table);
+    let can_revoke = |caller, target| rights(table, caller, target) & right::REVOKE != 0;
+    let caller = mostly(rng, n, |c| (0..n).any(|t| can_revoke(c, t)));
+    let target = mostly(rng, n, |t| can_revoke(caller, t));
+    let holder = mostly(rng, n, |h| {
+        (h == caller || rights(table, caller, h) != 0) && rights(table, h, target) != 0
+    });
+    let set = if rng.chance(1, 4) {
+        any_set(rng)
+    } else {
+        set_to_give_up(rng, rights(table, holder, target))
+    };
+    call_word(REVOKE, caller, target, holder, set)
 }
 
 // Whole runs.

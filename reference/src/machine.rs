@@ -6,7 +6,7 @@
 //! decided whether the call is refused, by reading alone; then the row of a call
 //! that isn't refused is done.
 
-use crate::calls::{Call, GRANT, LOOK_UP, MY_ENDPOINTS, MY_RIGHTS, RECEIVE, REMOVE, SEND};
+use crate::calls::{Call, GRANT, LOOK_UP, MY_ENDPOINTS, MY_RIGHTS, RECEIVE, REMOVE, REVOKE, SEND};
 use crate::queue;
 use crate::table::{
     domains, endpoint_words_mut, endpoints, name, owner, right, rights, rights_place, waiting,
@@ -63,6 +63,7 @@ fn refusal_of_kind(table: &[u32], call: &Call) -> Option<u32> {
         RECEIVE => receive_refusal(table, call),
         GRANT => grant_refusal(table, call),
         REMOVE => remove_refusal(table, call),
+        REVOKE => revoke_refusal(table, call),
         _ => None,
     }
 }
@@ -137,10 +138,15 @@ fn grant_refusal(table: &[u32], call: &Call) -> Option<u32> {
     if rights(table, caller(call), target) & needed != needed {
         return Some(22);
     }
-    if caller(call) != recipient && rights(table, caller(call), recipient) == 0 {
+    if !reaches(table, call, recipient) {
         return Some(23);
     }
     None
+}
+
+/// Whether the caller is the domain named or has any right on it.
+fn reaches(table: &[u32], call: &Call, named: usize) -> bool {
+    caller(call) == named || rights(table, caller(call), named) != 0
 }
 
 /// Whether C is a set of rights and not the empty one.
@@ -164,6 +170,25 @@ fn remove_refusal(table: &[u32], call: &Call) -> Option<u32> {
     None
 }
 
+/// What the holder has isn't looked at: the answer must not show it (document 02,
+/// request (i)).
+fn revoke_refusal(table: &[u32], call: &Call) -> Option<u32> {
+    let (target, holder) = (call.a() as usize, call.b() as usize);
+    if target >= domains(table) || holder >= domains(table) {
+        return Some(20);
+    }
+    if !names_a_set(call) {
+        return Some(21);
+    }
+    if rights(table, caller(call), target) & right::REVOKE == 0 {
+        return Some(22);
+    }
+    if !reaches(table, call, holder) {
+        return Some(23);
+    }
+    None
+}
+
 /// Does the row of a call that isn't refused, and gives its data words.
 fn perform(table: &mut [u32], call: &Call) -> [u32; 2] {
     match call.kind() {
@@ -174,6 +199,7 @@ fn perform(table: &mut [u32], call: &Call) -> [u32; 2] {
         MY_RIGHTS => my_rights(table, call),
         GRANT => grant(table, call),
         REMOVE => remove(table, call),
+        REVOKE => revoke(table, call),
         _ => NO_DATA,
     }
 }
@@ -225,5 +251,13 @@ fn remove(table: &mut [u32], call: &Call) -> [u32; 2] {
     let target = call.a() as usize;
     let set = rights(table, caller(call), target) & !call.c();
     table[rights_place(table, caller(call), target)] = word(RIGHTS, set);
+    NO_DATA
+}
+
+/// Clears the rights of the set from the holder's on the target, those it has.
+fn revoke(table: &mut [u32], call: &Call) -> [u32; 2] {
+    let (target, holder) = (call.a() as usize, call.b() as usize);
+    let set = rights(table, holder, target) & !call.c();
+    table[rights_place(table, holder, target)] = word(RIGHTS, set);
     NO_DATA
 }

@@ -28,15 +28,16 @@ pub const LOST_PLACE: usize = 3;
 pub const SLOTS_PLACE: usize = 4;
 pub const SLOTS: usize = 8;
 
-/// The three rights, each one bit of a set.
+/// The four rights, each one bit of a set. REVOKE is of document 02, request (i).
 pub mod right {
     pub const SEND: u32 = 1;
     pub const GRANT: u32 = 2;
     pub const REMOVE: u32 = 4;
-    /// All three together, the largest set.
-    pub const ALL: u32 = 7;
+    pub const REVOKE: u32 = 8;
+    /// All four together, the largest set.
+    pub const ALL: u32 = 15;
     /// One by one.
-    pub const EACH: [u32; 3] = [SEND, GRANT, REMOVE];
+    pub const EACH: [u32; 4] = [SEND, GRANT, REMOVE, REVOKE];
 }
 
 /// n, the number of domains.
@@ -56,7 +57,7 @@ pub fn rights_place(table: &[u32], holder: usize, target: usize) -> usize {
 
 /// The set of rights that the holder has on the target.
 pub fn rights(table: &[u32], holder: usize, target: usize) -> u32 {
-    bits(table[rights_place(table, holder, target)], 2, 0)
+    bits(table[rights_place(table, holder, target)], 3, 0)
 }
 
 /// Where the twelve words of an endpoint start.
@@ -133,7 +134,7 @@ fn rights_words_are_right(table: &[u32]) -> bool {
     let n = domains(table);
     table[1..1 + n * n]
         .iter()
-        .all(|&word| kind(word) == RIGHTS && bits(word, 27, 3) == 0)
+        .all(|&word| kind(word) == RIGHTS && bits(word, 27, 4) == 0)
 }
 
 fn endpoints_are_right(table: &[u32]) -> bool {

@@ -79,10 +79,10 @@ fn fields_case(rng: &mut Rng) -> Case {
     let (n, m) = (domains(&table), endpoints(&table));
     let mut list = Vec::new();
     for _ in 0..rng.between(1, 30) {
-        let kind = rng.pick(&[0, 1, 1, 2, 2, 3, 3, 4, 5, 6, 6, 6, 7, 7, 8, 14, 15]);
+        let kind = rng.pick(&[0, 1, 1, 2, 2, 3, 3, 4, 5, 6, 6, 6, 7, 7, 8, 8, 9, 14, 15]);
         let a = field(rng, n, 63);
         let b = field(rng, n.max(m), 255);
-        let c = rng.pick(&[0, 0, 1, 2, 3, 4, 7, 8, 255]);
+        let c = rng.pick(&[0, 0, 1, 2, 3, 4, 7, 8, 12, 15, 16, 255]);
         let caller = rng.below(n + 1);
         list.push(call_word(kind, caller, a, b, c));
         if rng.chance(1, 3) {

@@ -5,7 +5,7 @@
 //! they stand in it.
 
 use reference::calls::{
-    GRANT, LIST_WORDS_MAX, LOOK_UP, MY_ENDPOINTS, MY_RIGHTS, RECEIVE, REMOVE, SEND, STRAY,
+    GRANT, LIST_WORDS_MAX, LOOK_UP, MY_ENDPOINTS, MY_RIGHTS, RECEIVE, REMOVE, REVOKE, SEND, STRAY,
 };
 use reference::generate::{call_word, table_of, Rng};
 use reference::table::{
@@ -23,7 +23,7 @@ pub struct Workload {
 
 /// All workloads, each with a list of 4,096 words.
 pub fn workloads() -> Vec<Workload> {
-    vec![send_and_receive(), all_seven(), refusals(), largest()]
+    vec![send_and_receive(), all_kinds(), refusals(), largest()]
 }
 
 /// A small table and the largest, each with lists of one kind of call, or of two that
@@ -46,7 +46,7 @@ struct Drawn {
 type Calls = fn(&Drawn) -> Vec<u32>;
 
 /// A few calls of one kind or of two, which leave the table as it was.
-const KINDS: [(&str, Calls); 6] = [
+const KINDS: [(&str, Calls); 7] = [
     ("look up", |it| {
         let name = second(101 + it.endpoint as u32);
         vec![call_word(LOOK_UP, it.caller, 0, 0, 0), name]
@@ -70,6 +70,12 @@ const KINDS: [(&str, Calls); 6] = [
             call_word(GRANT, it.other, it.owner, it.caller, 1),
         ]
     }),
+    ("revoke and grant", |it| {
+        vec![
+            call_word(REVOKE, it.caller, it.owner, it.other, 1),
+            call_word(GRANT, it.caller, it.owner, it.other, 1),
+        ]
+    }),
     ("unknown kind", |it| vec![call_word(9, it.caller, 0, 0, 0)]),
 ];
 
@@ -77,7 +83,7 @@ const KINDS: [(&str, Calls); 6] = [
 /// round.
 fn of_each_kind(n: usize, m: usize) -> Vec<Workload> {
     let owners: Vec<usize> = (0..m).map(|e| e % n).collect();
-    let table = table_with(&vec![7; n * n], n, &owners);
+    let table = table_with(&vec![15; n * n], n, &owners);
     let mut rng = Rng::new(6);
     let mut workload = |(name, calls): &(&str, Calls)| Workload {
         name: format!("{name}, n {n}, m {m}"),
@@ -166,10 +172,10 @@ fn send_and_receive_at(waiting: usize) -> Workload {
     }
 }
 
-/// (ii) All seven kinds, in an order drawn anew each time round; none is refused.
-fn all_seven() -> Workload {
+/// (ii) All eight kinds, in an order drawn anew each time round; none is refused.
+fn all_kinds() -> Workload {
     // Domain 0 may do everything to all, domain 1 may remove on domain 2.
-    let rights = [7, 7, 7, 7, 0, 0, 4, 0, 0, 0, 0, 0, 0, 0, 0, 0];
+    let rights = [15, 15, 15, 15, 0, 0, 4, 0, 0, 0, 0, 0, 0, 0, 0, 0];
     let mut rng = Rng::new(2);
     let list = filled(call_word(MY_ENDPOINTS, 0, 0, 0, 0), || {
         let e = rng.below(4);
@@ -183,6 +189,7 @@ fn all_seven() -> Workload {
             vec![call_word(MY_ENDPOINTS, e, 0, 0, 0)],
             vec![call_word(MY_RIGHTS, e, 0, 0, 0)],
             vec![call_word(GRANT, 0, 2, 1, 1), call_word(REMOVE, 1, 2, 0, 1)],
+            vec![call_word(GRANT, 0, 2, 3, 1), call_word(REVOKE, 0, 2, 3, 1)],
         ];
         for last in (1..groups.len()).rev() {
             groups.swap(last, rng.between(0, last));
@@ -190,7 +197,7 @@ fn all_seven() -> Workload {
         groups.concat()
     });
     Workload {
-        name: "mixed list of all seven kinds".to_string(),
+        name: "mixed list of all eight kinds".to_string(),
         table: table_with(&rights, 4, &[0, 1, 2, 3]),
         list,
     }
@@ -282,7 +289,7 @@ mod tests {
         assert_eq!(codes[0], 2731);
         let (codes, kinds) = counted(&all[1]);
         assert!(codes[1..].iter().all(|&count| count == 0), "{codes:?}");
-        assert!(kinds[1..=7].iter().all(|&count| count > 400), "{kinds:?}");
+        assert!(kinds[1..=8].iter().all(|&count| count > 300), "{kinds:?}");
         let (codes, kinds) = counted(&all[3]);
         assert_eq!(codes[0], kinds[1] + kinds[5]);
     }
@@ -290,7 +297,7 @@ mod tests {
     #[test]
     fn a_list_of_one_kind_has_no_other_but_for_its_filling() {
         let all = by_kind();
-        let kinds: [&[usize]; 6] = [&[1], &[2, 3], &[4], &[5], &[6, 7], &[9]];
+        let kinds: [&[usize]; 7] = [&[1], &[2, 3], &[4], &[5], &[6, 7], &[6, 8], &[9]];
         let (of_sizes, of_queues) = all.split_at(2 * kinds.len());
         assert_eq!(of_queues.len(), 2);
         for workload in of_queues {

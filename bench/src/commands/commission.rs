@@ -192,7 +192,7 @@ mod tests {
     fn a_line_is_no_bare_passed_where_something_is_not_shown() {
         let [refusals, answers, isolation, counts] = lines(PROVED, &[0x1000_0100, 0x2000_0000]);
         assert!(refusals.starts_with("line 1 passed, 4 not shown  refusals: "));
-        assert!(answers.starts_with("line 2 passed, 4 not shown  answers and table: "));
+        assert!(answers.starts_with("line 2 passed, 5 not shown  answers and table: "));
         assert!(answers.contains("\n    not shown: anything by this list: it has no call\n"));
         assert!(isolation.starts_with("line 3 not shown  isolation: "));
         assert!(isolation.ends_with("not shown: isolation of domain 0: there is no other domain\n"));

@@ -3,15 +3,16 @@
 
 use std::ops::Range;
 
-use reference::cut;
+use reference::calls::{cut, Call, REVOKE};
 use reference::generate::Case;
 use reference::table::domains;
+use reference::words::bits;
 
 use crate::cases::random::run_case;
 use crate::judging::compare::{difference, isolation, separate_run};
 use crate::judging::counts;
 use crate::judging::report::cut_down;
-use crate::judging::tally::{Tally, Tried};
+use crate::judging::tally::{Revokes, Tally, Tried};
 use crate::judging::trying::{try_all, Draws, Found};
 use crate::kernels::boundary::Kernel;
 use crate::kernels::child::{self, LIMIT};
@@ -52,11 +53,30 @@ fn judged(case: &Case, ran: Ran, pick: u64) -> Result<Tried, String> {
     }
     let counts = counts::follow(&case.table, &calls, &ran.answers);
     Ok(Tried {
+        revokes: revokes(&case.table, &calls),
         ran,
         counts,
         views,
         struck,
     })
+}
+
+/// The revokes among calls that are done, by what the holder had.
+fn revokes(table: &[u32], calls: &[Call]) -> Revokes {
+    let mut met = Revokes::default();
+    if calls.iter().all(|call| call.kind() != REVOKE) {
+        return met;
+    }
+    let mut table = table.to_vec();
+    for call in calls {
+        let before = table.clone();
+        let answer = reference::step(&mut table, call);
+        if call.kind() == REVOKE && bits(answer[0], 15, 0) == 0 {
+            met.held += u64::from(table != before);
+            met.missing += u64::from(table == before);
+        }
+    }
+    met
 }
 
 fn domains_to_see(case: &Case, calls: usize, pick: u64) -> Range<usize> {

@@ -23,6 +23,14 @@ pub struct Tried {
     /// all for them.
     pub views: u64,
     pub struck: u64,
+    pub revokes: Revokes,
+}
+
+/// Revokes that are done: of a right that the holder has, and of none that it has.
+#[derive(Debug, Clone, Copy, Default, PartialEq, Eq)]
+pub struct Revokes {
+    pub held: u64,
+    pub missing: u64,
 }
 
 impl Tried {
@@ -33,6 +41,7 @@ impl Tried {
             counts: Counts::default(),
             views: 0,
             struck: 0,
+            revokes: Revokes::default(),
         }
     }
 }
@@ -54,6 +63,7 @@ pub struct Tally {
     emptied: u64,
     views: u64,
     struck: u64,
+    revokes: Revokes,
 }
 
 impl Counted for Tally {
@@ -70,6 +80,8 @@ impl Counted for Tally {
             &mut self.emptied,
             &mut self.views,
             &mut self.struck,
+            &mut self.revokes.held,
+            &mut self.revokes.missing,
         ];
         let by_code = self.entry.iter_mut().chain(&mut self.call);
         let by_code = by_code.chain(&mut self.image);
@@ -89,6 +101,8 @@ impl Tally {
         self.emptied += tried.counts.sum(|queue| queue.emptied);
         self.views += tried.views;
         self.struck += tried.struck;
+        self.revokes.held += tried.revokes.held;
+        self.revokes.missing += tried.revokes.missing;
         if outcome.code == 0 {
             self.domains_met |= 1 << domains(&case.table);
             self.endpoints_met |= 1 << endpoints(&case.table);
@@ -133,12 +147,15 @@ impl Tally {
             "  {} of domains compared, {} struck for them\n  \
              {} found the queue full, {} with the lost count at its top; {} left the queue \
              empty\n  \
+             {} of a right that was there, {} of none\n  \
              lists of up to {}, {} of domains, {} of endpoints\n",
             counted(self.views, "view"),
             counted(self.struck, "call"),
             counted(self.full, "send"),
             self.at_top,
             counted(self.emptied, "receive"),
+            counted(self.revokes.held, "revoke"),
+            self.revokes.missing,
             counted(self.longest, "word"),
             counted(self.domains_met.count_ones(), "number"),
             counted(self.endpoints_met.count_ones(), "number")
@@ -171,6 +188,8 @@ impl Tally {
             (self.at_top, "a lost count at its top"),
             (self.emptied, "a queue left empty"),
             (self.struck, "a struck call"),
+            (self.revokes.held, "a revoke of a right that is there"),
+            (self.revokes.missing, "a revoke of a right that isn't"),
         ];
         let unmet = facts.iter().filter(|(count, _)| *count == 0);
         unmet.map(|(_, name)| name.to_string()).collect()

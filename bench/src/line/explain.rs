@@ -4,7 +4,7 @@
 use std::fmt::Display;
 
 use reference::calls::{
-    Call, GRANT, LOOK_UP, MY_ENDPOINTS, MY_RIGHTS, RECEIVE, REMOVE, SEND, STRAY,
+    Call, GRANT, LOOK_UP, MY_ENDPOINTS, MY_RIGHTS, RECEIVE, REMOVE, REVOKE, SEND, STRAY,
 };
 use reference::check_table;
 use reference::table::{
@@ -44,7 +44,7 @@ pub fn meaning(code: u32) -> &'static str {
         20 => "a domain named is not in the table",
         21 => "the rights named cannot be asked for",
         22 => "the caller lacks a right that the call needs",
-        23 => "the caller isn't the recipient and has no right on it",
+        23 => "the recipient or holder is another, and the caller has no right on it",
         _ => "not a number of the kernel",
     }
 }
@@ -57,15 +57,18 @@ pub fn senders(table: &[u32], endpoint: usize) -> Vec<usize> {
         .collect()
 }
 
-/// A set of rights in letters: S for SEND, G for GRANT, R for REMOVE.
+/// The rights, each with its letter and its name.
+pub const NAMED_RIGHTS: [(u32, &str, &str); 4] = [
+    (right::SEND, "S", "SEND"),
+    (right::GRANT, "G", "GRANT"),
+    (right::REMOVE, "R", "REMOVE"),
+    (right::REVOKE, "V", "REVOKE"),
+];
+
+/// A set of rights in letters: S for SEND, G for GRANT, R for REMOVE, V for REVOKE.
 pub fn letters(set: u32) -> String {
-    let named = [
-        (right::SEND, 'S'),
-        (right::GRANT, 'G'),
-        (right::REMOVE, 'R'),
-    ];
-    let held = named.iter().filter(|(bit, _)| set & bit != 0);
-    held.map(|(_, letter)| letter).collect()
+    let held = NAMED_RIGHTS.iter().filter(|(bit, ..)| set & bit != 0);
+    held.map(|(_, letter, _)| *letter).collect()
 }
 
 /// A set of rights in words, as `SEND, GRANT and REMOVE`.
@@ -73,15 +76,10 @@ fn rights_in_words(set: u32) -> String {
     if set == 0 || set > right::ALL {
         return format!("the rights {set}");
     }
-    let named = [
-        (right::SEND, "SEND"),
-        (right::GRANT, "GRANT"),
-        (right::REMOVE, "REMOVE"),
-    ];
-    let held: Vec<&str> = named
+    let held: Vec<&str> = NAMED_RIGHTS
         .iter()
-        .filter(|(bit, _)| set & bit != 0)
-        .map(|(_, word)| *word)
+        .filter(|(bit, ..)| set & bit != 0)
+        .map(|(.., name)| *name)
         .collect();
     match held.as_slice() {
         [first @ .., before, last] => {
@@ -114,6 +112,10 @@ pub fn call_in_words(call: &Call) -> String {
             rights_in_words(c)
         ),
         REMOVE => format!("{who} gives up {} on domain {a}", rights_in_words(c)),
+        REVOKE => format!(
+            "{who} takes {} on domain {a} back from domain {b}",
+            rights_in_words(c)
+        ),
         kind => format!("{who} makes a call of unknown kind {kind}"),
     }
 }
@@ -224,7 +226,7 @@ fn kind_fault(word: u32, wanted: u32) -> Option<String> {
 }
 
 fn rights_fault(word: u32) -> Option<String> {
-    let spare = || (bits(word, 27, 3) != 0).then(|| "bits 27 to 3 aren't zero".to_string());
+    let spare = || (bits(word, 27, 4) != 0).then(|| "bits 27 to 4 aren't zero".to_string());
     kind_fault(word, RIGHTS).or_else(spare)
 }
 
@@ -311,8 +313,8 @@ mod tests {
         assert_eq!(told(0x4000_0000, 0x8000_0001, 0), "endpoint 0, endpoint 31");
         assert_eq!(told(0x5000_0000, 0, 0), "none");
         assert_eq!(
-            told(0x5000_0000, 7, 0x5000_0000),
-            "SGR on domain 0, SR on domain 15"
+            told(0x5000_0000, 15, 0x5000_0000),
+            "SGRV on domain 0, SR on domain 15"
         );
     }
 
@@ -349,8 +351,12 @@ mod tests {
             "domain 1 grants domain 0 SEND, GRANT and REMOVE on domain 2"
         );
         assert_eq!(
-            told(0x7042_0009),
-            "domain 1 gives up the rights 9 on domain 2"
+            told(0x7042_0011),
+            "domain 1 gives up the rights 17 on domain 2"
+        );
+        assert_eq!(
+            told(0x8042_0308),
+            "domain 1 takes REVOKE on domain 2 back from domain 3"
         );
         assert_eq!(told(0x90C0_0000), "domain 3 makes a call of unknown kind 9");
     }
@@ -384,10 +390,10 @@ mod tests {
 
     #[test]
     fn faults_of_a_rights_word_are_told() {
-        let (code, told) = fault(9, 0x2000_0008);
+        let (code, told) = fault(9, 0x2000_0010);
         assert_eq!(code, 4);
-        let rights = "word 9, the rights of domain 2 on domain 2, is 20000008";
-        assert_eq!(told, format!("{rights}: bits 27 to 3 aren't zero"));
+        let rights = "word 9, the rights of domain 2 on domain 2, is 20000010";
+        assert_eq!(told, format!("{rights}: bits 27 to 4 aren't zero"));
         let (code, told) = fault(6, 0x3000_0007);
         assert_eq!(code, 4);
         assert!(told.ends_with("is 30000007: kind 3 where 2 is wanted"));

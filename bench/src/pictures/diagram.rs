@@ -35,14 +35,15 @@ pub fn in_words(input: &Input, left: Option<&Ran>, calls: usize) -> String {
 /// The rights as a grid: a row for each holder, a column for each target.
 fn rights_in_words(table: &[u32]) -> String {
     let n = domains(table);
-    let mut text = String::from("Rights (S send, G grant, R remove): who has them, on whom\n");
-    let heads: Vec<String> = (0..n).map(|target| format!("{target:>4}")).collect();
+    let mut text =
+        String::from("Rights (S send, G grant, R remove, V revoke): who has them, on whom\n");
+    let heads: Vec<String> = (0..n).map(|target| format!("{target:>5}")).collect();
     text += &format!("  {:>9} {}\n", "", heads.concat());
     for holder in 0..n {
         let cells: Vec<String> = (0..n)
             .map(|target| match rights(table, holder, target) {
-                0 => format!("{:>4}", "."),
-                set => format!("{:>4}", letters(set)),
+                0 => format!("{:>5}", "."),
+                set => format!("{:>5}", letters(set)),
             })
             .collect();
         text += &format!("  domain {holder:>2} {}\n", cells.concat());
@@ -132,7 +133,7 @@ mod tests {
     fn the_worked_example_in_words() {
         let told = in_words(&Input::example(), None, 2);
         assert!(told.starts_with("Table: 3 domains, 2 endpoints, 34 words\n"));
-        assert!(told.contains("domain  1    S   . SGR\n"), "{told}");
+        assert!(told.contains("domain  1     S    .  SGR\n"), "{told}");
         assert!(told.contains("from 0 ==> endpoint 0 (name 17) [- -] ==> domain 1; 0 of 2 waiting"));
         assert!(told.contains("   0  20000100 F0000005  domain 0 sends 5 to endpoint 1\n"));
         assert!(told.ends_with("  and 7 more\n"), "{told}");
@@ -160,7 +161,7 @@ mod tests {
         ];
         assert_eq!(answers, wanted, "{told}");
         let after = told.split("After the list").nth(1).unwrap();
-        assert!(after.contains("domain  0    .   S   S\n"), "{after}");
+        assert!(after.contains("domain  0     .    S    S\n"), "{after}");
         assert!(after.contains("0 of 1 waiting, 1 lost"), "{after}");
     }
 

@@ -7,12 +7,11 @@ use std::f64::consts::PI;
 use reference::calls::Call;
 use reference::cut;
 use reference::table::{
-    capacity, domains, endpoint_words, endpoints, lost, name, owner, right, rights, waiting,
-    SLOTS_PLACE,
+    capacity, domains, endpoint_words, endpoints, lost, name, owner, rights, waiting, SLOTS_PLACE,
 };
 use reference::words::{content, hex};
 
-use crate::line::explain::{call_in_words, counted, senders};
+use crate::line::explain::{call_in_words, counted, senders, NAMED_RIGHTS};
 use crate::line::input::Input;
 use crate::pictures::svg::{Drawing, Style, INK, LINE, QUIET};
 
@@ -32,6 +31,9 @@ const NO_ARROWS: &str = "No arrows: they are drawn for up to 6 domains and 14 se
 
 /// A domain's disc among the arrows.
 const DISC: f64 = 20.0;
+
+/// The room of a right's letter.
+const LETTER: f64 = 17.0;
 
 /// The least height of a row of the grid, and the most.
 const ROW: f64 = 28.0;
@@ -57,12 +59,8 @@ const COLOURS: [&str; 16] = [
     "#5a55a0", "#c2416b", "#147a5a", "#7a5744", "#1f7fb5", "#b31b70", "#4d8012", "#a14a05",
 ];
 
-/// The three rights with their letters and colours.
-const RIGHTS: [(u32, &str, &str); 3] = [
-    (right::SEND, "S", "#2563a8"),
-    (right::GRANT, "G", "#2e7d4f"),
-    (right::REMOVE, "R", "#b8521f"),
-];
+/// The colours of the rights, in the order of [`NAMED_RIGHTS`].
+const RIGHT_COLOURS: [&str; NAMED_RIGHTS.len()] = ["#2563a8", "#2e7d4f", "#b8521f", "#7a3f98"];
 
 /// The picture of an accepted table and the first `calls` calls of a list.
 pub fn svg(input: &Input, calls: usize) -> String {
@@ -98,18 +96,19 @@ fn chip(drawing: &mut Drawing, x: f64, y: f64, radius: f64, domain: usize) {
 
 /// The letters of a set of rights, each on its colour, with their middle at x.
 fn pill(drawing: &mut Drawing, x: f64, y: f64, set: u32) {
-    let held: Vec<_> = RIGHTS.iter().filter(|(bit, ..)| set & bit != 0).collect();
-    let start = x - held.len() as f64 * 8.5;
+    let rights = NAMED_RIGHTS.iter().zip(RIGHT_COLOURS);
+    let held: Vec<_> = rights.filter(|((bit, ..), _)| set & bit != 0).collect();
+    let start = x - held.len() as f64 * LETTER / 2.0;
     drawing.rect(
         (start - 1.5, y - 9.5),
-        (held.len() as f64 * 17.0 + 3.0, 19.0),
+        (held.len() as f64 * LETTER + 3.0, 19.0),
         5.0,
         "#f7f8fa",
         "none",
     );
-    for (place, (_, letter, colour)) in held.iter().enumerate() {
-        let middle = start + 17.0 * (place as f64 + 0.5);
-        letter_box(drawing, (middle, y), letter, colour);
+    for (place, ((_, letter, _), colour)) in held.iter().enumerate() {
+        let middle = start + LETTER * (place as f64 + 0.5);
+        letter_box(drawing, (middle, y), LETTER, letter, colour);
     }
 }
 
@@ -226,8 +225,8 @@ impl Curve {
         Curve {
             points: [
                 at(-0.6, DISC + 1.0),
-                at(-0.7, 92.0),
-                at(0.7, 92.0),
+                at(-0.7, 102.0),
+                at(0.7, 102.0),
                 at(0.6, DISC + 3.0),
             ],
             labels: &[0.5],
@@ -288,7 +287,7 @@ fn owned_text(drawing: &mut Drawing, table: &[u32], domain: usize, place: (f64, 
     let up_or_down = place.2.sin();
     let beyond = match rights(table, domain, domain) {
         0 => 0.0,
-        _ => 46.0 * up_or_down.abs(),
+        _ => 52.0 * up_or_down.abs(),
     };
     let far = DISC + 12.0 + beyond;
     let below = if up_or_down < -0.3 { -far } else { far };
@@ -326,19 +325,28 @@ fn rights_cell(drawing: &mut Drawing, (x, y): (f64, f64), cell: (f64, f64), set:
     let size = (cell.0 - 4.0, cell.1 - 4.0);
     let corner = (x - size.0 / 2.0, y - size.1 / 2.0);
     drawing.rect(corner, size, 4.0, "#ffffff", "#e3e7ec");
-    for (place, (bit, letter, colour)) in RIGHTS.iter().enumerate() {
-        let middle = x + 17.0 * (place as f64 - 1.0);
+    let many = NAMED_RIGHTS.len() as f64;
+    let step = ((size.0 - 4.0) / many).min(LETTER);
+    for (place, (bit, letter, _)) in NAMED_RIGHTS.iter().enumerate() {
+        let middle = x + step * (place as f64 - (many - 1.0) / 2.0);
         if set & bit != 0 {
-            letter_box(drawing, (middle, y), letter, colour);
+            letter_box(drawing, (middle, y), step, letter, RIGHT_COLOURS[place]);
         } else {
             drawing.circle(middle, y, 1.5, "#d5dae0");
         }
     }
 }
 
-/// A right's letter on its colour.
-fn letter_box(drawing: &mut Drawing, (x, y): (f64, f64), letter: &str, colour: &str) {
-    drawing.rect((x - 8.0, y - 8.0), (16.0, 16.0), 3.0, colour, "none");
+/// A right's letter on its colour, with so much room across.
+fn letter_box(drawing: &mut Drawing, (x, y): (f64, f64), room: f64, letter: &str, colour: &str) {
+    let across = room - 1.0;
+    drawing.rect(
+        (x - across / 2.0, y - 8.0),
+        (across, 16.0),
+        3.0,
+        colour,
+        "none",
+    );
     let style = Style {
         size: 11.0,
         ..ON_COLOUR
@@ -347,10 +355,10 @@ fn letter_box(drawing: &mut Drawing, (x, y): (f64, f64), letter: &str, colour: &
 }
 
 fn legend(drawing: &mut Drawing, x: f64, y: f64) {
-    for (place, told) in ["SEND", "GRANT", "REMOVE"].iter().enumerate() {
+    for (place, (bit, _, name)) in NAMED_RIGHTS.iter().enumerate() {
         let left = x + 92.0 * place as f64;
-        pill(drawing, left + 8.5, y, RIGHTS[place].0);
-        drawing.text(left + 22.0, y, SMALL, told);
+        pill(drawing, left + 8.5, y, *bit);
+        drawing.text(left + 22.0, y, SMALL, name);
     }
 }
 
@@ -493,9 +501,9 @@ mod tests {
             let angle = turn as f64 * PI / 12.0;
             let curve = Curve::around((0.0, 0.0, angle));
             let (x, y) = curve.label(&[(0.0, 0.0)]);
-            // How far a point is from the label's box, which has three letters.
+            // How far a point is from the label's box, which has four letters.
             let gap = |(px, py): (f64, f64)| {
-                let across = ((px - x).abs() - 27.0).max(0.0);
+                let across = ((px - x).abs() - 35.5).max(0.0);
                 across.hypot(((py - y).abs() - 9.5).max(0.0))
             };
             assert!(gap((0.0, 0.0)) > DISC + 5.0, "angle {angle}");

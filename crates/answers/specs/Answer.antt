@@ -7,7 +7,7 @@ use lib.ListN.{length}
 use Rattle.machine.specs.Table.{domains, endpoints, rightsAt, endpointAt}
 use Rattle.machine.specs.Call.{Call.one}
 use Rattle.machine.specs.Machine.{Decision, answerWord, code, firstData, secondData}
-use Rattle.machine.specs.Machine.{Decision.refused, Decision.lookedUp, Decision.sends, Decision.receives, Decision.listsEndpoints, Decision.listsRights, Decision.grants, Decision.removes}
+use Rattle.machine.specs.Machine.{Decision.refused, Decision.lookedUp, Decision.sends, Decision.receives, Decision.listsEndpoints, Decision.listsRights, Decision.grants, Decision.removes, Decision.revokes}
 use Rattle.answers.specs.declared.Answer.{Answer}
 
 -- the words that an answer is
@@ -28,6 +28,7 @@ readable t (listsEndpoints u) = leb (endpointAt (domains t) (endpoints t)) (leng
 readable t (listsRights u) = leb (rightsAt (domains t) u (domains t)) (length t)
 readable t (grants g h r) = true
 readable t (removes g u r) = true
+readable t (revokes g h r) = true
 
 -- a data word as it is shown: 32 bits of it, and nothing where its words aren't in the table
 unfoldable pub shown : Bool → ℕ → ℕ

@@ -175,5 +175,10 @@ pub fn answer_to(table: &[u32], first: u32, decision: Decision) -> Answer
             caller: _,
             rights: _,
         } => plain(head),
+        Decision::Revokes {
+            target: _,
+            holder: _,
+            rights: _,
+        } => plain(head),
     }
 }

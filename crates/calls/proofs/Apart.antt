@@ -79,8 +79,8 @@ pub of-kind : (w n : ℕ) (s : Second) → kind w ≡ n → ofKind w s (kindOf n
 unfolding apart
 of-kind w n s is = ap (λ (k : ℕ). ofKind w s (kindOf k)) (sym is)
 
--- kinds 8 to 14 are unknown
-pub unknown-kind : (n : ℕ) → 8 ≤ n → n < 15 → kindOf n ≡ unknown
+-- kinds 9 to 14 are unknown
+pub unknown-kind : (n : ℕ) → 9 ≤ n → n < 15 → kindOf n ≡ unknown
 unfolding kindOf
 unknown-kind n low high =
     let differs : (k : ℕ) → (n ≡ k → ⊥) → eqb n k ≡ false = ne-eqb n in
@@ -92,6 +92,7 @@ unknown-kind n low high =
       differs 5 (omega arith),
       differs 6 (omega arith),
       differs 7 (omega arith),
+      differs 8 (omega arith),
       differs 15 (omega arith),
     )
 
@@ -99,12 +100,12 @@ unknown-kind n low high =
 pub past : {k n : ℕ} → k ≤ n → (n ≡ k → ⊥) → k < n
 past low d = lt-of-le-ne low (λ e. d (sym e))
 
--- 7 is the one kind left when 0 to 6 and 8 to 15 are gone
-pub seven-left : (w : ℕ)
+-- 8 is the one kind left when 0 to 7 and 9 to 15 are gone
+pub eight-left : (w : ℕ)
     → w < 2 ^ 32
-    → 7 ≤ kind w
+    → 8 ≤ kind w
     → (kind w ≡ 15 → ⊥)
-    → (kind w < 8) ⊎ (15 ≤ kind w)
-    → kind w ≡ 7
-seven-left w fits low d (inl h) = omega arith
-seven-left w fits low d (inr h) = absurd (d (omega arith))
+    → (kind w < 9) ⊎ (15 ≤ kind w)
+    → kind w ≡ 8
+eight-left w fits low d (inl h) = omega arith
+eight-left w fits low d (inr h) = absurd (d (omega arith))

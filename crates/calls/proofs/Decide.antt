@@ -6,7 +6,7 @@ use mathlib.Core.Bool.{Bool, true, false, cond, not, _&&_}
 use mathlib.Core.List.{List}
 use Rattle.machine.specs.Word.{kind, caller}
 use Rattle.machine.specs.Call.{Kind, callKind, kindOf, allZero, unusedFields, wantsSecond, hasSecond, wordPlaces}
-use Rattle.machine.specs.Call.{Kind.lookUp, Kind.send, Kind.receive, Kind.myEndpoints, Kind.myRights, Kind.grant, Kind.remove, Kind.stray, Kind.unknown}
+use Rattle.machine.specs.Call.{Kind.lookUp, Kind.send, Kind.receive, Kind.myEndpoints, Kind.myRights, Kind.grant, Kind.remove, Kind.revoke, Kind.stray, Kind.unknown}
 use Rattle.machine.specs.Machine.{Decision, Decision.refused, framed, places, decide}
 use Rattle.calls.specs.Apart.{whole, ofKind, apart}
 use Rattle.cutting.specs.Cutting.{callOf}
@@ -48,6 +48,7 @@ by-kind t w s myEndpoints = rw (first-of w s) (framed-whole t w s myEndpoints _ 
 by-kind t w s myRights = rw (first-of w s) (framed-whole t w s myRights _ _ refl)
 by-kind t w s grant = rw (first-of w s) (framed-whole t w s grant _ _ refl)
 by-kind t w s remove = rw (first-of w s) (framed-whole t w s remove _ _ refl)
+by-kind t w s revoke = rw (first-of w s) (framed-whole t w s revoke _ _ refl)
 
 pub decided : (t : List ℕ) (w : ℕ) (s : Second) → decide t (callOf w s) ≡ decideCall t (apart w s)
 unfolding decide callKind apart

@@ -3,7 +3,7 @@ use Prim.Native.Nat.{_≤_}
 use native.Mathlib.Omega.{arith}
 use Rattle.calls.specs.Number.{numberOf}
 use Rattle.calls.specs.declared.Refusal.{Refusal}
-use Rattle.calls.specs.declared.Refusal.the-variants.{Stray, UnknownKind, UnknownCaller, UnusedField, NoSecondWord, NoSuchName, NoSuchEndpoint, MayNotSend, NotOwner, NothingWaiting, NoSuchDomain, BadRights, LacksRight, MayNotGive}
+use Rattle.calls.specs.declared.Refusal.the-variants.{Stray, UnknownKind, UnknownCaller, UnusedField, NoSecondWord, NoSuchName, NoSuchEndpoint, MayNotSend, NotOwner, NothingWaiting, NoSuchDomain, BadRights, LacksRight, NoInfluence}
 
 pub number-most : (r : Refusal) → numberOf r ≤ 23
 number-most Stray = omega arith
@@ -19,4 +19,4 @@ number-most NothingWaiting = omega arith
 number-most NoSuchDomain = omega arith
 number-most BadRights = omega arith
 number-most LacksRight = omega arith
-number-most MayNotGive = omega arith
+number-most NoInfluence = omega arith

@@ -3,9 +3,9 @@
 use Prim.Native.Nat.{ℕ}
 use Rattle.machine.specs.Word.{kind, caller, fieldA, fieldB, fieldC}
 use Rattle.machine.specs.Call as machine
-use Rattle.machine.specs.Call.{Kind.lookUp, Kind.send, Kind.receive, Kind.myEndpoints, Kind.myRights, Kind.grant, Kind.remove, Kind.stray, Kind.unknown}
+use Rattle.machine.specs.Call.{Kind.lookUp, Kind.send, Kind.receive, Kind.myEndpoints, Kind.myRights, Kind.grant, Kind.remove, Kind.revoke, Kind.stray, Kind.unknown}
 use Rattle.calls.specs.declared.Call.{Call}
-use Rattle.calls.specs.declared.Call.the-variants.{LookUp, Send, Receive, MyEndpoints, MyRights, Grant, Remove, Refused}
+use Rattle.calls.specs.declared.Call.the-variants.{LookUp, Send, Receive, MyEndpoints, MyRights, Grant, Remove, Revoke, Refused}
 use Rattle.calls.specs.declared.Refusal.the-variants.{Stray, UnknownKind, UnusedField, NoSecondWord}
 use Rattle.cutting.specs.Cutting.{callOf}
 use Rattle.cutting.specs.declared.Second.{Second}
@@ -26,6 +26,7 @@ ofKind w s myEndpoints = whole w s myEndpoints (MyEndpoints (caller w))
 ofKind w s myRights = whole w s myRights (MyRights (caller w))
 ofKind w s grant = whole w s grant (Grant (caller w) (fieldA w) (fieldB w) (fieldC w))
 ofKind w s remove = whole w s remove (Remove (caller w) (fieldA w) (fieldC w))
+ofKind w s revoke = whole w s revoke (Revoke (caller w) (fieldA w) (fieldB w) (fieldC w))
 
 -- the call of a first word and, if there is one, a second
 unfoldable pub apart : ℕ → Second → Call

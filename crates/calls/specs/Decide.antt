@@ -6,12 +6,12 @@ use mathlib.Core.Bool.{cond, not}
 use mathlib.Core.List.{List}
 use lib.Dec.{ltb}
 use Rattle.machine.specs.Table.{domains}
-use Rattle.machine.specs.Machine.{Decision, place, named, lookUpPlaces, sendPlaces, receivePlaces, grantPlaces, removePlaces}
+use Rattle.machine.specs.Machine.{Decision, place, named, lookUpPlaces, sendPlaces, receivePlaces, grantPlaces, removePlaces, revokePlaces}
 use Rattle.machine.specs.Machine.{Decision.refused, Decision.listsEndpoints, Decision.listsRights}
 use Rattle.calls.specs.Number.{numberOf}
 use Rattle.calls.specs.declared.Refusal.{Refusal}
 use Rattle.calls.specs.declared.Call.{Call}
-use Rattle.calls.specs.declared.Call.the-variants.{LookUp, Send, Receive, MyEndpoints, MyRights, Grant, Remove, Refused}
+use Rattle.calls.specs.declared.Call.the-variants.{LookUp, Send, Receive, MyEndpoints, MyRights, Grant, Remove, Revoke, Refused}
 
 -- place 12, and then the next
 unfoldable pub knownCaller : List ℕ → ℕ → Decision → Decision
@@ -31,3 +31,4 @@ decideCall t (MyEndpoints u) = knownCaller t u (listsEndpoints u)
 decideCall t (MyRights u) = knownCaller t u (listsRights u)
 decideCall t (Grant u g h r) = knownCaller t u (grantPlaces t u g h r)
 decideCall t (Remove u g r) = knownCaller t u (removePlaces t u g r)
+decideCall t (Revoke u g h r) = knownCaller t u (revokePlaces t u g h r)

@@ -1,7 +1,7 @@
 -- The paper's number of each refusal (document 01, 'Where each number is checked').
 use Prim.Native.Nat.{ℕ}
 use Rattle.calls.specs.declared.Refusal.{Refusal}
-use Rattle.calls.specs.declared.Refusal.the-variants.{Stray, UnknownKind, UnknownCaller, UnusedField, NoSecondWord, NoSuchName, NoSuchEndpoint, MayNotSend, NotOwner, NothingWaiting, NoSuchDomain, BadRights, LacksRight, MayNotGive}
+use Rattle.calls.specs.declared.Refusal.the-variants.{Stray, UnknownKind, UnknownCaller, UnusedField, NoSecondWord, NoSuchName, NoSuchEndpoint, MayNotSend, NotOwner, NothingWaiting, NoSuchDomain, BadRights, LacksRight, NoInfluence}
 
 abbrev pub numberOf : Refusal → ℕ
 numberOf Stray = 10
@@ -17,4 +17,4 @@ numberOf NothingWaiting = 19
 numberOf NoSuchDomain = 20
 numberOf BadRights = 21
 numberOf LacksRight = 22
-numberOf MayNotGive = 23
+numberOf NoInfluence = 23

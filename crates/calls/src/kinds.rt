@@ -6,7 +6,7 @@ use crate::Refusal;
 use cutting::Second;
 ghost use mathlib.Core.Path.{_≡_};
 ghost use Rattle.machine.specs.Word.{kind};
-ghost use Rattle.machine.specs.Call.{Kind.lookUp, Kind.send, Kind.receive, Kind.myEndpoints, Kind.myRights, Kind.grant, Kind.remove};
+ghost use Rattle.machine.specs.Call.{Kind.lookUp, Kind.send, Kind.receive, Kind.myEndpoints, Kind.myRights, Kind.grant, Kind.remove, Kind.revoke};
 ghost use Rattle.cutting.specs.declared.Second.{Second as AnySecond};
 ghost use Rattle.calls.specs.Apart.{ofKind};
 
@@ -136,5 +136,17 @@ pub fn remove(first: u32) -> Call
         caller,
         target,
         rights,
+    }
+}
+
+pub fn revoke(first: u32) -> Call
+    requires { ⌜ kind first ≡ 8 ⌝ }
+    ensures { λ r. ⌜ ((second : AnySecond) → r ≡ ofKind first second revoke) ⌝ }
+{
+    Call::Revoke {
+        caller: first / 4194304 % 64,
+        target: first / 65536 % 64,
+        holder: first / 256 % 256,
+        rights: first % 256,
     }
 }

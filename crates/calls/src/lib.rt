@@ -1,4 +1,4 @@
-// The calls of document 01, taken apart without a table: what a call asks for, as one choice among its kinds, or the refusal
+// The calls of documents 01 and 02, taken apart without a table: what a call asks for, as one choice among its kinds, or the refusal
 // by a place that needs no table (10, 11, 13 and 14). Crate decide puts 12, which needs one, between 11 and 13.
 mod kinds;
 
@@ -9,6 +9,7 @@ use kinds::my_endpoints;
 use kinds::my_rights;
 use kinds::receive;
 use kinds::remove;
+use kinds::revoke;
 use kinds::send;
 ghost use mathlib.Core.Path.{_≡_};
 ghost use Rattle.calls.specs.Number.{numberOf};
@@ -29,7 +30,7 @@ pub enum Refusal {
     NoSuchDomain, // 20
     BadRights, // 21
     LacksRight, // 22
-    MayNotGive, // 23
+    NoInfluence, // 23
 }
 
 // A call taken apart: its caller and the fields that its kind uses, as found. A refused one has its caller for place 12 alone,
@@ -66,6 +67,12 @@ pub enum Call {
         target: u32,
         rights: u32,
     },
+    Revoke {
+        caller: u32,
+        target: u32,
+        holder: u32,
+        rights: u32,
+    },
     Refused {
         caller: u32,
         refusal: Refusal,
@@ -90,7 +97,7 @@ pub fn number(refusal: Refusal) -> u32
         Refusal::NoSuchDomain => 20,
         Refusal::BadRights => 21,
         Refusal::LacksRight => 22,
-        Refusal::MayNotGive => 23,
+        Refusal::NoInfluence => 23,
     }
 }
 
@@ -105,7 +112,7 @@ pub fn take_apart(first: u32, second: Second) -> Call
             caller: 0,
             refusal: Refusal::Stray,
         },
-        0 | 8..=14 => Call::Refused {
+        0 | 9..=14 => Call::Refused {
             caller,
             refusal: Refusal::UnknownKind,
         },
@@ -115,6 +122,7 @@ pub fn take_apart(first: u32, second: Second) -> Call
         4 => my_endpoints(first),
         5 => my_rights(first),
         6 => grant(first),
-        _ => remove(first),
+        7 => remove(first),
+        _ => revoke(first),
     }
 }

@@ -12,6 +12,7 @@ use layout::domains;
 use layout::endpoints;
 use rights_calls::grant;
 use rights_calls::remove;
+use rights_calls::revoke;
 use rules::Decision;
 use rules::range::Range;
 use rules::range::of_caller;
@@ -57,6 +58,12 @@ pub fn decide(table: &[u32], call: Call) -> Decision
             target,
             rights,
         } => remove(table, n, caller, target, rights),
+        Call::Revoke {
+            caller,
+            target,
+            holder,
+            rights,
+        } => revoke(table, n, caller, target, holder, rights),
     }
 }
 

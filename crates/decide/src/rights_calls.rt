@@ -9,7 +9,7 @@ ghost use mathlib.Core.Path.{_≡_};
 ghost use Rattle.machine.specs.Table.{domains};
 ghost use Rattle.rules.specs.Decision.{decisionOf};
 ghost use Rattle.calls.specs.Decide.{decideCall};
-ghost use Rattle.calls.specs.declared.Call.the-variants.{Grant, Remove};
+ghost use Rattle.calls.specs.declared.Call.the-variants.{Grant, Remove, Revoke};
 
 pub fn grant(
     table: &[u32],
@@ -41,4 +41,17 @@ pub fn remove(table: &[u32], n: u32, caller: u32, target: u32, given: u32) -> De
     }
     let held = rights(table, n, caller, target);
     access::remove(caller, target, given, held)
+}
+
+pub fn revoke(table: &[u32], n: u32, caller: u32, target: u32, holder: u32, given: u32) -> Decision
+    requires { ⌜ n ≡ domains (now table) ⌝ }
+    ensures { λ d. ⌜ decisionOf d ≡ decideCall (now (table .entry)) (Revoke caller target holder given) ⌝ }
+{
+    let range = of_grant(n, caller, target, holder, given);
+    if let Range::Outside(refusal) = range {
+        return Decision::Refused(refusal);
+    }
+    let held = rights(table, n, caller, target);
+    let toward = rights(table, n, caller, holder);
+    access::revoke(caller, target, holder, given, held, toward)
 }

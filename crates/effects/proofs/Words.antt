@@ -115,6 +115,7 @@ effect-same t (machine.listsEndpoints u) = refl
 effect-same t (machine.listsRights u) = refl
 effect-same t (machine.grants g h r) = refl
 effect-same t (machine.removes g u r) = refl
+effect-same t (machine.revokes g h r) = refl
 
 pub performed-whole : (t : List ℕ) (d : Decision) → fits t (effectFor t d) ≡ true → performed t (effectFor t d) ≡ after t (effect t d)
 unfolding performed

@@ -40,6 +40,7 @@ effectFor t (machine.listsEndpoints u) = Nothing
 effectFor t (machine.listsRights u) = Nothing
 effectFor t (machine.grants g h r) = NewRights h g (adds (rights t h g) r)
 effectFor t (machine.removes g u r) = NewRights u g (without (rights t u g) r)
+effectFor t (machine.revokes g h r) = NewRights h g (without (rights t h g) r)
 
 -- the table after an effect; one that doesn't fit leaves it as it is
 unfoldable pub performed : List ℕ → Effect → List ℕ

@@ -3,8 +3,8 @@
 mod rights;
 mod write;
 
+use rights::cleared;
 use rights::granted;
-use rights::removed;
 use rules::Decision;
 ghost use mathlib.Core.Path.{_≡_};
 ghost use Rattle.rules.specs.Decision.{decisionOf};
@@ -47,7 +47,12 @@ pub fn effect_on(table: &[u32], decision: Decision) -> Effect
             target,
             caller,
             rights,
-        } => removed(table, target, caller, rights),
+        } => cleared(table, target, caller, rights),
+        Decision::Revokes {
+            target,
+            holder,
+            rights,
+        } => cleared(table, target, holder, rights),
     }
 }
 

@@ -1,4 +1,4 @@
-// What a grant and a remove make of a rights word.
+// What a grant, a remove and a revoke make of a rights word.
 use crate::Effect;
 use layout::domains;
 use layout::rights;
@@ -21,15 +21,15 @@ pub fn granted(table: &[u32], target: u32, recipient: u32, given: u32) -> Effect
     }
 }
 
-// The rights are cleared from the caller's own on the target.
-pub fn removed(table: &[u32], target: u32, caller: u32, given: u32) -> Effect
-    ensures { λ r. ⌜ r ≡ effectFor (now (table .entry)) (machine.removes target caller given) ⌝ }
+// The rights are cleared from the holder's on the target. A remove is a revoke from the caller itself.
+pub fn cleared(table: &[u32], target: u32, holder: u32, given: u32) -> Effect
+    ensures { λ r. ⌜ r ≡ effectFor (now (table .entry)) (machine.revokes target holder given) ⌝ }
 {
     let n = domains(table);
-    let held = rights(table, n, caller, target);
+    let held = rights(table, n, holder, target);
     let rest = held.without(Rights { bits: given });
     Effect::NewRights {
-        holder: caller,
+        holder,
         target,
         rights: rest.bits,
     }

@@ -133,6 +133,7 @@ module _ (t : List ℕ) (a : Accepted t) where
             };
         granting = λ _ _ _ _ _ _ _ _. record { there = refl; first = omega arith; second = omega arith };
         removing = λ _ _ _ _ _. record { there = refl; first = omega arith; second = omega arith };
+        revoking = λ _ _ _ _ _ _. record { there = refl; first = omega arith; second = omega arith };
       })
 
   -- the answer by the first word of a call is the machine's
@@ -171,6 +172,7 @@ module _ (t : List ℕ) (a : Accepted t) where
         rightsListed = λ _ _. refl;
         granting = λ _ _ lg lh few _ _ _. rights-fits _ _ _ lh lg (adds-within _ _ (rights-held t a _ _ lh lg) few);
         removing = λ known _ lg _ _. rights-fits _ _ _ (known .below) lg (le-trans (without-le _ _) (rights-held t a _ _ (known .below) lg));
+        revoking = λ _ _ lg lh _ _. rights-fits _ _ _ lh lg (le-trans (without-le _ _) (rights-held t a _ _ lh lg));
       })
     where
       twelve : (e : ℕ) → e < endpoints t → length (endpoint t e) ≡ 12

@@ -9,13 +9,13 @@ use borrow.Author.Tests.{ltb-true, eqb-true, not-false}
 use lib.Dec.{eqb, ltb}
 use lib.ListN.{getD}
 use Rattle.machine.specs.Word.{kind, payload, caller, fieldA, fieldB, fieldC}
-use Rattle.machine.specs.Right.{SEND, GRANT, REMOVE, holds, hasAny}
+use Rattle.machine.specs.Right.{SEND, GRANT, REMOVE, REVOKE, holds, hasAny}
 use Rattle.machine.specs.Table.{domains, endpoints, rightsWord, rights, endpoint}
 use Rattle.machine.specs.Queue.{name, owner, waiting, lost, oldest}
 use Rattle.machine.specs.Check.{Accepted}
 use Rattle.machine.specs.Call.{Call, Kind, first, callKind, wordPlaces, secondPayload}
-use Rattle.machine.specs.Call.{Kind.lookUp, Kind.send, Kind.receive, Kind.myEndpoints, Kind.myRights, Kind.grant, Kind.remove}
-use Rattle.machine.specs.Machine.{Decision, Decision.refused, place, maySend, named, lookUpPlaces, sendPlaces, receivePlaces, grantPlaces, removePlaces, framed, places, decide, ownedBits, rightsBits, code, firstData, secondData, answerWord, answerTo, answer}
+use Rattle.machine.specs.Call.{Kind.lookUp, Kind.send, Kind.receive, Kind.myEndpoints, Kind.myRights, Kind.grant, Kind.remove, Kind.revoke}
+use Rattle.machine.specs.Machine.{Decision, Decision.refused, place, maySend, named, lookUpPlaces, sendPlaces, receivePlaces, rightsPlaces, grantPlaces, revokePlaces, removePlaces, framed, places, decide, ownedBits, rightsBits, code, firstData, secondData, answerWord, answerTo, answer}
 use Rattle.machine.specs.Influence.{reaches, influences}
 use Rattle.machine.specs.SameParts.{SameFrame, SamePart}
 use Rattle.machine.specs.MachineClaims.{EveryCallAnswerDepends}
@@ -99,9 +99,10 @@ module _ (s t : List ℕ) (f : SameFrame s t) where
         (ap (λ (q : List ℕ). eqb (waiting q) 0) (owned-same u (mine k) e l (eqb-true _ _ (not-false _ o))))
         (λ _. refl)))
 
-    grant-same : Known t c → (g h r : ℕ) → grantPlaces s u g h r ≡ grantPlaces t u g h r
-    unfolding grantPlaces influences reaches
-    grant-same k g h r =
+    -- 20 to 23 of a grant and of a revoke, which ask what the caller may by its rights on the target
+    rights-places-same : Known t c → (g h r : ℕ) (may : ℕ → Bool) (row : Decision) → rightsPlaces s u g h r (may (rights s u g)) row ≡ rightsPlaces t u g h r (may (rights t u g)) row
+    unfolding rightsPlaces influences reaches
+    rights-places-same k g h r may row =
         place-same 20 (ap (λ (n : ℕ). not (ltb g n && ltb h n)) (f .sameDomains))
         (λ b.
         let both = not-false (ltb g (domains t) && ltb h (domains t)) b in
@@ -109,9 +110,17 @@ module _ (s t : List ℕ) (f : SameFrame s t) where
         let lh : h < domains t = ltb-true _ _ (and-right (ltb g (domains t)) (ltb h (domains t)) both) in
         place-same 21 refl
         (λ _.
-        place-same 22 (ap (λ (x : ℕ). not (holds x GRANT && holds x r)) (rights-same u (mine k) g lg))
+        place-same 22 (ap (λ (x : ℕ). not (may x)) (rights-same u (mine k) g lg))
         (λ _.
         place-same 23 (ap (λ (x : ℕ). not (eqb u h || hasAny x)) (rights-same u (mine k) h lh)) (λ _. refl))))
+
+    grant-same : Known t c → (g h r : ℕ) → grantPlaces s u g h r ≡ grantPlaces t u g h r
+    unfolding grantPlaces
+    grant-same k g h r = rights-places-same k g h r (λ x. holds x GRANT && holds x r) _
+
+    revoke-same : Known t c → (g h r : ℕ) → revokePlaces s u g h r ≡ revokePlaces t u g h r
+    unfolding revokePlaces
+    revoke-same k g h r = rights-places-same k g h r (λ x. holds x REVOKE) _
 
     remove-same : Known t c → (g r : ℕ) → removePlaces s u g r ≡ removePlaces t u g r
     unfolding removePlaces
@@ -136,6 +145,7 @@ module _ (s t : List ℕ) (f : SameFrame s t) where
         (λ e. framed-same myRights 5 e refl (λ _. refl))
         (λ e. framed-same grant 6 e refl (λ k. grant-same k (fieldA (first c)) (fieldB (first c)) (fieldC (first c))))
         (λ e. framed-same remove 7 e refl (λ k. remove-same k (fieldA (first c)) (fieldC (first c))))
+        (λ e. framed-same revoke 8 e refl (λ k. revoke-same k (fieldA (first c)) (fieldB (first c)) (fieldC (first c))))
         (λ _. refl)
         refl
 
@@ -172,6 +182,7 @@ module _ (s t : List ℕ) (f : SameFrame s t) where
               ap₂ (λ (x y : ℕ). answerWord c 0 ∷ x ∷ y ∷ []) (rights-bits-same u (mine k) 0) (rights-bits-same u (mine k) 8);
           granting = λ _ _ _ _ _ _ _ _. refl;
           removing = λ _ _ _ _ _. refl;
+          revoking = λ _ _ _ _ _ _. refl;
         })
 
 -- A call's answer depends only on its own words, its caller's part and the unchanging parts.

@@ -16,7 +16,7 @@ use Rattle.machine.specs.Table.{domains, endpoints, endpoint, setEndpoin
 use Rattle.machine.specs.Queue.{waiting, lost, oldest, mostLost, hasSpace, sent, received}
 use Rattle.machine.specs.Check.{endpointOk, Accepted}
 use Rattle.machine.specs.Call.{Call, Kind, first, kindOf, callKind, secondPayload}
-use Rattle.machine.specs.Call.{Kind.lookUp, Kind.send, Kind.receive, Kind.myEndpoints, Kind.myRights, Kind.grant, Kind.remove}
+use Rattle.machine.specs.Call.{Kind.lookUp, Kind.send, Kind.receive, Kind.myEndpoints, Kind.myRights, Kind.grant, Kind.remove, Kind.revoke}
 use Rattle.machine.specs.Machine.{Decision, decide, effect, after, step, code, firstData, answerWord, answerTo, answer}
 use Rattle.machine.specs.Machine.{Decision.refused}
 use Rattle.machine.specs.Run.{run, answers}
@@ -177,6 +177,7 @@ module _ (t : List ℕ) (e : ℕ) (c : Call) where
           rightsListed = λ _ k. idle _ myRights (by-number k) refl refl refl refl;
           granting = λ _ k g h _ _ _ _. idle _ grant (by-number k) refl refl refl (table.setRights-endpoint t sized _ _ _ h g e le);
           removing = λ u k g _ _. idle _ remove (by-number k) refl refl refl (table.setRights-endpoint t sized _ _ _ (u .below) g e le);
+          revoking = λ _ k g h _ _. idle _ revoke (by-number k) refl refl refl (table.setRights-endpoint t sized _ _ _ h g e le);
         })
 
 -- ---- the run of a list, call by call

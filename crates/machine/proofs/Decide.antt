@@ -10,20 +10,20 @@ use native.Mathlib.Omega.{arith}
 use borrow.Author.Tests.{ltb-true, leb-true, eqb-true, eqb-false, not-false}
 use lib.Dec.{eqb, leb, ltb}
 use Rattle.machine.specs.Word.{kind, caller, fieldA, fieldB, fieldC}
-use Rattle.machine.specs.Right.{GRANT, REMOVE, allRights, isSet, holds}
+use Rattle.machine.specs.Right.{GRANT, REMOVE, REVOKE, allRights, isSet, holds}
 use Rattle.machine.specs.Table.{domains, endpoints, rights, endpoint}
 use Rattle.machine.specs.Queue.{owner, waiting}
 use Rattle.machine.specs.Call.{Call, Kind, first, kindOf, callKind, callerOf, wantsSecond, unusedFields, allZero, hasSecond, wordPlaces, secondPayload}
-use Rattle.machine.specs.Call.{Kind.lookUp, Kind.send, Kind.receive, Kind.myEndpoints, Kind.myRights, Kind.grant, Kind.remove, Kind.stray, Kind.unknown}
-use Rattle.machine.specs.Machine.{Decision, place, maySend, named, lookUpPlaces, sendPlaces, receivePlaces, grantPlaces, removePlaces, framed, places, decide}
-use Rattle.machine.specs.Machine.{Decision.refused, Decision.lookedUp, Decision.sends, Decision.receives, Decision.listsEndpoints, Decision.listsRights, Decision.grants, Decision.removes}
+use Rattle.machine.specs.Call.{Kind.lookUp, Kind.send, Kind.receive, Kind.myEndpoints, Kind.myRights, Kind.grant, Kind.remove, Kind.revoke, Kind.stray, Kind.unknown}
+use Rattle.machine.specs.Machine.{Decision, place, maySend, named, lookUpPlaces, sendPlaces, receivePlaces, rightsPlaces, grantPlaces, revokePlaces, removePlaces, framed, places, decide}
+use Rattle.machine.specs.Machine.{Decision.refused, Decision.lookedUp, Decision.sends, Decision.receives, Decision.listsEndpoints, Decision.listsRights, Decision.grants, Decision.removes, Decision.revokes}
 use Rattle.machine.specs.Influence.{influences}
 use Rattle.machine.proofs.Bools.{and-left, and-right, cond-elim}
 
--- a number is the kind of one of the seven calls, of a stray, or unknown
-pub kind-elim : (k : ℕ) (P : Kind → Type 0) → (k ≡ 1 → P lookUp) → (k ≡ 2 → P send) → (k ≡ 3 → P receive) → (k ≡ 4 → P myEndpoints) → (k ≡ 5 → P myRights) → (k ≡ 6 → P grant) → (k ≡ 7 → P remove) → (k ≡ 15 → P stray) → P unknown → P (kindOf k)
+-- a number is the kind of one of the eight calls, of a stray, or unknown
+pub kind-elim : (k : ℕ) (P : Kind → Type 0) → (k ≡ 1 → P lookUp) → (k ≡ 2 → P send) → (k ≡ 3 → P receive) → (k ≡ 4 → P myEndpoints) → (k ≡ 5 → P myRights) → (k ≡ 6 → P grant) → (k ≡ 7 → P remove) → (k ≡ 8 → P revoke) → (k ≡ 15 → P stray) → P unknown → P (kindOf k)
 unfolding kindOf
-kind-elim k P f1 f2 f3 f4 f5 f6 f7 f15 f =
+kind-elim k P f1 f2 f3 f4 f5 f6 f7 f8 f15 f =
     cond-elim P (eqb k 1) (λ e. f1 (eqb-true k 1 e))
     (λ _. cond-elim P (eqb k 2) (λ e. f2 (eqb-true k 2 e))
     (λ _. cond-elim P (eqb k 3) (λ e. f3 (eqb-true k 3 e))
@@ -31,7 +31,8 @@ kind-elim k P f1 f2 f3 f4 f5 f6 f7 f15 f =
     (λ _. cond-elim P (eqb k 5) (λ e. f5 (eqb-true k 5 e))
     (λ _. cond-elim P (eqb k 6) (λ e. f6 (eqb-true k 6 e))
     (λ _. cond-elim P (eqb k 7) (λ e. f7 (eqb-true k 7 e))
-    (λ _. cond-elim P (eqb k 15) (λ e. f15 (eqb-true k 15 e)) (λ _. f))))))))
+    (λ _. cond-elim P (eqb k 8) (λ e. f8 (eqb-true k 8 e))
+    (λ _. cond-elim P (eqb k 15) (λ e. f15 (eqb-true k 15 e)) (λ _. f)))))))))
 
 -- a place refuses, or the next is looked at
 pub place-elim : (P : Decision → Type 0) (b : Bool) (n : ℕ) {next : Decision} → P (refused n) → (b ≡ false → P next) → P (place b n next)
@@ -66,6 +67,7 @@ pub record Rows (t : List ℕ) (c : Call) (P : Decision → Type 0) : Type 0 whe
   pub rightsListed : Known t c → kind (first c) ≡ 5 → P (listsRights (caller (first c)))
   pub granting : Known t c → kind (first c) ≡ 6 → fieldA (first c) < domains t → fieldB (first c) < domains t → fieldC (first c) ≤ allRights → holds (rights t (caller (first c)) (fieldA (first c))) GRANT ≡ true → holds (rights t (caller (first c)) (fieldA (first c))) (fieldC (first c)) ≡ true → influences t (caller (first c)) (fieldB (first c)) ≡ true → P (grants (fieldA (first c)) (fieldB (first c)) (fieldC (first c)))
   pub removing : Known t c → kind (first c) ≡ 7 → fieldA (first c) < domains t → holds (rights t (caller (first c)) (fieldA (first c))) REMOVE ≡ true → holds (rights t (caller (first c)) (fieldA (first c))) (fieldC (first c)) ≡ true → P (removes (fieldA (first c)) (caller (first c)) (fieldC (first c)))
+  pub revoking : Known t c → kind (first c) ≡ 8 → fieldA (first c) < domains t → fieldB (first c) < domains t → holds (rights t (caller (first c)) (fieldA (first c))) REVOKE ≡ true → influences t (caller (first c)) (fieldB (first c)) ≡ true → P (revokes (fieldA (first c)) (fieldB (first c)) (fieldC (first c)))
 
 number : (n : ℕ) → 10 ≤ n → n ≤ 23 → Number n
 number n l u = record { least = l; most = u }
@@ -107,26 +109,38 @@ module _ (t : List ℕ) (c : Call) (P : Decision → Type 0) (rows : Rows t c P)
       (λ o. place-elim P _ 19 (refuse 19 (omega arith) (omega arith))
       (λ w. rows .receiving k e (ltb-true _ _ (not-false _ b)) (eqb-true _ _ (not-false _ o)) (eqb-false _ _ w))))
 
-  grant-elim : Known t c → kind (first c) ≡ 6 → P (grantPlaces t (caller (first c)) (fieldA (first c)) (fieldB (first c)) (fieldC (first c)))
-  unfolding grantPlaces isSet
-  grant-elim k e =
+  -- 20 to 23 of a grant and of a revoke
+  rights-places-elim : (may : Bool) {row : Decision} → (fieldA (first c) < domains t → fieldB (first c) < domains t → fieldC (first c) ≤ allRights → may ≡ true → influences t (caller (first c)) (fieldB (first c)) ≡ true → P row) → P (rightsPlaces t (caller (first c)) (fieldA (first c)) (fieldB (first c)) (fieldC (first c)) may row)
+  unfolding rightsPlaces isSet
+  rights-places-elim may done =
       place-elim P _ 20 (refuse 20 (omega arith) (omega arith))
       (λ b. place-elim P _ 21 (refuse 21 (omega arith) (omega arith))
       (λ r. place-elim P _ 22 (refuse 22 (omega arith) (omega arith))
-      (λ h. place-elim P _ 23 (refuse 23 (omega arith) (omega arith))
+      (λ m. place-elim P _ 23 (refuse 23 (omega arith) (omega arith))
       (λ g.
-      let b′ = not-false (ltb (fieldA (first c)) (domains t) && ltb (fieldB (first c)) (domains t)) b in
-      let h′ = not-false (holds mine GRANT && holds mine (fieldC (first c))) h in
-      rows .granting k e
-      (ltb-true _ _ (and-left (ltb (fieldA (first c)) (domains t)) (ltb (fieldB (first c)) (domains t)) b′))
-      (ltb-true _ _ (and-right (ltb (fieldA (first c)) (domains t)) (ltb (fieldB (first c)) (domains t)) b′))
+      let target = ltb (fieldA (first c)) (domains t) in
+      let holder = ltb (fieldB (first c)) (domains t) in
+      done
+      (ltb-true _ _ (and-left target holder (not-false _ b)))
+      (ltb-true _ _ (and-right target holder (not-false _ b)))
       (leb-true _ _ (and-right (leb 1 (fieldC (first c))) (leb (fieldC (first c)) allRights) (not-false _ r)))
-      (and-left (holds mine GRANT) (holds mine (fieldC (first c))) h′)
-      (and-right (holds mine GRANT) (holds mine (fieldC (first c))) h′)
+      (not-false _ m)
       (not-false _ g)))))
-    where
-      mine : ℕ
-      mine = rights t (caller (first c)) (fieldA (first c))
+
+  grant-elim : Known t c → kind (first c) ≡ 6 → P (grantPlaces t (caller (first c)) (fieldA (first c)) (fieldB (first c)) (fieldC (first c)))
+  unfolding grantPlaces
+  grant-elim k e =
+      let mine = rights t (caller (first c)) (fieldA (first c)) in
+      let able = holds mine GRANT in
+      let all = holds mine (fieldC (first c)) in
+      rights-places-elim (able && all)
+      (λ lg lh most may toward. rows .granting k e lg lh most (and-left able all may) (and-right able all may) toward)
+
+  revoke-elim : Known t c → kind (first c) ≡ 8 → P (revokePlaces t (caller (first c)) (fieldA (first c)) (fieldB (first c)) (fieldC (first c)))
+  unfolding revokePlaces
+  revoke-elim k e =
+      rights-places-elim (holds (rights t (caller (first c)) (fieldA (first c))) REVOKE)
+      (λ lg lh _ may toward. rows .revoking k e lg lh may toward)
 
   remove-elim : Known t c → kind (first c) ≡ 7 → P (removePlaces t (caller (first c)) (fieldA (first c)) (fieldC (first c)))
   unfolding removePlaces
@@ -154,5 +168,6 @@ module _ (t : List ℕ) (c : Call) (P : Decision → Type 0) (rows : Rows t c P)
       (λ e. framed-elim myRights 5 e refl (λ k. rows .rightsListed k e))
       (λ e. framed-elim grant 6 e refl (λ k. grant-elim k e))
       (λ e. framed-elim remove 7 e refl (λ k. remove-elim k e))
+      (λ e. framed-elim revoke 8 e refl (λ k. revoke-elim k e))
       (λ _. refuse 10 (omega arith) (omega arith))
       (refuse 11 (omega arith) (omega arith))

@@ -18,7 +18,8 @@ every-row =
 
 pub every-purge-row : EveryPurgeRow purgeRows
 unfolding everything bitsOf setsAt purged
-every-purge-row = (refl, (refl, (refl, (refl, (refl, (refl, (refl, (refl, (refl, (refl, (refl, tt)))))))))))
+every-purge-row =
+    (refl, (refl, (refl, (refl, (refl, (refl, (refl, (refl, (refl, (refl, (refl, (refl, (refl, tt)))))))))))))
 
 pub every-code-row : EveryRow codeRows
 unfolding everything
@@ -30,7 +31,7 @@ every-table = (refl, (refl, (refl, (refl, (refl, (refl, (refl, (refl, (refl, tt)
 
 pub every-field-row : EveryRow fieldRows
 unfolding everything each removedOfAll endpointsNamed
-every-field-row = (refl, (refl, (refl, (refl, (refl, (refl, (refl, tt)))))))
+every-field-row = (refl, (refl, (refl, (refl, (refl, (refl, (refl, (refl, (refl, tt)))))))))
 
 pub any-words-row : AnyWordsHold
 unfolding everything ofAnyWords

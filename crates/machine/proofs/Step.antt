@@ -13,7 +13,7 @@ use borrow.Author.Tests.{lt-ltb, eq-eqb}
 use lib.Dec.{eqb, ltb}
 use lib.ListN.{length, take, drop}
 use Rattle.machine.specs.Word.{payload, word, caller, fieldA, fieldB, fieldC}
-use Rattle.machine.specs.Right.{SEND, GRANT, REMOVE, allRights, holds, adds, without, hasAny}
+use Rattle.machine.specs.Right.{SEND, GRANT, REMOVE, REVOKE, allRights, holds, adds, without, hasAny}
 use Rattle.machine.specs.Table.{domains, endpoints, rightsWord, rights, endpoint, setRights, setEndpoint}
 use Rattle.machine.specs.Queue.{name, owner, sent, received}
 use Rattle.machine.specs.Check.{rightsWordOk, endpointOk, Accepted}
@@ -190,6 +190,9 @@ call-spares t c v n =
       removing =
           λ k _ _ hr _.
           (spared u k (by-itself t u), spared _ k (by-right t u _ REMOVE (λ z. omega arith) hr));
+      revoking =
+          λ k _ _ _ hr m.
+          (spared _ k m, spared _ k (by-right t u _ REVOKE (λ z. omega arith) hr));
     })
 
 -- what agreeing on v comes to, word by word
@@ -328,6 +331,9 @@ call-in-order t c a =
       removing =
           λ k _ lg _ _.
           (k .below, lg, le-trans (without-le _ _) (held (caller (first c)) (fieldA (first c)) (k .below) lg));
+      revoking =
+          λ _ _ lg lh _ _.
+          (lh, lg, le-trans (without-le _ _) (held (fieldB (first c)) (fieldA (first c)) lh lg));
     })
   where
     held : (h g : ℕ) → h < domains t → g < domains t → rights t h g ≤ allRights
@@ -361,6 +367,7 @@ no-caller t c n =
       rightsListed = λ _ _. refl;
       granting = λ k _ _ _ _ _ _ _. absurd (n k);
       removing = λ k _ _ _ _. absurd (n k);
+      revoking = λ k _ _ _ _ _. absurd (n k);
     })
 
 refused-keeps : (t : List ℕ) (c : Call) (n : ℕ) → decide t c ≡ refused n → step t c ≡ t
@@ -399,6 +406,7 @@ step-consistent s t c accS accT f mine v lv agree =
       rightsListed = λ _ _ _ _. agree;
       granting = λ _ _ lg lh _ _ _ _ _ _. rights-step s t accS accT f v lv agree (λ r. adds r (fieldC (first c))) (fieldB (first c)) (fieldA (first c)) lh lg;
       removing = λ k _ lg _ _ _ _. rights-step s t accS accT f v lv agree (λ r. without r (fieldC (first c))) (caller (first c)) (fieldA (first c)) (k .below) lg;
+      revoking = λ _ _ lg lh _ _ _ _. rights-step s t accS accT f v lv agree (λ r. without r (fieldC (first c))) (fieldB (first c)) (fieldA (first c)) lh lg;
     })
     (subst (λ (d : Decision). InOrder s (effect s d)) same (call-in-order s c accS))
     (call-in-order t c accT))

@@ -1,5 +1,5 @@
--- No right from nowhere, and none lost but by its holder (specs/MachineClaims: EveryCallEachRight), call by call; the first from
--- there along every run (EveryRunNoRightFromNowhere). A remove is all or nothing, and of one right it is document 01's
+-- No right from nowhere, and none gone but by its holder's remove or by a revoke (specs/MachineClaims: EveryCallEachRight), call by
+-- call; the first from there along every run (EveryRunNoRightFromNowhere). A remove is all or nothing, and of one right it is document 01's
 -- (EveryRemoveAllOrNothing, EveryRemoveOfOne).
 -- Assumes nothing.
 use mathlib.Core.Path.{_≡_, refl, sym, ap, ap₂, subst, _∙_}
@@ -11,19 +11,19 @@ use Prim.Native.Nat.{ℕ, _^_, _<_}
 use native.Mathlib.Omega.{arith}
 use borrow.Author.Tests.{eqb-true}
 use lib.Dec.{eqb}
-use lib.ListN.{drop}
+use lib.ListN.{drop, set}
 use Rattle.machine.specs.Word.{payload}
-use Rattle.machine.specs.Right.{SEND, GRANT, REMOVE, isSet, holds, adds, without}
+use Rattle.machine.specs.Right.{SEND, GRANT, REMOVE, REVOKE, isSet, holds, adds, without}
 use Rattle.machine.specs.Table.{domains, rights, setRights, setEndpoint}
 use Rattle.machine.specs.Check.{Accepted}
 use Rattle.machine.specs.Call.{Call, Call.one, Call.two, callerOf, cut}
 use Rattle.machine.specs.Machine.{Decision, removePlaces, decide, effect, after, step}
 use Rattle.machine.specs.Influence.{influences}
-use Rattle.machine.specs.Machine.{Decision.grants, Decision.removes, Effect.newRights, Effect.newEndpoint}
+use Rattle.machine.specs.Machine.{Decision.grants, Decision.removes, Decision.revokes, Effect.newRights, Effect.newEndpoint}
 use Rattle.machine.specs.Run.{run}
 use Rattle.machine.specs.Everything.{everything}
 use Rattle.machine.specs.Examples.{T, L}
-use Rattle.machine.specs.Trail.{GivenBy, GivenAlong, RemovedBy}
+use Rattle.machine.specs.Trail.{GivenBy, GivenAlong, RemovedBy, RevokedBy}
 use Rattle.machine.specs.MachineClaims.{StaysAccepted, EveryCallEachRight, AllOrNothing, EveryRemoveAllOrNothing, removeOfOne, EveryRemoveOfOne, EveryRunNoRightFromNowhere}
 use Rattle.machine.proofs.Bools.{and-left, or-cases, either}
 use Rattle.machine.proofs.Table as table
@@ -40,12 +40,14 @@ unfolding rights
 written t a h g s o =
     ap payload (table.setRights-same t (accepted-sized t a) h g s (o .0) (o .1)) ∙ rights-payload s (o .2)
 
--- What h holds on g is as it was, or was added to by a grant under all that its places have shown, or was cut by h's own remove.
+-- What h holds on g is as it was, or was added to by a grant under all that its places have shown, or was cut by h's own remove
+-- or by a revoke.
 module _ (t : List ℕ) (c : Call) (a : Accepted t) (h g : ℕ) (ph : h < domains t) (pg : g < domains t)
     (P : ℕ → Type 0)
     (kept : P (rights t h g))
     (granted : (u r : ℕ) → callerOf c ≡ some u → u < domains t → decide t c ≡ grants g h r → holds (rights t u g) GRANT ≡ true → holds (rights t u g) r ≡ true → influences t u h ≡ true → P (adds (rights t h g) r))
-    (removed : (r : ℕ) → callerOf c ≡ some h → decide t c ≡ removes g h r → holds (rights t h g) REMOVE ≡ true → P (without (rights t h g) r)) where
+    (removed : (r : ℕ) → callerOf c ≡ some h → decide t c ≡ removes g h r → holds (rights t h g) REMOVE ≡ true → P (without (rights t h g) r))
+    (revoked : (u r : ℕ) → callerOf c ≡ some u → u < domains t → decide t c ≡ revokes g h r → holds (rights t u g) REVOKE ≡ true → influences t u h ≡ true → P (without (rights t h g) r)) where
   -- of a decision that the call came to
   Left : Decision → Type 0
   Left d = decide t c ≡ d → InOrder t (effect t d) → P (rights (after t (effect t d)) h g)
@@ -78,6 +80,10 @@ module _ (t : List ℕ) (c : Call) (a : Accepted t) (h g : ℕ) (ph : h < domain
             λ k _ _ may _ comes o.
             write-left _ _ _ o
             (λ p q. rw (← p, ← q) (removed _ (rw p (k .calledBy)) (rw (p, q) comes) (rw (p, q) may)));
+        revoking =
+            λ k _ _ _ may toward comes o.
+            write-left _ _ _ o
+            (λ p q. rw (← p, ← q) (revoked _ _ (k .calledBy) (k .below) (rw (p, q) comes) (rw q may) (rw p toward)));
       }
 
   pub rights-elim : P (rights (step t c) h g)
@@ -87,6 +93,14 @@ module _ (t : List ℕ) (c : Call) (a : Accepted t) (h g : ℕ) (ph : h < domain
 -- ---- a single right after one call
 
 module _ (t : List ℕ) (c : Call) (a : Accepted t) (h g k : ℕ) (ph : h < domains t) (pg : g < domains t) where
+  -- of a set that rights were cleared from: what is in it was there, and what was there is in it or among those
+  had : (r : ℕ) → holds (without (rights t h g) r) (2 ^ k) ≡ true → holds (rights t h g) (2 ^ k) ≡ true
+  had r now = and-left (holds (rights t h g) (2 ^ k)) _ (sym (holds-without (rights t h g) r k) ∙ now)
+
+  kept-or-among : (r : ℕ) → holds (rights t h g) (2 ^ k) ≡ true → (holds (without (rights t h g) r) (2 ^ k) ≡ true) ⊎ (holds r (2 ^ k) ≡ true)
+  kept-or-among r was =
+      ⊎-elim inr (λ x. inl (holds-without (rights t h g) r k ∙ ap₂ (λ b d. b && not d) was x)) (either (holds r (2 ^ k)))
+
   had-or-given : holds (rights (step t c) h g) (2 ^ k) ≡ true → (holds (rights t h g) (2 ^ k) ≡ true) ⊎ GivenBy h g (2 ^ k) t c
   had-or-given =
       rights-elim t c a h g ph pg
@@ -107,17 +121,33 @@ module _ (t : List ℕ) (c : Call) (a : Accepted t) (h g k : ℕ) (ph : h < doma
         toward = toward;
       }))
       (or-cases (holds (rights t h g) (2 ^ k)) (holds r (2 ^ k)) (sym (holds-adds (rights t h g) r k) ∙ now)))
-      (λ r _ _ _ now. inl (and-left (holds (rights t h g) (2 ^ k)) _ (sym (holds-without (rights t h g) r k) ∙ now)))
+      (λ r _ _ _ now. inl (had r now))
+      (λ u r _ _ _ _ _ now. inl (had r now))
 
-  kept-or-removed : holds (rights t h g) (2 ^ k) ≡ true → (holds (rights (step t c) h g) (2 ^ k) ≡ true) ⊎ RemovedBy h g (2 ^ k) t c
-  kept-or-removed had =
+  kept-or-cleared : holds (rights t h g) (2 ^ k) ≡ true → (holds (rights (step t c) h g) (2 ^ k) ≡ true) ⊎ (RemovedBy h g (2 ^ k) t c ⊎ RevokedBy h g (2 ^ k) t c)
+  kept-or-cleared was =
       rights-elim t c a h g ph pg
-      (λ s. (holds s (2 ^ k) ≡ true) ⊎ RemovedBy h g (2 ^ k) t c) (inl had)
-      (λ u r _ _ _ _ _ _. inl (rw (holds-adds, had)))
+      (λ s. (holds s (2 ^ k) ≡ true) ⊎ (RemovedBy h g (2 ^ k) t c ⊎ RevokedBy h g (2 ^ k) t c)) (inl was)
+      (λ u r _ _ _ _ _ _. inl (rw (holds-adds, was)))
       (λ r by comes may.
-      ⊎-elim (λ x. inr (record { removed = r; remove = comes; among = x; calledBy = by; mayRemove = may }))
-      (λ x. inl (holds-without (rights t h g) r k ∙ ap₂ (λ b d. b && not d) had x))
-      (either (holds r (2 ^ k))))
+      ⊎-elim inl (λ x. inr (inl (record { removed = r; remove = comes; among = x; calledBy = by; mayRemove = may })))
+      (kept-or-among r was))
+      (λ u r by below comes may toward.
+      ⊎-elim inl
+      (λ x.
+      inr
+      (inr
+      (record {
+        revoked = r;
+        caller = u;
+        revoke = comes;
+        among = x;
+        calledBy = by;
+        below = below;
+        mayRevoke = may;
+        toward = toward;
+      })))
+      (kept-or-among r was))
 
   -- the set after a call that writes it
   now : (s : ℕ) → effect t (decide t c) ≡ newRights h g s → rights (step t c) h g ≡ s
@@ -128,18 +158,25 @@ module _ (t : List ℕ) (c : Call) (a : Accepted t) (h g k : ℕ) (ph : h < doma
   unfolding effect
   given-now x = rw (now (adds (rights t h g) (x .given)) (ap (effect t) (x .grant)), holds-adds, x .among, or-true)
 
+  cleared-now : (r : ℕ) → effect t (decide t c) ≡ newRights h g (without (rights t h g) r) → holds r (2 ^ k) ≡ true → holds (rights (step t c) h g) (2 ^ k) ≡ false
+  cleared-now r e among = rw (now (without (rights t h g) r) e, holds-without, among, and-false)
+
   removed-now : RemovedBy h g (2 ^ k) t c → holds (rights (step t c) h g) (2 ^ k) ≡ false
   unfolding effect
-  removed-now x =
-      rw (now (without (rights t h g) (x .removed)) (ap (effect t) (x .remove)), holds-without, x .among, and-false)
+  removed-now x = cleared-now (x .removed) (ap (effect t) (x .remove)) (x .among)
+
+  revoked-now : RevokedBy h g (2 ^ k) t c → holds (rights (step t c) h g) (2 ^ k) ≡ false
+  unfolding effect
+  revoked-now x = cleared-now (x .revoked) (ap (effect t) (x .revoke)) (x .among)
 
 pub each-right : EveryCallEachRight
 each-right t c a h g k ph pg =
     record {
       hadOrGiven = had-or-given t c a h g k ph pg;
-      keptOrRemoved = kept-or-removed t c a h g k ph pg;
+      keptOrCleared = kept-or-cleared t c a h g k ph pg;
       given = given-now t c a h g k ph pg;
       removed = removed-now t c a h g k ph pg;
+      revoked = revoked-now t c a h g k ph pg;
     }
 
 -- ---- a remove of several rights, and of one
@@ -167,6 +204,7 @@ all-or-nothing t c a seven =
             cleared = λ k among. rw (now, holds-without, among, and-false);
             others = λ k among. rw (now, holds-without, among, and-true);
           });
+      revoking = λ _ other _ _ _ _ _. absurd (omega arith);
     })
     (call-in-order t c a)
 
@@ -204,7 +242,8 @@ no-right-from-nowhere t (c ∷ cs) a h g k ph pg held =
     (λ x. inr (later-gave t c cs h g (2 ^ k) x))
     (no-right-from-nowhere (step t c) cs (stays .accepted) h g k (omega arith) (omega arith) held)
 
--- ---- both come about: in L the second call gives domain 0 SEND on domain 2, and in P11 domain 1 gives up REMOVE on it
+-- ---- each comes about: in L the second call gives domain 0 SEND on domain 2; in P11 domain 1 gives up REMOVE on it; and where domain
+-- 1 has REVOKE on it, it takes SEND back from domain 0
 
 pub given-in-L : GivenAlong 0 2 SEND T (cut L)
 unfolding everything
@@ -231,3 +270,17 @@ given-in-L =
 pub removed-in-P11 : RemovedBy 1 2 REMOVE T (one 0x7042_0004)
 unfolding everything
 removed-in-P11 = record { removed = REMOVE; remove = refl; among = refl; calledBy = refl; mayRemove = refl }
+
+pub revoked-after-L : RevokedBy 0 2 SEND (set (set T 3 0x2000_0001) 6 0x2000_0008) (one 0x8042_0001)
+unfolding everything
+revoked-after-L =
+    record {
+      revoked = SEND;
+      caller = 1;
+      revoke = refl;
+      among = refl;
+      calledBy = refl;
+      below = omega arith;
+      mayRevoke = refl;
+      toward = refl;
+    }

@@ -32,9 +32,9 @@ cut [] = []
 cut (w ∷ []) = one w ∷ []
 cut (w ∷ v ∷ ws) = cond (pairs w v) (two w v ∷ cut ws) (one w ∷ cut (v ∷ ws))
 
--- the seven calls, a word of kind 15 that begins a call (document 01: a stray), and the unknown kinds
+-- the eight calls, a word of kind 15 that begins a call (document 01: a stray), and the unknown kinds
 pub data Kind : Type 0 where
-  lookUp send receive myEndpoints myRights grant remove stray unknown : Kind
+  lookUp send receive myEndpoints myRights grant remove revoke stray unknown : Kind
 
 -- which of these a word of kind k begins
 unfoldable pub kindOf : ℕ → Kind
@@ -43,7 +43,8 @@ kindOf k =
     (cond (eqb k 2) send
     (cond (eqb k 3) receive
     (cond (eqb k 4) myEndpoints
-    (cond (eqb k 5) myRights (cond (eqb k 6) grant (cond (eqb k 7) remove (cond (eqb k 15) stray unknown)))))))
+    (cond (eqb k 5) myRights
+    (cond (eqb k 6) grant (cond (eqb k 7) remove (cond (eqb k 8) revoke (cond (eqb k 15) stray unknown))))))))
 
 -- a call's kind is that of its first word
 unfoldable pub callKind : Call → Kind
@@ -62,6 +63,7 @@ unusedFields myEndpoints w = fieldA w ∷ fieldB w ∷ fieldC w ∷ []
 unusedFields myRights w = fieldA w ∷ fieldB w ∷ fieldC w ∷ []
 unusedFields grant w = []
 unusedFields remove w = fieldB w ∷ []
+unusedFields revoke w = []
 unusedFields stray w = []
 unusedFields unknown w = []
 

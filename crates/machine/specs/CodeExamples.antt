@@ -76,7 +76,7 @@ everyCode =
     -- 20, before 21: the target
     ∷ answered (0x6004_0000 ∷ []) (0x6000_0014 ∷ 0 ∷ 0 ∷ [])
     -- 21, before 22
-    ∷ answered (0x6003_0208 ∷ []) (0x6000_0015 ∷ 0 ∷ 0 ∷ [])
+    ∷ answered (0x6003_0210 ∷ []) (0x6000_0015 ∷ 0 ∷ 0 ∷ [])
     -- 21: no right at all
     ∷ answered (0x6001_0200 ∷ []) (0x6000_0015 ∷ 0 ∷ 0 ∷ [])
     -- 22: GRANT is not held
@@ -95,7 +95,7 @@ everyCode =
     ∷ answered (0x7084_0000 ∷ []) (0x7080_0014 ∷ 0 ∷ 0 ∷ [])
     -- 21, before 22: no right at all, and a bit more than there are rights; nothing is held on the target
     ∷ answered (0x7080_0000 ∷ []) (0x7080_0015 ∷ 0 ∷ 0 ∷ [])
-    ∷ answered (0x7080_0008 ∷ []) (0x7080_0015 ∷ 0 ∷ 0 ∷ [])
+    ∷ answered (0x7080_0010 ∷ []) (0x7080_0015 ∷ 0 ∷ 0 ∷ [])
     -- 22: REMOVE is held and the right is not; two rights, REMOVE and one that is not held
     ∷ answered (0x7082_0001 ∷ []) (0x7080_0016 ∷ 0 ∷ 0 ∷ [])
     ∷ answered (0x7082_0005 ∷ []) (0x7080_0016 ∷ 0 ∷ 0 ∷ [])

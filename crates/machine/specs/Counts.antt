@@ -10,7 +10,7 @@ use Rattle.machine.specs.Word.{payload, fieldB, answerCode}
 use Rattle.machine.specs.Table.{endpoint}
 use Rattle.machine.specs.Queue.{waiting, oldest, hasSpace}
 use Rattle.machine.specs.Call.{Call, Kind, first, callKind, secondPayload}
-use Rattle.machine.specs.Call.{Kind.lookUp, Kind.send, Kind.receive, Kind.myEndpoints, Kind.myRights, Kind.grant, Kind.remove, Kind.stray, Kind.unknown}
+use Rattle.machine.specs.Call.{Kind.lookUp, Kind.send, Kind.receive, Kind.myEndpoints, Kind.myRights, Kind.grant, Kind.remove, Kind.revoke, Kind.stray, Kind.unknown}
 use Rattle.machine.specs.Machine.{step, answer}
 
 -- a kind is that of a send
@@ -22,6 +22,7 @@ isSend myEndpoints = false
 isSend myRights = false
 isSend grant = false
 isSend remove = false
+isSend revoke = false
 isSend stray = false
 isSend unknown = false
 
@@ -34,6 +35,7 @@ isReceive myEndpoints = false
 isReceive myRights = false
 isReceive grant = false
 isReceive remove = false
+isReceive revoke = false
 isReceive stray = false
 isReceive unknown = false
 

@@ -25,7 +25,7 @@ unfolding allBelow numbersBelow firstBelow sumBelow
     queue.name queue.owner queue.capacity queue.waiting queue.lost queue.oldest queue.hasSpace queue.sendWithSpace
     queue.movedUp queue.received queue.sendToFull queue.sent
     machine.place machine.maySend machine.named machine.lookUpPlaces machine.sendPlaces
-    machine.receivePlaces machine.grantPlaces machine.removePlaces machine.framed machine.places machine.decide
+    machine.receivePlaces machine.rightsPlaces machine.grantPlaces machine.revokePlaces machine.removePlaces machine.framed machine.places machine.decide
     machine.effect machine.after machine.step machine.ownedBits machine.rightsBits machine.code machine.firstData
     machine.secondData machine.shownCaller machine.answerWord machine.answerTo machine.answer
     run answers

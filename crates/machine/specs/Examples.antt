@@ -100,7 +100,7 @@ abbrev pub T5 : List ℕ
 T5 = set T 0 0x1000_0002
 
 abbrev pub T6 : List ℕ
-T6 = set T 9 0x2000_0008
+T6 = set T 9 0x2000_0010
 
 abbrev pub T7 : List ℕ
 T7 = set T 24 0x5000_0002
@@ -121,7 +121,7 @@ rows =
     ∷ leaves T4 L (spaceOf 27) (unchanged 2 T4 (spaceOf 27))
     -- P5
     ∷ leaves T5 L (spaceOf 27) (unchanged 2 T5 (spaceOf 27))
-    -- P6
+    -- P6: a bit above the four rights (document 02 (i))
     ∷ leaves T6 L (spaceOf 27) (unchanged 4 T6 (spaceOf 27))
     -- P7
     ∷ leaves T7 L (spaceOf 27) (unchanged 5 T7 (spaceOf 27))

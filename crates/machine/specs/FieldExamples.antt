@@ -1,6 +1,6 @@
 -- Rows that pin the fields of a call and what each call reads and writes by them: every bit of a spare field and of the caller,
--- every unknown kind, which words make one call, which right each call asks for, the sets that a grant and a
--- remove take, a queue through all its slots, and both ends of the largest table. Worked out by hand from document 01.
+-- every unknown kind, which words make one call, which right each call asks for, the sets that a grant, a remove and a revoke
+-- take, a queue through all its slots, and both ends of the largest table. Worked out by hand from documents 01 and 02.
 use Prim.Native.Nat.{ℕ, _+_, _*_}
 use mathlib.Core.List.{List, [], _∷_, _++_}
 use lib.ListN.{set, replicate}
@@ -31,7 +31,6 @@ spareFields =
 abbrev pub unknowns : List Answered
 unknowns =
     answered (0x0000_0000 ∷ 0xF000_0001 ∷ []) (0x0000_000B ∷ 0 ∷ 0 ∷ 0xF000_000A ∷ 0 ∷ 0 ∷ [])
-    ∷ answered (0x8000_0000 ∷ 0xF000_0001 ∷ []) (0x8000_000B ∷ 0 ∷ 0 ∷ 0xF000_000A ∷ 0 ∷ 0 ∷ [])
     ∷ answered (0x9000_0000 ∷ 0xF000_0001 ∷ []) (0x9000_000B ∷ 0 ∷ 0 ∷ 0xF000_000A ∷ 0 ∷ 0 ∷ [])
     ∷ answered (0xA000_0000 ∷ 0xF000_0001 ∷ []) (0xA000_000B ∷ 0 ∷ 0 ∷ 0xF000_000A ∷ 0 ∷ 0 ∷ [])
     ∷ answered (0xB000_0000 ∷ 0xF000_0001 ∷ []) (0xB000_000B ∷ 0 ∷ 0 ∷ 0xF000_000A ∷ 0 ∷ 0 ∷ [])
@@ -50,9 +49,10 @@ abbrev pub cutting : List Answered
 cutting =
     answered (0x3080_0000 ∷ 0xF000_0001 ∷ []) (0x3080_0012 ∷ 0 ∷ 0 ∷ 0xF000_000A ∷ 0 ∷ 0 ∷ [])
     ∷ answered (0x40C0_0000 ∷ 0xF000_0001 ∷ []) (0x40C0_0000 ∷ 0 ∷ 0 ∷ 0xF000_000A ∷ 0 ∷ 0 ∷ [])
-    ∷ answered (0x50C0_0000 ∷ 0xF000_0001 ∷ []) (0x50C0_0000 ∷ 0x7040 ∷ 0 ∷ 0xF000_000A ∷ 0 ∷ 0 ∷ [])
+    ∷ answered (0x50C0_0000 ∷ 0xF000_0001 ∷ []) (0x50C0_0000 ∷ 0xF040 ∷ 0 ∷ 0xF000_000A ∷ 0 ∷ 0 ∷ [])
     ∷ answered (0x6000_0000 ∷ 0xF000_0001 ∷ []) (0x6000_0015 ∷ 0 ∷ 0 ∷ 0xF000_000A ∷ 0 ∷ 0 ∷ [])
     ∷ answered (0x7000_0000 ∷ 0xF000_0001 ∷ []) (0x7000_0015 ∷ 0 ∷ 0 ∷ 0xF000_000A ∷ 0 ∷ 0 ∷ [])
+    ∷ answered (0x8000_0000 ∷ 0xF000_0001 ∷ []) (0x8000_0015 ∷ 0 ∷ 0 ∷ 0xF000_000A ∷ 0 ∷ 0 ∷ [])
     ∷ answered (0xFFC0_0000 ∷ 0xF000_0001 ∷ []) (0xF000_000A ∷ 0 ∷ 0 ∷ 0xF000_000A ∷ 0 ∷ 0 ∷ [])
     ∷ answered (0x1000_0000 ∷ 0xE000_0006 ∷ []) (0x1000_000E ∷ 0 ∷ 0 ∷ 0xE000_000B ∷ 0 ∷ 0 ∷ [])
     ∷ answered (0x1000_0000 ∷ 0x7000_0000 ∷ []) (0x1000_000E ∷ 0 ∷ 0 ∷ 0x7000_0015 ∷ 0 ∷ 0 ∷ [])
@@ -62,7 +62,7 @@ cutting =
 -- four domains in which 3 has REMOVE alone on 1 and every right on itself, 1 has GRANT alone on 0 and none on itself, and 0 has
 -- SEND on 3
 abbrev pub oneRight : List ℕ
-oneRight = set (set (set (set fourDomains 4 0x2000_0001) 6 0x2000_0000) 14 0x2000_0004) 16 0x2000_0007
+oneRight = set (set (set (set fourDomains 4 0x2000_0001) 6 0x2000_0000) 14 0x2000_0004) 16 0x2000_000F
 
 -- which right a call asks for: calls on that table
 abbrev pub rightAsked : List Answered
@@ -87,7 +87,7 @@ rightAsked =
     ∷ answered (0x6060_0001 ∷ []) (0x6040_0014 ∷ 0 ∷ 0 ∷ [])
     ∷ answered (0x70E0_0001 ∷ []) (0x70C0_0014 ∷ 0 ∷ 0 ∷ [])
     -- 21: a grant of a set that has one bit more
-    ∷ answered (0x60C3_030F ∷ []) (0x60C0_0015 ∷ 0 ∷ 0 ∷ [])
+    ∷ answered (0x60C3_031F ∷ []) (0x60C0_0015 ∷ 0 ∷ 0 ∷ [])
     ∷ answered (0x60C3_0311 ∷ []) (0x60C0_0015 ∷ 0 ∷ 0 ∷ [])
     ∷ answered (0x60C3_0381 ∷ []) (0x60C0_0015 ∷ 0 ∷ 0 ∷ [])
     -- 23: no right on the recipient, which has some on the caller
@@ -96,8 +96,8 @@ rightAsked =
     -- every right at once
     ∷ answered (0x6040_0102 ∷ []) (0x6040_0000 ∷ 0 ∷ 0 ∷ [])
     ∷ answered (0x6040_0002 ∷ []) (0x6040_0000 ∷ 0 ∷ 0 ∷ [])
-    ∷ answered (0x60C3_0107 ∷ []) (0x60C0_0000 ∷ 0 ∷ 0 ∷ [])
-    ∷ answered (0x60C3_0307 ∷ []) (0x60C0_0000 ∷ 0 ∷ 0 ∷ [])
+    ∷ answered (0x60C3_010F ∷ []) (0x60C0_0000 ∷ 0 ∷ 0 ∷ [])
+    ∷ answered (0x60C3_030F ∷ []) (0x60C0_0000 ∷ 0 ∷ 0 ∷ [])
     -- 17: an owner that was given GRANT on itself has no SEND on itself
     ∷ answered (0x2000_0100 ∷ 0xF000_0001 ∷ []) (0x2000_0011 ∷ 0 ∷ 0 ∷ [])
     ∷ []
@@ -105,7 +105,7 @@ rightAsked =
 -- domain 1 gives domain 3 every right on 3; 3 removes the set r of them, and its rights on 3 are then left
 unfoldable pub removedOfAll : ℕ → ℕ → List Answered
 removedOfAll r left =
-    answered (0x6043_0307 ∷ []) (0x6040_0000 ∷ 0 ∷ 0 ∷ [])
+    answered (0x6043_030F ∷ []) (0x6040_0000 ∷ 0 ∷ 0 ∷ [])
     ∷ answered ((0x70C3_0000 + r) ∷ []) (0x70C0_0000 ∷ 0 ∷ 0 ∷ [])
     ∷ answered (0x50C0_0000 ∷ []) (0x50C0_0000 ∷ (0x40 + 0x1000 * left) ∷ 0 ∷ [])
     ∷ []
@@ -115,25 +115,83 @@ abbrev pub removes : List Answered
 removes =
     -- 21: no right at all, and bits that are no right
     each
-    (0x70C3_0000 ∷ 0x70C3_0008 ∷ 0x70C3_0009 ∷ 0x70C3_000F ∷ 0x70C3_0010 ∷ 0x70C3_0011 ∷ 0x70C3_0022 ∷ 0x70C3_0044
-    ∷ 0x70C3_0080 ∷ 0x70C3_0081 ∷ 0x70C3_00FF ∷ [])
+    (0x70C3_0000 ∷ 0x70C3_0010 ∷ 0x70C3_0011 ∷ 0x70C3_001F ∷ 0x70C3_0020 ∷ 0x70C3_0022 ∷ 0x70C3_0044 ∷ 0x70C3_0080
+    ∷ 0x70C3_0081 ∷ 0x70C3_00FF ∷ [])
     0x70C0_0015
     -- each set there is, out of all of them
-    ++ removedOfAll 1 6
-    ++ removedOfAll 2 5
-    ++ removedOfAll 3 4
-    ++ removedOfAll 4 3
-    ++ removedOfAll 5 2
-    ++ removedOfAll 6 1
-    ++ removedOfAll 7 0
+    ++ removedOfAll 1 14
+    ++ removedOfAll 2 13
+    ++ removedOfAll 3 12
+    ++ removedOfAll 4 11
+    ++ removedOfAll 5 10
+    ++ removedOfAll 6 9
+    ++ removedOfAll 7 8
+    ++ removedOfAll 8 7
+    ++ removedOfAll 9 6
+    ++ removedOfAll 10 5
+    ++ removedOfAll 11 4
+    ++ removedOfAll 12 3
+    ++ removedOfAll 13 2
+    ++ removedOfAll 14 1
+    ++ removedOfAll 15 0
     -- 22: REMOVE went with the others; then GRANT goes alone, and of a set with it nothing is cleared
     ++ (answered (0x70C3_0004 ∷ []) (0x70C0_0016 ∷ 0 ∷ 0 ∷ []) ∷ [])
-    ++ removedOfAll 2 5
-    ++ each (0x70C3_0003 ∷ 0x70C3_0006 ∷ 0x70C3_0007 ∷ []) 0x70C0_0016
-    ++ (answered (0x50C0_0000 ∷ []) (0x50C0_0000 ∷ 0x5040 ∷ 0 ∷ [])
+    ++ removedOfAll 2 13
+    ++ each (0x70C3_0003 ∷ 0x70C3_0006 ∷ 0x70C3_000F ∷ []) 0x70C0_0016
+    ++ (answered (0x50C0_0000 ∷ []) (0x50C0_0000 ∷ 0xD040 ∷ 0 ∷ [])
     -- what domain 1 holds is as it was
-    ∷ answered (0x5040_0000 ∷ []) (0x5040_0000 ∷ 0x7002 ∷ 0 ∷ [])
+    ∷ answered (0x5040_0000 ∷ []) (0x5040_0000 ∷ 0xF002 ∷ 0 ∷ [])
     ∷ [])
+
+-- four domains in which 0 has REVOKE alone on 1 and SEND on 2, 1 has SEND on itself, 2 has every right on 1 and REMOVE on itself,
+-- and 3 has every right but REVOKE on 1 and REVOKE on itself
+abbrev pub revokers : List ℕ
+revokers = set (set (set (set fourDomains 2 0x2000_0008) 10 0x2000_000F) 14 0x2000_0007) 16 0x2000_0008
+
+-- revokes on that table, with what the holder then holds
+abbrev pub revokes : List Answered
+revokes =
+    -- 12, before 20
+    answered (0x8121_0201 ∷ []) (0x8100_000C ∷ 0 ∷ 0 ∷ [])
+    -- 20: the target, also by its highest bit, and the holder; before 21
+    ∷ answered (0x8004_0200 ∷ []) (0x8000_0014 ∷ 0 ∷ 0 ∷ [])
+    ∷ answered (0x8021_0201 ∷ []) (0x8000_0014 ∷ 0 ∷ 0 ∷ [])
+    ∷ answered (0x8001_0400 ∷ []) (0x8000_0014 ∷ 0 ∷ 0 ∷ [])
+    ∷ answered (0x8001_8201 ∷ []) (0x8000_0014 ∷ 0 ∷ 0 ∷ [])
+    -- 21, before 22: no right at all, and bits that are no right
+    ∷ answered (0x80C1_0200 ∷ []) (0x80C0_0015 ∷ 0 ∷ 0 ∷ [])
+    ∷ answered (0x80C1_0210 ∷ []) (0x80C0_0015 ∷ 0 ∷ 0 ∷ [])
+    ∷ answered (0x8001_021F ∷ []) (0x8000_0015 ∷ 0 ∷ 0 ∷ [])
+    ∷ answered (0x8001_0281 ∷ []) (0x8000_0015 ∷ 0 ∷ 0 ∷ [])
+    -- 22, before 23: every right but REVOKE on the target, and none on the holder
+    ∷ answered (0x80C1_0201 ∷ []) (0x80C0_0016 ∷ 0 ∷ 0 ∷ [])
+    -- 22: REMOVE on the target is not REVOKE, not for one's own right either
+    ∷ answered (0x8082_0204 ∷ []) (0x8080_0016 ∷ 0 ∷ 0 ∷ [])
+    -- 23: REVOKE on the target, and no right on the holder, which has the right
+    ∷ answered (0x8001_0301 ∷ []) (0x8000_0017 ∷ 0 ∷ 0 ∷ [])
+    -- a right that is there, the same once more, and two of which one is there
+    ∷ answered (0x8001_0201 ∷ []) (0x8000_0000 ∷ 0 ∷ 0 ∷ [])
+    ∷ answered (0x5080_0000 ∷ []) (0x5080_0000 ∷ 0x4E0 ∷ 0 ∷ [])
+    ∷ answered (0x8001_0201 ∷ []) (0x8000_0000 ∷ 0 ∷ 0 ∷ [])
+    ∷ answered (0x5080_0000 ∷ []) (0x5080_0000 ∷ 0x4E0 ∷ 0 ∷ [])
+    ∷ answered (0x8001_0203 ∷ []) (0x8000_0000 ∷ 0 ∷ 0 ∷ [])
+    ∷ answered (0x5080_0000 ∷ []) (0x5080_0000 ∷ 0x4C0 ∷ 0 ∷ [])
+    -- REVOKE alone is a right on the holder; the holder is the target
+    ∷ answered (0x8001_0101 ∷ []) (0x8000_0000 ∷ 0 ∷ 0 ∷ [])
+    ∷ answered (0x5040_0000 ∷ []) (0x5040_0000 ∷ 0x002 ∷ 0 ∷ [])
+    -- by the holder itself, with no right on itself, of rights that it hasn't got
+    ∷ answered (0x8001_0007 ∷ []) (0x8000_0000 ∷ 0 ∷ 0 ∷ [])
+    ∷ answered (0x5000_0000 ∷ []) (0x5000_0000 ∷ 0x180 ∷ 0 ∷ [])
+    -- by the holder itself: REMOVE goes; then REVOKE itself, and with it the next
+    ∷ answered (0x8081_0204 ∷ []) (0x8080_0000 ∷ 0 ∷ 0 ∷ [])
+    ∷ answered (0x8081_020F ∷ []) (0x8080_0000 ∷ 0 ∷ 0 ∷ [])
+    ∷ answered (0x8081_0208 ∷ []) (0x8080_0016 ∷ 0 ∷ 0 ∷ [])
+    ∷ answered (0x5080_0000 ∷ []) (0x5080_0000 ∷ 0x400 ∷ 0 ∷ [])
+    -- REVOKE on itself, once
+    ∷ answered (0x80C3_0308 ∷ []) (0x80C0_0000 ∷ 0 ∷ 0 ∷ [])
+    ∷ answered (0x80C3_0308 ∷ []) (0x80C0_0016 ∷ 0 ∷ 0 ∷ [])
+    ∷ answered (0x50C0_0000 ∷ []) (0x50C0_0000 ∷ 0x070 ∷ 0 ∷ [])
+    ∷ []
 
 -- four domains in which 0 has SEND on itself
 abbrev pub selfSender : List ℕ
@@ -162,7 +220,7 @@ wholeQueue =
 abbrev pub bothEnds : List Answered
 bothEnds =
     -- my rights on targets 0 to 7 and 8 to 15; domain 15 has none
-    answered (0x5000_0000 ∷ []) (0x5000_0000 ∷ 0x5765_4321 ∷ 0x3123_4567 ∷ [])
+    answered (0x5000_0000 ∷ []) (0x5000_0000 ∷ 0xF765_4321 ∷ 0xF123_4567 ∷ [])
     ∷ answered (0x53C0_0000 ∷ []) (0x53C0_0000 ∷ 0 ∷ 0 ∷ [])
     -- my endpoints: all thirty-two
     ∷ answered (0x43C0_0000 ∷ []) (0x43C0_0000 ∷ 0xFFFF_FFFF ∷ 0 ∷ [])
@@ -190,14 +248,14 @@ fieldRows =
     (record {
       code = 0;
       calls = 23;
-      table = set (set oneRight 1 0x2000_0002) 8 0x2000_0007;
+      table = set (set oneRight 1 0x2000_0002) 8 0x2000_000F;
       answers = callAnswers rightAsked;
     })
-    ∷ leaves (set oneRight 8 0x2000_0007) (callWords removes) (spaceOf 123)
+    ∷ leaves (set oneRight 8 0x2000_000F) (callWords removes) (spaceOf 192)
     (record {
       code = 0;
-      calls = 41;
-      table = set (set oneRight 8 0x2000_0007) 16 0x2000_0005;
+      calls = 64;
+      table = set (set oneRight 8 0x2000_000F) 16 0x2000_000D;
       answers = callAnswers removes;
     })
     -- the queue has five left, from 0 on, and three free slots
@@ -221,6 +279,22 @@ fieldRows =
       calls = 11;
       table = set (set (set largest 256 0x2000_0003) 631 0x5000_0001) 633 0xF000_0005;
       answers = callAnswers bothEnds;
+    })
+    -- what was taken back: SEND of 1 on itself, all of 2 on 1, REVOKE of 3 on itself
+    ∷ leaves revokers (callWords revokes) (spaceOf 87)
+    (record {
+      code = 0;
+      calls = 29;
+      table = set (set (set revokers 6 0x2000_0000) 10 0x2000_0000) 16 0x2000_0000;
+      answers = callAnswers revokes;
+    })
+    -- every right on sixteen targets fills both data words
+    ∷ leaves (0x1000_1000 ∷ replicate 256 0x2000_000F) (0x53C0_0000 ∷ []) (spaceOf 3)
+    (record {
+      code = 0;
+      calls = 1;
+      table = 0x1000_1000 ∷ replicate 256 0x2000_000F;
+      answers = 0x53C0_0000 ∷ 0xFFFF_FFFF ∷ 0xFFFF_FFFF ∷ [];
     })
     -- 4,097 words are no list though they make 4,096 calls, and nothing is changed
     ∷ leaves T (0x1000_0000 ∷ 0xF000_0011 ∷ replicate 4095 0x4080_0000) (spaceOf 3) (unchanged 1 T (spaceOf 3))

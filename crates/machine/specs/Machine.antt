@@ -8,12 +8,12 @@ use mathlib.Core.Option.{Option, none, some}
 use lib.Dec.{eqb, ltb}
 use Rattle.machine.specs.Below.{firstBelow, sumBelow}
 use Rattle.machine.specs.Word.{kind, caller, fieldA, fieldB, fieldC}
-use Rattle.machine.specs.Right.{SEND, GRANT, REMOVE, isSet, holds, adds, without}
+use Rattle.machine.specs.Right.{SEND, GRANT, REMOVE, REVOKE, isSet, holds, adds, without}
 use Rattle.machine.specs.Table.{domains, endpoints, rights, endpoint, setRights, setEndpoint}
 use Rattle.machine.specs.Influence.{influences}
 use Rattle.machine.specs.Queue.{name, owner, waiting, lost, oldest, sent, received}
 use Rattle.machine.specs.Call.{Call, Kind, first, callKind, wordPlaces, secondPayload}
-use Rattle.machine.specs.Call.{Kind.lookUp, Kind.send, Kind.receive, Kind.myEndpoints, Kind.myRights, Kind.grant, Kind.remove, Kind.stray, Kind.unknown}
+use Rattle.machine.specs.Call.{Kind.lookUp, Kind.send, Kind.receive, Kind.myEndpoints, Kind.myRights, Kind.grant, Kind.remove, Kind.revoke, Kind.stray, Kind.unknown}
 
 -- What a call comes to: a refusal by its number, or the call's row with what it needs.
 pub data Decision : Type 0 where
@@ -25,6 +25,7 @@ pub data Decision : Type 0 where
   listsRights : (u : ℕ) → Decision
   grants : (target recipient r : ℕ) → Decision
   removes : (target u r : ℕ) → Decision
+  revokes : (target holder r : ℕ) → Decision
 
 -- a place of the paper's table: where its condition holds the call is refused by its number, else the next place is looked at
 unfoldable pub place : Bool → ℕ → Decision → Decision
@@ -55,13 +56,21 @@ receivePlaces t u e =
     place (not (ltb e (endpoints t))) 16
     (place (not (eqb (owner (endpoint t e)) u)) 18 (place (eqb (waiting (endpoint t e)) 0) 19 (receives e)))
 
--- the places 20 to 23, and then the grant's row: u gives the rights r on the target g to the recipient h, which it must influence
+-- the places 20 to 23, and then the row, of a call by which u alters h's rights on the target g by the set r: it must influence h,
+-- and 22 is whether it may
+unfoldable pub rightsPlaces : List ℕ → ℕ → ℕ → ℕ → ℕ → Bool → Decision → Decision
+rightsPlaces t u g h r may row =
+    place (not (ltb g (domains t) && ltb h (domains t))) 20
+    (place (not (isSet r)) 21 (place (not may) 22 (place (not (influences t u h)) 23 row)))
+
+-- a grant: u gives the rights r on the target g, which it must hold, to the recipient h
 unfoldable pub grantPlaces : List ℕ → ℕ → ℕ → ℕ → ℕ → Decision
 grantPlaces t u g h r =
-    place (not (ltb g (domains t) && ltb h (domains t))) 20
-    (place (not (isSet r)) 21
-    (place (not (holds (rights t u g) GRANT && holds (rights t u g) r)) 22
-    (place (not (influences t u h)) 23 (grants g h r))))
+    rightsPlaces t u g h r (holds (rights t u g) GRANT && holds (rights t u g) r) (grants g h r)
+
+-- a revoke (document 02 (i)): u clears the rights r on the target g from the holder h's, whatever h holds
+unfoldable pub revokePlaces : List ℕ → ℕ → ℕ → ℕ → ℕ → Decision
+revokePlaces t u g h r = rightsPlaces t u g h r (holds (rights t u g) REVOKE) (revokes g h r)
 
 -- the places 20 to 22, and then the remove's row: u clears the rights r, all of which it must hold, from its own on the target g
 -- (document 02 (b))
@@ -88,6 +97,8 @@ places t c myRights = framed t c myRights (listsRights (caller (first c)))
 places t c grant =
     framed t c grant (grantPlaces t (caller (first c)) (fieldA (first c)) (fieldB (first c)) (fieldC (first c)))
 places t c remove = framed t c remove (removePlaces t (caller (first c)) (fieldA (first c)) (fieldC (first c)))
+places t c revoke =
+    framed t c revoke (revokePlaces t (caller (first c)) (fieldA (first c)) (fieldB (first c)) (fieldC (first c)))
 
 -- what a call comes to on the table t
 unfoldable pub decide : List ℕ → Call → Decision
@@ -109,6 +120,7 @@ effect t (listsEndpoints u) = nothing
 effect t (listsRights u) = nothing
 effect t (grants g h r) = newRights h g (adds (rights t h g) r)
 effect t (removes g u r) = newRights u g (without (rights t u g) r)
+effect t (revokes g h r) = newRights h g (without (rights t h g) r)
 
 -- the table t with what an effect alters
 unfoldable pub after : List ℕ → Effect → List ℕ
@@ -138,6 +150,7 @@ code (listsEndpoints u) = 0
 code (listsRights u) = 0
 code (grants g h r) = 0
 code (removes g u r) = 0
+code (revokes g h r) = 0
 
 -- the first data word of the answer to a decision on the table t, zero where nothing is named
 unfoldable pub firstData : List ℕ → Decision → ℕ
@@ -149,6 +162,7 @@ firstData t (listsEndpoints u) = ownedBits t u
 firstData t (listsRights u) = rightsBits t u 0
 firstData t (grants g h r) = 0
 firstData t (removes g u r) = 0
+firstData t (revokes g h r) = 0
 
 -- and the second
 unfoldable pub secondData : List ℕ → Decision → ℕ
@@ -160,6 +174,7 @@ secondData t (listsEndpoints u) = 0
 secondData t (listsRights u) = rightsBits t u 8
 secondData t (grants g h r) = 0
 secondData t (removes g u r) = 0
+secondData t (revokes g h r) = 0
 
 -- the caller that an answer shows: as found, and 0 for a stray
 unfoldable pub shownCaller : Call → ℕ

@@ -18,7 +18,7 @@ use Rattle.machine.specs.Machine.{Decision, place, removePlaces, decide,
 use Rattle.machine.specs.Run.{run, answers}
 use Rattle.machine.specs.Influence.{influences}
 use Rattle.machine.specs.SameParts.{SameFrame, SamePart}
-use Rattle.machine.specs.Trail.{GivenBy, RemovedBy}
+use Rattle.machine.specs.Trail.{GivenBy, RemovedBy, RevokedBy}
 use Rattle.machine.specs.RunClaims.{Noninterference, NoRightFromNowhere, CountsBorneOut, InTurn}
 
 -- ---- one call
@@ -61,15 +61,16 @@ abbrev pub EveryCallAnswerDepends : Type 0
 EveryCallAnswerDepends = (s t : List ℕ) (c : Call) → Accepted t → AnswerDepends s t c
 
 -- What one call does to the single right 2 ^ k of h on g: one that h has after it, h had before it or the call gave; one that
--- h had before it, h has after it or h's own remove cleared; and a grant and a remove do what they say.
+-- h had before it, h has after it, or h's own remove or a revoke cleared; and a grant, a remove and a revoke do what they say.
 pub record EachRight (h g k : ℕ) (t : List ℕ) (c : Call) : Type 0 where
   pub hadOrGiven : holds (rights (step t c) h g) (2 ^ k) ≡ true → (holds (rights t h g) (2 ^ k) ≡ true) ⊎ GivenBy h g (2 ^ k) t c
-  pub keptOrRemoved : holds (rights t h g) (2 ^ k) ≡ true → (holds (rights (step t c) h g) (2 ^ k) ≡ true) ⊎ RemovedBy h g (2 ^ k) t c
+  pub keptOrCleared : holds (rights t h g) (2 ^ k) ≡ true → (holds (rights (step t c) h g) (2 ^ k) ≡ true) ⊎ (RemovedBy h g (2 ^ k) t c ⊎ RevokedBy h g (2 ^ k) t c)
   pub given : GivenBy h g (2 ^ k) t c → holds (rights (step t c) h g) (2 ^ k) ≡ true
   pub removed : RemovedBy h g (2 ^ k) t c → holds (rights (step t c) h g) (2 ^ k) ≡ false
+  pub revoked : RevokedBy h g (2 ^ k) t c → holds (rights (step t c) h g) (2 ^ k) ≡ false
 
--- No right comes from nowhere and none is lost but by its holder, call by call: on an accepted table, for any two domains and
--- each single right.
+-- No right comes from nowhere, and none goes but by its holder or by one that may revoke it, call by call: on an accepted table,
+-- for any two domains and each single right.
 abbrev pub EveryCallEachRight : Type 0
 EveryCallEachRight =
     (t : List ℕ) (c : Call) → Accepted t → (h g k : ℕ) → h < domains t → g < domains t → EachRight h g k t c

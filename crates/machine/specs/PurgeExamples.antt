@@ -121,6 +121,20 @@ purgeRows =
       kept = two 0x2040_0000 0xF000_0007 ∷ one 0x7040_0001 ∷ one 0x7040_0004 ∷ [];
       seen = gotSeven;
     })
+    -- a right revoked by another after use: 1 sends, 2 takes SEND back from it, and 1's next send is struck
+    ∷ pins (threeDomains (none3 ++ (0x2000_0001 ∷ 0x2000_0000 ∷ 0x2000_0000 ∷ []) ++ (0x2000_0008 ∷ 0x2000_0001 ∷ 0x2000_0000 ∷ []))) (0x2040_0000 ∷ 0xF000_0007 ∷ 0x8080_0101 ∷ 0x2040_0000 ∷ 0xF000_0008 ∷ []) 0
+    (record {
+      sets = 0b111 ∷ 0b101 ∷ 0b001 ∷ 0b001 ∷ [];
+      kept = two 0x2040_0000 0xF000_0007 ∷ one 0x8080_0101 ∷ [];
+      seen = gotSeven;
+    })
+    -- a revoke of a right of d joins its caller by its right on d, and d sees the right go
+    ∷ pins (threeDomains ((0x2000_0000 ∷ 0x2000_0000 ∷ 0x2000_0001 ∷ []) ++ (0x2000_0001 ∷ 0x2000_0000 ∷ 0x2000_0008 ∷ []) ++ none3)) (0x8042_0001 ∷ []) 0
+    (record {
+      sets = 0b011 ∷ 0b001 ∷ [];
+      kept = one 0x8042_0001 ∷ [];
+      seen = quiet [];
+    })
     -- a call made before its caller was given the right is struck
     ∷ pins (giver) (0x5080_0000 ∷ 0x6040_0201 ∷ []) 0
     (record {

@@ -16,9 +16,13 @@ GRANT = 2
 abbrev pub REMOVE : ℕ
 REMOVE = 4
 
+-- to take rights on it back, from whoever holds them (document 02 (i))
+abbrev pub REVOKE : ℕ
+REVOKE = 8
+
 -- the largest set: every right there is
 abbrev pub allRights : ℕ
-allRights = 7
+allRights = 15
 
 -- a set of rights that a call may name: at least one right, and none that isn't a right
 unfoldable pub isSet : ℕ → Bool

@@ -45,13 +45,13 @@ headerRows =
     ++ altered 0 (0x1000_0421 ∷ 0x1000_0423 ∷ 0x1000_0443 ∷ 0x1000_0483 ∷ []) 2
     ++ altered 0 (0x1000_0400 ∷ 0x1000_040B ∷ 0x1000_0413 ∷ 0x1000_0420 ∷ []) 3
 
--- the rights words, the first and the last: the kind, and bits 27–3
+-- the rights words, the first and the last: the kind, and bits 27–4
 abbrev pub rightsRows : List Coded
 rightsRows =
     altered 1 (0x0000_0000 ∷ 0x1000_0000 ∷ 0x3000_0000 ∷ 0xA000_0000 ∷ []) 4
-    ++ altered 1 (0x2000_0008 ∷ 0x2000_0080 ∷ 0x2000_0100 ∷ 0x2001_0000 ∷ 0x2800_0000 ∷ []) 4
-    ++ altered 16 (0x3000_0007 ∷ 0x2000_0008 ∷ []) 4
-    ++ altered 1 (0x2000_0001 ∷ 0x2000_0002 ∷ 0x2000_0004 ∷ 0x2000_0007 ∷ []) 0
+    ++ altered 1 (0x2000_0010 ∷ 0x2000_0080 ∷ 0x2000_0100 ∷ 0x2001_0000 ∷ 0x2800_0000 ∷ []) 4
+    ++ altered 16 (0x3000_0007 ∷ 0x2000_0010 ∷ []) 4
+    ++ altered 1 (0x2000_0001 ∷ 0x2000_0002 ∷ 0x2000_0004 ∷ 0x2000_0008 ∷ 0x2000_000F ∷ []) 0
 
 -- a name: the kind, and not zero in bits 27–0 taken together
 abbrev pub nameRows : List Coded
@@ -112,10 +112,10 @@ orderRows =
     ∷ coded (take 52 fourDomains) 3
     ∷ coded (fourDomains ++ (0xF000_0000 ∷ [])) 3
     ∷ coded (fourDomains ++ (0x3000_0007 ∷ 0x4000_0001 ∷ 0x5000_0000 ∷ 0x6000_0000 ∷ emptySlots)) 3
-    ∷ coded (0x1000_0421 ∷ 0x2000_0008 ∷ []) 2
-    ∷ coded (take 52 (set fourDomains 16 0x2000_0008)) 3
+    ∷ coded (0x1000_0421 ∷ 0x2000_0010 ∷ []) 2
+    ∷ coded (take 52 (set fourDomains 16 0x2000_0010)) 3
     ∷ coded (take 52 (set fourDomains 17 0x3000_0000)) 3
-    ∷ coded (set (set fourDomains 16 0x2000_0008) 17 0x3000_0000) 4
+    ∷ coded (set (set fourDomains 16 0x2000_0010) 17 0x3000_0000) 4
     ∷ []
 
 -- endpoints of domain 15, of capacity 8, with nothing waiting, by their names
@@ -135,8 +135,8 @@ names32 =
 abbrev pub largest : List ℕ
 largest =
     0x1000_1020
-    ∷ 0x2000_0001 ∷ 0x2000_0002 ∷ 0x2000_0003 ∷ 0x2000_0004 ∷ 0x2000_0005 ∷ 0x2000_0006 ∷ 0x2000_0007 ∷ 0x2000_0005
-    ∷ 0x2000_0007 ∷ 0x2000_0006 ∷ 0x2000_0005 ∷ 0x2000_0004 ∷ 0x2000_0003 ∷ 0x2000_0002 ∷ 0x2000_0001 ∷ 0x2000_0003
+    ∷ 0x2000_0001 ∷ 0x2000_0002 ∷ 0x2000_0003 ∷ 0x2000_0004 ∷ 0x2000_0005 ∷ 0x2000_0006 ∷ 0x2000_0007 ∷ 0x2000_000F
+    ∷ 0x2000_0007 ∷ 0x2000_0006 ∷ 0x2000_0005 ∷ 0x2000_0004 ∷ 0x2000_0003 ∷ 0x2000_0002 ∷ 0x2000_0001 ∷ 0x2000_000F
     ∷ (replicate 240 0x2000_0000 ++ endpointsNamed names32)
 
 -- the smallest table, one with no endpoint, the largest; then the largest with its last rights word or its last slot wrong,
@@ -144,9 +144,9 @@ largest =
 abbrev pub sizeRows : List Coded
 sizeRows =
     coded (0x1000_0100 ∷ 0x2000_0000 ∷ []) 0
-    ∷ coded (0x1000_0400 ∷ replicate 16 0x2000_0007) 0
+    ∷ coded (0x1000_0400 ∷ replicate 16 0x2000_000F) 0
     ∷ coded largest 0
-    ∷ coded (set largest 256 0x2000_0008) 4
+    ∷ coded (set largest 256 0x2000_0010) 4
     ∷ coded (set largest 640 0xF000_0001) 5
     ∷ coded (set largest 629 0x3800_0007) 5
     ∷ coded (0x1000_1100 ∷ replicate 289 0x2000_0000) 2

@@ -1,14 +1,14 @@
 -- By which calls a right comes and goes (the second line of the checklist): it is given by a grant, and goes by its holder's own
--- remove. A single right is one bit of a set: 2 ^ k, SEND at k 0, GRANT at 1, REMOVE at 2.
+-- remove or by a revoke. A single right is one bit of a set: 2 ^ k, SEND at k 0, GRANT at 1, REMOVE at 2, REVOKE at 3.
 use Prim.Native.Nat.{ℕ, _<_}
 use mathlib.Core.Path.{_≡_}
 use mathlib.Core.Bool.{true}
 use mathlib.Core.List.{List, _∷_, _++_}
 use mathlib.Core.Option.{some}
-use Rattle.machine.specs.Right.{GRANT, REMOVE, holds}
+use Rattle.machine.specs.Right.{GRANT, REMOVE, REVOKE, holds}
 use Rattle.machine.specs.Table.{domains, rights}
 use Rattle.machine.specs.Call.{Call, callerOf}
-use Rattle.machine.specs.Machine.{decide, Decision.grants, Decision.removes}
+use Rattle.machine.specs.Machine.{decide, Decision.grants, Decision.removes, Decision.revokes}
 use Rattle.machine.specs.Influence.{influences}
 use Rattle.machine.specs.Run.{run}
 
@@ -41,3 +41,15 @@ pub record RemovedBy (h g r : ℕ) (t : List ℕ) (c : Call) : Type 0 where
   pub among : holds removed r ≡ true
   pub calledBy : callerOf c ≡ some h
   pub mayRemove : holds (rights t h g) REMOVE ≡ true
+
+-- The call c, on the table t, is an unrefused revoke of h's rights on g with r among them; its caller is a domain that held REVOKE
+-- on g just before, and was h or had a right on h.
+pub record RevokedBy (h g r : ℕ) (t : List ℕ) (c : Call) : Type 0 where
+  pub revoked : ℕ
+  pub caller : ℕ
+  pub revoke : decide t c ≡ revokes g h revoked
+  pub among : holds revoked r ≡ true
+  pub calledBy : callerOf c ≡ some caller
+  pub below : caller < domains t
+  pub mayRevoke : holds (rights t caller g) REVOKE ≡ true
+  pub toward : influences t caller h ≡ true

@@ -14,8 +14,10 @@ impl Rights {
 
     pub const REMOVE: Rights = Rights { bits: 4 };
 
+    pub const REVOKE: Rights = Rights { bits: 8 };
+
     // the largest set: every right there is
-    pub const ALL: Rights = Rights { bits: 7 };
+    pub const ALL: Rights = Rights { bits: 15 };
 
     // Whether every right of r is in the set.
     pub fn holds(self, r: Rights) -> bool

@@ -9,13 +9,13 @@ use Rattle.machine.specs.Machine.{Decision, maySend}
 use Rattle.machine.specs.Influence.{influences, reaches}
 use Rattle.calls.specs.Decide.{knownCaller, refusedCall, decideCall}
 use Rattle.calls.specs.declared.Call.{Call}
-use Rattle.calls.specs.declared.Call.the-variants.{LookUp, Send, Receive, MyEndpoints, MyRights, Grant, Remove, Refused}
+use Rattle.calls.specs.declared.Call.the-variants.{LookUp, Send, Receive, MyEndpoints, MyRights, Grant, Remove, Revoke, Refused}
 use Rattle.rules.specs.declared.range.Range.{Range}
 use Rattle.rules.specs.Range.{followed, callerNumber, refusedNumbers, endpointNumbers, grantNumbers, removeNumbers, callNumbers}
-use Rattle.rules.specs.Access.{sendAccess, receiveAccess, grantAccess, removeAccess, callAccess}
+use Rattle.rules.specs.Access.{sendAccess, receiveAccess, grantAccess, revokeAccess, removeAccess, callAccess}
 
 pub decide-places : (t : List ℕ) (call : Call) → callNumbers (domains t) (endpoints t) call (callAccess t call) ≡ decideCall t call
-unfolding callNumbers callAccess decideCall callerNumber knownCaller refusedNumbers refusedCall endpointNumbers grantNumbers removeNumbers sendAccess receiveAccess grantAccess removeAccess maySend influences reaches machine.sendPlaces machine.receivePlaces machine.grantPlaces machine.removePlaces
+unfolding callNumbers callAccess decideCall callerNumber knownCaller refusedNumbers refusedCall endpointNumbers grantNumbers removeNumbers sendAccess receiveAccess grantAccess revokeAccess removeAccess maySend influences reaches machine.sendPlaces machine.receivePlaces machine.rightsPlaces machine.grantPlaces machine.revokePlaces machine.removePlaces
 decide-places t (Refused u r) = refl
 decide-places t (LookUp u x) = refl
 decide-places t (Send u e message) = refl
@@ -24,6 +24,7 @@ decide-places t (MyEndpoints u) = refl
 decide-places t (MyRights u) = refl
 decide-places t (Grant u g h r) = refl
 decide-places t (Remove u g r) = refl
+decide-places t (Revoke u g h r) = refl
 
 -- so whatever tested the numbers by n and m of the table goes on with what the table holds
 pub decided : (t : List ℕ) (n m : ℕ) (call : Call) (r : Range)

@@ -5,14 +5,14 @@ use mathlib.Core.Bool.{not, _&&_, _||_}
 use mathlib.Core.List.{List}
 use mathlib.Core.Option.{Option, none, some}
 use lib.Dec.{eqb}
-use Rattle.machine.specs.Right.{SEND, GRANT, REMOVE, holds, hasAny}
+use Rattle.machine.specs.Right.{SEND, GRANT, REMOVE, REVOKE, holds, hasAny}
 use Rattle.machine.specs.Table.{rights, endpoint}
 use Rattle.machine.specs.Queue.{owner, waiting}
 use Rattle.machine.specs.Machine.{Decision, place, named, lookUpPlaces}
-use Rattle.machine.specs.Machine.{Decision.refused, Decision.sends, Decision.receives, Decision.listsEndpoints, Decision.listsRights, Decision.grants, Decision.removes}
+use Rattle.machine.specs.Machine.{Decision.refused, Decision.sends, Decision.receives, Decision.listsEndpoints, Decision.listsRights, Decision.grants, Decision.removes, Decision.revokes}
 use Rattle.calls.specs.Number.{numberOf}
 use Rattle.calls.specs.declared.Call.{Call}
-use Rattle.calls.specs.declared.Call.the-variants.{LookUp, Send, Receive, MyEndpoints, MyRights, Grant, Remove, Refused}
+use Rattle.calls.specs.declared.Call.the-variants.{LookUp, Send, Receive, MyEndpoints, MyRights, Grant, Remove, Revoke, Refused}
 use Rattle.rules.specs.declared.access.Found.{Found}
 use Rattle.rules.specs.declared.access.Found.the-variants.{At, Nothing}
 
@@ -34,6 +34,11 @@ unfoldable pub grantAccess : ℕ → ℕ → ℕ → ℕ → ℕ → ℕ → Dec
 grantAccess u g h r s toward =
     place (not (holds s GRANT && holds s r)) 22 (place (not (eqb u h || hasAny toward)) 23 (grants g h r))
 
+-- places 22 and 23: u takes the rights r on the target g back from the holder h; it holds s on the target and toward on the holder
+unfoldable pub revokeAccess : ℕ → ℕ → ℕ → ℕ → ℕ → ℕ → Decision
+revokeAccess u g h r s toward =
+    place (not (holds s REVOKE)) 22 (place (not (eqb u h || hasAny toward)) 23 (revokes g h r))
+
 -- place 22: u clears the rights r from its own on the target g, which are s
 unfoldable pub removeAccess : ℕ → ℕ → ℕ → ℕ → Decision
 removeAccess u g r s = place (not (holds s REMOVE && holds s r)) 22 (removes g u r)
@@ -48,3 +53,4 @@ callAccess t (MyEndpoints u) = listsEndpoints u
 callAccess t (MyRights u) = listsRights u
 callAccess t (Grant u g h r) = grantAccess u g h r (rights t u g) (rights t u h)
 callAccess t (Remove u g r) = removeAccess u g r (rights t u g)
+callAccess t (Revoke u g h r) = revokeAccess u g h r (rights t u g) (rights t u h)

@@ -7,7 +7,7 @@ use Rattle.machine.specs.Machine.{Decision, Decision.refused, place}
 use Rattle.calls.specs.Number.{numberOf}
 use Rattle.calls.specs.declared.Refusal.{Refusal}
 use Rattle.calls.specs.declared.Call.{Call}
-use Rattle.calls.specs.declared.Call.the-variants.{LookUp, Send, Receive, MyEndpoints, MyRights, Grant, Remove, Refused}
+use Rattle.calls.specs.declared.Call.the-variants.{LookUp, Send, Receive, MyEndpoints, MyRights, Grant, Remove, Revoke, Refused}
 use Rattle.rules.specs.declared.range.Range.{Range}
 use Rattle.rules.specs.declared.range.Range.the-variants.{Within, Outside}
 
@@ -28,7 +28,7 @@ refusedNumbers n u r next = cond (ltb (numberOf r) 12) next (callerNumber n u ne
 unfoldable pub endpointNumbers : ℕ → ℕ → ℕ → ℕ → Decision → Decision
 endpointNumbers n m u e next = callerNumber n u (place (not (ltb e m)) 16 next)
 
--- places 12, 20 and 21 of a grant: the target g, the recipient h, the rights r
+-- places 12, 20 and 21 of a grant and of a revoke: the target g, the recipient or holder h, the rights r
 unfoldable pub grantNumbers : ℕ → ℕ → ℕ → ℕ → ℕ → Decision → Decision
 grantNumbers n u g h r next =
     callerNumber n u (place (not (ltb g n && ltb h n)) 20 (place (not (isSet r)) 21 next))
@@ -47,3 +47,4 @@ callNumbers n m (MyEndpoints u) next = callerNumber n u next
 callNumbers n m (MyRights u) next = callerNumber n u next
 callNumbers n m (Grant u g h r) next = grantNumbers n u g h r next
 callNumbers n m (Remove u g r) next = removeNumbers n u g r next
+callNumbers n m (Revoke u g h r) next = grantNumbers n u g h r next

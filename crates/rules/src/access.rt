@@ -4,11 +4,12 @@ use crate::Decision;
 use calls::Refusal;
 use right::Rights;
 ghost use mathlib.Core.Path.{_≡_};
-ghost use mathlib.Core.Bool.{_&&_};
-ghost use Rattle.machine.specs.Right.{holds};
+ghost use mathlib.Core.Bool.{_&&_, _||_};
+ghost use lib.Dec.{eqb};
+ghost use Rattle.machine.specs.Right.{holds, hasAny};
 ghost use Rattle.machine.specs.Machine.{lookUpPlaces};
 ghost use Rattle.rules.specs.Decision.{decisionOf};
-ghost use Rattle.rules.specs.Access.{foundOf, sendAccess, receiveAccess, grantAccess, removeAccess};
+ghost use Rattle.rules.specs.Access.{foundOf, sendAccess, receiveAccess, grantAccess, revokeAccess, removeAccess};
 
 // The endpoint that has a name, if one has it.
 pub enum Found {
@@ -59,6 +60,14 @@ fn holds_both(held: Rights, needed: Rights, given: u32) -> bool
     able & all
 }
 
+// Whether the caller influences another domain: it is that one, or has any right on it.
+fn influences(caller: u32, other: u32, toward: Rights) -> bool
+    ensures { λ b. ⌜ b ≡ (eqb caller other || hasAny (toward .bits)) ⌝ }
+{
+    let by_right = toward.has_any();
+    (caller == other) | by_right
+}
+
 // Places 22 and 23: held are the caller's rights on the target, toward those on the recipient.
 pub fn grant(
     caller: u32,
@@ -74,15 +83,41 @@ pub fn grant(
     if !holds {
         return Decision::Refused(Refusal::LacksRight);
     }
-    let by_right = toward.has_any();
-    if (caller == recipient) | by_right {
-        return Decision::Grants {
-            target,
-            recipient,
-            rights,
-        };
+    let near = influences(caller, recipient, toward);
+    if !near {
+        return Decision::Refused(Refusal::NoInfluence);
     }
-    Decision::Refused(Refusal::MayNotGive)
+    Decision::Grants {
+        target,
+        recipient,
+        rights,
+    }
+}
+
+// Places 22 and 23: held are the caller's rights on the target, toward those on the holder. What the holder has is not read.
+pub fn revoke(
+    caller: u32,
+    target: u32,
+    holder: u32,
+    rights: u32,
+    held: Rights,
+    toward: Rights,
+) -> Decision
+    ensures { λ d. ⌜ decisionOf d ≡ revokeAccess caller target holder rights (held .bits) (toward .bits) ⌝ }
+{
+    let holds = held.holds(Rights::REVOKE);
+    if !holds {
+        return Decision::Refused(Refusal::LacksRight);
+    }
+    let near = influences(caller, holder, toward);
+    if !near {
+        return Decision::Refused(Refusal::NoInfluence);
+    }
+    Decision::Revokes {
+        target,
+        holder,
+        rights,
+    }
 }
 
 // Place 22: held are the caller's rights on the target.

@@ -35,4 +35,9 @@ pub enum Decision {
         caller: u32,
         rights: u32,
     },
+    Revokes {
+        target: u32,
+        holder: u32,
+        rights: u32,
+    },
 }

@@ -64,7 +64,7 @@ pub fn of_endpoint(n: u32, m: u32, caller: u32, endpoint: u32) -> Range
     of_caller(n, caller).then(endpoint < m, Refusal::NoSuchEndpoint)
 }
 
-// Places 12, 20 and 21.
+// Places 12, 20 and 21 of a grant, and of a revoke, whose holder stands in the recipient's place.
 pub fn of_grant(n: u32, caller: u32, target: u32, recipient: u32, given: u32) -> Range
     ensures { λ r. ⌜ ((next : Decision) → followed r next ≡ grantNumbers n caller target recipient given next) ⌝ }
 {
@@ -73,7 +73,7 @@ pub fn of_grant(n: u32, caller: u32, target: u32, recipient: u32, given: u32) ->
         .then(is_set(given), Refusal::BadRights)
 }
 
-// Places 12, 20 and 21.
+// Places 12, 20 and 21 of a remove.
 pub fn of_remove(n: u32, caller: u32, target: u32, given: u32) -> Range
     ensures { λ r. ⌜ ((next : Decision) → followed r next ≡ removeNumbers n caller target given next) ⌝ }
 {

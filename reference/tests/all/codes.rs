@@ -95,14 +95,14 @@ fn code_3_bytes() {
 #[test]
 fn code_4_rights_words() {
     for place in 1..=9 {
-        for good in [0x2000_0000, 0x2000_0007] {
+        for good in [0x2000_0000, 0x2000_0008, 0x2000_000F] {
             checked_with(place, good, 0);
         }
-        for bad in [0x2000_0008, 0x2800_0000, 0x3000_0000, 0, 0x6000_0000] {
+        for bad in [0x2000_0010, 0x2800_0000, 0x3000_0000, 0, 0x6000_0000] {
             checked_with(place, bad, 4);
         }
     }
-    checked(&table_with(&[(9, 0x2000_0008), (10, 0x3000_0000)]), 4);
+    checked(&table_with(&[(9, 0x2000_0010), (10, 0x3000_0000)]), 4);
     checked_with(10, 0x3000_0000, 5);
 }
 
@@ -191,7 +191,7 @@ fn code_10_stray() {
 #[test]
 fn code_11_unknown_kind() {
     for kind in 0..16 {
-        let unknown = kind == 0 || (8..=14).contains(&kind);
+        let unknown = kind == 0 || (9..=14).contains(&kind);
         let first = call_word(kind, 1, 0, 0, 0);
         assert_eq!(code(&TABLE_T, &[first]) == 11, unknown, "kind {kind}");
         // 11 is before 12 and 13; the caller is answered as found.
@@ -206,7 +206,7 @@ fn code_11_unknown_kind() {
 
 #[test]
 fn code_12_unknown_caller() {
-    for kind in 1..8 {
+    for kind in 1..=8 {
         for caller in [3, 4, 63] {
             // Before 13 and 14 too.
             let first = call_word(kind, caller, 0, 0, 0);
@@ -227,14 +227,14 @@ fn unused_fields(kind: u32) -> [bool; 3] {
     match kind {
         1 | 4 | 5 => [true, true, true],
         2 | 3 => [true, false, true],
-        6 => [false, false, false],
+        6 | 8 => [false, false, false],
         _ => [false, true, false],
     }
 }
 
 #[test]
 fn code_13_unused_field() {
-    for kind in 1..8 {
+    for kind in 1..=8 {
         for (field, unused) in unused_fields(kind).into_iter().enumerate() {
             let (low, high) = [(1 << 16, 1 << 21), (1 << 8, 1 << 15), (1, 1 << 7)][field];
             for bit in [low, high] {
@@ -298,13 +298,13 @@ fn code_16_no_such_endpoint() {
 #[test]
 fn code_17_no_send_right() {
     // Endpoint 1 belongs to domain 2; domain 0 sends.
-    for set in 0..8 {
+    for set in 0..16 {
         let table = table_with(&[(place::rights(0, 2), 0x2000_0000 | set)]);
         let expected = if set & right::SEND == 0 { 17 } else { 0 };
         assert_eq!(code(&table, &[0x2000_0100, SECOND]), expected);
     }
     // The owner itself needs SEND on itself, like anybody else.
-    for set in 0..8 {
+    for set in 0..16 {
         let table = table_with(&[(place::rights(2, 2), 0x2000_0000 | set)]);
         let expected = if set & right::SEND == 0 { 17 } else { 0 };
         assert_eq!(code(&table, &[0x2080_0100, SECOND]), expected);
@@ -339,7 +339,7 @@ fn code_19_nothing_waits() {
 
 #[test]
 fn code_20_unknown_domain_named() {
-    for (target, recipient, expected) in [
+    for (target, other, expected) in [
         (2, 2, false),
         (3, 0, true),
         (0, 3, true),
@@ -347,8 +347,10 @@ fn code_20_unknown_domain_named() {
         (0, 255, true),
     ] {
         // C is 0, which would be 21 and isn't looked at yet.
-        let grant = call_word(6, 1, target, recipient, 0);
-        assert_eq!(code(&TABLE_T, &[grant]) == 20, expected);
+        for kind in [6, 8] {
+            let first = call_word(kind, 1, target, other, 0);
+            assert_eq!(code(&TABLE_T, &[first]) == 20, expected);
+        }
     }
     for (target, expected) in [(2, false), (3, true), (63, true)] {
         let remove = call_word(7, 1, target, 0, 0);
@@ -360,8 +362,8 @@ fn code_20_unknown_domain_named() {
 fn code_21_rights_named() {
     for c in 0..256 {
         // Domain 0 has no right on itself, so whatever passes 21 is 22.
-        let expected = if (1..=7).contains(&c) { 22 } else { 21 };
-        for kind in [6, 7] {
+        let expected = if (1..=15).contains(&c) { 22 } else { 21 };
+        for kind in [6, 7, 8] {
             let call = call_word(kind, 0, 0, 0, c);
             assert_eq!(code(&TABLE_T, &[call]), expected, "kind {kind} {c}");
         }
@@ -370,42 +372,71 @@ fn code_21_rights_named() {
 
 #[test]
 fn code_22_rights_held() {
-    for held in 0..8 {
+    for held in 0..16 {
         let table = table_with(&[(place::rights(1, 2), 0x2000_0000 | held)]);
-        for c in 1..8 {
-            let needed = right::GRANT | c;
-            let expected = if held & needed == needed { 0 } else { 22 };
-            let grant = call_word(6, 1, 2, 0, c);
-            assert_eq!(code(&table, &[grant]), expected, "{held} {c}");
-            let needed = right::REMOVE | c;
-            let expected = if held & needed == needed { 0 } else { 22 };
-            let remove = call_word(7, 1, 2, 0, c);
-            assert_eq!(code(&table, &[remove]), expected, "{held} {c}");
+        for c in 1..16 {
+            let code_with = |kind, other| code(&table, &[call_word(kind, 1, 2, other, c)]);
+            let expected = |needed| if held & needed == needed { 0 } else { 22 };
+            assert_eq!(code_with(6, 0), expected(right::GRANT | c), "{held} {c}");
+            assert_eq!(code_with(7, 0), expected(right::REMOVE | c), "{held} {c}");
+            // A revoke needs none of the rights that it takes back.
+            assert_eq!(code_with(8, 0), expected(right::REVOKE), "{held} {c}");
+            assert_eq!(code_with(8, 1), expected(right::REVOKE), "{held} {c}");
         }
     }
 }
 
+/// A grant and a revoke by domain 1 of SEND on domain 2, to or from another.
+fn grant_and_revoke(other: usize) -> [u32; 2] {
+    [call_word(6, 1, 2, other, 1), call_word(8, 1, 2, other, 1)]
+}
+
 #[test]
-fn code_23_no_right_on_the_recipient() {
-    // Domain 1 grants rights on domain 2 to domain 0.
-    let grant = call_word(6, 1, 2, 0, 1);
-    for set in 0..8 {
-        let table = table_with(&[(place::rights(1, 0), 0x2000_0000 | set)]);
-        let expected = if set == 0 { 23 } else { 0 };
-        assert_eq!(code(&table, &[grant]), expected);
+fn code_23_no_right_on_the_recipient_or_holder() {
+    let all = (place::rights(1, 2), 0x2000_000F);
+    for set in 0..16 {
+        let table = table_with(&[all, (place::rights(1, 0), 0x2000_0000 | set)]);
+        for first in grant_and_revoke(0) {
+            let expected = if set == 0 { 23 } else { 0 };
+            assert_eq!(code(&table, &[first]), expected);
+        }
+        // The other's right on the caller is none of the caller's.
+        let table = table_with(&[
+            all,
+            (place::rights(1, 0), 0x2000_0000),
+            (place::rights(0, 1), 0x2000_0000 | set),
+        ]);
+        for first in grant_and_revoke(0) {
+            assert_eq!(code(&table, &[first]), 23);
+        }
     }
-    // To itself without a right on itself; to the target, on which it has some.
-    assert_eq!(code(&TABLE_T, &[call_word(6, 1, 2, 1, 7)]), 0);
-    assert_eq!(code(&TABLE_T, &[call_word(6, 1, 2, 2, 7)]), 0);
-    // 22 is before 23; the recipient's right on the caller is none of its own.
+    // Itself, without a right on itself; the target, on which it has some.
+    for other in [1, 2] {
+        for first in grant_and_revoke(other) {
+            assert_eq!(code(&table_with(&[all]), &[first]), 0);
+        }
+    }
+    // 22 is before 23.
     let table = table_with(&[
         (place::rights(1, 0), 0x2000_0000),
         (place::rights(1, 2), 0x2000_0001),
     ]);
-    assert_eq!(code(&table, &[grant]), 22);
-    // The recipient has the right already, and it is no refusal.
-    let table = table_with(&[(place::rights(0, 2), 0x2000_0007)]);
-    assert_eq!(code(&table, &[grant]), 0);
+    for first in grant_and_revoke(0) {
+        assert_eq!(code(&table, &[first]), 22);
+    }
+}
+
+#[test]
+fn what_the_recipient_or_holder_has_is_no_refusal() {
+    for has in 0..16 {
+        let table = table_with(&[
+            (place::rights(1, 2), 0x2000_000F),
+            (place::rights(0, 2), 0x2000_0000 | has),
+        ]);
+        for first in grant_and_revoke(0) {
+            assert_eq!(code(&table, &[first]), 0);
+        }
+    }
 }
 
 #[test]

@@ -76,7 +76,7 @@ fn p5_no_domain() {
 
 #[test]
 fn p6_last_rights_word() {
-    refused(&table_with(&[(9, 0x2000_0008)]), 4);
+    refused(&table_with(&[(9, 0x2000_0010)]), 4);
 }
 
 #[test]

@@ -89,6 +89,27 @@ fn removes_name_sets_and_sets_with_one_right_missing() {
     assert!(one_missing > 30, "one right missing {one_missing}");
 }
 
+/// Revokes that are done, by the holder itself and by others, of rights that the
+/// holder has and of rights that it lacks.
+#[test]
+fn revokes_are_by_holders_and_others_of_rights_held_and_missing() {
+    let mut met = [[0; 2]; 2];
+    for seed in 0..600 {
+        let rng = &mut Rng::new(seed);
+        let mut now = table(rng, 6, 6);
+        for call in cut(&list(rng, &now, 60)) {
+            let before = now.clone();
+            let done = code_of(&step(&mut now, &call)) == 0;
+            if call.kind() == 8 && done {
+                let missing = call.c() & !rights(&before, call.b() as usize, call.a() as usize);
+                let by_holder = call.caller() == Some(call.b());
+                met[usize::from(by_holder)][usize::from(missing != 0)] += 1;
+            }
+        }
+    }
+    assert!(met.iter().flatten().all(|&times| times > 50), "{met:?}");
+}
+
 #[test]
 fn every_code_of_an_entry_is_met() {
     let mut met = BTreeSet::new();

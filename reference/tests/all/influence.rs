@@ -42,7 +42,7 @@ fn influence_is_oneself_or_any_right() {
             assert_eq!(influences(&TABLE_T, u, v), influence);
         }
     }
-    for set in 0..8 {
+    for set in 0..16 {
         let table = table_with(&[(place::rights(2, 0), 0x2000_0000 | set)]);
         assert_eq!(influences(&table, 2, 0), set != 0);
     }
@@ -117,6 +117,13 @@ fn the_table_is_the_one_just_before_the_call() {
     let list = [asks(2), call_word(6, 1, 0, 2, 1)];
     let expected = [vec![0, 1], vec![0, 1], vec![0]];
     assert_eq!(sets(&table, &list, 0), expected);
+
+    // 1 takes the right on 0 back from 2, which has it just before that call.
+    let table = rights_table(3, &[(1, 0, 8), (1, 2, 1), (2, 0, 1)]);
+    let list = [asks(2), call_word(8, 1, 0, 2, 1), asks(2)];
+    let expected = [vec![0, 1, 2], vec![0, 1], vec![0], vec![0]];
+    assert_eq!(sets(&table, &list, 0), expected);
+    assert_eq!(purge(&table, &cut(&list), 0), [true, true, false]);
 }
 
 #[test]
@@ -129,6 +136,7 @@ fn a_refused_call_counts_like_any_other() {
         call_word(2, 1, 0, 0, 0),
         call_word(3, 1, 0, 0, 0),
         call_word(6, 1, 0, 0, 7),
+        call_word(8, 1, 0, 0, 1),
     ];
     for first in refused {
         assert_eq!(sets(&table, &[first], 0), [vec![0, 1], vec![0]]);
@@ -139,7 +147,7 @@ fn a_refused_call_counts_like_any_other() {
 
 #[test]
 fn strays_and_unknown_callers_are_struck_and_never_join() {
-    let table = rights_table(2, &[(0, 1, 7), (1, 0, 7), (0, 0, 7), (1, 1, 7)]);
+    let table = rights_table(2, &[(0, 1, 15), (1, 0, 15), (0, 0, 15), (1, 1, 15)]);
     for caller in 0..64 {
         let stray = call_word(15, caller, 0, 0, 0);
         for d in 0..2 {

@@ -16,6 +16,9 @@ struct Met {
     struck_and_altering: usize,
     grants: usize,
     removes: usize,
+    revokes: usize,
+    /// Revokes that are done of rights that the holder doesn't all have.
+    revokes_of_missing: usize,
     full_sends: usize,
     /// Members of a first set that had no right on the domain at the start.
     indirect_members: usize,
@@ -88,6 +91,13 @@ fn count_calls(table: &[u32], calls: &[Call], met: &mut Met) {
         let altered = now != before;
         met.grants += usize::from(call.kind() == 6 && altered);
         met.removes += usize::from(call.kind() == 7 && altered);
+        met.revokes += usize::from(call.kind() == 8 && altered);
+        met.revokes_of_missing += usize::from(
+            call.kind() == 8 && done && {
+                let (target, holder) = (call.a() as usize, call.b() as usize);
+                call.c() & !reference::table::rights(&before, holder, target) != 0
+            },
+        );
         let endpoint = call.b() as usize;
         met.full_sends += usize::from(
             call.kind() == 2
@@ -119,6 +129,9 @@ fn views_are_equal_on_small_tables() {
     assert!(altering > 4_000, "struck and altering {altering}");
     assert!(met.grants > 1_000, "grants {}", met.grants);
     assert!(met.removes > 1_000, "removes {}", met.removes);
+    assert!(met.revokes > 1_000, "revokes {}", met.revokes);
+    let missing = met.revokes_of_missing;
+    assert!(missing > 300, "revokes of rights not held {missing}");
     assert!(met.full_sends > 1_000, "full sends {}", met.full_sends);
     let indirect = met.indirect_members;
     assert!(indirect > 500, "indirect members {indirect}");
@@ -131,5 +144,5 @@ fn views_are_equal_on_small_tables() {
 fn views_are_equal_on_large_tables() {
     let met = search(0..60, 16, 32, 120);
     assert!(met.kept > 5_000 && met.struck > 2_000);
-    assert!(met.grants > 50 && met.removes > 50);
+    assert!(met.grants > 50 && met.removes > 50 && met.revokes > 50);
 }

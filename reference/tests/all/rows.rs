@@ -124,21 +124,22 @@ fn my_rights_gives_four_bits_for_each_target() {
     done(&TABLE_T, &[0x5080_0000], [0, 0], &[]);
     let mut table = bare_table(16, 0);
     for target in 0..16 {
-        table[1 + 16 * 5 + target] |= (target % 8) as u32;
+        table[1 + 16 * 5 + target] |= target as u32;
     }
-    let data = [0x7654_3210, 0x7654_3210];
+    let data = [0x7654_3210, 0xFEDC_BA98];
     done(&table, &[0x5140_0000], data, &[]);
     table[1 + 16 * 5 + 8] = 0x2000_0007;
-    let data = [0x7654_3210, 0x7654_3217];
+    let data = [0x7654_3210, 0xFEDC_BA97];
     done(&table, &[0x5140_0000], data, &[]);
 }
 
 #[test]
 fn grant_adds_to_the_recipients_rights_on_the_target() {
-    for had in 0..8 {
-        for given in 1..8 {
+    for had in 0..16 {
+        for given in 1..16 {
             let at = place::rights(0, 2);
-            let table = table_with(&[(at, 0x2000_0000 | had)]);
+            let all = (place::rights(1, 2), 0x2000_000F);
+            let table = table_with(&[all, (at, 0x2000_0000 | had)]);
             let changes = [(at, 0x2000_0000 | had | given)];
             done(&table, &[call_word(6, 1, 2, 0, given)], [0, 0], &changes);
         }
@@ -153,9 +154,9 @@ fn grant_adds_to_the_recipients_rights_on_the_target() {
 fn remove_clears_a_set_of_the_callers_own_together() {
     let at = place::rights(1, 2);
     // Whatever set with REMOVE is held, and each set within it.
-    for held in 4..8 {
+    for held in [4, 5, 6, 7, 12, 13, 14, 15] {
         let table = table_with(&[(at, 0x2000_0000 | held)]);
-        for set in (1..8).filter(|set| held & set == *set) {
+        for set in (1..16).filter(|set| held & set == *set) {
             let changes = [(at, 0x2000_0000 | (held - set))];
             done(&table, &[call_word(7, 1, 2, 0, set)], [0, 0], &changes);
         }
@@ -163,6 +164,28 @@ fn remove_clears_a_set_of_the_callers_own_together() {
     let table = table_with(&[(place::rights(0, 0), 0x2000_0004)]);
     let changes = [(place::rights(0, 0), 0x2000_0000)];
     done(&table, &[call_word(7, 0, 0, 0, 4)], [0, 0], &changes);
+}
+
+#[test]
+fn revoke_clears_a_set_of_the_holders_whether_held_or_not() {
+    let at = place::rights(0, 2);
+    for held in 0..16 {
+        let may = (place::rights(1, 2), 0x2000_0008);
+        let table = table_with(&[may, (at, 0x2000_0000 | held)]);
+        for set in 1..16 {
+            let changes = [(at, 0x2000_0000 | (held & (15 - set)))];
+            done(&table, &[call_word(8, 1, 2, 0, set)], [0, 0], &changes);
+        }
+    }
+    // One's own rights, REVOKE among them, and all three domains being one.
+    let at = place::rights(1, 2);
+    let table = table_with(&[(at, 0x2000_000B)]);
+    let revoke = [call_word(8, 1, 2, 1, 9)];
+    done(&table, &revoke, [0, 0], &[(at, 0x2000_0002)]);
+    let at = place::rights(0, 0);
+    let table = table_with(&[(at, 0x2000_000F)]);
+    let revoke = [call_word(8, 0, 0, 0, 15)];
+    done(&table, &revoke, [0, 0], &[(at, 0x2000_0000)]);
 }
 
 #[test]

@@ -4,7 +4,9 @@
 
 use std::ops::RangeInclusive;
 
-use reference::calls::{cut, Call, GRANT, LOOK_UP, MY_ENDPOINTS, MY_RIGHTS, RECEIVE, REMOVE, SEND};
+use reference::calls::{
+    cut, Call, GRANT, LOOK_UP, MY_ENDPOINTS, MY_RIGHTS, RECEIVE, REMOVE, REVOKE, SEND,
+};
 use reference::generate::Case;
 use reference::step;
 use reference::table::{domains, endpoints};
@@ -46,6 +48,9 @@ pub struct OnTarget {
     pub given_again: u64,
     /// Removes that are done.
     pub given_up: u64,
+    /// Revokes that take something, and those that find nothing to take.
+    pub taken_back: u64,
+    pub nothing_to_take: u64,
 }
 
 impl Basis {
@@ -95,6 +100,8 @@ impl Basis {
             GRANT if altered => self.on[target].given += 1,
             GRANT => self.on[target].given_again += 1,
             REMOVE => self.on[target].given_up += 1,
+            REVOKE if altered => self.on[target].taken_back += 1,
+            REVOKE => self.on[target].nothing_to_take += 1,
             _ => {}
         }
     }
@@ -107,6 +114,7 @@ impl Basis {
     pub fn done_in_words(&self) -> String {
         let full: u64 = self.at.iter().map(|at| at.queue.full).sum();
         let gave: u64 = self.on.iter().map(|on| on.given).sum();
+        let took: u64 = self.on.iter().map(|on| on.taken_back).sum();
         let done = |kind: u32, one, many, more| (self.done[kind as usize], one, many, more);
         let all = [
             done(LOOK_UP, "look up", "look ups", String::new()),
@@ -121,6 +129,12 @@ impl Basis {
                 format!(" ({gave} giving something)"),
             ),
             done(REMOVE, "remove", "removes", String::new()),
+            done(
+                REVOKE,
+                "revoke",
+                "revokes",
+                format!(" ({took} taking something)"),
+            ),
         ];
         let met = all.iter().filter(|(times, ..)| *times != 0);
         let each = met.map(|(times, one, many, more)| match times {

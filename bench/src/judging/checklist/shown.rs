@@ -67,11 +67,17 @@ fn rights(basis: &Basis) -> NotShown {
     let never = on(|on| on.given + on.given_again == 0);
     let nothing = on(|on| on.given == 0 && on.given_again != 0);
     let kept = on(|on| on.given_up == 0);
+    let fixed = on(|on| on.taken_back == 0);
     let grant = "a grant of rights on domain";
     let mut all = [
         told(grant, never, "nobody can give one"),
         told(grant, nothing, "whoever can be given one has it"),
         told("a right given up on domain", kept, "nobody can give one up"),
+        told(
+            "a right taken back on domain",
+            fixed,
+            "nobody can take one back",
+        ),
     ]
     .concat();
     let can_give = basis.on.iter().any(|on| on.given + on.given_again != 0);
@@ -168,6 +174,7 @@ mod tests {
             "messages in turn at endpoint 1: there is room for one",
             "a grant of rights on domains 0 and 1: nobody can give one",
             "a right given up on domains 0 and 1: nobody can give one up",
+            "a right taken back on domains 0, 1 and 2: nobody can take one back",
         ];
         assert_eq!(missing, told);
     }

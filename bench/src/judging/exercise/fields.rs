@@ -8,7 +8,7 @@ use reference::table::{domains, endpoints, name, right};
 use reference::words::{content, word, CONTENT_MAX};
 
 use super::planner::{
-    grant, look_up, my_endpoints, my_rights, receive, remove, send, single_rights, Planned,
+    grant, look_up, my_endpoints, my_rights, receive, remove, revoke, send, single_rights, Planned,
     Planner, CALLER_MAX,
 };
 use crate::judging::variants::case_of;
@@ -133,6 +133,7 @@ fn domains_and_sets(plan: &mut Planner, caller: usize) {
         for recipient in edges(n, B_MAX) {
             for set in sets.clone().chain(beyond) {
                 plan.make(grant(caller, target, recipient, set));
+                plan.make(revoke(caller, target, recipient, set));
             }
         }
         for set in (0..=right::ALL).chain(beyond) {

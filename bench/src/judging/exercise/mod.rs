@@ -29,6 +29,9 @@ pub fn exercise(table: &[u32]) -> Vec<Planned> {
     lists.extend(rights::given_up("every right given up", table));
     let what = "every right given up, once all are granted";
     lists.extend(rights::given_up(what, &grown));
+    lists.extend(rights::taken_back("every right taken back", table));
+    let what = "every right taken back, once all are granted";
+    lists.extend(rights::taken_back(what, &grown));
     for domain in 0..domains(table) {
         lists.extend(strangers::strangers(table, domain));
     }
@@ -127,15 +130,16 @@ mod tests {
     }
 
     #[test]
-    fn on_the_ring_every_right_is_granted_and_given_up() {
+    fn on_the_ring_every_right_is_granted_given_up_and_taken_back() {
         let ring = text::read(include_str!("../../../examples/ring.txt")).unwrap();
         let ring = Input::parse(&ring).unwrap().table;
         let basis = basis(&exercise(&ring));
         assert_eq!((basis.on.len(), basis.at.len()), (4, endpoints(&ring)));
         for on in &basis.on {
             assert!(on.given > 0 && on.given_again > 0 && on.given_up > 0);
+            assert!(on.taken_back > 0 && on.nothing_to_take > 0);
         }
         let (_, grown) = rights::grown(&ring);
-        assert_eq!(grown[1..17], [0x2000_0007; 16]);
+        assert_eq!(grown[1..17], [0x2000_000F; 16]);
     }
 }

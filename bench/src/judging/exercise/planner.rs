@@ -3,8 +3,8 @@
 //! No rule stands here: what is allowed is what the machine does.
 
 use reference::calls::{
-    cut, Call, GRANT, LIST_WORDS_MAX, LOOK_UP, MY_ENDPOINTS, MY_RIGHTS, RECEIVE, REMOVE, SEND,
-    STRAY,
+    cut, Call, GRANT, LIST_WORDS_MAX, LOOK_UP, MY_ENDPOINTS, MY_RIGHTS, RECEIVE, REMOVE, REVOKE,
+    SEND, STRAY,
 };
 use reference::generate::{call_word, Case};
 use reference::machine::refusal;
@@ -193,6 +193,10 @@ pub fn grant(caller: usize, target: usize, recipient: usize, set: u32) -> Call {
 
 pub fn remove(caller: usize, target: usize, set: u32) -> Call {
     one_word(REMOVE, caller, target, 0, set)
+}
+
+pub fn revoke(caller: usize, target: usize, holder: usize, set: u32) -> Call {
+    one_word(REVOKE, caller, target, holder, set)
 }
 
 #[cfg(test)]

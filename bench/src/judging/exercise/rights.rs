@@ -7,7 +7,7 @@ use std::collections::BTreeSet;
 use reference::calls::Call;
 use reference::table::{domains, endpoints, owner, right, rights};
 
-use super::planner::{grant, my_rights, remove, send, Planned, Planner};
+use super::planner::{grant, my_rights, remove, revoke, send, Planned, Planner};
 
 /// Every grant that gives something, twice, until none does; the table that is left
 /// stands beside the lists. Of those that give nothing or are refused, each caller
@@ -106,6 +106,26 @@ fn use_right(plan: &mut Planner, holder: usize, target: usize) {
     }
 }
 
+/// Every right taken back from each holder by each who can, twice, so that the second
+/// time there is nothing to take; and given back where somebody can.
+pub fn taken_back(what: &str, table: &[u32]) -> Vec<Planned> {
+    let mut plan = Planner::new(what, table);
+    for (caller, target, holder) in triples(domains(table)) {
+        for set in 1..=right::ALL {
+            let call = revoke(caller, target, holder, set);
+            if plan.alters(&call) {
+                for _ in 0..2 {
+                    use_right(&mut plan, holder, target);
+                    plan.make(call);
+                }
+                plan.make(my_rights(holder));
+                give_back(&mut plan, holder, target, set);
+            }
+        }
+    }
+    plan.lists()
+}
+
 /// Every right given up and, where somebody can, given back; then all that can be is
 /// given up for good, and everybody tries everything.
 pub fn given_up(what: &str, table: &[u32]) -> Vec<Planned> {
@@ -151,8 +171,8 @@ fn give_back(plan: &mut Planner, holder: usize, target: usize, set: u32) {
     }
 }
 
-/// Each caller makes a send, a grant and a remove for each number that it gets, on
-/// each owner or target.
+/// Each caller makes a send, a grant, a remove and a revoke for each number that it
+/// gets, on each owner or target.
 fn everybody_tries(plan: &mut Planner) {
     let mut tried = BTreeSet::new();
     let (n, m) = (domains(plan.table()), endpoints(plan.table()));
@@ -172,6 +192,7 @@ fn everybody_tries(plan: &mut Planner) {
             let calls = [
                 grant(caller, target, recipient, set),
                 remove(caller, target, set),
+                revoke(caller, target, recipient, set),
             ];
             for call in calls {
                 if plan.code(&call) != 0 {

@@ -5,7 +5,8 @@ use reference::influences;
 use reference::table::{domains, endpoints, owner, right};
 
 use super::planner::{
-    grant, look_up, my_endpoints, my_rights, receive, remove, send, single_rights, Planned, Planner,
+    grant, look_up, my_endpoints, my_rights, receive, remove, revoke, send, single_rights, Planned,
+    Planner,
 };
 
 /// The list for a domain; none where everyone else has a right on it for good.
@@ -69,6 +70,8 @@ fn meddle(plan: &mut Planner, stranger: usize, domain: usize) {
         for set in single_rights() {
             plan.make(grant(stranger, domain, other, set));
             plan.make(grant(stranger, other, domain, set));
+            plan.make(revoke(stranger, domain, other, set));
+            plan.make(revoke(stranger, other, domain, set));
         }
     }
     for set in 1..=right::ALL {

@@ -66,6 +66,12 @@ enum-told-3 c = search needs
 plain-requires-3 : tie.Need-plain-requires-3
 plain-requires-3 c κs = search needs
 
+enum-told-4 : tie.Need-enum-told-4
+enum-told-4 c = search needs
+
+plain-requires-4 : tie.Need-plain-requires-4
+plain-requires-4 c κs = search needs
+
 returns : tie.Need-returns
 unfolding decisionOf answerOf code readable shown firstData secondData
 returns c =
@@ -122,6 +128,12 @@ returns-8 c =
     let told = c .before in
     rw (told .enum-told3 .given .1) (c .plain3 .ensures ∙ same-head (told .before .before .head .ensures))
 
+returns-9 : tie.Need-returns-9
+unfolding decisionOf answerOf headOf code readable shown firstData secondData
+returns-9 c =
+    let told = c .before in
+    rw (told .enum-told4 .given .1) (c .plain4 .ensures ∙ same-head (told .before .before .head .ensures))
+
 pub answer-to-spec : {M : Type 1} → statement M
 answer-to-spec =
     tie.close
@@ -143,6 +155,8 @@ answer-to-spec =
     plain-requires-2
     enum-told-3
     plain-requires-3
+    enum-told-4
+    plain-requires-4
     returns
     returns-2
     returns-3
@@ -150,4 +164,5 @@ answer-to-spec =
     returns-5
     returns-6
     returns-7
-    returns-8)
+    returns-8
+    returns-9)

@@ -6,7 +6,7 @@ use mathlib.Core.Logic.{inl, inr, ⊎-elim}
 use borrow.Author.Needs.{needs}
 use Rattle.machine.specs.Call.{kindOf}
 use Rattle.calls.specs.Apart.{apart, ofKind}
-use Rattle.calls.proofs.Apart.{of-kind, unknown-kind, past, seven-left}
+use Rattle.calls.proofs.Apart.{of-kind, unknown-kind, past, eight-left}
 use Rattle.calls.proofs.take_apart.Statement.{statement}
 use Rattle.calls.proofs.take_apart.Tie as tie
 
@@ -28,24 +28,28 @@ my-rights-requires c κs = search needs
 grant-requires : tie.Need-grant-requires
 grant-requires c κs = search needs
 
+remove-requires : tie.Need-remove-requires
+remove-requires c κs = search needs
+
 -- what the arms before it leave to the last one
-seven : (c : tie.Joined1) → c .before .before .args .first / 268435456 ≡ 7
-seven c =
+eight : (c : tie.Joined1) → c .before .before .args .first / 268435456 ≡ 8
+eight c =
     let r = c .before .match .rest in
-    let d6 = r .1 in
-    let d5 = r .0 .1 in
-    let d4 = r .0 .0 .1 in
-    let d3 = r .0 .0 .0 .1 in
-    let d2 = r .0 .0 .0 .0 .1 in
-    let d1 = r .0 .0 .0 .0 .0 .1 in
-    let d0 = r .0 .0 .0 .0 .0 .0 .1 in
-    seven-left (c .before .before .args .first) (c .before .before .fits .first .fits)
-    (past (past (past (past (past (past (past zero-le d0) d1) d2) d3) d4) d5) d6)
-    (r .0 .0 .0 .0 .0 .0 .0 .1)
+    let d7 = r .1 in
+    let d6 = r .0 .1 in
+    let d5 = r .0 .0 .1 in
+    let d4 = r .0 .0 .0 .1 in
+    let d3 = r .0 .0 .0 .0 .1 in
+    let d2 = r .0 .0 .0 .0 .0 .1 in
+    let d1 = r .0 .0 .0 .0 .0 .0 .1 in
+    let d0 = r .0 .0 .0 .0 .0 .0 .0 .1 in
+    eight-left (c .before .before .args .first) (c .before .before .fits .first .fits)
+    (past (past (past (past (past (past (past (past zero-le d0) d1) d2) d3) d4) d5) d6) d7)
+    (r .0 .0 .0 .0 .0 .0 .0 .0 .1)
     (⊎-elim (λ w. inl (w .taken)) (λ w. inr (w .1 .left)) (c .if1 .came))
 
-remove-requires : tie.Need-remove-requires
-remove-requires c κs = seven c
+revoke-requires : tie.Need-revoke-requires
+revoke-requires c κs = eight c
 
 returns : tie.Need-returns
 unfolding ofKind kindOf
@@ -90,16 +94,22 @@ returns-7 c =
 returns-8 : tie.Need-returns-8
 unfolding kindOf
 returns-8 c =
-    let args = c .before .before .before .args in
-    c .remove .ensures (args .second) ∙ of-kind (args .first) 7 (args .second) (seven (c .before))
+    let args = c .before .before .args in
+    c .remove .ensures (args .second) ∙ of-kind (args .first) 7 (args .second) (c .before .match .keys9)
 
 returns-9 : tie.Need-returns-9
-unfolding ofKind kindOf
-returns-9 c = of-kind (c .before .args .first) 0 (c .before .args .second) (c .match .keys2)
+unfolding kindOf
+returns-9 c =
+    let args = c .before .before .before .args in
+    c .revoke .ensures (args .second) ∙ of-kind (args .first) 8 (args .second) (eight (c .before))
 
 returns-10 : tie.Need-returns-10
+unfolding ofKind kindOf
+returns-10 c = of-kind (c .before .args .first) 0 (c .before .args .second) (c .match .keys2)
+
+returns-11 : tie.Need-returns-11
 unfolding apart ofKind
-returns-10 c = rw (unknown-kind (c .before .before .before .args .first / 268435456) (search needs) (search needs))
+returns-11 c = rw (unknown-kind (c .before .before .before .args .first / 268435456) (search needs) (search needs))
 
 pub take-apart-spec : {M : Type 1} → statement M
 take-apart-spec =
@@ -112,6 +122,7 @@ take-apart-spec =
     my-rights-requires
     grant-requires
     remove-requires
+    revoke-requires
     returns
     returns-2
     returns-3
@@ -121,4 +132,5 @@ take-apart-spec =
     returns-7
     returns-8
     returns-9
-    returns-10)
+    returns-10
+    returns-11)

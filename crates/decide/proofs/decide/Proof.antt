@@ -43,6 +43,9 @@ returns-7 c = rw (c .before .before .call7 .given .1) (c .grant .ensures)
 returns-8 : tie.Need-returns-8
 returns-8 c = rw (c .before .before .call8 .given .1) (c .remove .ensures)
 
+returns-9 : tie.Need-returns-9
+returns-9 c = rw (c .before .before .call9 .given .1) (c .revoke .ensures)
+
 pub decide-spec : {M : Type 1} → statement M
 decide-spec =
     tie.close
@@ -68,6 +71,8 @@ decide-spec =
     (λ c κs. c .before .before .before .before .domains .ensures)
     (λ c. c .match .keys8)
     (λ c κs. c .before .before .before .before .domains .ensures)
+    (λ c. c .match .keys9)
+    (λ c κs. c .before .before .before .before .domains .ensures)
     returns
     returns-2
     returns-3
@@ -75,4 +80,5 @@ decide-spec =
     returns-5
     returns-6
     returns-7
-    returns-8)
+    returns-8
+    returns-9)

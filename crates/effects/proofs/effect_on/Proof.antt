@@ -32,8 +32,14 @@ granted-requires c κs = search needs
 enum-known-decision-4 : tie.Need-enum-known-decision-4
 enum-known-decision-4 c = search needs
 
-removed-requires : tie.Need-removed-requires
-removed-requires c κs = search needs
+cleared-requires : tie.Need-cleared-requires
+cleared-requires c κs = search needs
+
+enum-known-decision-5 : tie.Need-enum-known-decision-5
+enum-known-decision-5 c = search needs
+
+cleared-requires-2 : tie.Need-cleared-requires-2
+cleared-requires-2 c κs = search needs
 
 returns : tie.Need-returns
 unfolding effectFor decisionOf
@@ -64,8 +70,12 @@ unfolding decisionOf
 returns-7 c = rw (c .before .before .decision3 .given .1) (c .granted .ensures)
 
 returns-8 : tie.Need-returns-8
+unfolding effectFor decisionOf
+returns-8 c = rw (c .before .before .decision4 .given .1) (c .cleared .ensures)
+
+returns-9 : tie.Need-returns-9
 unfolding decisionOf
-returns-8 c = rw (c .before .before .decision4 .given .1) (c .removed .ensures)
+returns-9 c = rw (c .before .before .decision5 .given .1) (c .cleared2 .ensures)
 
 pub effect-on-spec : {M : Type 1} → statement M
 effect-on-spec =
@@ -80,7 +90,9 @@ effect-on-spec =
     enum-known-decision-3
     granted-requires
     enum-known-decision-4
-    removed-requires
+    cleared-requires
+    enum-known-decision-5
+    cleared-requires-2
     returns
     returns-2
     returns-3
@@ -88,4 +100,5 @@ effect-on-spec =
     returns-5
     returns-6
     returns-7
-    returns-8)
+    returns-8
+    returns-9)

@@ -14,13 +14,13 @@ returns-2 : tie.Need-returns-2
 unfolding decisionOf grantAccess place
 returns-2 c =
     let past = c .before .before in
-    rw (sym (past .before .holds-both .ensures), past .if1 .left, sym (c .before .has-any .ensures), c .if2 .taken)
+    rw (sym (past .before .holds-both .ensures), past .if1 .left, sym (c .before .influences .ensures), c .if2 .taken)
 
 returns-3 : tie.Need-returns-3
 unfolding decisionOf grantAccess place
 returns-3 c =
     let past = c .before .before in
-    rw (sym (past .before .holds-both .ensures), past .if1 .left, sym (c .before .has-any .ensures), c .if2 .left)
+    rw (sym (past .before .holds-both .ensures), past .if1 .left, sym (c .before .influences .ensures), c .if2 .left)
 
 pub grant-spec : {M : Type 1} → statement M
 grant-spec = tie.close (tie.spec (λ c κs. tt) returns (λ c κs. tt) returns-2 returns-3)

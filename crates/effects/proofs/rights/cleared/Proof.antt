@@ -1,4 +1,4 @@
--- `rights::removed` meets its contract: one rights word is to be written. Assumes nothing.
+-- `rights::cleared` meets its contract: one rights word is to be written. Assumes nothing.
 use mathlib.Core.Path.{_≡_, ap, _∙_}
 use Prim.Native.Nat.{ℕ}
 use borrow.Author.Needs.{needs}
@@ -7,8 +7,8 @@ use Rattle.machine.specs.Table as table
 use Rattle.layout.proofs.Places.{rights-read}
 use Rattle.effects.specs.Effect.{effectFor}
 use Rattle.effects.specs.declared.Effect.the-variants.{NewRights}
-use Rattle.effects.proofs.rights.removed.Statement.{statement}
-use Rattle.effects.proofs.rights.removed.Tie as tie
+use Rattle.effects.proofs.rights.cleared.Statement.{statement}
+use Rattle.effects.proofs.rights.cleared.Tie as tie
 
 domains-requires : tie.Need-domains-requires
 domains-requires c κs = search needs
@@ -22,7 +22,7 @@ without-requires c κs = search needs
 -- the set that is to be written
 changed : (c : tie.After-without)
     → let a = c .before .before .before .before .args in
-    c .without .result .bits ≡ without (table.rights (a .table .now) (a .caller) (a .target)) (a .given)
+    c .without .result .bits ≡ without (table.rights (a .table .now) (a .holder) (a .target)) (a .given)
 changed c =
     let read = c .before in
     c .without .ensures
@@ -32,7 +32,7 @@ returns : tie.Need-returns
 unfolding effectFor
 returns c =
     let a = c .before .before .before .before .args in
-    ap (NewRights (a .caller) (a .target)) (changed c)
+    ap (NewRights (a .holder) (a .target)) (changed c)
 
-pub removed-spec : {M : Type 1} → statement M
-removed-spec = tie.close (tie.spec domains-requires rights-requires without-requires returns)
+pub cleared-spec : {M : Type 1} → statement M
+cleared-spec = tie.close (tie.spec domains-requires rights-requires without-requires returns)

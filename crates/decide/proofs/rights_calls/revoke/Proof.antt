@@ -1,0 +1,44 @@
+-- `rights_calls::revoke` meets its contract: 12, 20 and 21, then what the caller holds on the target and on the holder. Assumes nothing.
+use mathlib.Core.Path.{refl, ap₂, _∙_}
+use Rattle.rules.specs.Decision.{decisionOf}
+use Rattle.rules.specs.Range.{callNumbers}
+use Rattle.rules.specs.Access.{revokeAccess, callAccess}
+use Rattle.rules.proofs.Guards.{outside, within}
+use Rattle.rules.proofs.Places.{decided}
+use Rattle.decide.proofs.Reading.{rights-are}
+use Rattle.decide.proofs.rights_calls.revoke.Statement.{statement}
+use Rattle.decide.proofs.rights_calls.revoke.Tie as tie
+
+returns : tie.Need-returns
+unfolding decisionOf callNumbers
+returns c =
+    let numbers = c .before .before .before in
+    let start = numbers .before .before in
+    outside _ (c .before .range .given .1) (decided _ _ _ _ _ (start .pre) refl (numbers .of-grant .ensures))
+
+returns-2 : tie.Need-returns-2
+unfolding callNumbers callAccess
+returns-2 c =
+    let toward = c .before in
+    let held = toward .before in
+    let told = held .before in
+    let numbers = told .before .before in
+    let start = numbers .before .before in
+    let a = start .args in
+    c .revoke .ensures
+    ∙ ap₂ (revokeAccess (a .caller) (a .target) (a .holder) (a .given))
+    (rights-are _ _ (start .pre) _ _ (held .rights .ensures)) (rights-are _ _ (start .pre) _ _ (toward .rights2 .ensures))
+    ∙ within _ (told .enum-told .given .1) (decided _ _ _ _ _ (start .pre) refl (numbers .of-grant .ensures))
+
+pub revoke-spec : {M : Type 1} → statement M
+revoke-spec =
+    tie.close
+    (tie.spec
+    (λ c κs. tt)
+    (λ c. c .match .keys1)
+    returns
+    (λ c. c .match .keys2)
+    (λ c κs. tt)
+    (λ c κs. tt)
+    (λ c κs. tt)
+    returns-2)
