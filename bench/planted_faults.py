@@ -41,6 +41,7 @@ LEAST = 20
 # Faults that no comparison with the kernel can show, by name, each with why. They
 # are caught by the tests of the separate implementation itself.
 UNSEEN = {
+    "agree_*": "the second table of a pair of lines is drawn so that it agrees",
     "linerun_*": "linerun's reading: the fuzz runs the library",
     "purge_keeps_everything": "a run of all calls gives every domain its view",
     "sources_by_the_table_after_the_call": "a call that alters its caller's row "
@@ -65,6 +66,7 @@ UNSEEN_BY_STEPS = {
     "bytes_*": "the check of bytes",
     "cut_*": "the cutting of a list",
     "entry_*": "the entry of a run",
+    "members_*": "pairs of lines",
     "purge_*": "the striking rule",
     "shortcut_influence_from_last_table": "the striking rule",
     "shortcut_refused_send_gives_up_second_word": "the cutting of a list",

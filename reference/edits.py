@@ -13,7 +13,9 @@ An edit puts one fault in. It is a file mutants/NAME.edit:
 
 The old lines must occur exactly once in the file. `caught-by` names the test
 that must fail: `noninterference` is the property test of the striking rule by
-itself, which must show two views that differ; `any` is any test at all.
+itself, which must show two views that differ; `isolation` is that of the rule
+between two lines, which must show two views or two sets that differ; `any` is any
+test at all.
 
 An edit alters the bodies of functions and nothing else. So one copy of the
 package is built with all faults in it, each behind a switch: a function that a
@@ -38,6 +40,7 @@ ROOT = Path(__file__).resolve().parent.parent
 REFERENCE = ROOT / "reference"
 EDITS = REFERENCE / "mutants"
 PROPERTY = "noninterference"
+PROPERTIES = (PROPERTY, "isolation")
 SECONDS = 600
 
 
@@ -57,8 +60,8 @@ def read_edit(path):
         edit[key] = value
     if set(edit) != {"what", "file", "caught-by", "old", "new"}:
         raise Wrong("needs just what, file and caught-by before `--- old`")
-    if edit["caught-by"] not in (PROPERTY, "any"):
-        raise Wrong(f"caught-by is {PROPERTY} or any")
+    if edit["caught-by"] not in (*PROPERTIES, "any"):
+        raise Wrong(f"caught-by is {', '.join(PROPERTIES)} or any")
     return edit
 
 

@@ -12,10 +12,13 @@ build stand under build/mutants.
 import shutil
 import sys
 
-from edits import PROPERTY, ROOT, Copy, Wrong, edit_files, run, try_all
+from edits import PROPERTIES, ROOT, Copy, Wrong, edit_files, run, try_all
 
 TESTS = "all"
-VIEWS_DIFFER = "the views of domain"
+SHOWN = {
+    "noninterference": ("the views of domain",),
+    "isolation": ("the views of domain", "the sets of domain"),
+}
 
 # The tests that draw little are tried first: they take no time, and catch most.
 FIRST = ("codes", "example", "rows", "queue", "influence", "linerun")
@@ -64,17 +67,18 @@ def check_unedited(tests):
 
 def catch(tests, fault, name, edit):
     """The tests that catch the mutant."""
-    by_property = edit["caught-by"] == PROPERTY
-    for only in [[f"{PROPERTY}::"]] if by_property else [FIXED, DRAWN]:
+    catcher = edit["caught-by"]
+    by_property = catcher in PROPERTIES
+    for only in [[f"{catcher}::"]] if by_property else [FIXED, DRAWN]:
         passed, names, printed = run_tests(tests, fault, only)
         if not passed:
             break
     if passed or not names:
         raise Wrong("isn't caught")
-    if by_property and VIEWS_DIFFER not in printed:
-        raise Wrong("no views that differ are shown")
+    if by_property and not any(words in printed for words in SHOWN[catcher]):
+        raise Wrong("nothing that differs is shown")
     more = f" and {len(names) - 1} more" if len(names) > 1 else ""
-    return f"caught by {names[0]}{more} ({edit['caught-by']})"
+    return f"caught by {names[0]}{more} ({catcher})"
 
 
 if __name__ == "__main__":

@@ -4,6 +4,8 @@
 //! code is met, most calls do something, queues fill and empty, and lost counts
 //! reach their top. `tests/all/generator.rs` counts that this is so.
 
+use std::collections::BTreeSet;
+
 use crate::calls::{
     cut, GRANT, LIST_WORDS_MAX, LOOK_UP, MY_ENDPOINTS, MY_RIGHTS, RECEIVE, REMOVE, REVOKE, SEND,
     STRAY,
@@ -12,9 +14,10 @@ use crate::entry::ANSWER_WORDS;
 use crate::machine::step;
 use crate::queue::Endpoint;
 use crate::table::{
-    capacity, check_table, domains, endpoint_place, endpoints, name, owner, right, rights, waiting,
-    DOMAINS_MAX, ENDPOINTS_MAX, ENDPOINT_WORDS, HEADER, INFO, INFO_PLACE, LOST, LOST_PLACE,
-    MESSAGE, NAME, NAME_PLACE, RIGHTS, SLOTS, SLOTS_PLACE, TABLE_WORDS_MAX, WAITING, WAITING_PLACE,
+    capacity, check_table, domains, endpoint_place, endpoint_words_mut, endpoints, name, owner,
+    right, rights, rights_place, waiting, DOMAINS_MAX, ENDPOINTS_MAX, ENDPOINT_WORDS, HEADER, INFO,
+    INFO_PLACE, LOST, LOST_PLACE, MESSAGE, NAME, NAME_PLACE, RIGHTS, SLOTS, SLOTS_PLACE,
+    TABLE_WORDS_MAX, WAITING, WAITING_PLACE,
 };
 use crate::words::{content, to_bytes, word, CONTENT_MAX, EMPTY_SLOT};
 
@@ -139,17 +142,20 @@ fn names(rng: &mut Rng, m: usize) -> Vec<u32> {
 fn endpoint(rng: &mut Rng, n: usize, name: u32) -> Vec<u32> {
     let owner = rng.below(n);
     let capacity = rng.pick(&[1, 1, 2, 2, 3, 4, 5, 6, 7, 8, 8]);
+    let info = word(INFO, ((owner << 8) | capacity) as u32);
+    let mut words = vec![word(NAME, name), info];
+    words.extend(queue_words(rng, capacity));
+    words
+}
+
+/// The waiting, lost and message words of an endpoint with a capacity.
+fn queue_words(rng: &mut Rng, capacity: usize) -> Vec<u32> {
     let waiting = match rng.below(3) {
         0 => 0,
         1 => capacity,
         _ => rng.between(0, capacity),
     };
-    let mut words = vec![
-        word(NAME, name),
-        word(INFO, ((owner << 8) | capacity) as u32),
-        word(WAITING, waiting as u32),
-        word(LOST, lost_count(rng)),
-    ];
+    let mut words = vec![word(WAITING, waiting as u32), word(LOST, lost_count(rng))];
     for slot in 0..SLOTS {
         words.push(if slot < waiting {
             word(MESSAGE, message(rng))
@@ -196,6 +202,48 @@ fn message(rng: &mut Rng) -> u32 {
         2 => content(rng.word()),
         _ => rng.below(256) as u32,
     }
+}
+
+/// An accepted table with the unchanging parts of the given one. The rights that
+/// members hold or that are held on them stay, and so do their queues and lost
+/// counts; all else is drawn anew.
+pub fn redrawn_but_for(rng: &mut Rng, table: &[u32], members: &BTreeSet<usize>) -> Vec<u32> {
+    let mut other = table.to_vec();
+    for holder in (0..domains(table)).filter(|d| !members.contains(d)) {
+        for target in (0..domains(table)).filter(|d| !members.contains(d)) {
+            redraw_rights(rng, &mut other, holder, target);
+        }
+    }
+    for e in (0..endpoints(table)).filter(|&e| !members.contains(&owner(table, e))) {
+        redraw_queue(rng, &mut other, e);
+    }
+    other
+}
+
+/// An accepted table that differs from the given one in a few words, whosever they
+/// are: rights words, or the queue and lost count of an endpoint.
+pub fn altered(rng: &mut Rng, table: &[u32]) -> Vec<u32> {
+    let mut other = table.to_vec();
+    for _ in 0..rng.between(1, 4) {
+        let (holder, target) = (rng.below(domains(table)), rng.below(domains(table)));
+        if endpoints(table) == 0 || rng.chance(1, 2) {
+            redraw_rights(rng, &mut other, holder, target);
+        } else {
+            let e = rng.below(endpoints(table));
+            redraw_queue(rng, &mut other, e);
+        }
+    }
+    other
+}
+
+fn redraw_rights(rng: &mut Rng, table: &mut [u32], holder: usize, target: usize) {
+    let set = if rng.chance(1, 2) { rights_set(rng) } else { 0 };
+    table[rights_place(table, holder, target)] = word(RIGHTS, set);
+}
+
+fn redraw_queue(rng: &mut Rng, table: &mut [u32], e: usize) {
+    let queue = queue_words(rng, capacity(table, e));
+    endpoint_words_mut(table, e)[WAITING_PLACE..].copy_from_slice(&queue);
 }
 
 /// A table that is refused, and the code that refuses it, 2 to 5. Often more

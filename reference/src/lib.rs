@@ -15,6 +15,7 @@
 //! | [`machine`] | the call-by-call machine, codes 10 to 23 |
 //! | [`entry`] | the run of a whole list, codes 1 to 6 |
 //! | [`influence`] | "Influence" and "The striking rule" |
+//! | [`isolation`] | document 02, request (g): two lines that agree on what reaches a domain |
 //! | [`bytes`] | the table's check over little-endian bytes |
 //! | `linerun` | the program: its reading and printing, codes 7 and 1 |
 //! | [`example`] | table T, list L and what is printed for it |
@@ -26,6 +27,7 @@ pub mod entry;
 pub mod example;
 pub mod generate;
 pub mod influence;
+pub mod isolation;
 mod linerun;
 pub mod machine;
 pub mod queue;
@@ -36,6 +38,7 @@ pub use bytes::check_bytes;
 pub use calls::{cut, Call};
 pub use entry::run;
 pub use influence::{influences, purge, sources, view, QueueView, View};
+pub use isolation::{agree, members};
 pub use linerun::linerun;
 pub use machine::step;
 pub use table::check_table;

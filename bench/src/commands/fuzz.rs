@@ -17,7 +17,8 @@ Runs a kernel on random tables, lists and answer spaces beside the separate
 machine and compares the code, the number of calls, every table word, every
 answer word and the words beyond; then, for a domain, what it sees of the
 kernel's run with the separate machine's run of the calls kept for it; then the
-counts of every queue. Compares the check of table images too: sound, damaged,
+counts of every queue; then, from a second table that differs only where a domain
+can't be reached, that this domain sees the same. Compares the check of table images too: sound, damaged,
 cut short, too long, of odd lengths, any bytes.
 
   --cases N         runs to try (default 20,000)

@@ -11,6 +11,7 @@ use reference::words::bits;
 use crate::cases::random::run_case;
 use crate::judging::compare::{difference, isolation, separate_run};
 use crate::judging::counts;
+use crate::judging::pairs::pair;
 use crate::judging::report::cut_down;
 use crate::judging::tally::{Revokes, Tally, Tried};
 use crate::judging::trying::{try_all, Draws, Found};
@@ -28,6 +29,10 @@ pub fn try_runs(kernel: &Kernel, draws: &Draws, tally: &mut Tally) -> Result<(),
         let case = run_case(draws.seed, number);
         let tried = judged(&case, run_here(kernel, &case)?, number)?;
         tally.add_run(&case, &tried);
+        let second = |other: &Case| run_here(kernel, other);
+        if let Some(pair) = pair(&case, &tried.ran, (draws.seed, number), second)? {
+            tally.add_pair(pair);
+        }
         Ok(())
     });
     found.map_err(|found| report(kernel, draws, &found))
@@ -104,8 +109,12 @@ fn report(kernel: &Kernel, draws: &Draws, found: &Found) -> String {
         )
     };
     let wrong = |case: &Case, limit| {
-        let ran = child::run(kernel, case, limit).map_err(String::from);
-        ran.and_then(|ran| judged(case, ran, *number)).err()
+        let run = |case: &Case| child::run(kernel, case, limit);
+        let tried = run(case).map_err(String::from);
+        let tried = tried.and_then(|ran| judged(case, ran, *number));
+        tried
+            .and_then(|tried| pair(case, &tried.ran, (seed, *number), run))
+            .err()
     };
     match cut_down(&run_case(seed, *number), draws.limit.min(LIMIT), wrong) {
         Some(shorter) => head + &again(*number, 1) + &shorter,
@@ -184,8 +193,12 @@ mod tests {
             outcome.calls << 16 | outcome.code | u32::from(RUNS.fetch_add(1, Relaxed) == 20)
         });
         let told = found(kernel);
-        assert!(told.starts_with("DIFFERENCE in run 20 of seed 1:\n  the kernel ends with"));
+        // Not the kernel's twenty-first run: some numbers have two, for a pair of lines.
+        let number = told.strip_prefix("DIFFERENCE in run ").expect("a run");
+        let number: u64 = number.split(' ').next().unwrap().parse().unwrap();
+        assert!((10..=20).contains(&number), "{told}");
         assert!(told.contains("Only behind the runs before it"), "{told}");
-        assert!(told.contains("--from 0 --cases 21 "), "{told}");
+        let again = format!("--from 0 --cases {} ", number + 1);
+        assert!(told.contains(&again), "{told}");
     }
 }

@@ -7,6 +7,7 @@ use reference::table::{domains, endpoints};
 use reference::words::bits;
 
 use crate::judging::counts::Counts;
+use crate::judging::pairs::Pair;
 use crate::judging::trying::Counted;
 use crate::kernels::lent::Ran;
 use crate::line::explain::{counted, meaning};
@@ -64,6 +65,11 @@ pub struct Tally {
     views: u64,
     struck: u64,
     revokes: Revokes,
+    /// Pairs of lines; those that differ in the part of a domain that is no member, and
+    /// those of which another domain was answered otherwise.
+    pairs: u64,
+    pairs_of_parts: u64,
+    pairs_of_answers: u64,
 }
 
 impl Counted for Tally {
@@ -82,6 +88,9 @@ impl Counted for Tally {
             &mut self.struck,
             &mut self.revokes.held,
             &mut self.revokes.missing,
+            &mut self.pairs,
+            &mut self.pairs_of_parts,
+            &mut self.pairs_of_answers,
         ];
         let by_code = self.entry.iter_mut().chain(&mut self.call);
         let by_code = by_code.chain(&mut self.image);
@@ -112,6 +121,13 @@ impl Tally {
         for answer in answers.take(outcome.calls as usize) {
             self.call[bits(answer[0], 15, 0) as usize] += 1;
         }
+    }
+
+    /// A pair of lines that are the same to a domain.
+    pub fn add_pair(&mut self, pair: Pair) {
+        self.pairs += 1;
+        self.pairs_of_parts += u64::from(pair.parts_differ);
+        self.pairs_of_answers += u64::from(pair.answers_differ);
     }
 
     pub fn add_image(&mut self, code: u32) {
@@ -148,6 +164,8 @@ impl Tally {
              {} found the queue full, {} with the lost count at its top; {} left the queue \
              empty\n  \
              {} of a right that was there, {} of none\n  \
+             {} of lines compared, {} with another part of a domain that can't reach, {} with \
+             another answer to one\n  \
              lists of up to {}, {} of domains, {} of endpoints\n",
             counted(self.views, "view"),
             counted(self.struck, "call"),
@@ -156,6 +174,9 @@ impl Tally {
             counted(self.emptied, "receive"),
             counted(self.revokes.held, "revoke"),
             self.revokes.missing,
+            counted(self.pairs, "pair"),
+            self.pairs_of_parts,
+            self.pairs_of_answers,
             counted(self.longest, "word"),
             counted(self.domains_met.count_ones(), "number"),
             counted(self.endpoints_met.count_ones(), "number")
@@ -190,6 +211,11 @@ impl Tally {
             (self.struck, "a struck call"),
             (self.revokes.held, "a revoke of a right that is there"),
             (self.revokes.missing, "a revoke of a right that isn't"),
+            (self.pairs_of_parts, "a pair of lines that differ"),
+            (
+                self.pairs_of_answers,
+                "a pair of lines that answer another domain otherwise",
+            ),
         ];
         let unmet = facts.iter().filter(|(count, _)| *count == 0);
         unmet.map(|(_, name)| name.to_string()).collect()

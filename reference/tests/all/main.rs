@@ -2,7 +2,8 @@
 //!
 //! `example` is document 01's list L and its edges P1 to P12, `codes` each code
 //! on both sides of its condition, `rows` what each call does, `queue` a receive
-//! and a send on any twelve words, `influence` rows for sources, purge and view.
+//! and a send on any twelve words, `influence` rows for sources, purge and view;
+//! `isolation` has rows for the rule between two lines and then the rule itself.
 //! The others are property tests over seeded random tables and lists; on failure
 //! they show the seed and the words.
 
@@ -11,6 +12,7 @@ mod counts;
 mod example;
 mod generator;
 mod influence;
+mod isolation;
 mod linerun;
 mod noninterference;
 mod queue;

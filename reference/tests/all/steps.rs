@@ -1,7 +1,7 @@
 //! Properties of single calls over random tables, and of a whole run against the
 //! machine fed call by call.
 
-use crate::support::{code_of, shown, UNTOUCHED};
+use crate::support::{code_of, part, shown, UNTOUCHED};
 use reference::generate::{call_words, case, damaged_table, list, table, table_of, Case, Rng};
 use reference::table::{
     capacity, domains, endpoint_place, endpoint_words, endpoints, owner, rights_place,
@@ -9,17 +9,6 @@ use reference::table::{
 };
 use reference::words::{content, to_bytes};
 use reference::{check_bytes, check_table, cut, influences, run, step, Call};
-
-/// The words that belong to a domain: its rights, and the waiting, lost and
-/// message words of its endpoints (document 01: a domain's part).
-fn part(table: &[u32], d: usize) -> Vec<u32> {
-    let row = rights_place(table, d, 0);
-    let mut words = table[row..row + domains(table)].to_vec();
-    for endpoint in (0..endpoints(table)).filter(|&e| owner(table, e) == d) {
-        words.extend(&endpoint_words(table, endpoint)[WAITING_PLACE..]);
-    }
-    words
-}
 
 /// Word 0 and the name and info words.
 fn unchanging(table: &[u32]) -> Vec<u32> {

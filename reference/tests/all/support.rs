@@ -2,6 +2,7 @@
 //! differ from table T in one word.
 
 use reference::example::TABLE_T;
+use reference::table::{domains, endpoint_words, endpoints, owner, rights_place, WAITING_PLACE};
 use reference::words::{bits, hex};
 use reference::{cut, run, Call};
 
@@ -101,6 +102,17 @@ pub fn bare_table(n: usize, m: usize) -> Vec<u32> {
         table.extend([0xF000_0000; 8]);
     }
     table
+}
+
+/// The words that belong to a domain: its rights, and the waiting, lost and
+/// message words of its endpoints (document 01: a domain's part).
+pub fn part(table: &[u32], d: usize) -> Vec<u32> {
+    let row = rights_place(table, d, 0);
+    let mut words = table[row..row + domains(table)].to_vec();
+    for endpoint in (0..endpoints(table)).filter(|&e| owner(table, e) == d) {
+        words.extend(&endpoint_words(table, endpoint)[WAITING_PLACE..]);
+    }
+    words
 }
 
 /// What a failing property test shows of its case.

@@ -1,0 +1,4 @@
+-- What is proved of two lines.
+pub mod Ran
+pub mod TwoLines
+pub mod LineExamples

@@ -1,0 +1,13 @@
+-- A run of the kernel that was not refused, as its contract tells of it.
+use Prim.Native.Nat.{ℕ}
+use mathlib.Core.List.{List}
+use Rattle.machine.specs.Promise.{RunPromise}
+
+-- From the table t and the list ws: the answer space that was lent, the number of calls answered, the words left in the space
+-- and in the table, and the kernel's promise of them, with code 0.
+pub record PromisedRun (t ws : List ℕ) : Type 0 where
+  pub space : List ℕ
+  pub calls : ℕ
+  pub answers : List ℕ
+  pub end : List ℕ
+  pub promise : RunPromise t ws space 0 calls answers end
