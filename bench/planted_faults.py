@@ -42,6 +42,7 @@ LEAST = 20
 # are caught by the tests of the separate implementation itself.
 UNSEEN = {
     "agree_*": "the second table of a pair of lines is drawn so that it agrees",
+    "group_keeps_*": "a stray and a call of nobody alter nothing",
     "linerun_*": "linerun's reading: the fuzz runs the library",
     "purge_keeps_everything": "a run of all calls gives every domain its view",
     "sources_by_the_table_after_the_call": "a call that alters its caller's row "
@@ -66,6 +67,7 @@ UNSEEN_BY_STEPS = {
     "bytes_*": "the check of bytes",
     "cut_*": "the cutting of a list",
     "entry_*": "the entry of a run",
+    "group_*": "what hangs together",
     "members_*": "pairs of lines",
     "purge_*": "the striking rule",
     "shortcut_influence_from_last_table": "the striking rule",

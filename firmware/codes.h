@@ -35,6 +35,7 @@ static inline const char *code_meaning(uint32_t code)
         [BALKWIZU_NO_SUCH_DOMAIN] = "a domain named is not in the table",
         [BALKWIZU_BAD_RIGHTS] = "the rights named cannot be asked for",
         [BALKWIZU_LACKS_RIGHT] = "the caller lacks a right that the call needs",
+        [BALKWIZU_NOT_A_DOMAIN] = "the number is no domain of the table",
         [BALKWIZU_MAY_NOT_GIVE] = "the recipient or holder is another, and the caller has no right on it",
     };
     if (code < sizeof meanings / sizeof *meanings && meanings[code] != NULL)

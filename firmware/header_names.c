@@ -336,6 +336,28 @@ static void largest_table(void)
     IS(balkwizu_table_message(table, 31, 7), 1);
 }
 
+/* On T domains 0 and 1 are joined, and 1 and 2; 2 has no right itself. */
+static uint32_t component(size_t words, uint32_t domain)
+{
+    return balkwizu_component(table, words, domain);
+}
+
+static void components_of_t(void)
+{
+    put_table_t();
+    IS(component(EXAMPLE_TABLE_WORDS, 2), 0x00070000);
+    IS(component(EXAMPLE_TABLE_WORDS, 3), BALKWIZU_NOT_A_DOMAIN);
+    IS(BALKWIZU_NOT_A_DOMAIN, 32);
+    IS(component(33, 0), BALKWIZU_TABLE_BAD_LENGTH);
+    table[BALKWIZU_RIGHTS_AT(3, 1, 2)] = BALKWIZU_TABLE_RIGHTS(0);
+    uint32_t apart = component(EXAMPLE_TABLE_WORDS, 0);
+    IS(BALKWIZU_COMPONENT_CODE(apart), BALKWIZU_OK);
+    IS(BALKWIZU_COMPONENT_HAS(apart, 0), 1);
+    IS(BALKWIZU_COMPONENT_HAS(apart, 1), 1);
+    IS(BALKWIZU_COMPONENT_HAS(apart, 2), 0);
+    IS(component(EXAMPLE_TABLE_WORDS, 2), 0x00040000);
+}
+
 /* Every field with all its bits set, which no table and no answer has. */
 static void whole_fields(void)
 {
@@ -374,6 +396,7 @@ int main(void)
     codes_of_calls();
     edges();
     largest_table();
+    components_of_t();
     whole_fields();
     printf("%u compared, %u differ\n", compared, differ);
     return differ != 0;

@@ -132,8 +132,12 @@ int main(void)
                                 (uintptr_t)list, BALKWIZU_LIST_WORDS_MAX,
                                 (uintptr_t)answers,
                                 sizeof answers / sizeof *answers } };
+    const struct call component = { (void (*)(void))balkwizu_component,
+                                    { (uintptr_t)table, BALKWIZU_TABLE_WORDS_MAX,
+                                      DOMAINS - 1 } };
     make_list();
     int failed =
         tell("balkwizu_table_check", &check, BALKWIZU_TABLE_CHECK_STACK_BYTES);
+    failed |= tell("balkwizu_component", &component, BALKWIZU_COMPONENT_STACK_BYTES);
     return tell("balkwizu_run", &run, BALKWIZU_RUN_STACK_BYTES) | failed;
 }

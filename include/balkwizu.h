@@ -55,11 +55,13 @@ extern "C" {
  *
  * What each function uses of this, as the gate reads it out of the archive:
  *
- *   balkwizu_run: general and xmm registers, aligned stack, unmarked jumps
+ *   balkwizu_component: general and xmm registers, aligned stack, red zone
+ *   balkwizu_run: general and xmm registers, aligned stack, red zone, unmarked jumps
  *   balkwizu_table_check: general and xmm registers, aligned stack, red zone
  */
 #define BALKWIZU_RUN_STACK_BYTES 512
 #define BALKWIZU_TABLE_CHECK_STACK_BYTES 256
+#define BALKWIZU_COMPONENT_STACK_BYTES 512
 
 /* The most that a table, a list and its answers can have, in words. */
 #define BALKWIZU_DOMAINS_MAX 16
@@ -117,8 +119,11 @@ enum balkwizu_code {
     BALKWIZU_LACKS_RIGHT = 22,     /* on the target: grant: no GRANT, or not every
                                       right of C; remove: no REMOVE, or likewise;
                                       revoke: no REVOKE */
-    BALKWIZU_MAY_NOT_GIVE = 23     /* grant: to another, with no right on it;
+    BALKWIZU_MAY_NOT_GIVE = 23,    /* grant: to another, with no right on it;
                                       revoke: from another, likewise */
+
+    /* Of a question about a domain: nothing is told. */
+    BALKWIZU_NOT_A_DOMAIN = 32     /* the number isn't below n */
 };
 
 /* The kinds of calls, bits 31-28 of a call's first word. */
@@ -417,6 +422,33 @@ uint32_t balkwizu_table_check(const uint8_t *bytes, size_t len);
 uint32_t balkwizu_run(uint32_t *table, size_t table_len,
                       const uint32_t *list, size_t list_len,
                       uint32_t *answers, size_t answers_len);
+
+/* What balkwizu_component returns, taken apart. */
+#define BALKWIZU_COMPONENT_CODE(result) (BALKWIZU_WORD(result) & 0xFFFFu)
+#define BALKWIZU_COMPONENT_HAS(result, domain)                                 \
+    ((BALKWIZU_WORD(result) >> (16 + (domain))) & 1u)
+
+/*
+ * The component of a domain in a table: two domains are joined when either has a
+ * right on the other, and all that hang together with the domain by such joins,
+ * however many, are its component, itself included. No list of calls ever lets a
+ * domain influence one outside the component that it starts in, nor shows it
+ * anything of one. Words are in the processor's own byte order. Nothing is written.
+ *
+ * Returns two things in one word: the code in bits 15-0 (BALKWIZU_COMPONENT_CODE),
+ * and in bit 16 + u whether domain u is a member (BALKWIZU_COMPONENT_HAS).
+ *   0       BALKWIZU_OK
+ *   2 to 5  as balkwizu_table_check answers, for the table's words
+ *   32      BALKWIZU_NOT_A_DOMAIN
+ * With 2 to 5 and 32 there is no member.
+ *
+ * The caller's duties:
+ *   - table points to table_len words that may be read, aligned to four bytes; it
+ *     isn't a null pointer, also where table_len is 0;
+ *   - nobody writes them during the call: no other core, interrupt or transfer.
+ */
+uint32_t balkwizu_component(const uint32_t *table, size_t table_len,
+                            uint32_t domain);
 
 #ifdef __cplusplus
 }

@@ -14,8 +14,9 @@ An edit puts one fault in. It is a file mutants/NAME.edit:
 The old lines must occur exactly once in the file. `caught-by` names the test
 that must fail: `noninterference` is the property test of the striking rule by
 itself, which must show two views that differ; `isolation` is that of the rule
-between two lines, which must show two views or two sets that differ; `any` is any
-test at all.
+between two lines, which must show two views or two sets that differ; `groups` is
+that of the walls, which must show two views that differ or a wall that is open;
+`any` is any test at all.
 
 An edit alters the bodies of functions and nothing else. So one copy of the
 package is built with all faults in it, each behind a switch: a function that a
@@ -40,7 +41,7 @@ ROOT = Path(__file__).resolve().parent.parent
 REFERENCE = ROOT / "reference"
 EDITS = REFERENCE / "mutants"
 PROPERTY = "noninterference"
-PROPERTIES = (PROPERTY, "isolation")
+PROPERTIES = (PROPERTY, "isolation", "groups")
 SECONDS = 600
 
 

@@ -18,6 +18,7 @@ TESTS = "all"
 SHOWN = {
     "noninterference": ("the views of domain",),
     "isolation": ("the views of domain", "the sets of domain"),
+    "groups": ("the views of domain", "a wall is open"),
 }
 
 # The tests that draw little are tried first: they take no time, and catch most.
@@ -76,7 +77,7 @@ def catch(tests, fault, name, edit):
     if passed or not names:
         raise Wrong("isn't caught")
     if by_property and not any(words in printed for words in SHOWN[catcher]):
-        raise Wrong("nothing that differs is shown")
+        raise Wrong("nothing is shown that differs or is open")
     more = f" and {len(names) - 1} more" if len(names) > 1 else ""
     return f"caught by {names[0]}{more} ({catcher})"
 

@@ -108,6 +108,20 @@ pub fn table_of(rng: &mut Rng, n: usize, m: usize) -> Vec<u32> {
     words
 }
 
+/// An accepted table whose domains stand on up to three sides: nobody has a right on
+/// a domain of another side.
+pub fn walled_table(rng: &mut Rng, max_n: usize, max_m: usize) -> Vec<u32> {
+    let mut words = table(rng, max_n, max_m);
+    let n = domains(&words);
+    let sides: Vec<usize> = (0..n).map(|_| rng.below(3)).collect();
+    for place in 0..n * n {
+        if sides[place / n] != sides[place % n] {
+            words[1 + place] = word(RIGHTS, 0);
+        }
+    }
+    words
+}
+
 /// A set of rights, all four more often than the others.
 fn rights_set(rng: &mut Rng) -> u32 {
     if rng.chance(1, 3) {

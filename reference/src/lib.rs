@@ -16,6 +16,7 @@
 //! | [`entry`] | the run of a whole list, codes 1 to 6 |
 //! | [`influence`] | "Influence" and "The striking rule" |
 //! | [`isolation`] | document 02, request (g): two lines that agree on what reaches a domain |
+//! | [`groups`] | document 02, request (j): domains that no list can join |
 //! | [`bytes`] | the table's check over little-endian bytes |
 //! | `linerun` | the program: its reading and printing, codes 7 and 1 |
 //! | [`example`] | table T, list L and what is printed for it |
@@ -26,6 +27,7 @@ pub mod calls;
 pub mod entry;
 pub mod example;
 pub mod generate;
+pub mod groups;
 pub mod influence;
 pub mod isolation;
 mod linerun;
@@ -37,6 +39,7 @@ pub mod words;
 pub use bytes::check_bytes;
 pub use calls::{cut, Call};
 pub use entry::run;
+pub use groups::{component, from_group};
 pub use influence::{influences, purge, sources, view, QueueView, View};
 pub use isolation::{agree, members};
 pub use linerun::linerun;

@@ -7,7 +7,7 @@ use reference::generate::Case;
 use reference::influence::{QueueView, View};
 use reference::table::{domains, rights_place};
 use reference::words::bits;
-use reference::{purge, step, view};
+use reference::{from_group, purge, step, view};
 
 use crate::judging::panics::or_panic;
 use crate::kernels::boundary::Outcome;
@@ -126,7 +126,26 @@ impl Struck {
 /// separate machine's run of the calls kept for it: the number of calls struck,
 /// or the first difference.
 pub fn isolation(case: &Case, kernel: &Ran, domain: usize) -> Result<Struck, String> {
-    let calls = kept_calls(case, domain);
+    without_struck(case, kernel, domain, &kept_calls(case, domain))
+}
+
+/// The same with every call struck that comes from outside the component of the domain
+/// in the table at the start (document 02, request (j): its group).
+pub fn component_isolation(case: &Case, kernel: &Ran, domain: usize) -> Result<Struck, String> {
+    let calls = cut(&case.list);
+    let from = from_group(&case.table, &calls, domain);
+    let calls: Vec<(Call, bool)> = calls.into_iter().zip(from).collect();
+    without_struck(case, kernel, domain, &calls)
+}
+
+/// Compares what a domain sees of the kernel's run of all calls and of the separate
+/// machine's run of those that are kept.
+fn without_struck(
+    case: &Case,
+    kernel: &Ran,
+    domain: usize,
+    calls: &[(Call, bool)],
+) -> Result<Struck, String> {
     let kept: Vec<Call> = calls.iter().filter(|(_, k)| *k).map(|(c, _)| *c).collect();
     let mut table = case.table.clone();
     let answers: Vec<u32> = kept
@@ -136,7 +155,7 @@ pub fn isolation(case: &Case, kernel: &Ran, domain: usize) -> Result<Struck, Str
     let again = view(&table, &kept, &answers, domain);
     let all: Vec<Call> = calls.iter().map(|(call, _)| *call).collect();
     let whole = view(&kernel.table, &all, &kernel.answers, domain);
-    let struck = struck(&calls, domains(&case.table));
+    let struck = struck(calls, domains(&case.table));
     match view_difference(case, &all, &whole, &again, domain) {
         None => Ok(struck),
         Some(told) => Err(format!(

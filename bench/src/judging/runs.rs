@@ -11,6 +11,7 @@ use reference::words::bits;
 use crate::cases::random::run_case;
 use crate::judging::compare::{difference, isolation, separate_run};
 use crate::judging::counts;
+use crate::judging::groups;
 use crate::judging::pairs::pair;
 use crate::judging::report::cut_down;
 use crate::judging::tally::{Revokes, Tally, Tried};
@@ -44,6 +45,7 @@ fn judged(case: &Case, ran: Ran, pick: u64) -> Result<Tried, String> {
     if let Some(told) = difference(case, &ran, &separate_run(case)?) {
         return Err(told);
     }
+    groups::told_of(&case.table, (pick % 18) as u32)?;
     if ran.outcome.code != 0 {
         return Ok(Tried::refused(ran));
     }
@@ -51,9 +53,10 @@ fn judged(case: &Case, ran: Ran, pick: u64) -> Result<Tried, String> {
     if let Some(told) = counts::difference(&case.table, &ran.table, &calls, &ran.answers) {
         return Err(told);
     }
-    let (mut views, mut struck) = (0, 0);
+    let (mut views, mut struck, mut struck_by_component) = (0, 0, 0);
     for domain in domains_to_see(case, calls.len(), pick) {
         struck += isolation(case, &ran, domain)?.calls as u64;
+        struck_by_component += groups::kept_apart(case, &ran, domain)?;
         views += 1;
     }
     let counts = counts::follow(&case.table, &calls, &ran.answers);
@@ -63,6 +66,7 @@ fn judged(case: &Case, ran: Ran, pick: u64) -> Result<Tried, String> {
         counts,
         views,
         struck,
+        struck_by_component,
     })
 }
 

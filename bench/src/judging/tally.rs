@@ -24,6 +24,8 @@ pub struct Tried {
     /// all for them.
     pub views: u64,
     pub struck: u64,
+    /// How many calls were struck by components, of other domains.
+    pub struck_by_component: u64,
     pub revokes: Revokes,
 }
 
@@ -42,6 +44,7 @@ impl Tried {
             counts: Counts::default(),
             views: 0,
             struck: 0,
+            struck_by_component: 0,
             revokes: Revokes::default(),
         }
     }
@@ -64,6 +67,7 @@ pub struct Tally {
     emptied: u64,
     views: u64,
     struck: u64,
+    struck_by_component: u64,
     revokes: Revokes,
     /// Pairs of lines; those that differ in the part of a domain that is no member, and
     /// those of which another domain was answered otherwise.
@@ -86,6 +90,7 @@ impl Counted for Tally {
             &mut self.emptied,
             &mut self.views,
             &mut self.struck,
+            &mut self.struck_by_component,
             &mut self.revokes.held,
             &mut self.revokes.missing,
             &mut self.pairs,
@@ -110,6 +115,7 @@ impl Tally {
         self.emptied += tried.counts.sum(|queue| queue.emptied);
         self.views += tried.views;
         self.struck += tried.struck;
+        self.struck_by_component += tried.struck_by_component;
         self.revokes.held += tried.revokes.held;
         self.revokes.missing += tried.revokes.missing;
         if outcome.code == 0 {
@@ -160,7 +166,7 @@ impl Tally {
 
     fn facts_in_words(&self) -> String {
         format!(
-            "  {} of domains compared, {} struck for them\n  \
+            "  {} of domains compared, {} struck for them, {} of other domains by components\n  \
              {} found the queue full, {} with the lost count at its top; {} left the queue \
              empty\n  \
              {} of a right that was there, {} of none\n  \
@@ -169,6 +175,7 @@ impl Tally {
              lists of up to {}, {} of domains, {} of endpoints\n",
             counted(self.views, "view"),
             counted(self.struck, "call"),
+            counted(self.struck_by_component, "call"),
             counted(self.full, "send"),
             self.at_top,
             counted(self.emptied, "receive"),
@@ -209,6 +216,7 @@ impl Tally {
             (self.at_top, "a lost count at its top"),
             (self.emptied, "a queue left empty"),
             (self.struck, "a struck call"),
+            (self.struck_by_component, "a call struck by its component"),
             (self.revokes.held, "a revoke of a right that is there"),
             (self.revokes.missing, "a revoke of a right that isn't"),
             (self.pairs_of_parts, "a pair of lines that differ"),

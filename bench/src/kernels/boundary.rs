@@ -7,6 +7,7 @@
 //! lent parts of which one is written never overlap, and nobody else writes
 //! them. So every wrapper is safe.
 
+use reference::words::bits;
 use reference::Call;
 
 /// The check of bytes that are valid for reads.
@@ -172,6 +173,17 @@ pub const PROVED_STEP: Option<Step> = Some(|table, call, answer| {
         )
     }
 });
+
+/// The component of a domain in a table, by the proved kernel: its code, and the members
+/// as bits.
+pub fn component(table: &[u32], domain: u32) -> (u32, u32) {
+    extern "C" {
+        fn balkwizu_component(table: *const u32, table_len: usize, domain: u32) -> u32;
+    }
+    // SAFETY: a slice, valid for its length and aligned.
+    let told = unsafe { balkwizu_component(table.as_ptr(), table.len(), domain) };
+    (bits(told, 15, 0), bits(told, 31, 16))
+}
 
 /// A send of a message to an endpoint's words, and a receive from them: whether it
 /// was done, or the words stayed as they were.

@@ -2,5 +2,6 @@
 //! that it is drawn with.
 
 pub mod diagram;
+mod groups;
 pub mod picture;
 pub mod svg;

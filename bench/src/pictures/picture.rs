@@ -13,6 +13,7 @@ use reference::words::{content, hex};
 
 use crate::line::explain::{call_in_words, counted, senders, NAMED_RIGHTS};
 use crate::line::input::Input;
+use crate::pictures::groups::groups;
 use crate::pictures::svg::{Drawing, Style, INK, LINE, QUIET};
 
 const WIDTH: f64 = 1080.0;
@@ -137,8 +138,20 @@ fn rights_panels(drawing: &mut Drawing, table: &[u32], y: f64) -> f64 {
     y + height
 }
 
-/// Where the domains stand: round a circle, the first on top.
-fn places(n: usize, at: (f64, f64), size: (f64, f64)) -> Vec<(f64, f64, f64)> {
+/// Where the domains stand: round a circle, the first on top, those of a group side by
+/// side and a place left free between groups.
+fn places(table: &[u32], at: (f64, f64), size: (f64, f64)) -> Vec<(f64, f64, f64)> {
+    let n = domains(table);
+    let groups = groups(table);
+    let mut turns = vec![0; n];
+    let mut turn = 0;
+    for group in &groups {
+        for &domain in group {
+            turns[domain] = turn;
+            turn += 1;
+        }
+        turn += usize::from(groups.len() > 1);
+    }
     let (cx, cy) = (at.0 + size.0 / 2.0, at.1 + size.1 / 2.0 + 16.0);
     let radius = if n == 1 {
         0.0
@@ -146,9 +159,10 @@ fn places(n: usize, at: (f64, f64), size: (f64, f64)) -> Vec<(f64, f64, f64)> {
         size.1.min(size.0) / 2.0 - 104.0
     };
     let first = if n == 2 { PI } else { -PI / 2.0 };
-    (0..n)
-        .map(|domain| {
-            let angle = first + 2.0 * PI * domain as f64 / n as f64;
+    turns
+        .iter()
+        .map(|&place| {
+            let angle = first + 2.0 * PI * place as f64 / turn as f64;
             (
                 cx + radius * 1.15 * angle.cos(),
                 cy + radius * angle.sin(),
@@ -161,7 +175,7 @@ fn places(n: usize, at: (f64, f64), size: (f64, f64)) -> Vec<(f64, f64, f64)> {
 fn arrows_panel(drawing: &mut Drawing, table: &[u32], at: (f64, f64), size: (f64, f64)) {
     panel(drawing, at, size, "Who has rights on whom");
     let n = domains(table);
-    let places = places(n, at, size);
+    let places = places(table, at, size);
     let pairs = (0..n * n).map(|i| (i / n, i % n));
     let held: Vec<_> = pairs
         .map(|(holder, target)| (holder, target, rights(table, holder, target)))

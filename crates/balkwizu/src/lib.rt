@@ -3,6 +3,7 @@
 ghost use mathlib.Core.Path.{_≡_};
 ghost use Prim.Native.Nat.{_/_, _%_};
 ghost use Rattle.machine.specs.Promise.{RunPromise};
+ghost use Rattle.components.specs.Told.{ComponentTold};
 ghost use Rattle.image.specs.Bytes.{bytesCode};
 
 // The check of a table before the kernel runs on it. C: uint32_t balkwizu_table_check(const uint8_t *bytes, size_t length).
@@ -39,4 +40,20 @@ pub extern "C" fn balkwizu_run(table: &mut [u32], list: &[u32], answers: &mut [u
     let code = ran.code();
     let calls = ran.calls();
     code + 65536 * calls as u32
+}
+
+// The component of a domain in a table: the domains that hang together with it, where two are joined when either has a right on
+// the other. C: uint32_t balkwizu_component(const uint32_t *table, size_t table_len, uint32_t domain)
+//
+// The code stands in the low 16 bits of the answer: 0, or 2 to 5 where the table is refused, or 32 where the domain isn't below
+// n. The members stand in the high 16 bits, bit 16 + u for the domain u; where the code is not 0 there are none.
+// It is defined for any words in a slice of any length and for any number as the domain, writes nothing and keeps nothing.
+#[no_mangle]
+pub extern "C" fn balkwizu_component(table: &[u32], domain: u32) -> u32
+    ensures { λ r. ⌜ ComponentTold (now (table .entry)) domain (r % 65536) (r / 65536) ⌝ }
+{
+    let told = components::component_of(table, domain);
+    let code = told.code();
+    let members = told.members();
+    code + 65536 * members
 }

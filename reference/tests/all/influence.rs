@@ -2,7 +2,7 @@
 //! property test can stay true of a set that is too large; these rows say
 //! exactly who joins and when.
 
-use crate::support::{bare_table, place, run_from, table_with};
+use crate::support::{place, rights_table, run_from, table_with};
 use reference::example::{LIST_L, TABLE_T};
 use reference::generate::call_word;
 use reference::{cut, influences, purge, sources, view, QueueView};
@@ -18,16 +18,6 @@ fn sets(table: &[u32], list: &[u32], d: usize) -> Vec<Vec<usize>> {
 /// Domain `by` asks for its rights: a call that is never refused.
 fn asks(by: usize) -> u32 {
     call_word(5, by, 0, 0, 0)
-}
-
-/// A table of n domains without endpoints, where `holder` has a set of rights on
-/// `target` for each given.
-fn rights_table(n: usize, held: &[(usize, usize, u32)]) -> Vec<u32> {
-    let mut table = bare_table(n, 0);
-    for &(holder, target, set) in held {
-        table[1 + n * holder + target] |= set;
-    }
-    table
 }
 
 #[test]

@@ -3,7 +3,8 @@
 //! `example` is document 01's list L and its edges P1 to P12, `codes` each code
 //! on both sides of its condition, `rows` what each call does, `queue` a receive
 //! and a send on any twelve words, `influence` rows for sources, purge and view;
-//! `isolation` has rows for the rule between two lines and then the rule itself.
+//! `isolation` and `groups` have rows for the two rules of document 02 and then the
+//! rules themselves.
 //! The others are property tests over seeded random tables and lists; on failure
 //! they show the seed and the words.
 
@@ -11,6 +12,7 @@ mod codes;
 mod counts;
 mod example;
 mod generator;
+mod groups;
 mod influence;
 mod isolation;
 mod linerun;

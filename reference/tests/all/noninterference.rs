@@ -2,10 +2,10 @@
 //! for every domain, what it sees of the run of the whole list is what it sees
 //! of the machine's run of the kept calls alone.
 
-use crate::support::{code_of, run_from, shown, Run};
+use crate::support::{both_views, code_of, run_from, shown};
 use reference::generate::{list, table, Rng};
 use reference::influence::tables_before;
-use reference::{cut, influences, purge, sources, step, view, Call, View};
+use reference::{cut, influences, purge, sources, step, Call};
 
 /// How often what would make the property empty was met.
 #[derive(Default)]
@@ -26,39 +26,14 @@ struct Met {
     tables_differing: usize,
 }
 
-/// The machine's run of some calls: the table left, and the answers.
-fn machine_run(table: &[u32], calls: &[Call]) -> (Vec<u32>, Vec<u32>) {
-    let mut left = table.to_vec();
-    let answers = calls
-        .iter()
-        .flat_map(|call| step(&mut left, call))
-        .collect();
-    (left, answers)
-}
-
-/// The view of d over the whole list and over the kept calls alone, and the
-/// table that the kept calls leave.
-fn both_views(table: &[u32], calls: &[Call], whole: &Run, d: usize) -> (View, View, Vec<u32>) {
-    let kept = purge(table, calls, d);
-    let kept_calls: Vec<Call> = calls
-        .iter()
-        .zip(&kept)
-        .filter(|(_, &keep)| keep)
-        .map(|(&call, _)| call)
-        .collect();
-    let (left, answers) = machine_run(table, &kept_calls);
-    let of_whole = view(&whole.table, calls, &whole.answers, d);
-    let of_kept = view(&left, &kept_calls, &answers, d);
-    (of_whole, of_kept, left)
-}
-
 /// The property for every domain of a table.
 fn views_are_equal(seed: u64, table: &[u32], list: &[u32], met: &mut Met) {
     let calls = cut(list);
     let whole = run_from(table, list);
     assert_eq!(whole.code, 0, "{}", shown(seed, table, list));
     for d in 0..reference::table::domains(table) {
-        let (of_whole, of_kept, left) = both_views(table, &calls, &whole, d);
+        let kept = purge(table, &calls, d);
+        let (of_whole, of_kept, left) = both_views(table, &calls, &whole, &kept, d);
         assert!(
             of_whole == of_kept,
             "the views of domain {d} differ, {}\nwhole {of_whole:X?}\nkept {of_kept:X?}",

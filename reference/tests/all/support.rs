@@ -4,7 +4,7 @@
 use reference::example::TABLE_T;
 use reference::table::{domains, endpoint_words, endpoints, owner, rights_place, WAITING_PLACE};
 use reference::words::{bits, hex};
-use reference::{cut, run, Call};
+use reference::{cut, run, step, view, Call, View};
 
 /// A word that the answer space holds before a run.
 pub const UNTOUCHED: u32 = 0xA5A5_5A5A;
@@ -40,6 +40,37 @@ pub fn codes(table: &[u32], list: &[u32]) -> Vec<u32> {
         .chunks_exact(3)
         .map(code_of)
         .collect()
+}
+
+/// The machine's run of some calls: the table left, and the answers.
+fn machine_run(table: &[u32], calls: &[Call]) -> (Vec<u32>, Vec<u32>) {
+    let mut left = table.to_vec();
+    let answers = calls
+        .iter()
+        .flat_map(|call| step(&mut left, call))
+        .collect();
+    (left, answers)
+}
+
+/// The view of d over the whole run of a list and over the machine's run of the kept
+/// calls alone, and the table that the kept calls leave.
+pub fn both_views(
+    table: &[u32],
+    calls: &[Call],
+    whole: &Run,
+    kept: &[bool],
+    d: usize,
+) -> (View, View, Vec<u32>) {
+    let kept_calls: Vec<Call> = calls
+        .iter()
+        .zip(kept)
+        .filter(|(_, &keep)| keep)
+        .map(|(&call, _)| call)
+        .collect();
+    let (left, answers) = machine_run(table, &kept_calls);
+    let of_whole = view(&whole.table, calls, &whole.answers, d);
+    let of_kept = view(&left, &kept_calls, &answers, d);
+    (of_whole, of_kept, left)
 }
 
 /// The code in an answer's first word.
@@ -100,6 +131,16 @@ pub fn bare_table(n: usize, m: usize) -> Vec<u32> {
         table.extend([0x3000_0001 + endpoint, 0x4000_0001]);
         table.extend([0x5000_0000, 0x6000_0000]);
         table.extend([0xF000_0000; 8]);
+    }
+    table
+}
+
+/// A table of n domains without endpoints, where `holder` has a set of rights on
+/// `target` for each given.
+pub fn rights_table(n: usize, held: &[(usize, usize, u32)]) -> Vec<u32> {
+    let mut table = bare_table(n, 0);
+    for &(holder, target, set) in held {
+        table[1 + n * holder + target] |= set;
     }
     table
 }

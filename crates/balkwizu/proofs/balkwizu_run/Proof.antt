@@ -1,13 +1,14 @@
 -- `balkwizu::balkwizu_run` meets its contract: a run's code and its number of calls are small, so one word holds both, and
 -- what `kernel::run` promises of them it promises of the word's two halves.
 -- Assumes nothing.
-use Prim.Native.Nat.{ℕ, _+_, _*_, _/_, _%_, _≤_}
-use mathlib.Core.Path.{_≡_, sym, subst₂, _∙_}
+use Prim.Native.Nat.{ℕ, _≤_}
+use mathlib.Core.Path.{sym, subst₂, _∙_}
 use native.Mathlib.Omega.{arith}
 use borrow.Author.Needs.{needs}
 use denote.Ref.{now}
 use Rattle.machine.specs.Promise.{RunPromise}
 use Rattle.machine.proofs.Promise.{calls-few, code-small}
+use Rattle.balkwizu.proofs.Halves.{low, high}
 use Rattle.balkwizu.proofs.balkwizu_run.Statement.{statement}
 use Rattle.balkwizu.proofs.balkwizu_run.Tie as tie
 
@@ -23,13 +24,6 @@ small c =
     let a = c .before .before .before .before .before .before .before .before .before .before .before .before .args in
     let p = c .before .before .before .before .before .before .run .ensures in
     omega (arith, c .before .code .ensures, p .sameCode, code-small (now (a .table)) (now (a .list)) (now (a .answers)))
-
--- a word's two halves
-low : (code calls : ℕ) → code ≤ 6 → code ≡ (code + 65536 * calls) % 65536
-low code calls h = omega arith
-
-high : (code calls : ℕ) → code ≤ 6 → calls ≡ (code + 65536 * calls) / 65536
-high code calls h = omega arith
 
 run-requires : tie.Need-run-requires
 run-requires c κs = search needs
@@ -60,8 +54,8 @@ returns c =
     let a = c .before .before .before .before .before .before .before .before .before .before .before .before .args in
     let run = c .before .before .before .before .before .before .run in
     subst₂ (λ (code calls : ℕ). RunPromise (now (a .table)) (now (a .list)) (now (a .answers)) code calls (run .last .1 .1 .0) (run .last .0))
-    (sym (c .before .code .ensures) ∙ low (c .before .code .result) (c .calls .result) (small c))
-    (sym (c .calls .ensures) ∙ high (c .before .code .result) (c .calls .result) (small c))
+    (sym (c .before .code .ensures) ∙ low (c .before .code .result) (c .calls .result) (omega (arith, small c)))
+    (sym (c .calls .ensures) ∙ high (c .before .code .result) (c .calls .result) (omega (arith, small c)))
     (run .ensures)
 
 pub balkwizu-run-spec : {M : Type 1} → statement M

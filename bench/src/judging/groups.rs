@@ -1,0 +1,110 @@
+//! Components (document 02, request (j): groups, and walls that no list can open): what
+//! the proved function tells of them beside the separate one, and what they keep apart
+//! in a run.
+
+use reference::generate::Case;
+use reference::table::domains;
+use reference::{check_table, component, influences};
+
+use crate::judging::compare::component_isolation;
+use crate::kernels::boundary;
+use crate::kernels::lent::Ran;
+
+/// The number that is told of a domain that isn't below n.
+const NOT_A_DOMAIN: u32 = 32;
+
+/// Compares what the proved function tells of a number's component in any words as a
+/// table with the separate one.
+pub fn told_of(table: &[u32], domain: u32) -> Result<(), String> {
+    let wanted = match check_table(table) {
+        0 if domain as usize >= domains(table) => (NOT_A_DOMAIN, 0),
+        0 => {
+            let members = component(table, domain as usize);
+            (0, members.iter().map(|member| 1 << member).sum())
+        }
+        code => (code, 0),
+    };
+    let told = boundary::component(table, domain);
+    match told == wanted {
+        true => Ok(()),
+        false => Err(format!(
+            "the component of {domain} is told as code {} with members {:#b}, it should be code \
+             {} with {:#b}",
+            told.0, told.1, wanted.0, wanted.1
+        )),
+    }
+}
+
+/// That a run that was not refused kept components apart: nobody influences one outside
+/// its own at the start, and a domain sees the same without the calls from outside. The
+/// number of calls that were struck.
+pub fn kept_apart(case: &Case, ran: &Ran, domain: usize) -> Result<u64, String> {
+    let n = domains(&case.table);
+    for u in 0..n {
+        let group = component(&case.table, u);
+        let outside = (0..n).find(|v| influences(&ran.table, u, *v) && !group.contains(v));
+        if let Some(v) = outside {
+            return Err(format!(
+                "after the list domain {u} influences domain {v}, outside its component at the start"
+            ));
+        }
+    }
+    Ok(component_isolation(case, ran, domain)?.by_domains as u64)
+}
+
+#[cfg(test)]
+mod tests {
+    use super::*;
+    use crate::kernels::boundary::PROVED;
+    use crate::kernels::lent::run_here;
+    use reference::example::TABLE_T;
+    use reference::generate::{list, walled_table, Rng};
+
+    #[test]
+    fn any_words_and_any_number_are_told_of() {
+        let mut rng = Rng::new(3);
+        for _ in 0..2000 {
+            let table = walled_table(&mut rng, 8, 2);
+            for domain in [
+                0,
+                domains(&table) as u32 - 1,
+                domains(&table) as u32,
+                u32::MAX,
+            ] {
+                assert_eq!(told_of(&table, domain), Ok(()));
+                assert_eq!(told_of(&table[1..], domain), Ok(()));
+            }
+        }
+    }
+
+    #[test]
+    fn a_right_across_a_wall_is_found() {
+        let mut rng = Rng::new(4);
+        let mut struck = 0;
+        for _ in 0..500 {
+            let table = walled_table(&mut rng, 6, 3);
+            let list = list(&mut rng, &table, 30);
+            let answers = vec![0; 3 * list.len()];
+            let case = Case {
+                table,
+                list,
+                answers,
+            };
+            let ran = run_here(&PROVED, &case).unwrap();
+            let domain = rng.below(domains(&case.table));
+            struck += kept_apart(&case, &ran, domain).unwrap();
+        }
+        assert!(struck > 100, "{struck}");
+        let mut apart = TABLE_T.to_vec();
+        apart[6] = 0x2000_0000;
+        let case = Case {
+            table: apart,
+            list: Vec::new(),
+            answers: Vec::new(),
+        };
+        let mut ran = run_here(&PROVED, &case).unwrap();
+        ran.table[6] = 0x2000_0001;
+        let told = kept_apart(&case, &ran, 0).unwrap_err();
+        assert!(told.contains("domain 1 influences domain 2"), "{told}");
+    }
+}

@@ -1,0 +1,57 @@
+//! The domains of a table by what hangs together (document 02, request (j): groups), as
+//! the proved function tells it: no list of calls joins two of them.
+
+use reference::table::domains;
+
+use crate::kernels::boundary::component;
+
+/// The groups of an accepted table, each in order, the one with the lowest domain first.
+pub fn groups(table: &[u32]) -> Vec<Vec<usize>> {
+    let n = domains(table);
+    let mut groups: Vec<Vec<usize>> = Vec::new();
+    for domain in 0..n {
+        if groups.iter().all(|group| !group.contains(&domain)) {
+            let (_, members) = component(table, domain as u32);
+            groups.push((0..n).filter(|member| members >> member & 1 != 0).collect());
+        }
+    }
+    groups
+}
+
+/// A line that says which domains hang together.
+pub fn groups_in_words(table: &[u32]) -> String {
+    let groups = groups(table);
+    let each: Vec<String> = groups
+        .iter()
+        .map(|group| {
+            let numbers: Vec<String> = group.iter().map(usize::to_string).collect();
+            numbers.join(" ")
+        })
+        .collect();
+    match groups.len() {
+        1 => "Groups: all domains hang together\n".to_string(),
+        _ => format!("Groups that no list can join: {}\n", each.join(" | ")),
+    }
+}
+
+#[cfg(test)]
+mod tests {
+    use super::*;
+    use reference::example::TABLE_T;
+
+    #[test]
+    fn what_hangs_together_is_told() {
+        assert_eq!(groups(&TABLE_T), [[0, 1, 2]]);
+        assert_eq!(
+            groups_in_words(&TABLE_T),
+            "Groups: all domains hang together\n"
+        );
+        let mut apart = TABLE_T;
+        apart[6] = 0x2000_0000;
+        assert_eq!(groups(&apart), [vec![0, 1], vec![2]]);
+        assert_eq!(
+            groups_in_words(&apart),
+            "Groups that no list can join: 0 1 | 2\n"
+        );
+    }
+}

@@ -1,0 +1,37 @@
+-- What is told of a domain's component in any words as a table: a code, and the members as bits.
+use Prim.Native.Nat.{ℕ}
+use mathlib.Core.Path.{_≡_}
+use mathlib.Core.Bool.{cond}
+use mathlib.Core.List.{List}
+use lib.Dec.{eqb, ltb}
+use Rattle.machine.specs.Table.{domains}
+use Rattle.machine.specs.Check.{tableCode}
+use Rattle.isolation.specs.Component.{component}
+use Rattle.table.specs.Checked.{refusalCode}
+use Rattle.components.specs.declared.Component.{Component}
+use Rattle.components.specs.declared.Component.the-variants.{Of, BadTable, NotADomain}
+
+-- the code: the table's 2 to 5, then 32 where d isn't below n, else 0
+unfoldable pub toldCode : List ℕ → ℕ → ℕ
+toldCode t d = cond (eqb (tableCode t) 0) (cond (ltb d (domains t)) 0 32) (tableCode t)
+
+-- the members: none where the code isn't 0
+unfoldable pub toldMembers : List ℕ → ℕ → ℕ
+toldMembers t d = cond (eqb (toldCode t d) 0) (component t d) 0
+
+-- Of the domain d in the words t, a code and members were told: these.
+pub record ComponentTold (t : List ℕ) (d code members : ℕ) : Type 0 where
+  pub sameCode : code ≡ toldCode t d
+  pub sameMembers : members ≡ toldMembers t d
+
+-- the number of an answer
+abbrev pub componentCode : Component → ℕ
+componentCode (Of members) = 0
+componentCode (BadTable r) = refusalCode r
+componentCode NotADomain = 32
+
+-- the members that an answer tells
+abbrev pub componentMembers : Component → ℕ
+componentMembers (Of members) = members
+componentMembers (BadTable r) = 0
+componentMembers NotADomain = 0

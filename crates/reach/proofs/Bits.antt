@@ -1,0 +1,64 @@
+-- Laws of the bits of a number (specs/Below of the machine: hasBit).
+-- Assumes nothing.
+use mathlib.Core.Path.{_≡_, refl, sym, ap, ap₂, _∙_}
+use mathlib.Core.Bool.{true, false, _||_, false≢true}
+use mathlib.Core.Logic.{⊎-elim}
+use Prim.Native.Nat.{ℕ, zero, suc, _/_, _%_, _^_}
+use native.Mathlib.Nat.{zero-div, div-one, pow-suc}
+use native.Mathlib.Omega.{arith}
+use borrow.Author.Tests.{eqb-true, eqb-false}
+use lib.Arith.{bin-ind}
+use lib.Bits.{bitOr}
+use lib.Dec.{eqb}
+use lib.Pow.{shr-shr}
+use Rattle.machine.specs.Below.{hasBit}
+use Rattle.machine.specs.Right.{adds}
+use Rattle.machine.proofs.Bools.{either}
+use Rattle.machine.proofs.Right.{holds-bit, holds-adds}
+
+pub bit-or : (a b u : ℕ) → hasBit (bitOr a b) u ≡ (hasBit a u || hasBit b u)
+unfolding hasBit adds
+bit-or a b u = sym (holds-bit (bitOr a b) u) ∙ holds-adds a b u ∙ ap₂ _||_ (holds-bit a u) (holds-bit b u)
+
+pub bit-none : (u : ℕ) → hasBit 0 u ≡ false
+unfolding hasBit
+bit-none u = rw (zero-div (2 ^ u))
+
+-- the lowest bit, and the others by halving
+pub bit-zero : (w : ℕ) → hasBit w 0 ≡ eqb (w % 2) 1
+unfolding hasBit
+bit-zero w = ap (λ x. eqb (x % 2) 1) (div-one w)
+
+pub bit-half : (w u : ℕ) → hasBit (w / 2) u ≡ hasBit w (suc u)
+unfolding hasBit
+bit-half w u = ap (λ x. eqb (x % 2) 1) (shr-shr w 1 u ∙ ap (λ k. w / 2 ^ k) (omega arith))
+
+-- of a set of one
+half-pow : (d : ℕ) → 2 ^ suc d / 2 ≡ 2 ^ d
+half-pow d = omega (arith, pow-suc 2 d)
+
+pub bit-own : (d : ℕ) → hasBit (2 ^ d) d ≡ true
+bit-own zero = bit-zero 1
+bit-own (suc d) = sym (bit-half (2 ^ suc d) d) ∙ ap (λ w. hasBit w d) (half-pow d) ∙ bit-own d
+
+pub bit-other : (d u : ℕ) → hasBit (2 ^ d) u ≡ true → u ≡ d
+bit-other zero zero h = refl
+bit-other zero (suc u) h = absurd (false≢true (sym (sym (bit-half 1 u) ∙ bit-none u) ∙ h))
+bit-other (suc d) zero h = absurd (even (eqb-true _ _ (sym (bit-zero (2 ^ suc d)) ∙ h)))
+  where
+    even : 2 ^ suc d % 2 ≡ 1 → ⊥
+    even e = omega (arith, pow-suc 2 d)
+bit-other (suc d) (suc u) h =
+    ap suc (bit-other d u (sym (sym (bit-half (2 ^ suc d) u) ∙ ap (λ w. hasBit w u) (half-pow d)) ∙ h))
+
+-- a number other than 0 has a bit set
+pub some-bit : (w : ℕ) → (w ≡ 0 → ⊥) → (k : ℕ) × (hasBit w k ≡ true)
+some-bit =
+    bin-ind (λ w. (w ≡ 0 → ⊥) → (k : ℕ) × (hasBit w k ≡ true)) (λ n. absurd (n refl))
+    (λ w ih n. ⊎-elim (λ odd. (0, bit-zero w ∙ odd)) (λ even. next w (ih (half w n even))) (either (eqb (w % 2) 1)))
+  where
+    half : (w : ℕ) → (w ≡ 0 → ⊥) → eqb (w % 2) 1 ≡ false → w / 2 ≡ 0 → ⊥
+    half w n even e = n (omega (arith, eqb-false (w % 2) 1 even))
+
+    next : (w : ℕ) → (k : ℕ) × (hasBit (w / 2) k ≡ true) → (k : ℕ) × (hasBit w k ≡ true)
+    next w x = (suc (x .0), sym (bit-half w (x .0)) ∙ x .1)
