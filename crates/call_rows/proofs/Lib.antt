@@ -1,0 +1,5 @@
+-- What is proved of the rows.
+pub mod ByKind
+pub mod RowAt
+pub mod Rounds
+pub mod Examples

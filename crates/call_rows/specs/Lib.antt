@@ -1,0 +1,4 @@
+-- What the contracts of this crate cite, and rows that pin it.
+pub mod Rows
+pub mod Scan
+pub mod Examples

@@ -1,0 +1,73 @@
+-- The claims hold of whoever keeps the promise (specs/Claims). Assumes nothing.
+use Prim.Native.Nat.{ℕ, _+_, _≤_}
+use mathlib.Core.Path.{_≡_, refl, sym, ap, ap₂, _∙_}
+use mathlib.Core.Bool.{true}
+use mathlib.Core.List.{List, [], _∷_}
+use mathlib.Core.Option.{Option, none, some}
+use native.Mathlib.Omega.{arith}
+use borrow.Author.Tests.{le-ltb, eqb-false}
+use lib.ListN.{length, take, length-append, length-map}
+use lib.Seq.{take-at}
+use Rattle.machine.specs.Call.{cut}
+use Rattle.machine.specs.Entry.{longestList}
+use Rattle.machine.proofs.Bools.{and-left, and-right, cond-elim}
+use Rattle.machine.proofs.Cut.{cut-few}
+use Rattle.calls.specs.declared.Call.{Call}
+use Rattle.call_words.specs.Words.{fits, wordsOf, allFit, written}
+use Rattle.call_words.specs.Claims.{takenApart, readFrom}
+use Rattle.call_words.proofs.FieldWords.{one-or-two}
+use Rattle.call_words.proofs.Reading.{reads-back}
+use Rattle.call_words.proofs.Writing.{writes-back}
+use Rattle.writer.specs.Write.{unfitFrom, firstUnfit, tooLong, Outcome, wordsPut, afterUnfit, writing}
+use Rattle.writer.specs.Claims.{WrittenReadsBack, WrittenAsItCame, EachWantsAWord}
+use Rattle.writer.proofs.Passes.{none-unfit}
+
+-- where the code is 0 the words are in front
+in-front : (count : ℕ) (ws list : List ℕ) → wordsPut count ws list .code ≡ 0 → take (wordsPut count ws list .number) (wordsPut count ws list .list) ≡ ws
+unfolding wordsPut
+in-front count ws list =
+    cond-elim (λ (o : Outcome). o .code ≡ 0 → take (o .number) (o .list) ≡ ws) (tooLong count (length ws) (length list))
+    (λ _ e. absurd (eqb-false 31 0 refl e))
+    (λ _ _. take-at ws _ _ refl)
+
+-- and no call was found unfit
+written-whole : (o : Option ℕ) (count : ℕ) (ws list : List ℕ) → afterUnfit o count ws list .code ≡ 0
+    → (o ≡ none) × (take (afterUnfit o count ws list .number) (afterUnfit o count ws list .list) ≡ ws)
+written-whole none count ws list e = (refl, in-front count ws list e)
+written-whole (some i) count ws list e = absurd (eqb-false 30 0 refl e)
+
+pub written-reads-back : WrittenReadsBack
+unfolding firstUnfit writing
+written-reads-back cs count list code number end p zero =
+    let whole = written-whole (firstUnfit cs) count (written cs) list (sym (p .sameCode) ∙ zero) in
+    ap readFrom (ap₂ take (p .sameNumber) (p .sameWords) ∙ whole .1) ∙ reads-back cs (none-unfit 0 cs (whole .0))
+
+-- where all fit, no call is found unfit
+all-fit : (i : ℕ) (cs : List Call) → allFit cs ≡ true → unfitFrom i cs ≡ none
+unfolding unfitFrom allFit
+all-fit i [] h = refl
+all-fit i (c ∷ cs) h = rw (and-left (fits c) (allFit cs) h) (all-fit (i + 1) cs (and-right (fits c) (allFit cs) h))
+
+pub each-wants-a-word : EachWantsAWord
+unfolding written
+each-wants-a-word [] = omega arith
+each-wants-a-word (c ∷ cs) =
+    omega (arith, one-or-two c .0, each-wants-a-word cs, length-append (wordsOf c) (written cs))
+
+-- as many calls as words at most
+few-calls : (ws : List ℕ) → length (readFrom ws) ≤ length ws
+unfolding readFrom
+few-calls ws = omega (arith, length-map (cut ws) takenApart, cut-few ws)
+
+pub written-as-it-came : WrittenAsItCame
+unfolding firstUnfit writing wordsPut tooLong
+written-as-it-came ws list h short room =
+    let back = writes-back ws h in
+    let fit = all-fit 0 (readFrom ws) (back .0) in
+    rw (
+      fit,
+      back .1,
+      le-ltb longestList (length (readFrom ws)) (omega (arith, few-calls ws)),
+      le-ltb longestList (length ws) short,
+      le-ltb (length list) (length ws) room,
+    )

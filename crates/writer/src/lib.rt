@@ -1,0 +1,127 @@
+// The writer of call lists (document 02, (c)): calls as values go in and words come out, those that the reader takes past 10,
+// 11, 13 and 14. It is lent no table. Two passes: the first finds a call that can't be written and counts the words, and only
+// then are words written.
+use call_words::fits;
+use call_words::put;
+use call_words::width;
+use calls::Call;
+ghost use mathlib.Core.Path.{_≡_};
+ghost use mathlib.Core.Bool.{true};
+ghost use mathlib.Core.List.{_++_};
+ghost use Prim.Native.Nat.{_≤_, min};
+ghost use lib.ListN.{length, take, drop};
+ghost use Rattle.call_words.specs.Words.{allFit, written};
+ghost use Rattle.writer.specs.Write.{tooLong, writtenCode, writtenNumber, WritePromise};
+ghost use Rattle.writer.specs.FirstPass.{measured};
+
+// What writing came to.
+pub enum Written {
+    // 0: so many words are written
+    Done(usize),
+    // 30: the call of this number, from 0, is a refused one or has a field that exceeds its bits
+    BadCall(usize),
+    // 31: the words would pass 4,096 or the lent space
+    TooLong,
+}
+
+impl Written {
+    // Document 02's number for it.
+    pub fn code(self) -> u32
+        ensures { λ r. ⌜ r ≡ writtenCode self ⌝ }
+    {
+        match self {
+            Written::Done(_) => 0,
+            Written::BadCall(_) => 30,
+            Written::TooLong => 31,
+        }
+    }
+
+    // The number that goes with it.
+    pub fn number(self) -> usize
+        ensures { λ r. ⌜ r ≡ writtenNumber self ⌝ }
+    {
+        match self {
+            Written::Done(words) => words,
+            Written::BadCall(i) => i,
+            Written::TooLong => 0,
+        }
+    }
+}
+
+// What the first pass finds.
+enum Measured {
+    // the calls are so many words
+    Words(usize),
+    // the call of this number can't be written
+    Unfit(usize),
+}
+
+// The first pass, over the first n calls.
+fn measure(calls: [Call; 4096], n: usize) -> Measured
+    requires { ⌜ n ≤ 4096 ⌝ }
+    ensures { λ r. ⌜ r ≡ measured (take n calls) ⌝ }
+{
+    let mut words: usize = 0;
+    let mut i: usize = 0;
+    while i < n {
+        let call = calls[i];
+        if !fits(call) {
+            return Measured::Unfit(i);
+        }
+        words += width(call);
+        i += 1;
+    }
+    Measured::Words(words)
+}
+
+// The second pass: the words of the first n calls, which fit and have space.
+fn put_all(calls: [Call; 4096], n: usize, list: &mut [u32])
+    requires { ⌜ n ≤ 4096 ⌝ }
+    requires { ⌜ allFit (take n calls) ≡ true ⌝ }
+    requires { ⌜ length (written (take n calls)) ≤ length (now list) ⌝ }
+    ensures { λ _. ⌜ now (list .exit) ≡ written (take n calls) ++ drop (length (written (take n calls))) (now (list .entry)) ⌝ }
+{
+    let mut at: usize = 0;
+    let mut i: usize = 0;
+    while i < n {
+        let call = calls[i];
+        put(list, at, call);
+        at += width(call);
+        i += 1;
+    }
+}
+
+// How many of count calls the array holds.
+fn held(count: usize) -> usize
+    ensures { λ r. ⌜ r ≡ min count 4096 ⌝ }
+{
+    if count < 4096 { count } else { 4096 }
+}
+
+// 31: more calls than a list may have words, or words that pass that or the lent space.
+fn too_long(count: usize, words: usize, size: usize) -> bool
+    ensures { λ r. ⌜ r ≡ tooLong count words size ⌝ }
+{
+    (4096 < count) | (4096 < words) | (size < words)
+}
+
+// The first count calls, written into the front of the list; its words past them are left. A refusal writes no word.
+// A count above 4,096 hands in calls that aren't there: 31, after 30 for a bad one among those that are. The array is 80 KB,
+// and goes by value.
+pub fn write(calls: [Call; 4096], count: usize, list: &mut [u32]) -> Written
+    ensures { λ r. ⌜ WritePromise (take count calls) count (now (list .entry)) (writtenCode r) (writtenNumber r) (now (list .exit)) ⌝ }
+{
+    let n = held(count);
+    let measured = measure(calls, n);
+    match measured {
+        Measured::Unfit(i) => Written::BadCall(i),
+        Measured::Words(words) => {
+            let size = list.len();
+            if too_long(count, words, size) {
+                return Written::TooLong;
+            }
+            put_all(calls, n, list);
+            Written::Done(words)
+        }
+    }
+}
