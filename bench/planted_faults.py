@@ -50,6 +50,8 @@ UNSEEN = {
     "sources_without_refused_calls": "a refused call alters nothing that a member "
     "of the set sees",
     "view_*": "the same view is taken of both runs",
+    **dict.fromkeys(("writer_*", "columns_*", "read_*"), "the writer of lists, which no "
+    "command of the bench runs yet"),
     "send_past_the_slots_fills_the_last": "words that can't be served, where the "
     "papers leave the answer free",
 }

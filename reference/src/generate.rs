@@ -1,4 +1,4 @@
-//! Seeded tables, lists and inputs for property tests and comparisons.
+//! Seeded tables, lists, calls and inputs for property tests and comparisons.
 //!
 //! Everything follows from the seed alone. The draws are biased so that every
 //! code is met, most calls do something, queues fill and empty, and lost counts
@@ -20,6 +20,7 @@ use crate::table::{
     TABLE_WORDS_MAX, WAITING, WAITING_PLACE,
 };
 use crate::words::{content, to_bytes, word, CONTENT_MAX, EMPTY_SLOT};
+use crate::writer::{from_columns, to_columns, Value, COLUMNS};
 
 /// A small random generator (splitmix64).
 #[derive(Debug, Clone)]
@@ -565,6 +566,143 @@ fn revoke_word(rng: &mut Rng, table: &[u32]) -> u32 {
         set_to_give_up(rng, rights(table, holder, target))
     };
     call_word(REVOKE, caller, target, holder, set)
+}
+
+// Calls as values, and lists to be written.
+
+/// The largest that each column after the kind may hold, for kinds 1 to 8: caller,
+/// A, B, and C or the second word's content. 0 where the kind doesn't use it.
+const COLUMN_LIMITS: [[u32; COLUMNS - 1]; 8] = [
+    [63, 0, 0, CONTENT_MAX],
+    [63, 0, 255, CONTENT_MAX],
+    [63, 0, 255, 0],
+    [63, 0, 0, 0],
+    [63, 0, 0, 0],
+    [63, 63, 255, 255],
+    [63, 63, 0, 255],
+    [63, 63, 255, 255],
+];
+
+/// A call that can be written.
+pub fn value(rng: &mut Rng) -> Value {
+    from_columns(&good_columns(rng)).expect("a call")
+}
+
+/// A call with one field that exceeds its bits.
+pub fn value_too_large(rng: &mut Rng) -> Value {
+    let mut columns = good_columns(rng);
+    let column = column_with_limit(rng, columns[0], |limit| limit != 0).expect("a caller");
+    let limit = COLUMN_LIMITS[columns[0] as usize - 1][column - 1];
+    columns[column] = match rng.below(4) {
+        0 => limit + 1,
+        1 => u32::MAX,
+        2 => 1 << rng.between(limit.count_ones() as usize, 31),
+        _ => rng.between(limit as usize + 1, u32::MAX as usize) as u32,
+    };
+    from_columns(&columns).expect("a call")
+}
+
+/// The columns of a call that can be written, with fields often 0 or at their top.
+fn good_columns(rng: &mut Rng) -> [u32; COLUMNS] {
+    let kind = rng.between(1, COLUMN_LIMITS.len());
+    let [caller, a, b, last] = COLUMN_LIMITS[kind - 1].map(|limit| match rng.below(4) {
+        0 => 0,
+        1 => limit,
+        _ => rng.between(0, limit as usize) as u32,
+    });
+    [kind as u32, caller, a, b, last]
+}
+
+/// One of the columns of a kind whose limit is suitable, if there is one.
+fn column_with_limit(rng: &mut Rng, kind: u32, suitable: impl Fn(u32) -> bool) -> Option<usize> {
+    let limits = COLUMN_LIMITS[kind as usize - 1];
+    let suited: Vec<usize> = (1..COLUMNS).filter(|&c| suitable(limits[c - 1])).collect();
+    if suited.is_empty() {
+        None
+    } else {
+        Some(rng.pick(&suited))
+    }
+}
+
+/// Five columns that are no call: a column that the kind doesn't use isn't 0, or the
+/// kind isn't one of a call.
+fn no_call_columns(rng: &mut Rng) -> [u32; COLUMNS] {
+    let mut columns = good_columns(rng);
+    match column_with_limit(rng, columns[0], |limit| limit == 0) {
+        Some(column) if rng.chance(1, 2) => columns[column] = 1 << rng.below(32),
+        _ => columns[0] = rng.pick(&[0, 9, 14, STRAY, 16, columns[0] | 1 << 28, u32::MAX]),
+    }
+    columns
+}
+
+/// What is handed to the writer, and the space that is lent to it.
+#[derive(Debug, Clone, PartialEq, Eq)]
+pub struct Writing {
+    pub calls: Vec<Value>,
+    /// Holds words that the writer must leave where it writes none.
+    pub space: Vec<u32>,
+}
+
+/// A list of up to `max_calls` calls to be written, now and then one that is refused
+/// by 30 or 31. Now and then it is about as long as a list can be.
+pub fn writing(rng: &mut Rng, max_calls: usize) -> Writing {
+    let mut calls: Vec<Value> = if rng.chance(1, 32) {
+        let words = LIST_WORDS_MAX - 1 + rng.below(4);
+        values_of_words(rng, words)
+    } else {
+        (0..rng.size(0, max_calls)).map(|_| value(rng)).collect()
+    };
+    if !calls.is_empty() && rng.chance(1, 4) {
+        for _ in 0..rng.between(1, 3) {
+            let place = rng.below(calls.len());
+            calls[place] = bad_value(rng);
+        }
+    }
+    let needed: usize = calls.iter().map(word_count).sum();
+    let space = match rng.below(16) {
+        0 => rng.below(needed + 1),
+        1 | 2 => needed.saturating_sub(1),
+        3 | 4 => needed,
+        _ => needed + rng.below(8),
+    };
+    let space = (0..space).map(|_| rng.word()).collect();
+    Writing { calls, space }
+}
+
+/// Calls that can be written and have just so many words together.
+pub fn values_of_words(rng: &mut Rng, words: usize) -> Vec<Value> {
+    let mut calls = Vec::new();
+    let mut left = words;
+    while left > 0 {
+        let call = value(rng);
+        if word_count(&call) <= left {
+            left -= word_count(&call);
+            calls.push(call);
+        }
+    }
+    calls
+}
+
+/// A call that can't be written.
+fn bad_value(rng: &mut Rng) -> Value {
+    if rng.chance(2, 3) {
+        value_too_large(rng)
+    } else {
+        Value::Refused(rng.pick(&[10, 11, 13, 14]))
+    }
+}
+
+fn word_count(call: &Value) -> usize {
+    match call {
+        Value::LookUp { .. } | Value::Send { .. } => 2,
+        _ => 1,
+    }
+}
+
+/// Calls as plain words, five for each; for a refused one, five that are no call.
+pub fn columns(rng: &mut Rng, calls: &[Value]) -> Vec<u32> {
+    let of = |call| to_columns(call).unwrap_or_else(|| no_call_columns(rng));
+    calls.iter().flat_map(of).collect()
 }
 
 // Whole runs.

@@ -17,10 +17,11 @@
 //! | [`influence`] | "Influence" and "The striking rule" |
 //! | [`isolation`] | document 02, request (g): two lines that agree on what reaches a domain |
 //! | [`groups`] | document 02, request (j): domains that no list can join |
+//! | [`writer`] | document 02, request (c): lists from calls as values, codes 30 and 31 |
 //! | [`bytes`] | the table's check over little-endian bytes |
 //! | `linerun` | the program: its reading and printing, codes 7 and 1 |
 //! | [`example`] | table T, list L and what is printed for it |
-//! | [`generate`] | seeded tables, lists and inputs for tests |
+//! | [`generate`] | seeded tables, lists, calls and inputs for tests |
 
 pub mod bytes;
 pub mod calls;
@@ -35,6 +36,7 @@ pub mod machine;
 pub mod queue;
 pub mod table;
 pub mod words;
+pub mod writer;
 
 pub use bytes::check_bytes;
 pub use calls::{cut, Call};
@@ -45,3 +47,4 @@ pub use isolation::{agree, members};
 pub use linerun::linerun;
 pub use machine::step;
 pub use table::check_table;
+pub use writer::{fits, read, write, write_columns, Value};

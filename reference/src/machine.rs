@@ -73,7 +73,7 @@ fn caller(call: &Call) -> usize {
     call.caller().unwrap_or(0) as usize
 }
 
-fn an_unused_field_is_set(call: &Call) -> bool {
+pub(crate) fn an_unused_field_is_set(call: &Call) -> bool {
     let (a, b, c) = (call.a() != 0, call.b() != 0, call.c() != 0);
     match call.kind() {
         LOOK_UP | MY_ENDPOINTS | MY_RIGHTS => a || b || c,
@@ -83,7 +83,7 @@ fn an_unused_field_is_set(call: &Call) -> bool {
     }
 }
 
-fn takes_second_word(call: &Call) -> bool {
+pub(crate) fn takes_second_word(call: &Call) -> bool {
     matches!(call.kind(), LOOK_UP | SEND)
 }
 

@@ -1,13 +1,16 @@
 //! The generator meets what it is biased towards: every code, full and emptied
-//! queues, lost counts at their top, the smallest and the largest tables.
+//! queues, lost counts at their top, the smallest and the largest tables, spaces that
+//! are just enough and lists that are just too long.
 
 use std::collections::BTreeSet;
 
 use crate::support::{code_of, shown};
-use reference::generate::{case, damaged_table, linerun_input, list, table, table_of, Rng};
+use reference::generate::{
+    case, damaged_table, linerun_input, list, table, table_of, writing, Rng, Writing,
+};
 use reference::table::{capacity, domains, endpoints, lost, owner, right, rights, waiting};
 use reference::words::CONTENT_MAX;
-use reference::{check_table, cut, linerun, run, step};
+use reference::{check_table, cut, fits, linerun, run, step, Value};
 
 #[test]
 fn the_same_seed_draws_the_same() {
@@ -181,4 +184,26 @@ fn full_queues_are_sent_into() {
     assert!(full > 400, "full {full}");
     assert!(at_top > 120, "lost at its top {at_top}");
     assert!(own > 200 && full - own > 100, "by owners {own} of {full}");
+}
+
+/// Lists that fit and are lent one word too few or just enough, and lists of the most
+/// words and of one more that are lent enough.
+#[test]
+fn writings_are_met_on_both_sides_of_their_limits() {
+    let (mut short_by_one, mut just_enough, mut most, mut one_more) = (0, 0, 0, 0);
+    for seed in 0..3000 {
+        let Writing { calls, space } = writing(&mut Rng::new(seed), 12);
+        let of_two = |call: &&Value| matches!(call, Value::LookUp { .. } | Value::Send { .. });
+        let needed = calls.len() + calls.iter().filter(of_two).count();
+        if needed > 0 && calls.iter().all(fits) {
+            short_by_one += usize::from(space.len() + 1 == needed);
+            just_enough += usize::from(space.len() == needed);
+            let enough = space.len() >= needed;
+            most += usize::from(enough && needed == 4096);
+            one_more += usize::from(enough && needed == 4097);
+        }
+    }
+    assert!(short_by_one > 150, "short by one {short_by_one}");
+    assert!(just_enough > 200, "just enough {just_enough}");
+    assert!(most > 5 && one_more > 5, "{most} {one_more}");
 }

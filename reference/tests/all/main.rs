@@ -4,7 +4,7 @@
 //! on both sides of its condition, `rows` what each call does, `queue` a receive
 //! and a send on any twelve words, `influence` rows for sources, purge and view;
 //! `isolation` and `groups` have rows for the two rules of document 02 and then the
-//! rules themselves.
+//! rules themselves; `writer` has rows for what is written and then round trips.
 //! The others are property tests over seeded random tables and lists; on failure
 //! they show the seed and the words.
 
@@ -21,3 +21,4 @@ mod queue;
 mod rows;
 mod steps;
 mod support;
+mod writer;
