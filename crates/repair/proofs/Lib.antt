@@ -1,0 +1,5 @@
+-- Laws of repairs that callers cite, and what the proofs of several functions cite.
+pub mod Changes
+pub mod Outcomes
+pub mod Claims
+pub mod Examples
