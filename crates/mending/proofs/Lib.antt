@@ -2,3 +2,4 @@
 pub mod Places
 pub mod Mended
 pub mod Claims
+pub mod Passes

@@ -1,1 +1,90 @@
-// A table's broken words put right in place, without ever adding a right (document 02 (k)).
+// A table's broken words put right in place, without ever adding a right (document 02 (k)): a broken rights word becomes one with no
+// right, and the queue of an endpoint with a broken waiting, lost or slot word is emptied. Any words will do as a table.
+use endpoint_words::queue_ok;
+use table::check;
+use words::rights_word_ok;
+ghost use mathlib.Core.Path.{_≡_};
+ghost use Prim.Native.Nat.{_*_};
+ghost use lib.ListN.{length};
+ghost use Rattle.machine.specs.Table.{domains, endpoints};
+ghost use Rattle.table.specs.Checked.{Headed};
+ghost use Rattle.mending.specs.Mend.{mendedRights, mendedEndpoint, mended};
+ghost use Rattle.mending.specs.Passes.{RightsMended, EndpointsMended};
+
+// A rights word with no right, and the words of an empty queue: nothing waits, nothing was lost, a slot has no message.
+const NO_RIGHT: u32 = 0x2000_0000;
+
+const NONE_WAITING: u32 = 0x5000_0000;
+
+const NONE_LOST: u32 = 0x6000_0000;
+
+const EMPTY_SLOT: u32 = 0xF000_0000;
+
+// What becomes of a rights word.
+fn mended_rights(word: u32) -> u32
+    ensures { λ r. ⌜ r ≡ mendedRights word ⌝ }
+{
+    if rights_word_ok(word) { word } else { NO_RIGHT }
+}
+
+// Every rights word.
+fn mend_rights(table: &mut [u32])
+    requires { ⌜ Headed (now table) ⌝ }
+    ensures { λ _. ⌜ RightsMended (now (table .entry)) (now (table .exit)) (domains (now (table .entry)) * domains (now (table .entry))) ⌝ }
+{
+    let header = table[0];
+    let n = (header / 256 % 256) as usize;
+    let count = n * n;
+    let mut i: usize = 0;
+    while i < count {
+        table[1 + i] = mended_rights(table[1 + i]);
+        i += 1;
+    }
+}
+
+// An endpoint's twelve words: one broken word of the queue, and the whole queue is emptied.
+fn mend_endpoint(q: &mut [u32])
+    requires { ⌜ length (now q) ≡ 12 ⌝ }
+    ensures { λ _. ⌜ now (q .exit) ≡ mendedEndpoint (now (q .entry)) ⌝ }
+{
+    if queue_ok(q) {
+        return;
+    }
+    q[2] = NONE_WAITING;
+    q[3] = NONE_LOST;
+    let mut i: usize = 0;
+    while i < 8 {
+        q[4 + i] = EMPTY_SLOT;
+        i += 1;
+    }
+}
+
+// Every endpoint, lent as a part of the table.
+fn mend_endpoints(table: &mut [u32])
+    requires { ⌜ Headed (now table) ⌝ }
+    ensures { λ _. ⌜ EndpointsMended (now (table .entry)) (now (table .exit)) (endpoints (now (table .entry))) ⌝ }
+{
+    let header = table[0];
+    let n = (header / 256 % 256) as usize;
+    let m = (header % 256) as usize;
+    let from = 1 + n * n;
+    let mut e: usize = 0;
+    while e < m {
+        let start = from + 12 * e;
+        let end = start + 12;
+        mend_endpoint(&mut table[start..end]);
+        e += 1;
+    }
+}
+
+// The table mended. One that is sound stays, and so does one whose word 0 or length is wrong.
+pub fn mend(table: &mut [u32])
+    ensures { λ _. ⌜ now (table .exit) ≡ mended (now (table .entry)) ⌝ }
+{
+    let checked = check(table);
+    if checked.code() < 4 {
+        return;
+    }
+    mend_rights(table);
+    mend_endpoints(table);
+}
