@@ -1,15 +1,16 @@
 -- What a repair comes to, by what the code finds: each of its answers is the one that is due (specs/Repair), and small.
 -- Assumes nothing.
 use Prim.Native.Nat.{ℕ, _+_, _*_, _<_, _≤_}
-use mathlib.Core.Path.{_≡_, refl}
+use mathlib.Core.Path.{_≡_, refl, ap, _∙_}
 use mathlib.Core.Bool.{Bool, true, false, cond, not}
+use mathlib.Core.Logic.{⊎-elim}
 use mathlib.Core.List.{List, _++_}
 use native.Mathlib.Nat.{mul-le-mul}
 use native.Mathlib.Omega.{arith}
 use borrow.Author.Tests.{ltb-false, eqb-true, eqb-false, lt-ltb, le-ltb}
 use lib.Dec.{eqb, ltb}
 use lib.ListN.{length, drop}
-use Rattle.machine.proofs.Bools.{cond-elim}
+use Rattle.machine.proofs.Bools.{either, cond-elim}
 use Rattle.machine.proofs.Accepted.{accepted-sized, accepted-counts}
 use Rattle.mending.specs.Mend.{mended, mendable}
 use Rattle.mending.proofs.Mended.{mended-length}
@@ -40,22 +41,48 @@ module _ (t list : List ℕ) where
   unfolding repair repairCode refusal
   bad-frame can′t = record { sameCode = rw can′t; sameCount = rw can′t; sameTable = rw can′t; sameList = rw can′t }
 
-  module _ (can : mendable t ≡ true) where
-    pub list-too-short : length list < 2 * alteredCount t → RepairPromise t list 34 0 t list
+  -- more words than the largest table has
+  pub too-many-words : 641 < length t → RepairPromise t list 33 0 t list
+  too-many-words l =
+      ⊎-elim (λ can. absurd (omega (arith, mendable-small t can))) (λ can′t. bad-frame can′t) (either (mendable t))
+
+  -- the words new are the mended table, and count of them differ
+  module _ (can : mendable t ≡ true) (new : List ℕ) (mends : new ≡ mended t) (count : ℕ) (counted : count ≡ length (differing t new)) where
+    count-is : count ≡ alteredCount t
+    unfolding alteredCount
+    count-is = counted ∙ ap (λ (x : List ℕ). length (differing t x)) mends
+
+    told-length : length (altered t) ≡ 2 * count
+    told-length = rw count-is (altered-length t)
+
+    pub count-fits : count ≤ 641
+    count-fits = omega (arith, count-is, altered-few t, mendable-small t can)
+
+    pub list-too-short : length list < 2 * count → RepairPromise t list 34 0 t list
     unfolding repair repairCode refusal
     list-too-short l =
-        let short = lt-ltb (length list) (length (altered t)) (rw altered-length l) in
+        let short = lt-ltb (length list) (length (altered t)) (rw told-length l) in
         record { sameCode = rw (can, short); sameCount = rw (can, short); sameTable = rw (can, short); sameList = rw (can, short) }
 
-    pub done : 2 * alteredCount t ≤ length list
-        → (end told : List ℕ)
-        → end ≡ mended t
-        → told ≡ altered t ++ drop (length (altered t)) list
-        → RepairPromise t list 0 (alteredCount t) end told
-    unfolding repair repairCode repaired
-    done l end told mends tells =
-        let room = le-ltb (length list) (length (altered t)) (rw altered-length l) in
-        record { sameCode = rw (can, room); sameCount = rw (can, room); sameTable = rw (can, room) mends; sameList = rw (can, room) tells }
+    module _ (l : 2 * count ≤ length list) where
+      -- there is room for the pairs
+      pub room : length (changes t new) ≤ length list
+      unfolding altered
+      room = rw (mends, told-length) l
+
+      pub done : (end told : List ℕ)
+          → end ≡ new
+          → told ≡ changes t new ++ drop (length (changes t new)) list
+          → RepairPromise t list 0 count end told
+      unfolding repair repairCode repaired altered
+      done end told wrote tells =
+          let enough = le-ltb (length list) (length (altered t)) (rw told-length l) in
+          record {
+            sameCode = rw (can, enough);
+            sameCount = rw (can, enough) count-is;
+            sameTable = rw (can, enough) (wrote ∙ mends);
+            sameList = rw (can, enough) (tells ∙ ap (λ (x : List ℕ). changes t x ++ drop (length (changes t x)) list) mends);
+          }
 
 -- where the code is 0 mending is enough and there is room for the pairs
 not-refused : (t : List ℕ) (size : ℕ) → repairCode t size ≡ 0 → (mendable t ≡ true) × (length (altered t) ≤ size)

@@ -1,1 +1,133 @@
-// Repair.
+// The repair of a table from a worn card (document 02 (k)). The table is mended in a copy; where the check accepts that and the lent
+// list has room for what is altered, the words that differ go into the table, and two words for each into the list: its place and its
+// old content, from which the old table can be had back. A refusal alters nothing.
+use mending::mend;
+use table::check;
+ghost use mathlib.Core.Path.{_≡_};
+ghost use mathlib.Core.List.{_++_};
+ghost use Prim.Native.Nat.{_≤_};
+ghost use lib.ListN.{length, drop};
+ghost use Rattle.mending.specs.Mend.{mended, mendable};
+ghost use Rattle.repair.specs.Changes.{differing, changes};
+ghost use Rattle.repair.specs.Repair.{RepairPromise};
+ghost use Rattle.repair.specs.Answer.{repairedCode, repairedCount};
+
+// The most words that a table has: those of 16 domains and 32 endpoints.
+const LONGEST: usize = 641;
+
+// What a repair came to.
+pub enum Repaired {
+    // 0: so many words are altered
+    Done(usize),
+    // 33: the header, the length, a name or an info is wrong, or a name repeats
+    BadFrame,
+    // 34: the lent list is too short
+    ListTooShort,
+}
+
+impl Repaired {
+    // Document 02's number for it.
+    pub fn code(self) -> u32
+        ensures { λ r. ⌜ r ≡ repairedCode self ⌝ }
+    {
+        match self {
+            Repaired::Done(_) => 0,
+            Repaired::BadFrame => 33,
+            Repaired::ListTooShort => 34,
+        }
+    }
+
+    // How many words were altered.
+    pub fn count(self) -> usize
+        ensures { λ r. ⌜ r ≡ repairedCount self ⌝ }
+    {
+        match self {
+            Repaired::Done(count) => count,
+            Repaired::BadFrame => 0,
+            Repaired::ListTooShort => 0,
+        }
+    }
+}
+
+// The table mended in a copy, and whether the check accepts it.
+fn mend_copy(table: &[u32], copy: &mut [u32]) -> bool
+    requires { ⌜ length (now copy) ≡ length (now table) ⌝ }
+    ensures { λ r. ⌜ r ≡ mendable (now (table .entry)) ⌝ }
+    ensures { λ _. ⌜ now (copy .exit) ≡ mended (now (table .entry)) ⌝ }
+{
+    let mut i: usize = 0;
+    while i < table.len() {
+        copy[i] = table[i];
+        i += 1;
+    }
+    mend(copy);
+    let checked = check(copy);
+    checked.code() == 0
+}
+
+// The first pass: how many words differ. Nothing is written.
+fn count_differing(old: &[u32], new: &[u32]) -> usize
+    requires { ⌜ length (now new) ≡ length (now old) ⌝ }
+    ensures { λ r. ⌜ r ≡ length (differing (now (old .entry)) (now (new .entry))) ⌝ }
+{
+    let mut count: usize = 0;
+    let mut i: usize = 0;
+    while i < old.len() {
+        if old[i] != new[i] {
+            count += 1;
+        }
+        i += 1;
+    }
+    count
+}
+
+// The second pass, lowest place first: where a word differs, the pair goes into the list and the new word into the table.
+fn replace(table: &mut [u32], new: &[u32], list: &mut [u32])
+    requires { ⌜ length (now new) ≡ length (now table) ⌝ }
+    requires { ⌜ length (now table) ≤ 641 ⌝ }
+    requires { ⌜ length (changes (now table) (now new)) ≤ length (now list) ⌝ }
+    ensures { λ _. ⌜ now (table .exit) ≡ now (new .entry) ⌝ }
+    ensures { λ _. ⌜ now (list .exit) ≡ changes (now (table .entry)) (now (new .entry)) ++ drop (length (changes (now (table .entry)) (now (new .entry)))) (now (list .entry)) ⌝ }
+{
+    let mut at: usize = 0;
+    let mut i: usize = 0;
+    while i < table.len() {
+        let old = table[i];
+        if old != new[i] {
+            list[at] = i as u32;
+            list[at + 1] = old;
+            table[i] = new[i];
+            at += 2;
+        }
+        i += 1;
+    }
+}
+
+// The repair, with as many words lent for the copy as the table has.
+fn repair_by_copy(table: &mut [u32], copy: &mut [u32], list: &mut [u32]) -> Repaired
+    requires { ⌜ length (now copy) ≡ length (now table) ⌝ }
+    requires { ⌜ length (now table) ≤ 641 ⌝ }
+    ensures { λ r. ⌜ RepairPromise (now (table .entry)) (now (list .entry)) (repairedCode r) (repairedCount r) (now (table .exit)) (now (list .exit)) ⌝ }
+{
+    if !mend_copy(table, copy) {
+        return Repaired::BadFrame;
+    }
+    let count = count_differing(table, copy);
+    if list.len() < 2 * count {
+        return Repaired::ListTooShort;
+    }
+    replace(table, copy, list);
+    Repaired::Done(count)
+}
+
+// The table made fit again, with the list of what was altered. A table of more words than the largest has is no table.
+pub fn repair(table: &mut [u32], list: &mut [u32]) -> Repaired
+    ensures { λ r. ⌜ RepairPromise (now (table .entry)) (now (list .entry)) (repairedCode r) (repairedCount r) (now (table .exit)) (now (list .exit)) ⌝ }
+{
+    let size = table.len();
+    if LONGEST < size {
+        return Repaired::BadFrame;
+    }
+    let mut copy = [0u32; LONGEST];
+    repair_by_copy(table, &mut copy[0..size], list)
+}
