@@ -19,7 +19,12 @@ use std::path::{Path, PathBuf};
 use std::process::Command;
 
 const ARCHIVE: &str = "target/staticlib/libbalkwizu.a";
-const EXPORTS: [&str; 3] = ["balkwizu_table_check", "balkwizu_run", "balkwizu_component"];
+const EXPORTS: [&str; 4] = [
+    "balkwizu_table_check",
+    "balkwizu_run",
+    "balkwizu_component",
+    "balkwizu_repair",
+];
 
 /// An archive for tests alone: the crate, the variable that names another archive,
 /// what the program is told where it is linked, and what it exports.

@@ -1,14 +1,14 @@
 #!/usr/bin/env python3
-"""Shows that `bench fuzz`, `bench step` and `bench queue` report a difference when
-there is one.
+"""Shows that `bench fuzz`, `bench step`, `bench queue` and `bench tables` report a
+difference when there is one.
 
 The faults are those of the separate implementation's own mutants, by edits as
 reference/edits.py has them. The bench is built against a copy of the separate
 implementation with the faults in it, and with each of them switched on the same
 seeded fuzz must end with a reported difference between that and the kernel, and so
 must the same seeded steps where the fault is one of a single call. A fault that shows
-only on words that no check accepts must be reported by the same seeded queues. With
-none switched on all must pass. A panic, a run that doesn't end and a code never met
+only on words that no check accepts must be reported by the same seeded queues, one of
+a repair by the same seeded tables. With none switched on all must pass. A panic, a run that doesn't end and a code never met
 are no reported difference.
 
     python3 bench/planted_faults.py            all faults
@@ -33,6 +33,7 @@ ARCHIVES = {
     "BALKWIZU_STEP_ARCHIVE": "libstep_export.a",
     "BALKWIZU_QUEUE_ARCHIVE": "libqueue_export.a",
 }
+TABLES = ["tables", "--seed", "20", "--cases", "10000"]
 FUZZ = ["fuzz", "--seed", "20", "--cases", "10000", "--table-checks", "10000"]
 STEP = ["step", "--seed", "20", "--cases", "5000"]
 QUEUE = ["queue", "--seed", "20", "--cases", "10000"]
@@ -56,15 +57,16 @@ UNSEEN = {
     "papers leave the answer free",
 }
 
-# Faults that no accepted table shows: the slots from the waiting count on are empty
-# there. Queues of any words show them.
-BY_QUEUES = {
-    "receive_clears_the_slots_from_the_free_one_on",
-    "receive_moves_all_eight",
-    "receive_up_to_the_capacity",
+# Faults that another command than the fuzz shows. On an accepted table the slots from
+# the waiting count on are empty, so queues of any words show what becomes of others.
+BY_ANOTHER = {
+    "receive_clears_the_slots_from_the_free_one_on": QUEUE,
+    "receive_moves_all_eight": QUEUE,
+    "receive_up_to_the_capacity": QUEUE,
+    "repair_*": TABLES,
 }
 
-# The same for steps, which run one call and check the table before it.
+# Faults that steps don't show, which run one call and check the table before it.
 UNSEEN_BY_STEPS = {
     "bytes_*": "the check of bytes",
     "cut_*": "the cutting of a list",
@@ -97,7 +99,7 @@ def make(copy):
 
 def check_unedited(bench):
     """Against the separate implementation as it stands all must pass."""
-    for command in FUZZ, STEP, QUEUE:
+    for command in FUZZ, STEP, QUEUE, TABLES:
         ran = run([bench, *command], 0)
         if ran.returncode != 0:
             raise Wrong(f"{command[0]} fails:\n{ran.stdout}{ran.stderr}")
@@ -115,10 +117,11 @@ def difference(bench, command, fault):
 
 
 def reported(bench, fault, name, edit):
-    """What the queues report, or the fuzz, and the steps where the fault is one of a
-    call."""
-    if name in BY_QUEUES:
-        return f"by queues: {difference(bench, QUEUE, fault)}"
+    """What another command reports, or the fuzz, and the steps where the fault is one
+    of a call."""
+    for pattern, command in BY_ANOTHER.items():
+        if fnmatch(name, pattern):
+            return f"by bench {command[0]}: {difference(bench, command, fault)}"
     told = difference(bench, FUZZ, fault)
     if not any(fnmatch(name, pattern) for pattern in UNSEEN_BY_STEPS):
         told += f"; by steps: {difference(bench, STEP, fault)}"

@@ -358,6 +358,33 @@ static void components_of_t(void)
     IS(component(EXAMPLE_TABLE_WORDS, 2), 0x00040000);
 }
 
+/* T with a broken rights word and more waiting than there is room for, and T with a
+ * broken name too. */
+static void repair_of_t(void)
+{
+    uint32_t changes[BALKWIZU_CHANGES_WORDS_MAX];
+    IS(check_with(6, 0x20000010), BALKWIZU_TABLE_BAD_RIGHTS);
+    table[24] = 0x50000002;
+    IS(balkwizu_repair(table, EXAMPLE_TABLE_WORDS, changes, 3),
+       BALKWIZU_CHANGES_TOO_SHORT);
+    uint32_t result = balkwizu_repair(table, EXAMPLE_TABLE_WORDS, changes, 4);
+    IS(BALKWIZU_REPAIR_CODE(result), BALKWIZU_OK);
+    IS(BALKWIZU_REPAIR_ALTERED(result), 2);
+    IS(changes[0], 6);
+    IS(changes[1], 0x20000010);
+    IS(changes[2], 24);
+    IS(changes[3], 0x50000002);
+    IS(table[6], 0x20000000);
+    IS(table[24], 0x50000000);
+    IS(check(EXAMPLE_TABLE_WORDS), BALKWIZU_OK);
+    table[10] = 0x30000000;
+    IS(balkwizu_repair(table, EXAMPLE_TABLE_WORDS, changes, 0),
+       BALKWIZU_NOT_REPAIRABLE);
+    IS(BALKWIZU_NOT_REPAIRABLE, 33);
+    IS(BALKWIZU_CHANGES_TOO_SHORT, 34);
+    IS(BALKWIZU_CHANGES_WORDS_MAX, 1152); /* 256 rights words, 10 for each of 32 */
+}
+
 /* Every field with all its bits set, which no table and no answer has. */
 static void whole_fields(void)
 {
@@ -397,6 +424,7 @@ int main(void)
     edges();
     largest_table();
     components_of_t();
+    repair_of_t();
     whole_fields();
     printf("%u compared, %u differ\n", compared, differ);
     return differ != 0;

@@ -25,6 +25,7 @@ static _Alignas(16) uint64_t stack[STACK_WORDS];
 static uint32_t table[BALKWIZU_TABLE_WORDS_MAX];
 static uint32_t list[BALKWIZU_LIST_WORDS_MAX];
 static uint32_t answers[BALKWIZU_ANSWER_WORDS * BALKWIZU_LIST_WORDS_MAX];
+static uint32_t changes[BALKWIZU_CHANGES_WORDS_MAX];
 
 /* One of the kernel's functions, and up to six pointers and lengths for it. */
 struct call {
@@ -135,9 +136,13 @@ int main(void)
     const struct call component = { (void (*)(void))balkwizu_component,
                                     { (uintptr_t)table, BALKWIZU_TABLE_WORDS_MAX,
                                       DOMAINS - 1 } };
+    const struct call repair = { (void (*)(void))balkwizu_repair,
+                                 { (uintptr_t)table, BALKWIZU_TABLE_WORDS_MAX,
+                                   (uintptr_t)changes, BALKWIZU_CHANGES_WORDS_MAX } };
     make_list();
     int failed =
         tell("balkwizu_table_check", &check, BALKWIZU_TABLE_CHECK_STACK_BYTES);
     failed |= tell("balkwizu_component", &component, BALKWIZU_COMPONENT_STACK_BYTES);
+    failed |= tell("balkwizu_repair", &repair, BALKWIZU_REPAIR_STACK_BYTES);
     return tell("balkwizu_run", &run, BALKWIZU_RUN_STACK_BYTES) | failed;
 }

@@ -55,13 +55,15 @@ extern "C" {
  *
  * What each function uses of this, as the gate reads it out of the archive:
  *
- *   balkwizu_component: general and xmm registers, aligned stack, red zone
- *   balkwizu_run: general and xmm registers, aligned stack, red zone, unmarked jumps
+ *   balkwizu_component: general and xmm registers, aligned stack
+ *   balkwizu_repair: general and xmm registers, aligned stack
+ *   balkwizu_run: general and xmm registers, aligned stack, unmarked jumps
  *   balkwizu_table_check: general and xmm registers, aligned stack, red zone
  */
 #define BALKWIZU_RUN_STACK_BYTES 512
 #define BALKWIZU_TABLE_CHECK_STACK_BYTES 256
 #define BALKWIZU_COMPONENT_STACK_BYTES 512
+#define BALKWIZU_REPAIR_STACK_BYTES 4096
 
 /* The most that a table, a list and its answers can have, in words. */
 #define BALKWIZU_DOMAINS_MAX 16
@@ -123,7 +125,12 @@ enum balkwizu_code {
                                       revoke: from another, likewise */
 
     /* Of a question about a domain: nothing is told. */
-    BALKWIZU_NOT_A_DOMAIN = 32     /* the number isn't below n */
+    BALKWIZU_NOT_A_DOMAIN = 32,    /* the number isn't below n */
+
+    /* Of a repair, the first that fails: nothing was changed. */
+    BALKWIZU_NOT_REPAIRABLE = 33,  /* word 0, the length, a name or an info is
+                                      wrong, or a name repeats */
+    BALKWIZU_CHANGES_TOO_SHORT = 34 /* the list of changes is too short */
 };
 
 /* The kinds of calls, bits 31-28 of a call's first word. */
@@ -449,6 +456,38 @@ uint32_t balkwizu_run(uint32_t *table, size_t table_len,
  */
 uint32_t balkwizu_component(const uint32_t *table, size_t table_len,
                             uint32_t domain);
+
+/* What balkwizu_repair returns, taken apart, and the most that it can ask for. */
+#define BALKWIZU_REPAIR_CODE(result) (BALKWIZU_WORD(result) & 0xFFFFu)
+#define BALKWIZU_REPAIR_ALTERED(result) (BALKWIZU_WORD(result) >> 16)
+#define BALKWIZU_CHANGES_WORDS_MAX 1152
+
+/*
+ * Makes a table fit again that is refused with 4 or 5, without ever adding a right: a
+ * broken rights word becomes an empty set, and an endpoint with a broken waiting, lost
+ * or slot word gets an empty queue and lost 0. For each word that was altered, lowest
+ * place first, two words are written to changes: its place from 0, and its old content.
+ * A sound table stays and has no changes. Words are in the processor's own byte order.
+ *
+ * Returns two numbers in one word: the code in bits 15-0 (BALKWIZU_REPAIR_CODE), and
+ * how many words were altered in bits 31-16 (BALKWIZU_REPAIR_ALTERED).
+ *   0   BALKWIZU_OK: balkwizu_table_check accepts the table now
+ *   33  BALKWIZU_NOT_REPAIRABLE
+ *   34  BALKWIZU_CHANGES_TOO_SHORT
+ * With 33 and 34 no word was written. Words of changes behind the pairs are untouched.
+ * BALKWIZU_CHANGES_WORDS_MAX words are enough for any table. The table is mended in a
+ * copy on the stack first, 2,564 bytes of it.
+ *
+ * The caller's duties:
+ *   - table and changes each point to as many words as their length says, which may be
+ *     read and written, aligned to four bytes; neither is a null pointer, also where
+ *     its length is 0;
+ *   - the two do not overlap, in no word;
+ *   - nobody else reads or writes them during the call: no other core, interrupt or
+ *     transfer.
+ */
+uint32_t balkwizu_repair(uint32_t *table, size_t table_len,
+                         uint32_t *changes, size_t changes_len);
 
 #ifdef __cplusplus
 }

@@ -93,6 +93,15 @@ impl Options {
         }
     }
 
+    /// The file that a command reads and the one that it writes.
+    pub fn two_files(&self) -> Result<(&str, &str), String> {
+        match self.files.as_slice() {
+            [from, to] => Ok((from, to)),
+            few @ ([] | [_]) => Err(format!("two files are needed, {} given", few.len())),
+            [_, _, third, ..] => Err(format!("two files are enough: `{third}` is a third one")),
+        }
+    }
+
     /// For commands that are about no file.
     pub fn no_file(&self) -> Result<(), String> {
         match self.files.first() {
@@ -167,6 +176,9 @@ mod tests {
     fn a_command_is_about_one_file_or_none() {
         assert!(parsed("").unwrap().file().is_err());
         assert!(parsed("a b").unwrap().file().unwrap_err().contains("`b`"));
+        assert_eq!(parsed("a b").unwrap().two_files(), Ok(("a", "b")));
+        assert!(parsed("a").unwrap().two_files().is_err());
+        assert!(parsed("a b c").unwrap().two_files().is_err());
         assert!(parsed("").unwrap().no_file().is_ok());
         assert!(parsed("a").unwrap().no_file().is_err());
     }

@@ -14,7 +14,7 @@ mod progress;
 
 use std::process::ExitCode;
 
-use commands::{commission, fuzz, linerun, queue, show, speed, step, words};
+use commands::{commission, fuzz, linerun, queue, repair, show, speed, step, tables, words};
 
 /// The help before the list of commands, and after it.
 const HEAD: &str = "\
@@ -41,7 +41,7 @@ struct Command {
     act: fn(&[String]) -> Result<bool, String>,
 }
 
-const COMMANDS: [Command; 8] = [
+const COMMANDS: [Command; 10] = [
     Command {
         name: "commission",
         given: "FILE",
@@ -71,6 +71,13 @@ const COMMANDS: [Command; 8] = [
         act: queue::command,
     },
     Command {
+        name: "tables",
+        given: "",
+        purpose: "functions of a table alone, on random words",
+        help: tables::HELP,
+        act: tables::command,
+    },
+    Command {
         name: "linerun",
         given: "PROGRAM",
         purpose: "the program linerun beside the separate one",
@@ -90,6 +97,13 @@ const COMMANDS: [Command; 8] = [
         purpose: "an input in words and as a picture",
         help: show::HELP,
         act: show::command,
+    },
+    Command {
+        name: "repair",
+        given: "IN OUT",
+        purpose: "a damaged table made fit again",
+        help: repair::HELP,
+        act: repair::command,
     },
     Command {
         name: "words",

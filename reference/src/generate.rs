@@ -4,6 +4,8 @@
 //! code is met, most calls do something, queues fill and empty, and lost counts
 //! reach their top. `tests/all/generator.rs` counts that this is so.
 
+mod worn;
+
 use std::collections::BTreeSet;
 
 use crate::calls::{
@@ -21,6 +23,11 @@ use crate::table::{
 };
 use crate::words::{content, to_bytes, word, CONTENT_MAX, EMPTY_SLOT};
 use crate::writer::{from_columns, to_columns, Value, COLUMNS};
+
+pub use worn::{
+    break_few, but_for_the_frame, damage_frame, flip_one_bit, overwrite_many, overwrite_runs,
+    repair_case, worn_table, RepairCase,
+};
 
 /// A small random generator (splitmix64).
 #[derive(Debug, Clone)]

@@ -18,6 +18,7 @@
 //! | [`isolation`] | document 02, request (g): two lines that agree on what reaches a domain |
 //! | [`groups`] | document 02, request (j): domains that no list can join |
 //! | [`writer`] | document 02, request (c): lists from calls as values, codes 30 and 31 |
+//! | [`repair`](mod@repair) | document 02, request (k): a table from a worn card, codes 33 and 34 |
 //! | [`bytes`] | the table's check over little-endian bytes |
 //! | `linerun` | the program: its reading and printing, codes 7 and 1 |
 //! | [`example`] | table T, list L and what is printed for it |
@@ -34,6 +35,7 @@ pub mod isolation;
 mod linerun;
 pub mod machine;
 pub mod queue;
+pub mod repair;
 pub mod table;
 pub mod words;
 pub mod writer;
@@ -46,5 +48,6 @@ pub use influence::{influences, purge, sources, view, QueueView, View};
 pub use isolation::{agree, members};
 pub use linerun::linerun;
 pub use machine::step;
+pub use repair::{repair, undo};
 pub use table::check_table;
 pub use writer::{fits, read, write, write_columns, Value};

@@ -134,7 +134,11 @@ fn rights_words_are_right(table: &[u32]) -> bool {
     let n = domains(table);
     table[1..1 + n * n]
         .iter()
-        .all(|&word| kind(word) == RIGHTS && bits(word, 27, 4) == 0)
+        .all(|&word| rights_word_is_right(word))
+}
+
+pub(crate) fn rights_word_is_right(word: u32) -> bool {
+    kind(word) == RIGHTS && bits(word, 27, 4) == 0
 }
 
 fn endpoints_are_right(table: &[u32]) -> bool {
@@ -143,9 +147,17 @@ fn endpoints_are_right(table: &[u32]) -> bool {
 
 /// Whether twelve words keep an endpoint's layout in a table of n domains.
 fn endpoint_is_right(words: &[u32], n: usize) -> bool {
-    name_is_right(words[NAME_PLACE])
-        && info_is_right(words[INFO_PLACE], n)
-        && waiting_is_right(words[WAITING_PLACE], bits(words[INFO_PLACE], 7, 0))
+    name_and_info_are_right(words, n) && queue_is_right(words)
+}
+
+/// Whether the two words of an endpoint that never change keep their layout.
+pub(crate) fn name_and_info_are_right(words: &[u32], n: usize) -> bool {
+    name_is_right(words[NAME_PLACE]) && info_is_right(words[INFO_PLACE], n)
+}
+
+/// Whether the other ten do, for the capacity that the info has.
+pub(crate) fn queue_is_right(words: &[u32]) -> bool {
+    waiting_is_right(words[WAITING_PLACE], bits(words[INFO_PLACE], 7, 0))
         && kind(words[LOST_PLACE]) == LOST
         && slots_are_right(&words[SLOTS_PLACE..], content(words[WAITING_PLACE]))
 }
@@ -177,6 +189,6 @@ fn slots_are_right(slots: &[u32], waiting: u32) -> bool {
     })
 }
 
-fn a_name_repeats(table: &[u32]) -> bool {
+pub(crate) fn a_name_repeats(table: &[u32]) -> bool {
     (0..endpoints(table)).any(|e| (0..e).any(|other| name(table, other) == name(table, e)))
 }

@@ -61,6 +61,9 @@ pub fn command(options: &[String]) -> Result<bool, String> {
                 shown(file),
                 meaning(code)
             );
+            if let 4 | 5 = code {
+                say!("`bench repair {} OUT` may make it fit again", shown(file));
+            }
             return Ok(false);
         }
     };

@@ -2,10 +2,13 @@
 //! done with it, and the help.
 
 pub mod commission;
+mod drawn;
 pub mod fuzz;
 pub mod linerun;
 pub mod queue;
+pub mod repair;
 pub mod show;
 pub mod speed;
 pub mod step;
+pub mod tables;
 pub mod words;

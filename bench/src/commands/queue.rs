@@ -1,12 +1,9 @@
 //! `bench queue`: the proved queue's send and receive beside the separate ones, on
 //! any words in the place of an endpoint's twelve.
 
-use crate::args::Options;
-use crate::judging::queues::{try_queues, Met};
-use crate::judging::trying::Draws;
+use crate::commands::drawn::Drawn;
+use crate::judging::queues::try_queues;
 use crate::kernels::boundary::PROVED_QUEUE;
-use crate::line::explain::counted;
-use crate::output::say;
 
 pub const HELP: &str = "\
 bench queue [--cases N] [--seed S] [--from K] [--time T]
@@ -34,62 +31,31 @@ Exit status: 0 nothing differs, and everything was met where that is asked; 1
 otherwise; 2 bad usage, or a program built without the queue's functions.
 ";
 
-/// From so many words on everything must be met.
-const ENOUGH: u64 = 10_000;
-
-/// The seconds that one of them may take where nothing else is asked for.
-const TIME: u64 = 10;
+const QUEUES: Drawn = Drawn {
+    all: "queues",
+    one: "case",
+    cases: 100_000,
+    enough: 10_000,
+};
 
 /// The command: whether nothing differs.
 pub fn command(line: &[String]) -> Result<bool, String> {
-    let options = Options::parse(line, &["--cases", "--seed", "--from", "--time"], &[])?;
-    options.no_file()?;
-    let cases = options.number("--cases")?.unwrap_or(100_000);
-    if cases == 0 {
-        return Err("--cases 0 leaves nothing to compare".to_string());
-    }
-    let draws = Draws {
-        seed: options.number("--seed")?.unwrap_or(1),
-        numbers: options.numbers("--cases", cases)?,
-        limit: options.time(TIME)?,
-    };
     let queue = PROVED_QUEUE.ok_or(
         "this program was built without the queue's functions: `rt staticlib queue_export`, \
          then build it again",
     )?;
-    let mut met = Met::default();
-    match try_queues(&queue, &draws, &mut met) {
-        Ok(()) => Ok(ended(cases, draws.seed, &met)),
-        Err(told) => {
-            say!("{told}");
-            Ok(false)
-        }
-    }
-}
-
-/// Prints what was met; whether that is all that is asked.
-fn ended(cases: u64, seed: u64, met: &Met) -> bool {
-    let missing = met.missing();
-    say!("{}", met.in_words());
-    let verdict = match cases {
-        ..ENOUGH => "nothing differs; too few to ask that everything is met".to_string(),
-        _ if missing.is_empty() => "passed".to_string(),
-        _ => format!("FAILED: never met: {}", missing.join(", ")),
-    };
-    let tried = counted(cases, "case");
-    say!("queues of balkwizu, {tried} with seed {seed}: {verdict}");
-    cases < ENOUGH || missing.is_empty()
+    QUEUES.command(line, |draws, met| try_queues(&queue, draws, met))
 }
 
 #[cfg(test)]
 mod tests {
     use super::*;
+    use crate::judging::queues::Met;
+    use crate::judging::trying::Summary;
 
     #[test]
-    fn what_was_never_met_is_a_failure_only_where_enough_was_tried() {
-        assert!(HELP.contains("From 10,000 words on"));
-        assert!(!ended(ENOUGH, 1, &Met::default()));
-        assert!(ended(1, 1, &Met::default()));
+    fn everything_must_be_met_from_where_the_help_says() {
+        assert!(HELP.contains("From 10,000 words on") && QUEUES.enough == 10_000);
         assert_eq!(Met::default().missing().len(), 13);
     }
 }

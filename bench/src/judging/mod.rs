@@ -14,6 +14,7 @@ pub mod pairs;
 pub mod panics;
 pub mod printed;
 pub mod queues;
+pub mod repairs;
 pub mod report;
 pub mod runs;
 pub mod shrink;

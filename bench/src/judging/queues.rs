@@ -13,7 +13,7 @@ use reference::table::{INFO_PLACE, LOST_PLACE, SLOTS, SLOTS_PLACE, WAITING_PLACE
 use reference::words::{bits, content, hex, CONTENT_MAX, EMPTY_SLOT};
 
 use crate::cases::random::rng_for;
-use crate::judging::trying::{try_all, Counted, Draws};
+use crate::judging::trying::{try_all, Counted, Draws, Summary};
 use crate::kernels::boundary::Queue;
 use crate::kernels::lent::words_here;
 use crate::line::explain::counted;
@@ -69,9 +69,10 @@ impl Met {
         let counts = behind.is_empty() || behind.iter().any(|&slot| slot != EMPTY_SLOT);
         self.received[count] += u64::from(counts);
     }
+}
 
-    /// What was never met.
-    pub fn missing(&self) -> Vec<String> {
+impl Summary for Met {
+    fn missing(&self) -> Vec<String> {
         let single = [
             ("a send with space", self.with_space),
             ("a send to a full queue", self.full),
@@ -90,7 +91,7 @@ impl Met {
             .collect()
     }
 
-    pub fn in_words(&self) -> String {
+    fn in_words(&self) -> String {
         format!(
             "{}, {} to a full queue, {} of them with the lost count at its top; {} that it \
              leaves; receives with other slots than empty ones behind 1 to 7 waiting, or with 8: \

@@ -6,7 +6,7 @@ use reference::calls::{cut, Call};
 use reference::generate::Case;
 
 /// How long fewer parts are tried.
-const TIME: Duration = Duration::from_secs(2);
+const TIME: Duration = Duration::from_secs(5);
 
 /// A run with as few calls as still differ.
 pub fn shrink(case: &Case, differs: impl Fn(&Case) -> bool) -> Case {

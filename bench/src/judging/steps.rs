@@ -16,7 +16,7 @@ use reference::words::{bits, content, kind, word};
 use crate::cases::random::{rng_for, run_case};
 use crate::judging::compare::{answer_as_printed, first_unequal};
 use crate::judging::panics::or_panic;
-use crate::judging::trying::{try_all, Counted, Draws, Found};
+use crate::judging::trying::{try_all, Counted, Draws, Found, Summary};
 use crate::kernels::boundary::{Outcome, Step, NO_SPACE};
 use crate::kernels::child::{self, LIMIT};
 use crate::kernels::lent::{step_here, Failure, Ran};
@@ -70,9 +70,10 @@ impl Met {
             _ => self.not_taken += 1,
         }
     }
+}
 
-    /// What was never met.
-    pub fn missing(&self) -> Vec<String> {
+impl Summary for Met {
+    fn missing(&self) -> Vec<String> {
         let step = STEP_CODES.map(|code| format!("code {code}"));
         let step = step.into_iter().zip(self.step);
         let call = CALL_CODES.map(|code| (format!("answer code {code}"), self.call[code as usize]));
@@ -88,7 +89,7 @@ impl Met {
             .collect()
     }
 
-    pub fn in_words(&self) -> String {
+    fn in_words(&self) -> String {
         let [answered, refused @ .., no_space] = self.step;
         format!(
             "{}: {answered} answered, {} done; {} with the table refused, {no_space} with too \

@@ -30,6 +30,12 @@ pub trait Counted {
     fn numbers(&mut self) -> impl Iterator<Item = &mut u64>;
 }
 
+/// What was met on the way, and what was never met.
+pub trait Summary {
+    fn in_words(&self) -> String;
+    fn missing(&self) -> Vec<String>;
+}
+
 /// The first thing that is wrong.
 #[derive(Debug, Clone, PartialEq, Eq)]
 pub struct Found {

@@ -185,6 +185,32 @@ pub fn component(table: &[u32], domain: u32) -> (u32, u32) {
     (bits(told, 15, 0), bits(told, 31, 16))
 }
 
+/// A repair of a table: its code, and how many words it altered, each of which has two in
+/// the list.
+pub type Repair = fn(table: &mut [u32], changes: &mut [u32]) -> (u32, u32);
+
+/// The repair of the proved kernel.
+pub fn repair(table: &mut [u32], changes: &mut [u32]) -> (u32, u32) {
+    extern "C" {
+        fn balkwizu_repair(
+            table: *mut u32,
+            table_len: usize,
+            changes: *mut u32,
+            changes_len: usize,
+        ) -> u32;
+    }
+    // SAFETY: two slices, each valid for its length, aligned and borrowed alone.
+    let told = unsafe {
+        balkwizu_repair(
+            table.as_mut_ptr(),
+            table.len(),
+            changes.as_mut_ptr(),
+            changes.len(),
+        )
+    };
+    (bits(told, 15, 0), bits(told, 31, 16))
+}
+
 /// A send of a message to an endpoint's words, and a receive from them: whether it
 /// was done, or the words stayed as they were.
 #[derive(Clone, Copy)]

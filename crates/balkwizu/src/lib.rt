@@ -5,6 +5,7 @@ ghost use Prim.Native.Nat.{_/_, _%_};
 ghost use Rattle.machine.specs.Promise.{RunPromise};
 ghost use Rattle.components.specs.Told.{ComponentTold};
 ghost use Rattle.image.specs.Bytes.{bytesCode};
+ghost use Rattle.repair.specs.Repair.{RepairPromise};
 
 // The check of a table before the kernel runs on it. C: uint32_t balkwizu_table_check(const uint8_t *bytes, size_t length).
 //
@@ -56,4 +57,27 @@ pub extern "C" fn balkwizu_component(table: &[u32], domain: u32) -> u32
     let code = told.code();
     let members = told.members();
     code + 65536 * members
+}
+
+// The repair of a table from a worn card, without ever adding a right.
+// C: uint32_t balkwizu_repair(uint32_t *table, size_t table_len, uint32_t *changes, size_t changes_len)
+//
+// A broken rights word becomes 20000000, and an endpoint with a broken waiting, lost or slot word gets an empty queue, lost 0. For
+// every word altered two words are written into changes, its place from 0 and its old content, lowest place first: put back at their
+// places, these give the old table. What results passes the check. A sound table stays, and no word of changes is written.
+// The code stands in the low 16 bits of the answer:
+//   0   the table is sound now
+//   33  the header, the length, a name or an info is wrong, or a name repeats
+//   34  changes is too short; twice as many words as the table has are always enough
+// The number of words altered stands in the high 16 bits. Where the code is not 0 the number is 0 and no word of the table or of
+// changes is changed; words of changes behind the pairs are left as they were.
+// It is defined for any words in slices of any length. Table and changes may not overlap.
+#[no_mangle]
+pub extern "C" fn balkwizu_repair(table: &mut [u32], changes: &mut [u32]) -> u32
+    ensures { λ r. ⌜ RepairPromise (now (table .entry)) (now (changes .entry)) (r % 65536) (r / 65536) (now (table .exit)) (now (changes .exit)) ⌝ }
+{
+    let repaired = repair::repair(table, changes);
+    let code = repaired.code();
+    let count = repaired.count();
+    code + 65536 * count as u32
 }

@@ -23,7 +23,7 @@ use Rattle.machine.proofs.Table.{endpoint-length, endpoint-word}
 use Rattle.machine.proofs.Accepted.{parts, accepted-endpoint}
 use Rattle.table.specs.Checked.{Headed}
 use Rattle.mending.specs.Mend.{mendedRights, mendedEndpoint, mended, mendable}
-use Rattle.mending.specs.Claims.{EachPartMended, MendedAccepted, GivenUpRefused, SoundStays, NoRightAdded, NoRightInAnyReading, MayAlter, MayAlter.brokenRights, MayAlter.brokenQueue, OnlyBrokenAltered}
+use Rattle.mending.specs.Claims.{EachPartMended, MendedAccepted, UnmendableRefused, SoundStays, NoRightAdded, NoRightInAnyReading, MayAlter, MayAlter.brokenRights, MayAlter.brokenQueue, OnlyBrokenAltered}
 use Rattle.mending.proofs.Places.{place-elim}
 use Rattle.mending.proofs.Mended.{rights-kept, mended-rights-ok, queue-kept, mended-identity, mended-name, mended-endpoint-ok, mended-length, mended-stays, headed-either, headed-sized, mended-header, mended-domains, mended-endpoints, mended-at-rights, mended-at-endpoint, mended-rights, mended-endpoint, mended-is}
 
@@ -106,8 +106,8 @@ accepted-exactly t =
 pub mended-accepted : MendedAccepted
 mended-accepted t can = eqb-true _ _ (accepted-exactly t ∙ can)
 
-pub given-up-refused : GivenUpRefused
-given-up-refused t can′t a =
+pub unmendable-refused : UnmendableRefused
+unmendable-refused t can′t a =
     let accepted : eqb (tableCode (mended t)) 0 ≡ true = rw a in
     false≢true (sym can′t ∙ sym (accepted-exactly t) ∙ accepted)
 
@@ -124,7 +124,7 @@ sound-stays t a =
 
 pub no-right-in-any-reading : NoRightInAnyReading
 unfolding mendedRights
-no-right-in-any-reading shows none t h g r lh lg =
+no-right-in-any-reading t shows none h g r lh lg =
     ⊎-elim
     (λ headed.
     rw (mended-rights t headed h g lh lg)
@@ -137,7 +137,7 @@ no-right-in-any-reading shows none t h g r lh lg =
 pub no-right-added : NoRightAdded
 unfolding rights
 no-right-added t h g k lh lg =
-    no-right-in-any-reading (λ w r. holds (payload w) (2 ^ r)) (λ r. holds-bit 0 r ∙ rw (zero-div (2 ^ r))) t h g k lh lg
+    no-right-in-any-reading t (λ w r. holds (payload w) (2 ^ r)) (λ r. holds-bit 0 r ∙ rw (zero-div (2 ^ r))) h g k lh lg
 
 -- ---- nothing else is altered
 

@@ -25,33 +25,33 @@ EachPartMended = (t : List ℕ) → headerOk t ≡ true → lengthOk t ≡ true 
 abbrev pub MendedAccepted : Type 0
 MendedAccepted = (t : List ℕ) → mendable t ≡ true → Accepted (mended t)
 
--- and one that can't is still refused: no table is given up that mending would have saved.
-abbrev pub GivenUpRefused : Type 0
-GivenUpRefused = (t : List ℕ) → mendable t ≡ false → Accepted (mended t) → ⊥
+-- and one that can't is still refused, so that 33 is answered only where mending is not enough.
+abbrev pub UnmendableRefused : Type 0
+UnmendableRefused = (t : List ℕ) → mendable t ≡ false → Accepted (mended t) → ⊥
 
 -- A sound table stays.
 abbrev pub SoundStays : Type 0
 SoundStays = (t : List ℕ) → Accepted t → mended t ≡ t
 
--- No holder has a right that its word didn't show before. A word is read by its bits 27–0, a broken one too, whatever its kind and
--- whichever of them are set: so a broken word is taken to have shown all that they could mean.
-abbrev pub NoRightAdded : Type 0
-NoRightAdded =
-    (t : List ℕ) (h g k : ℕ)
+-- From the table t to t′ no holder got a right that its word didn't show. A word is read by its bits 27–0, a broken one too, whatever
+-- its kind and whichever of them are set: so a broken word is taken to have shown all that they could mean.
+abbrev pub AddsNoRight : List ℕ → List ℕ → Type 0
+AddsNoRight t t′ =
+    (h g k : ℕ)
     → h < domains t
     → g < domains t
-    → holds (rights (mended t) h g) (2 ^ k) ≡ true
+    → holds (rights t′ h g) (2 ^ k) ≡ true
     → holds (rights t h g) (2 ^ k) ≡ true
 
 -- Nor in any other reading of a word (by its kind too, by some of its bits, none of a broken word), so long as 20000000 shows none.
-abbrev pub NoRightInAnyReading : Type 0
-NoRightInAnyReading =
+abbrev pub AddsNoRightInAnyReading : List ℕ → List ℕ → Type 0
+AddsNoRightInAnyReading t t′ =
     (shows : ℕ → ℕ → Bool)
     → ((r : ℕ) → shows (word 2 0) r ≡ false)
-    → (t : List ℕ) (h g r : ℕ)
+    → (h g r : ℕ)
     → h < domains t
     → g < domains t
-    → shows (rightsWord (mended t) h g) r ≡ true
+    → shows (rightsWord t′ h g) r ≡ true
     → shows (rightsWord t h g) r ≡ true
 
 -- A place whose word may be altered: that of a broken rights word, or of a waiting, lost or slot word of an endpoint that has a
@@ -60,6 +60,16 @@ pub data MayAlter (t : List ℕ) (i : ℕ) : Type 0 where
   brokenRights : (h g : ℕ) → h < domains t → g < domains t → i ≡ rightsAt (domains t) h g → rightsWordOk (rightsWord t h g) ≡ false → MayAlter t i
   brokenQueue : (e k : ℕ) → e < endpoints t → 2 ≤ k → k < 12 → i ≡ endpointAt (domains t) e + k → queueOk (endpoint t e) ≡ false → MayAlter t i
 
--- No other word is altered.
+-- From the table t to t′ no other word was altered.
+abbrev pub AltersOnlyBroken : List ℕ → List ℕ → Type 0
+AltersOnlyBroken t t′ = (i : ℕ) → (getD t′ i 0 ≡ getD t i 0 → ⊥) → MayAlter t i
+
+-- Mending adds no right and alters no other word.
+abbrev pub NoRightAdded : Type 0
+NoRightAdded = (t : List ℕ) → AddsNoRight t (mended t)
+
+abbrev pub NoRightInAnyReading : Type 0
+NoRightInAnyReading = (t : List ℕ) → AddsNoRightInAnyReading t (mended t)
+
 abbrev pub OnlyBrokenAltered : Type 0
-OnlyBrokenAltered = (t : List ℕ) (i : ℕ) → (getD (mended t) i 0 ≡ getD t i 0 → ⊥) → MayAlter t i
+OnlyBrokenAltered = (t : List ℕ) → AltersOnlyBroken t (mended t)

@@ -1,5 +1,5 @@
 -- The claims about a repair hold of whoever keeps the promise (specs/Claims). Assumes nothing.
-use Prim.Native.Nat.{ℕ, _+_, _*_, _<_, _≤_, _^_}
+use Prim.Native.Nat.{ℕ, _+_, _*_, _<_, _≤_}
 use mathlib.Core.Path.{_≡_, refl, sym, ap, subst, _∙_}
 use mathlib.Core.Bool.{true, not}
 use mathlib.Core.List.{List, [], _++_}
@@ -9,11 +9,9 @@ use native.Mathlib.Omega.{arith}
 use borrow.Author.Tests.{eqb-false, eq-eqb, ne-eqb, not-true, le-ltb}
 use lib.ListN.{length, getD, take, drop, length-append, length-drop, List·getD-append, List·getD-eq-default}
 use lib.Seq.{take-at, drop-at}
-use Rattle.machine.specs.Right.{holds}
-use Rattle.machine.specs.Table.{rightsWord, rights}
 use Rattle.machine.specs.Check.{tableCode, Accepted}
 use Rattle.mending.specs.Mend.{mended, mendable}
-use Rattle.mending.specs.Claims.{MayAlter}
+use Rattle.mending.specs.Claims.{AddsNoRight, AddsNoRightInAnyReading, AltersOnlyBroken}
 use Rattle.mending.proofs.Mended.{mended-length}
 use Rattle.mending.proofs.Claims.{accepted-exactly, mended-accepted, sound-stays, no-right-added, no-right-in-any-reading, only-broken-altered}
 use Rattle.repair.specs.Changes.{differing, pairs, changes, putBack}
@@ -51,29 +49,19 @@ every-refusal-alters-nothing t list =
 
 -- ---- the rights
 
-pub every-repair-adds-no-right-in-any-reading : claims.EveryRepairAddsNoRightInAnyReading
-unfolding repaired refusal
-every-repair-adds-no-right-in-any-reading shows none t list r h g k lh lg =
-    promised t list (λ o. shows (rightsWord (o .table) h g) k ≡ true → shows (rightsWord t h g) k ≡ true)
-    (λ _ _. no-right-in-any-reading shows none t h g k lh lg)
-    (λ n _ _ shown. shown)
-    r
-
 pub every-repair-adds-no-right : claims.EveryRepairAddsNoRight
 unfolding repaired refusal
-every-repair-adds-no-right t list r h g k lh lg =
-    promised t list (λ o. holds (rights (o .table) h g) (2 ^ k) ≡ true → holds (rights t h g) (2 ^ k) ≡ true)
-    (λ _ _. no-right-added t h g k lh lg)
-    (λ n _ _ shown. shown)
-    r
+every-repair-adds-no-right t list =
+    promised t list (λ o. AddsNoRight t (o .table) × AddsNoRightInAnyReading t (o .table))
+    (λ _ _. (no-right-added t, no-right-in-any-reading t))
+    (λ n _ _. (λ h g k _ _ shown. shown, λ shows none h g r _ _ shown. shown))
 
 pub every-repair-alters-only-broken : claims.EveryRepairAltersOnlyBroken
 unfolding repaired refusal
-every-repair-alters-only-broken t list r i =
-    promised t list (λ o. (getD (o .table) i 0 ≡ getD t i 0 → ⊥) → MayAlter t i)
-    (λ _ _. only-broken-altered t i)
-    (λ n _ _ altered. absurd (altered refl))
-    r
+every-repair-alters-only-broken t list =
+    promised t list (λ o. AltersOnlyBroken t (o .table))
+    (λ _ _. only-broken-altered t)
+    (λ n _ _ i altered. absurd (altered refl))
 
 -- ---- the list
 

@@ -17,6 +17,9 @@ use Rattle.mending.proofs.Mended.{mended-length}
 use Rattle.mending.proofs.Claims.{mended-accepted}
 use Rattle.repair.specs.Changes.{differing, changes}
 use Rattle.repair.specs.Repair.{altered, alteredCount, repairCode, Outcome, refusal, repaired, repair, RepairPromise}
+use Rattle.repair.specs.Answer.{repairedCode}
+use Rattle.repair.specs.declared.Repaired.{Repaired}
+use Rattle.repair.specs.declared.Repaired.the-variants.{Done, BadFrame, ListTooShort}
 use Rattle.repair.proofs.Changes.{lists-numbers, pairs-length}
 
 -- two words for each word altered
@@ -110,3 +113,9 @@ pub count-small : (t list : List ℕ) → repair t list .count ≤ 641
 unfolding repaired refusal
 count-small t list =
     repair-elim t list (λ o. o .count ≤ 641) (λ can _. omega (arith, altered-few t, mendable-small t can)) (λ n _ _. omega arith)
+
+-- the largest code
+pub code-small : (r : Repaired) → repairedCode r ≤ 34
+code-small (Done count) = omega arith
+code-small BadFrame = omega arith
+code-small ListTooShort = omega arith

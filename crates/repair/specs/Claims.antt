@@ -1,15 +1,11 @@
 -- What is claimed of a repair: of whoever keeps the promise, for any words as a table and any lent list. Each claim that begins with
 -- `Every` is closed and the type of a theorem in proofs/Claims.
-use Prim.Native.Nat.{ℕ, _+_, _*_, _<_, _^_}
+use Prim.Native.Nat.{ℕ, _+_, _*_, _<_}
 use mathlib.Core.Path.{_≡_}
-use mathlib.Core.Bool.{Bool, true, false}
 use mathlib.Core.List.{List}
 use lib.ListN.{length, getD, take, drop}
-use Rattle.machine.specs.Word.{word}
-use Rattle.machine.specs.Right.{holds}
-use Rattle.machine.specs.Table.{domains, rightsWord, rights}
 use Rattle.machine.specs.Check.{Accepted}
-use Rattle.mending.specs.Claims.{MayAlter}
+use Rattle.mending.specs.Claims.{AddsNoRight, AddsNoRightInAnyReading, AltersOnlyBroken}
 use Rattle.repair.specs.Changes.{putBack}
 use Rattle.repair.specs.Repair.{RepairPromise}
 
@@ -39,31 +35,14 @@ EverySoundTableStays =
     → Accepted t
     → (r .code ≡ 0) × (r .count ≡ 0) × (r .end ≡ t) × (r .told ≡ list)
 
--- No holder has a right at the end that its word didn't show before, each word read by its bits 27–0, a broken one too: it is taken to
--- have shown all that they could mean.
+-- No holder has a right at the end that its word didn't show before, read by its bits or in any other way.
 abbrev pub EveryRepairAddsNoRight : Type 0
 EveryRepairAddsNoRight =
-    (t list : List ℕ) (r : PromisedRepair t list) (h g k : ℕ)
-    → h < domains t
-    → g < domains t
-    → holds (rights (r .end) h g) (2 ^ k) ≡ true
-    → holds (rights t h g) (2 ^ k) ≡ true
-
--- Nor in any other reading of a word (by its kind too, by some of its bits, none of a broken word), so long as 20000000 shows none.
-abbrev pub EveryRepairAddsNoRightInAnyReading : Type 0
-EveryRepairAddsNoRightInAnyReading =
-    (shows : ℕ → ℕ → Bool)
-    → ((k : ℕ) → shows (word 2 0) k ≡ false)
-    → (t list : List ℕ) (r : PromisedRepair t list) (h g k : ℕ)
-    → h < domains t
-    → g < domains t
-    → shows (rightsWord (r .end) h g) k ≡ true
-    → shows (rightsWord t h g) k ≡ true
+    (t list : List ℕ) (r : PromisedRepair t list) → AddsNoRight t (r .end) × AddsNoRightInAnyReading t (r .end)
 
 -- Only broken words, and the queue words of an endpoint with one, are altered.
 abbrev pub EveryRepairAltersOnlyBroken : Type 0
-EveryRepairAltersOnlyBroken =
-    (t list : List ℕ) (r : PromisedRepair t list) (i : ℕ) → (getD (r .end) i 0 ≡ getD t i 0 → ⊥) → MayAlter t i
+EveryRepairAltersOnlyBroken = (t list : List ℕ) (r : PromisedRepair t list) → AltersOnlyBroken t (r .end)
 
 -- The first words of a list are count pairs that tell just the words in which a new table differs from the old one, lowest place
 -- first, each by its place and its old content.

@@ -94,7 +94,8 @@ fn replace(table: &mut [u32], new: &[u32], list: &mut [u32])
     while i < table.len() {
         let old = table[i];
         if old != new[i] {
-            list[at] = i as u32;
+            let place = i as u32;
+            list[at] = place;
             list[at + 1] = old;
             table[i] = new[i];
             at += 2;

@@ -4,9 +4,10 @@
 //! on both sides of its condition, `rows` what each call does, `queue` a receive
 //! and a send on any twelve words, `influence` rows for sources, purge and view;
 //! `isolation` and `groups` have rows for the two rules of document 02 and then the
-//! rules themselves; `writer` has rows for what is written and then round trips.
-//! The others are property tests over seeded random tables and lists; on failure
-//! they show the seed and the words.
+//! rules themselves; `writer` has rows for what is written and then round trips;
+//! `repair` has rows for what is broken and then worn tables. The others are property
+//! tests over seeded random tables and lists; on failure they show the seed and the
+//! words.
 
 mod codes;
 mod counts;
@@ -18,6 +19,7 @@ mod isolation;
 mod linerun;
 mod noninterference;
 mod queue;
+mod repair;
 mod rows;
 mod steps;
 mod support;

@@ -1,8 +1,7 @@
 -- `repair_by_copy` meets its contract: each answer is the one that is due for the mended copy. Assumes nothing.
-use mathlib.Core.Path.{_≡_, sym, ap, _∙_}
+use mathlib.Core.Path.{_≡_, refl, sym, ap, _∙_}
 use mathlib.Core.Bool.{true}
 use native.Mathlib.Omega.{arith}
-use borrow.Author.Needs.{needs}
 use borrow.Author.Tests.{not-true, not-false}
 use denote.Ref.{now}
 use lib.ListN.{length}
@@ -57,17 +56,17 @@ pub repair-by-copy-spec : {M : Type 1} → statement M
 repair-by-copy-spec =
     tie.close
     (tie.spec
-    (λ c κs. search needs)
-    (λ c. search needs)
-    (λ c. search needs)
+    (λ c κs. c .before .before .before .before .before .pre .0)
+    (λ c. refl)
+    (λ c. c .before .before .before .mend-copy .kept .1 .0)
     refused
-    (λ c κs. search needs)
+    (λ c κs. ap length (mends (c .before .before .before .before .before)) ∙ mended-length (now (c .before .before .before .before .before .before .before .before .before .before .before .args .table)))
     twice-fits
-    (λ c. search needs)
-    (λ c. search needs)
+    (λ c. refl)
+    (λ c. c .before .before .before .before .before .before .before .mend-copy .kept .1 .0)
     short
     replace-requires
-    (λ c. search needs)
-    (λ c. search needs)
-    (λ c. search needs)
+    (λ c. c .before .before .before .before .replace .kept .0)
+    (λ c. c .before .before .before .before .before .before .before .before .before .before .before .before .before .before .before .mend-copy .kept .1 .0)
+    (λ c. c .before .before .before .before .replace .kept .1 .1 .0)
     repaired)

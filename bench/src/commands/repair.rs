@@ -1,0 +1,263 @@
+//! `bench repair`: a table that a worn card gives back damaged is made fit again, and told
+//! in words; and the other way round.
+
+use std::fs;
+use std::path::Path;
+
+use reference::repair::PAIR_WORDS;
+use reference::table::{
+    capacity, domains, endpoint_place, endpoint_words, endpoints, name, LOST, LOST_PLACE, WAITING,
+    WAITING_PLACE,
+};
+use reference::words::{content, from_bytes, kind, to_bytes};
+
+use crate::args::Options;
+use crate::kernels::boundary::repair;
+use crate::line::explain::{counted, meaning, place_in_words, table_fault};
+use crate::line::input::{read_at_most, read_input, shown, Input, INPUT_BYTES_MAX};
+use crate::output::say;
+
+pub const HELP: &str = "\
+bench repair IN OUT [--image] [--changes FILE]
+bench repair IN OUT [--image] --undo FILE
+
+Makes a table that is refused with 4 or 5 fit again, without ever adding a right,
+by the proved function: a broken rights word becomes an empty set, and an endpoint
+with a broken waiting, lost or slot word gets an empty queue and lost 0. Tells every
+word that was altered and what that means for the line. A table whose word 0,
+length, names, owners or capacities are wrong can't be repaired.
+
+  --image         IN and OUT are a table's bytes alone, as a card has them. Without
+                  it they are inputs of linerun, and the list stays as it is
+  --changes FILE  write what was altered to FILE: two words for each, its place and
+                  its old content
+  --undo FILE     put the old contents back that such a FILE has
+
+Exit status: 0 written, also where there was nothing to repair; 1 refused, with what
+is wrong, and nothing written; 2 bad usage, or a file that can't be read or written.
+";
+
+/// What the command is given.
+struct Asked<'a> {
+    from: &'a str,
+    to: &'a str,
+    image: bool,
+    changes: Option<&'a str>,
+}
+
+/// The command: whether OUT was written.
+pub fn command(line: &[String]) -> Result<bool, String> {
+    let options = Options::parse(line, &["--changes", "--undo"], &["--image"])?;
+    let (from, to) = options.two_files()?;
+    if same_file(from, to) {
+        return Err(format!("{to} is the input, which would be overwritten"));
+    }
+    let asked = Asked {
+        from,
+        to,
+        image: options.has("--image"),
+        changes: options.text("--changes"),
+    };
+    let mut input = match asked.read()? {
+        Ok(input) => input,
+        Err((code, why)) => {
+            say!("refused with {code} ({}): {why}", meaning(code));
+            return Ok(false);
+        }
+    };
+    match options.text("--undo") {
+        None => asked.repaired(&mut input),
+        Some(_) if asked.changes.is_some() => Err("--undo alters nothing to list".to_string()),
+        Some(list) => asked.undone(&mut input, list),
+    }
+}
+
+fn same_file(from: &str, to: &str) -> bool {
+    let place = |path: &str| Path::new(path).canonicalize().ok();
+    from != "-" && place(from).is_some() && place(from) == place(to)
+}
+
+impl Asked<'_> {
+    /// What IN holds; the number and what is wrong where it isn't words.
+    fn read(&self) -> Result<Result<Input, (u32, String)>, String> {
+        if !self.image {
+            return Ok(Input::parse(&read_input(self.from)?));
+        }
+        let bytes = read_at_most(self.from, INPUT_BYTES_MAX)?;
+        Ok(match bytes.len() % 4 {
+            0 => Ok(Input {
+                table: from_bytes(&bytes),
+                list: Vec::new(),
+            }),
+            left => {
+                let left = counted(left, "byte");
+                Err((33, format!("{left} left over after the last whole word")))
+            }
+        })
+    }
+
+    fn write(&self, input: &Input) -> Result<(), String> {
+        match self.image {
+            true => written(self.to, &to_bytes(&input.table)),
+            false => written(self.to, &input.to_bytes()),
+        }
+    }
+
+    fn repaired(&self, input: &mut Input) -> Result<bool, String> {
+        let old = input.table.clone();
+        let mut changes = vec![0; PAIR_WORDS * old.len()];
+        let (code, altered) = repair(&mut input.table, &mut changes);
+        if code != 0 {
+            let why = table_fault(&old).map_or(String::new(), |(_, fault)| format!(": {fault}"));
+            say!("refused with {code} ({}){why}", meaning(code));
+            return Ok(false);
+        }
+        changes.truncate(PAIR_WORDS * altered as usize);
+        self.write(input)?;
+        if let Some(file) = self.changes {
+            written(file, &to_bytes(&changes))?;
+        }
+        say!("{}", in_words(&old, &input.table, &changes));
+        Ok(true)
+    }
+
+    fn undone(&self, input: &mut Input, list: &str) -> Result<bool, String> {
+        let changes = from_bytes(&read_at_most(list, INPUT_BYTES_MAX)?);
+        let places = changes.chunks(PAIR_WORDS);
+        let bad = |pair: &[u32]| pair.len() < 2 || pair[0] as usize >= input.table.len();
+        if places.clone().any(bad) {
+            say!("{} is no list of changes of this table", shown(list));
+            return Ok(false);
+        }
+        for pair in places {
+            input.table[pair[0] as usize] = pair[1];
+        }
+        self.write(input)?;
+        let words = counted(changes.len() / PAIR_WORDS, "word");
+        say!("{words} put back to what they were");
+        Ok(true)
+    }
+}
+
+fn written(path: &str, bytes: &[u8]) -> Result<(), String> {
+    fs::write(path, bytes).map_err(|why| format!("cannot write {path}: {why}"))
+}
+
+/// What was altered, and what it means for the line.
+fn in_words(old: &[u32], new: &[u32], changes: &[u32]) -> String {
+    if changes.is_empty() {
+        return "nothing to repair: the table is sound".to_string();
+    }
+    let places: Vec<usize> = changes
+        .chunks_exact(2)
+        .map(|pair| pair[0] as usize)
+        .collect();
+    let mut text = format!("{} altered\n", counted(places.len(), "word"));
+    for &place in &places {
+        let (was, is) = (old[place], new[place]);
+        let what = place_in_words(new, place);
+        text += &format!("  {what}: was {was:08X}, is {is:08X}\n");
+    }
+    text += "For the line this means";
+    for told in rights_gone(new, &places).chain(queues_emptied(old, new, &places)) {
+        text += &format!("\n  {told}");
+    }
+    text
+}
+
+fn rights_gone<'a>(table: &'a [u32], places: &'a [usize]) -> impl Iterator<Item = String> + 'a {
+    let n = domains(table);
+    let rights = places.iter().filter(move |&&place| place <= n * n);
+    rights.map(move |place| {
+        let (holder, target) = ((place - 1) / n, (place - 1) % n);
+        format!(
+            "domain {holder} has no right on domain {target} any more, whatever it had: who may, \
+             grants it anew"
+        )
+    })
+}
+
+fn queues_emptied<'a>(
+    old: &'a [u32],
+    new: &'a [u32],
+    places: &'a [usize],
+) -> impl Iterator<Item = String> + 'a {
+    let emptied = (0..endpoints(new)).filter(move |&e| {
+        let start = endpoint_place(new, e);
+        places
+            .iter()
+            .any(|place| (start..start + 12).contains(place))
+    });
+    emptied.map(move |e| {
+        format!(
+            "the queue of endpoint {e} (name {}) was emptied: {}, {}",
+            name(new, e),
+            messages_gone(old, e),
+            lost_gone(endpoint_words(old, e)[LOST_PLACE])
+        )
+    })
+}
+
+/// How many messages were waiting, as far as the old words tell.
+fn messages_gone(old: &[u32], endpoint: usize) -> String {
+    let word = endpoint_words(old, endpoint)[WAITING_PLACE];
+    let waiting = content(word) as usize;
+    match kind(word) == WAITING && waiting <= capacity(old, endpoint) {
+        true => format!("{} gone", counted(waiting, "message")),
+        false => "how many messages waited can't be told".to_string(),
+    }
+}
+
+fn lost_gone(word: u32) -> String {
+    match (kind(word), content(word)) {
+        (LOST, 0) => "the lost count was 0".to_string(),
+        (LOST, lost) => format!("its lost count of {lost} begins at 0 again"),
+        _ => "its lost count can't be told and begins at 0".to_string(),
+    }
+}
+
+#[cfg(test)]
+mod tests {
+    use super::*;
+    use reference::example::TABLE_T;
+
+    fn told(damage: &[(usize, u32)]) -> String {
+        let mut table = TABLE_T.to_vec();
+        for &(place, word) in damage {
+            table[place] = word;
+        }
+        let old = table.clone();
+        let mut changes = vec![0; 2 * table.len()];
+        let (code, altered) = repair(&mut table, &mut changes);
+        assert_eq!(code, 0);
+        in_words(&old, &table, &changes[..2 * altered as usize])
+    }
+
+    #[test]
+    fn a_sound_table_is_told_as_sound() {
+        assert_eq!(told(&[]), "nothing to repair: the table is sound");
+    }
+
+    #[test]
+    fn what_was_altered_is_told_with_what_it_means() {
+        let told = told(&[
+            (6, 0x2000_0017),
+            (24, 0x5000_0001),
+            (25, 0x6000_0003),
+            (26, 0x7000_0005),
+        ]);
+        let lines: Vec<&str> = told.lines().collect();
+        assert_eq!(lines[0], "4 words altered");
+        assert!(lines[1].starts_with("  word 6, the rights of domain 1 on domain 2: was 20000017"));
+        assert!(lines[2].contains("endpoint 1's waiting count: was 50000001, is 50000000"));
+        assert!(lines[4].contains("endpoint 1's message slot 0: was 70000005, is F0000000"));
+        assert!(lines[6].starts_with("  domain 1 has no right on domain 2 any more"));
+        assert!(lines[7].ends_with("1 message gone, its lost count of 3 begins at 0 again"));
+    }
+
+    #[test]
+    fn what_waited_is_not_guessed() {
+        let told = told(&[(24, 0x5000_0009)]);
+        assert!(told.ends_with("how many messages waited can't be told, the lost count was 0"));
+    }
+}

@@ -1,0 +1,46 @@
+//! `bench tables`: functions of a table alone, on random words, beside the separate ones.
+
+use crate::commands::drawn::Drawn;
+use crate::judging::repairs::try_repairs;
+use crate::kernels::boundary::repair;
+
+pub const HELP: &str = "\
+bench tables [--cases N] [--seed S] [--from N] [--time SECONDS]
+
+Tries the proved kernel's functions of a table alone on random tables, beside the
+separate ones: repairs of worn tables, damaged by one bit, by runs of words as a
+worn card gives them, or in many words. What is repaired must pass the table's
+check, and the list of what was altered must put the old table back.
+
+  --cases N    how many tables (default 20,000)
+  --seed S     the seed that they are drawn from (default 1)
+  --from N     the number of the first (default 0)
+  --time S     the seconds that one may take (default 10)
+
+From 10,000 on everything that is tried for must be met.
+
+Exit status: 0 nothing differs; 1 something differs, stops or was never met; 2 bad
+usage.
+";
+
+const TABLES: Drawn = Drawn {
+    all: "tables",
+    one: "table",
+    cases: 20_000,
+    enough: 10_000,
+};
+
+/// The command: whether nothing differs.
+pub fn command(line: &[String]) -> Result<bool, String> {
+    TABLES.command(line, |draws, met| try_repairs(repair, draws, met))
+}
+
+#[cfg(test)]
+mod tests {
+    use super::*;
+
+    #[test]
+    fn everything_must_be_met_from_where_the_help_says() {
+        assert!(HELP.contains("From 10,000 on") && TABLES.enough == 10_000);
+    }
+}
