@@ -19,10 +19,10 @@ use Rattle.machine.proofs.Bools.{or-cases}
 use Rattle.machine.proofs.Right.{holds-adds, adds-within}
 use Rattle.machine.proofs.Table.{pair-either}
 use Rattle.machine.proofs.Step.{stays-accepted}
-use Rattle.potential.specs.Closure.{cellAt, cell, total}
+use Rattle.potential.specs.Closure.{Proper, cellAt, cell, total}
 use Rattle.potential.specs.Lists.{grantWord}
 use Rattle.potential.proofs.Sets.{some-right, right-any, adds-le, adds-same, adds-more}
-use Rattle.potential.proofs.Matrix.{Proper, Contains, cell-below, cell-set, cell-other, cell-either, set-proper, total-set}
+use Rattle.potential.proofs.Matrix.{Contains, cell-below, cell-set, cell-other, cell-either, set-proper, total-set}
 use Rattle.potential.proofs.Grant.{grant-kind, grant-done, grant-same, grant-other}
 use Rattle.potential.proofs.Steps.{Shows, Ran, Step, ran-none}
 

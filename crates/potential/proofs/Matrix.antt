@@ -20,12 +20,7 @@ use Rattle.machine.proofs.Below.{all-at, words-length, words-at, words-past}
 use Rattle.machine.proofs.Right.{rights-within}
 use Rattle.machine.proofs.Table.{pair-either, rights-apart}
 use Rattle.machine.proofs.Accepted.{parts}
-use Rattle.potential.specs.Closure.{cellAt, cell, matrixOf, total}
-
--- a matrix of n domains: n × n cells, each a set of rights
-pub record Proper (n : ℕ) (m : List ℕ) : Type 0 where
-  pub size : length m ≡ n * n
-  pub within : (i : ℕ) → getD m i 0 ≤ allRights
+use Rattle.potential.specs.Closure.{Proper, cellAt, cell, matrixOf, total}
 
 -- each right of the matrix m is in the matrix m′
 abbrev pub Contains : ℕ → List ℕ → List ℕ → Type 0

@@ -1,14 +1,20 @@
 -- The potential rights as they are computed: an access matrix, n × n sets of rights in a list, holder by holder, in which the
 -- domains that act give each other all that they can, round after round, until a round adds nothing.
-use Prim.Native.Nat.{ℕ, zero, suc, _+_, _*_}
+use Prim.Native.Nat.{ℕ, zero, suc, _+_, _*_, _≤_}
+use mathlib.Core.Path.{_≡_}
 use mathlib.Core.Bool.{cond}
 use mathlib.Core.List.{List, [], _∷_}
 use lib.Dec.{ltb}
-use lib.ListN.{getD, set}
+use lib.ListN.{length, getD, set}
 use Rattle.machine.specs.Below.{wordsBelow, hasBit}
 use Rattle.machine.specs.Word.{payload}
 use Rattle.machine.specs.Right.{GRANT, allRights, holds, adds, hasAny}
 use Rattle.machine.specs.Table.{domains}
+
+-- a matrix of n domains: n × n cells, each a set of rights
+pub record Proper (n : ℕ) (m : List ℕ) : Type 0 where
+  pub size : length m ≡ n * n
+  pub within : (i : ℕ) → getD m i 0 ≤ allRights
 
 -- where the rights of h on g stand in a matrix of n domains, and the set that stands there
 abbrev pub cellAt : ℕ → ℕ → ℕ → ℕ

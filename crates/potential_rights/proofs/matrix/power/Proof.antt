@@ -1,0 +1,14 @@
+-- `matrix::power` meets its contract. Assumes nothing.
+use borrow.Author.Needs.{needs}
+use Rattle.potential_rights.proofs.Cells.{shifted}
+use Rattle.potential_rights.proofs.matrix.power.Statement.{statement}
+use Rattle.potential_rights.proofs.matrix.power.Tie as tie
+
+shl-result : tie.Need-shl-result
+shl-result c = search needs
+
+returns : tie.Need-returns
+returns c = shifted _ (c .pre)
+
+pub power-spec : {M : Type 1} → statement M
+power-spec = tie.close (tie.spec shl-result returns)
