@@ -43,6 +43,8 @@ LEAST = 20
 # are caught by the tests of the separate implementation itself.
 UNSEEN = {
     "agree_*": "the second table of a pair of lines is drawn so that it agrees",
+    **dict.fromkeys(("holders_*", "reach_*"), "the panel's words, which no command of the "
+    "bench lends yet"),
     "group_keeps_*": "a stray and a call of nobody alter nothing",
     "linerun_*": "linerun's reading: the fuzz runs the library",
     "purge_keeps_everything": "a run of all calls gives every domain its view",

@@ -21,7 +21,7 @@ pub fn run(table: &mut [u32], list: &[u32], answers: &mut [u32]) -> (u32, u32) {
 }
 
 /// 1, then the table's 2 to 5, then 6; 0 when none of them refuses.
-fn entry_code(table: &[u32], list: &[u32], calls: &[Call], space: usize) -> u32 {
+pub(crate) fn entry_code(table: &[u32], list: &[u32], calls: &[Call], space: usize) -> u32 {
     if list.len() > LIST_WORDS_MAX {
         return 1;
     }

@@ -4,6 +4,7 @@
 //! code is met, most calls do something, queues fill and empty, and lost counts
 //! reach their top. `tests/all/generator.rs` counts that this is so.
 
+mod panel;
 mod worn;
 
 use std::collections::BTreeSet;
@@ -24,6 +25,7 @@ use crate::table::{
 use crate::words::{content, to_bytes, word, CONTENT_MAX, EMPTY_SLOT};
 use crate::writer::{from_columns, to_columns, Value, COLUMNS};
 
+pub use panel::{lent_panel, panel, panel_case, question, PanelCase};
 pub use worn::{
     break_few, but_for_the_frame, damage_frame, flip_one_bit, overwrite_many, overwrite_runs,
     repair_case, worn_table, RepairCase,

@@ -18,6 +18,7 @@
 //! | [`isolation`] | document 02, request (g): two lines that agree on what reaches a domain |
 //! | [`groups`] | document 02, request (j): domains that no list can join |
 //! | [`writer`] | document 02, request (c): lists from calls as values, codes 30 and 31 |
+//! | [`holders`](mod@holders) | document 02, request (h): the panel's words, codes 6 and 32 |
 //! | [`repair`](mod@repair) | document 02, request (k): a table from a worn card, codes 33 and 34 |
 //! | [`bytes`] | the table's check over little-endian bytes |
 //! | `linerun` | the program: its reading and printing, codes 7 and 1 |
@@ -30,6 +31,7 @@ pub mod entry;
 pub mod example;
 pub mod generate;
 pub mod groups;
+pub mod holders;
 pub mod influence;
 pub mod isolation;
 mod linerun;
@@ -44,6 +46,7 @@ pub use bytes::check_bytes;
 pub use calls::{cut, Call};
 pub use entry::run;
 pub use groups::{component, from_group};
+pub use holders::{holders, run_with_holders, step_with_holders, who_reaches};
 pub use influence::{influences, purge, sources, view, QueueView, View};
 pub use isolation::{agree, members};
 pub use linerun::linerun;

@@ -5,7 +5,8 @@
 //! and a send on any twelve words, `influence` rows for sources, purge and view;
 //! `isolation` and `groups` have rows for the two rules of document 02 and then the
 //! rules themselves; `writer` has rows for what is written and then round trips;
-//! `repair` has rows for what is broken and then worn tables. The others are property
+//! `repair` has rows for what is broken and then worn tables; `holders` has rows for the
+//! panel's words and for chains of rights, and then drawn ones. The others are property
 //! tests over seeded random tables and lists; on failure they show the seed and the
 //! words.
 
@@ -14,6 +15,7 @@ mod counts;
 mod example;
 mod generator;
 mod groups;
+mod holders;
 mod influence;
 mod isolation;
 mod linerun;
