@@ -19,11 +19,12 @@ use std::path::{Path, PathBuf};
 use std::process::Command;
 
 const ARCHIVE: &str = "target/staticlib/libbalkwizu.a";
-const EXPORTS: [&str; 4] = [
+const EXPORTS: [&str; 5] = [
     "balkwizu_table_check",
     "balkwizu_run",
     "balkwizu_component",
     "balkwizu_repair",
+    "balkwizu_potential",
 ];
 
 /// An archive for tests alone: the crate, the variable that names another archive,

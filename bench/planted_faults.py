@@ -47,6 +47,7 @@ UNSEEN = {
     "bench lends yet"),
     "group_keeps_*": "a stray and a call of nobody alter nothing",
     "linerun_*": "linerun's reading: the fuzz runs the library",
+    "potential_list_*": "lists that are longer than they need be",
     "purge_keeps_everything": "a run of all calls gives every domain its view",
     "sources_by_the_table_after_the_call": "a call that alters its caller's row "
     "alters nothing else, which leaves the views equal",
@@ -62,6 +63,7 @@ UNSEEN = {
 # Faults that another command than the fuzz shows. On an accepted table the slots from
 # the waiting count on are empty, so queues of any words show what becomes of others.
 BY_ANOTHER = {
+    "potential_*": TABLES,
     "receive_clears_the_slots_from_the_free_one_on": QUEUE,
     "receive_moves_all_eight": QUEUE,
     "receive_up_to_the_capacity": QUEUE,

@@ -358,6 +358,24 @@ static void components_of_t(void)
     IS(component(EXAMPLE_TABLE_WORDS, 2), 0x00040000);
 }
 
+/* On T domain 1 has SEND on 0 and SEND, GRANT and REMOVE on 2: it could give 0 these
+ * and have no more itself; if it doesn't act, nothing comes about. */
+static void potential_of_t(void)
+{
+    uint32_t rights[9];
+    put_table_t();
+    IS(balkwizu_potential(table, EXAMPLE_TABLE_WORDS, 7, rights, 9), BALKWIZU_OK);
+    IS(rights[BALKWIZU_POTENTIAL_AT(3, 0, 2)], 7);
+    IS(rights[BALKWIZU_POTENTIAL_AT(3, 1, 2)], 7);
+    IS(rights[BALKWIZU_POTENTIAL_AT(3, 0, 1)], 1);
+    IS(balkwizu_potential(table, EXAMPLE_TABLE_WORDS, 5, rights, 9), BALKWIZU_OK);
+    IS(rights[BALKWIZU_POTENTIAL_AT(3, 0, 2)], 0);
+    IS(balkwizu_potential(table, EXAMPLE_TABLE_WORDS, 8, rights, 9),
+       BALKWIZU_NOT_A_DOMAIN);
+    IS(balkwizu_potential(table, EXAMPLE_TABLE_WORDS, 8, rights, 8), 6);
+    IS(balkwizu_potential(table, 33, 8, rights, 8), BALKWIZU_TABLE_BAD_LENGTH);
+}
+
 /* T with a broken rights word and more waiting than there is room for, and T with a
  * broken name too. */
 static void repair_of_t(void)
@@ -424,6 +442,7 @@ int main(void)
     edges();
     largest_table();
     components_of_t();
+    potential_of_t();
     repair_of_t();
     whole_fields();
     printf("%u compared, %u differ\n", compared, differ);

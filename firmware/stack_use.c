@@ -26,6 +26,7 @@ static uint32_t table[BALKWIZU_TABLE_WORDS_MAX];
 static uint32_t list[BALKWIZU_LIST_WORDS_MAX];
 static uint32_t answers[BALKWIZU_ANSWER_WORDS * BALKWIZU_LIST_WORDS_MAX];
 static uint32_t changes[BALKWIZU_CHANGES_WORDS_MAX];
+static uint32_t rights[DOMAINS * DOMAINS];
 
 /* One of the kernel's functions, and up to six pointers and lengths for it. */
 struct call {
@@ -139,10 +140,15 @@ int main(void)
     const struct call repair = { (void (*)(void))balkwizu_repair,
                                  { (uintptr_t)table, BALKWIZU_TABLE_WORDS_MAX,
                                    (uintptr_t)changes, BALKWIZU_CHANGES_WORDS_MAX } };
+    const struct call potential = { (void (*)(void))balkwizu_potential,
+                                    { (uintptr_t)table, BALKWIZU_TABLE_WORDS_MAX,
+                                      (1u << DOMAINS) - 1, (uintptr_t)rights,
+                                      DOMAINS * DOMAINS } };
     make_list();
     int failed =
         tell("balkwizu_table_check", &check, BALKWIZU_TABLE_CHECK_STACK_BYTES);
     failed |= tell("balkwizu_component", &component, BALKWIZU_COMPONENT_STACK_BYTES);
+    failed |= tell("balkwizu_potential", &potential, BALKWIZU_POTENTIAL_STACK_BYTES);
     failed |= tell("balkwizu_repair", &repair, BALKWIZU_REPAIR_STACK_BYTES);
     return tell("balkwizu_run", &run, BALKWIZU_RUN_STACK_BYTES) | failed;
 }

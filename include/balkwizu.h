@@ -56,6 +56,7 @@ extern "C" {
  * What each function uses of this, as the gate reads it out of the archive:
  *
  *   balkwizu_component: general and xmm registers, aligned stack
+ *   balkwizu_potential: general and xmm registers, aligned stack
  *   balkwizu_repair: general and xmm registers, aligned stack
  *   balkwizu_run: general and xmm registers, aligned stack, unmarked jumps
  *   balkwizu_table_check: general and xmm registers, aligned stack, red zone
@@ -64,6 +65,7 @@ extern "C" {
 #define BALKWIZU_TABLE_CHECK_STACK_BYTES 256
 #define BALKWIZU_COMPONENT_STACK_BYTES 512
 #define BALKWIZU_REPAIR_STACK_BYTES 4096
+#define BALKWIZU_POTENTIAL_STACK_BYTES 512
 
 /* The most that a table, a list and its answers can have, in words. */
 #define BALKWIZU_DOMAINS_MAX 16
@@ -124,8 +126,8 @@ enum balkwizu_code {
     BALKWIZU_MAY_NOT_GIVE = 23,    /* grant: to another, with no right on it;
                                       revoke: from another, likewise */
 
-    /* Of a question about a domain: nothing is told. */
-    BALKWIZU_NOT_A_DOMAIN = 32,    /* the number isn't below n */
+    /* Of a question about domains: nothing is told. */
+    BALKWIZU_NOT_A_DOMAIN = 32,    /* a number isn't below n */
 
     /* Of a repair, the first that fails: nothing was changed. */
     BALKWIZU_NOT_REPAIRABLE = 33,  /* word 0, the length, a name or an info is
@@ -456,6 +458,36 @@ uint32_t balkwizu_run(uint32_t *table, size_t table_len,
  */
 uint32_t balkwizu_component(const uint32_t *table, size_t table_len,
                             uint32_t domain);
+
+/* Where the rights that a holder could ever have on a target are told. */
+#define BALKWIZU_POTENTIAL_AT(n, holder, target) ((holder) * (n) + (target))
+
+/*
+ * What could ever come about: the rights that each domain could come to have on each
+ * other by any list of calls that only the actors make, of any length. Actors are a
+ * set of domains, bit u for domain u. It is exact: no list by actors gives a right that
+ * isn't told, and there is a list that gives all that are told. Words are in the
+ * processor's own byte order. The table isn't written.
+ *
+ * Returns one code:
+ *   0       BALKWIZU_OK: word BALKWIZU_POTENTIAL_AT(n, h, g) of rights is the set, of
+ *           enum balkwizu_right, that domain h could ever have on domain g; what it
+ *           has in the table is part of it
+ *   2 to 5  as balkwizu_table_check answers, for the table's words
+ *   6       BALKWIZU_ANSWERS_TOO_SHORT: rights_len isn't n * n
+ *   32      BALKWIZU_NOT_A_DOMAIN: actors has a bit from n on
+ * With another code than 0 no word was written.
+ *
+ * The caller's duties:
+ *   - table points to table_len words that may be read and rights to rights_len words
+ *     that may be read and written, both aligned to four bytes; neither is a null
+ *     pointer, also where its length is 0;
+ *   - the two do not overlap, in no word;
+ *   - nobody writes the table and nobody else reads or writes rights during the call:
+ *     no other core, interrupt or transfer.
+ */
+uint32_t balkwizu_potential(const uint32_t *table, size_t table_len,
+                            uint32_t actors, uint32_t *rights, size_t rights_len);
 
 /* What balkwizu_repair returns, taken apart, and the most that it can ask for. */
 #define BALKWIZU_REPAIR_CODE(result) (BALKWIZU_WORD(result) & 0xFFFFu)

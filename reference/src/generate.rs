@@ -4,6 +4,7 @@
 //! code is met, most calls do something, queues fill and empty, and lost counts
 //! reach their top. `tests/all/generator.rs` counts that this is so.
 
+mod grants;
 mod panel;
 mod worn;
 
@@ -25,6 +26,7 @@ use crate::table::{
 use crate::words::{content, to_bytes, word, CONTENT_MAX, EMPTY_SLOT};
 use crate::writer::{from_columns, to_columns, Value, COLUMNS};
 
+pub use grants::{chained_table, list_by, potential_case, set_of_domains, PotentialCase};
 pub use panel::{lent_panel, panel, panel_case, question, PanelCase};
 pub use worn::{
     break_few, but_for_the_frame, damage_frame, flip_one_bit, overwrite_many, overwrite_runs,
@@ -83,6 +85,15 @@ impl Rng {
     /// One of the given, which aren't none.
     pub fn pick<T: Copy>(&mut self, from: &[T]) -> T {
         from[self.below(from.len())]
+    }
+
+    /// The numbers below `bound` in an order that is drawn.
+    pub fn order(&mut self, bound: usize) -> Vec<usize> {
+        let mut order: Vec<usize> = (0..bound).collect();
+        for place in (1..bound).rev() {
+            order.swap(place, self.below(place + 1));
+        }
+        order
     }
 }
 

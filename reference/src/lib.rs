@@ -20,6 +20,7 @@
 //! | [`writer`] | document 02, request (c): lists from calls as values, codes 30 and 31 |
 //! | [`holders`](mod@holders) | document 02, request (h): the panel's words, codes 6 and 32 |
 //! | [`repair`](mod@repair) | document 02, request (k): a table from a worn card, codes 33 and 34 |
+//! | [`potential`] | of no paper: the rights that some domains' calls could ever give |
 //! | [`bytes`] | the table's check over little-endian bytes |
 //! | `linerun` | the program: its reading and printing, codes 7 and 1 |
 //! | [`example`] | table T, list L and what is printed for it |
@@ -36,6 +37,7 @@ pub mod influence;
 pub mod isolation;
 mod linerun;
 pub mod machine;
+pub mod potential;
 pub mod queue;
 pub mod repair;
 pub mod table;
@@ -51,6 +53,7 @@ pub use influence::{influences, purge, sources, view, QueueView, View};
 pub use isolation::{agree, members};
 pub use linerun::linerun;
 pub use machine::step;
+pub use potential::{grants_for, grants_for_all, potential_rights};
 pub use repair::{repair, undo};
 pub use table::check_table;
 pub use writer::{fits, read, write, write_columns, Value};

@@ -12,6 +12,7 @@ use crate::kernels::boundary::kernel;
 use crate::line::explain::{call_in_words, counted, meaning, table_fault};
 use crate::line::input::{read_input, shown, Input};
 use crate::output::{self, say};
+use crate::pictures::potential::potential_in_words;
 
 pub const HELP: &str = "\
 bench commission FILE [--struck D] [--seed S] [--kernel NAME]
@@ -35,6 +36,10 @@ because there is nothing to show, is said as `not shown`, with the reason.
 
 A kernel that faults or loops fails the line that met it, with the words that do
 it; the other lines go on.
+
+Before the lines it says what rights calls could ever give on this table, by whom
+and by which calls, as the proved function has it. That is no verdict: it is for
+whoever planned the table.
 
   --struck D     list the calls that are struck for domain D
   --seed S       the seed that the variants are drawn from (default 1)
@@ -80,6 +85,7 @@ pub fn command(options: &[String]) -> Result<bool, String> {
     if let Some(domain) = struck {
         output::write(struck_calls(&case_of(&input), domain as usize).as_bytes());
     }
+    output::write(potential_in_words(&input.table).as_bytes());
     Ok(go_through(&Checklist::new(kernel, &input, seed)))
 }
 

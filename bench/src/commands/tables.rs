@@ -1,8 +1,10 @@
 //! `bench tables`: functions of a table alone, on random words, beside the separate ones.
 
 use crate::commands::drawn::Drawn;
-use crate::judging::repairs::try_repairs;
-use crate::kernels::boundary::repair;
+use crate::judging::potentials::{self, try_potentials};
+use crate::judging::repairs::{self, try_repairs};
+use crate::judging::trying::Summary;
+use crate::kernels::boundary::{potential, repair};
 
 pub const HELP: &str = "\
 bench tables [--cases N] [--seed S] [--from N] [--time SECONDS]
@@ -10,7 +12,9 @@ bench tables [--cases N] [--seed S] [--from N] [--time SECONDS]
 Tries the proved kernel's functions of a table alone on random tables, beside the
 separate ones: repairs of worn tables, damaged by one bit, by runs of words as a
 worn card gives them, or in many words. What is repaired must pass the table's
-check, and the list of what was altered must put the old table back.
+check, and the list of what was altered must put the old table back. And potential
+rights: lists by the actors must give nobody more, and a list is built for each table
+that gives them all.
 
   --cases N    how many tables (default 20,000)
   --seed S     the seed that they are drawn from (default 1)
@@ -23,6 +27,24 @@ Exit status: 0 nothing differs; 1 something differs, stops or was never met; 2 b
 usage.
 ";
 
+/// What was met of each.
+#[derive(Default)]
+struct Met {
+    repairs: repairs::Met,
+    potentials: potentials::Met,
+}
+
+impl Summary for Met {
+    fn in_words(&self) -> String {
+        let (repairs, potentials) = (self.repairs.in_words(), self.potentials.in_words());
+        format!("{repairs}\n{potentials}")
+    }
+
+    fn missing(&self) -> Vec<String> {
+        [self.repairs.missing(), self.potentials.missing()].concat()
+    }
+}
+
 const TABLES: Drawn = Drawn {
     all: "tables",
     one: "table",
@@ -32,7 +54,10 @@ const TABLES: Drawn = Drawn {
 
 /// The command: whether nothing differs.
 pub fn command(line: &[String]) -> Result<bool, String> {
-    TABLES.command(line, |draws, met| try_repairs(repair, draws, met))
+    TABLES.command(line, |draws, met: &mut Met| {
+        try_repairs(repair, draws, &mut met.repairs)?;
+        try_potentials(potential, draws, &mut met.potentials)
+    })
 }
 
 #[cfg(test)]

@@ -12,6 +12,7 @@ pub mod groups;
 pub mod images;
 pub mod pairs;
 pub mod panics;
+pub mod potentials;
 pub mod printed;
 pub mod queues;
 pub mod repairs;

@@ -185,6 +185,33 @@ pub fn component(table: &[u32], domain: u32) -> (u32, u32) {
     (bits(told, 15, 0), bits(told, 31, 16))
 }
 
+/// The potential rights of a table where the actors alone make calls: its code.
+pub type Potential = fn(table: &[u32], actors: u32, rights: &mut [u32]) -> u32;
+
+/// The potential rights by the proved kernel.
+pub fn potential(table: &[u32], actors: u32, rights: &mut [u32]) -> u32 {
+    extern "C" {
+        fn balkwizu_potential(
+            table: *const u32,
+            table_len: usize,
+            actors: u32,
+            rights: *mut u32,
+            rights_len: usize,
+        ) -> u32;
+    }
+    // SAFETY: two slices, each valid for its length and aligned; the one that is
+    // written is borrowed alone.
+    unsafe {
+        balkwizu_potential(
+            table.as_ptr(),
+            table.len(),
+            actors,
+            rights.as_mut_ptr(),
+            rights.len(),
+        )
+    }
+}
+
 /// A repair of a table: its code, and how many words it altered, each of which has two in
 /// the list.
 pub type Repair = fn(table: &mut [u32], changes: &mut [u32]) -> (u32, u32);

@@ -74,7 +74,7 @@ pub fn letters(set: u32) -> String {
 }
 
 /// A set of rights in words, as `SEND, GRANT and REMOVE`.
-fn rights_in_words(set: u32) -> String {
+pub fn rights_in_words(set: u32) -> String {
     if set == 0 || set > right::ALL {
         return format!("the rights {set}");
     }

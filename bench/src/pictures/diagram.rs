@@ -12,6 +12,7 @@ use crate::kernels::lent::Ran;
 use crate::line::explain::{answer_in_words, call_in_words, counted, letters, senders};
 use crate::line::input::Input;
 use crate::pictures::groups::groups_in_words;
+use crate::pictures::potential::potential_in_words;
 
 /// An accepted table and a list in words, and what was left where it was run.
 pub fn in_words(input: &Input, left: Option<&Ran>, calls: usize) -> String {
@@ -22,12 +23,13 @@ pub fn in_words(input: &Input, left: Option<&Ran>, calls: usize) -> String {
         format!("\nAfter the list\n\n{rights}\n{queues}")
     });
     format!(
-        "Table: {}, {}, {}\n\n{}{}\n{}\n{}{}",
+        "Table: {}, {}, {}\n\n{}{}{}\n{}\n{}{}",
         counted(domains(table), "domain"),
         counted(endpoints(table), "endpoint"),
         counted(table.len(), "word"),
         rights_in_words(table),
         groups_in_words(table),
+        potential_in_words(table),
         queues_in_words(table),
         calls_in_words(&input.list, answers, calls),
         after.unwrap_or_default()

@@ -4,4 +4,5 @@
 pub mod diagram;
 mod groups;
 pub mod picture;
+pub mod potential;
 pub mod svg;

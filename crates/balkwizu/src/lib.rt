@@ -6,6 +6,7 @@ ghost use Rattle.machine.specs.Promise.{RunPromise};
 ghost use Rattle.components.specs.Told.{ComponentTold};
 ghost use Rattle.image.specs.Bytes.{bytesCode};
 ghost use Rattle.repair.specs.Repair.{RepairPromise};
+ghost use Rattle.potential_rights.specs.Told.{PotentialTold};
 
 // The check of a table before the kernel runs on it. C: uint32_t balkwizu_table_check(const uint8_t *bytes, size_t length).
 //
@@ -80,4 +81,21 @@ pub extern "C" fn balkwizu_repair(table: &mut [u32], changes: &mut [u32]) -> u32
     let code = repaired.code();
     let count = repaired.count();
     code + 65536 * count as u32
+}
+
+// The rights that could ever come about in a table where some domains act and the others do nothing: bit u of `actors` is set for
+// each domain u that acts.
+// C: uint32_t balkwizu_potential(const uint32_t *table, size_t table_len, uint32_t actors, uint32_t *rights, size_t rights_len)
+//
+// The answer is a code, and the first that applies: 2 to 5 where the table is refused, 6 where other than n × n words are lent, 32
+// where actors has a bit from n on, else 0. Where it is not 0 no word is changed. Where it is 0, word h * n + g holds the rights,
+// 0 to 15, that the domain h has on g or could be given by calls of those that act: no list of their calls gives more, and one
+// list gives them all.
+// It is defined for any words in slices of any length and for any number as actors. Table and rights may not overlap.
+#[no_mangle]
+pub extern "C" fn balkwizu_potential(table: &[u32], actors: u32, rights: &mut [u32]) -> u32
+    ensures { λ r. ⌜ PotentialTold (now (table .entry)) actors (now (rights .entry)) r (now (rights .exit)) ⌝ }
+{
+    let told = potential_rights::potential_of(table, actors, rights);
+    told.code()
 }

@@ -24,7 +24,7 @@ use Rattle.machine.proofs.Trail.{each-right}
 use Rattle.isolation.proofs.Ran.{ran-accepted, ran-table}
 use Rattle.potential.specs.Potential.{Potential, Potential.held, Potential.given}
 use Rattle.potential.specs.Claims.{KnownCallersIn, WithinPotential, everyone}
-use Rattle.potential.specs.Claims.{EveryRunWithinPotential, EveryPromisedRunWithinPotential, EveryPromisedRunWithinEveryone, EveryRunNothingNew}
+use Rattle.potential.specs.Claims.{EveryRunWithinPotential, EveryPromisedRunWithinPotential, EveryRunWithinEveryone, EveryPromisedRunWithinEveryone, EveryRunNothingNew}
 use Rattle.potential.proofs.Sets.{some-right}
 use Rattle.potential.proofs.Exact.{every-potential-right}
 
@@ -88,6 +88,9 @@ everyone-known : (t : List ℕ) (cs : List Call) → KnownCallersIn (domains t) 
 unfolding everyone
 everyone-known t [] = tt
 everyone-known t (c ∷ cs) = (λ u _ lu. bits-at (domains t) (λ _. true) u lu, everyone-known t cs)
+
+pub run-within-everyone : EveryRunWithinEveryone
+run-within-everyone t cs a = run-within t (everyone t) cs a (everyone-known t cs)
 
 pub promised-run-within-everyone : EveryPromisedRunWithinEveryone
 promised-run-within-everyone t ws p = promised-run-within t ws p (everyone t) (everyone-known t (cut ws))

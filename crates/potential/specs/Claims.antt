@@ -64,7 +64,10 @@ EveryPromisedRunWithinPotential =
 unfoldable pub everyone : List ℕ → ℕ
 everyone t = bitsBelow (domains t) (λ _. true)
 
--- What all domains together can bring about bounds every list whatsoever.
+-- What all domains together can bring about bounds all calls whatsoever, and every list that the kernel runs.
+abbrev pub EveryRunWithinEveryone : Type 0
+EveryRunWithinEveryone = (t : List ℕ) (cs : List Call) → Accepted t → WithinPotential t (everyone t) (machine.run t cs)
+
 abbrev pub EveryPromisedRunWithinEveryone : Type 0
 EveryPromisedRunWithinEveryone = (t ws : List ℕ) (p : PromisedRun t ws) → WithinPotential t (everyone t) (p .end)
 

@@ -51,11 +51,7 @@ pub fn panel(rng: &mut Rng, n: usize) -> Vec<u32> {
 
 /// Puts in a chain of rights through the domains, in an order that is drawn.
 fn put_chain_in(rng: &mut Rng, words: &mut [u32]) {
-    let mut order: Vec<usize> = (0..words.len()).collect();
-    for place in (1..order.len()).rev() {
-        order.swap(place, rng.below(place + 1));
-    }
-    for link in order.windows(2) {
+    for link in rng.order(words.len()).windows(2) {
         words[link[1]] |= 1 << link[0];
     }
 }

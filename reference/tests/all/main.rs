@@ -6,9 +6,9 @@
 //! `isolation` and `groups` have rows for the two rules of document 02 and then the
 //! rules themselves; `writer` has rows for what is written and then round trips;
 //! `repair` has rows for what is broken and then worn tables; `holders` has rows for the
-//! panel's words and for chains of rights, and then drawn ones. The others are property
-//! tests over seeded random tables and lists; on failure they show the seed and the
-//! words.
+//! panel's words and for chains of rights, and then drawn ones; `potential` has rows for
+//! what grants could ever give, and then both ways. The others are property tests over
+//! seeded random tables and lists; on failure they show the seed and the words.
 
 mod codes;
 mod counts;
@@ -20,6 +20,7 @@ mod influence;
 mod isolation;
 mod linerun;
 mod noninterference;
+mod potential;
 mod queue;
 mod repair;
 mod rows;
