@@ -1,115 +1,127 @@
--- The two rounds over the rows: what each keeps. Assumes nothing.
-use Prim.Native.Nat.{ℕ, _+_, _<_, _≤_}
-use mathlib.Core.Path.{_≡_, refl, sym, ap, ap₂, _∙_}
-use mathlib.Core.Bool.{true, false}
-use mathlib.Core.List.{List, [], _∷_, _++_, append-assoc, append-nil}
-use mathlib.Core.Option.{Option, none, some}
-use native.Mathlib.Numerals.{add-one}
+-- The writer's two passes (its proofs/Passes) over the calls of rows, where the code goes by words: what each keeps.
+-- Assumes nothing.
+use Prim.Native.Nat.{ℕ, _+_, _*_, _<_, _≤_}
+use mathlib.Core.Path.{_≡_, refl, sym, ap, _∙_}
+use mathlib.Core.Bool.{Bool, true, false, _||_}
+use mathlib.Core.List.{List, [], _∷_, _++_}
+use native.Mathlib.Decide.{decLe}
 use native.Mathlib.Omega.{arith}
-use lib.ListN.{length, take, drop, set, length-set, drop-of-length-le}
-use lib.Seq.{take-suc-set}
+use borrow.Author.Tests.{lt-ltb, le-ltb}
+use lib.Dec.{ltb}
+use lib.ListN.{length, drop, length-drop, drop-of-length-le}
+use lib.Seq.{drop-drop}
+use Rattle.machine.specs.Entry.{longestList}
 use Rattle.calls.specs.declared.Call.{Call}
-use Rattle.call_words.specs.Words.{fits}
-use Rattle.writer.specs.Write.{unfitFrom, firstUnfit}
-use Rattle.call_rows.specs.declared.Scanned.the-variants.{Calls, Unfit}
-use Rattle.call_rows.specs.Rows.{handedIn}
-use Rattle.call_rows.specs.Scan.{callAt, found, scanned}
+use Rattle.call_words.specs.Words.{fits, wordsOf, allFit, written, putAt}
+use Rattle.call_words.proofs.FieldWords.{one-or-two}
+use Rattle.writer.specs.declared.Measured.the-variants.{Words, Unfit}
+use Rattle.writer.specs.Write.{tooLong}
+use Rattle.writer.specs.FirstPass.{measured}
+use Rattle.writer.proofs.Claims.{each-wants-a-word}
+use Rattle.writer.proofs.Passes.{Measuring, measuring-start, measured-unfit, measuring-next, measured-all, Putting, putting-start, fits-here, putting-next, put-done}
+use Rattle.call_rows.specs.Rows.{callAt, handedIn}
 use Rattle.call_rows.proofs.RowAt.{front-row, whole-row}
 
--- ---- the first round: i rows are calls that fit, and those from place at on are still to be looked at
-pub record Scanning (ws : List ℕ) (at i : ℕ) : Type 0 where
-  pub within : at ≤ length ws
-  pub few : i ≤ at
-  pub unfit : unfitFrom i (handedIn (drop at ws)) ≡ firstUnfit (handedIn ws)
-  pub count : i + length (handedIn (drop at ws)) ≡ length (handedIn ws)
+-- ---- where the row of a number begins: from that place on stand the calls from that number on
+pub record Begins (ws : List ℕ) (from i : ℕ) : Type 0 where
+  pub within : from ≤ length ws
+  pub five : from ≡ 5 * i
+  pub left : drop i (handedIn ws) ≡ handedIn (drop from ws)
 
-pub scanning-start : (ws : List ℕ) → Scanning ws 0 0
-unfolding firstUnfit
-scanning-start ws = record { within = omega arith; few = omega arith; unfit = refl; count = omega arith }
+begins-start : (ws : List ℕ) → Begins ws 0 0
+begins-start ws = record { within = omega arith; five = refl; left = refl }
 
-module _ {ws : List ℕ} {at i : ℕ} (s : Scanning ws at i) where
-  module _ (l : at < length ws) where
-    -- a row that doesn't fit is the first
-    pub scanned-unfit : fits (callAt ws at) ≡ false → Unfit i ≡ scanned (handedIn ws)
-    unfolding scanned unfitFrom
-    scanned-unfit h =
-        let first : unfitFrom i (handedIn (drop at ws)) ≡ some i = rw (front-row ws at l, h) in
-        ap (λ (o : Option ℕ). found o (length (handedIn ws))) (sym first ∙ s .unfit)
+module _ {ws : List ℕ} {from i : ℕ} (b : Begins ws from i) where
+  module _ (l : from < length ws) where
+    first : drop i (handedIn ws) ≡ callAt ws from ∷ handedIn (drop (from + 5) ws)
+    first = b .left ∙ front-row ws from l
 
-    pub scanning-next : fits (callAt ws at) ≡ true → Scanning ws (at + 5) (i + 1)
-    unfolding unfitFrom
-    scanning-next h =
-        let next : unfitFrom i (handedIn (drop at ws)) ≡ unfitFrom (i + 1) (handedIn (drop (at + 5) ws)) = rw (front-row ws at l, h) in
-        record {
-          within = whole-row ws at h;
-          few = omega (arith, s .few);
-          unfit = sym next ∙ s .unfit;
-          count = omega (arith, s .count, ap length (front-row ws at l));
-        }
+    behind : drop (i + 1) (handedIn ws) ≡ handedIn (drop (from + 5) ws)
+    behind = sym (drop-drop 1 i (handedIn ws)) ∙ ap (drop 1) first
+
+    -- the call of the row, and those behind it
+    front : drop i (handedIn ws) ≡ callAt ws from ∷ drop (i + 1) (handedIn ws)
+    front = first ∙ ap (λ (cs : List Call). callAt ws from ∷ cs) (sym behind)
+
+    inside : i < length (handedIn ws)
+    inside = omega (arith, length-drop i (handedIn ws), ap length first)
+
+    -- the next row, behind one that fits
+    begins-next : fits (callAt ws from) ≡ true → Begins ws (from + 5) (i + 1)
+    begins-next h = record { within = whole-row ws from h; five = omega (arith, b .five); left = behind }
 
   -- no row is left
-  pub scanned-all : length ws ≤ at → Calls i ≡ scanned (handedIn ws)
-  unfolding scanned unfitFrom handedIn
-  scanned-all past =
-      let nothing : handedIn (drop at ws) ≡ [] = ap handedIn (drop-of-length-le ws past) in
-      ap₂ found (sym (ap (unfitFrom i) nothing) ∙ s .unfit) (omega (arith, s .count, ap length nothing))
-
--- what was found, taken apart
-pub found-unfit : (cs : List Call) (i : ℕ) → Unfit i ≡ scanned cs → firstUnfit cs ≡ some i
-unfolding scanned
-found-unfit cs i e = go (firstUnfit cs) e
-  where
-    go : (o : Option ℕ) → Unfit i ≡ found o (length cs) → o ≡ some i
-    go none e = let z : _≡_ {A = ℕ} 0 1 = cc in absurd (omega arith)
-    go (some j) e = cc
-
-pub found-none : (cs : List Call) (n : ℕ) → Calls n ≡ scanned cs → (firstUnfit cs ≡ none) × (n ≡ length cs)
-unfolding scanned
-found-none cs n e = go (firstUnfit cs) e
-  where
-    go : (o : Option ℕ) → Calls n ≡ found o (length cs) → (o ≡ none) × (n ≡ length cs)
-    go none e = (refl, cc)
-    go (some j) e = let z : _≡_ {A = ℕ} 0 1 = cc in absurd (omega arith)
-
--- ---- the second round: the first i calls are in the array, and those from place at on are still to go there
-pub record Loading (ws : List ℕ) (calls : List Call) (at i : ℕ) : Type 0 where
-  pub near : at ≤ length ws + 4
-  pub size : length calls ≡ 4096
-  pub left : take i calls ++ handedIn (drop at ws) ≡ handedIn ws
-  pub count : i + length (handedIn (drop at ws)) ≡ length (handedIn ws)
-
-pub loading-start : (ws : List ℕ) (calls : List Call) → length calls ≡ 4096 → Loading ws calls 0 0
-loading-start ws calls long = record { near = omega arith; size = long; left = refl; count = omega arith }
-
-module _ {ws : List ℕ} {calls : List Call} {at i : ℕ} (s : Loading ws calls at i) where
-  module _ (l : at < length ws) (fits : length (handedIn ws) ≤ 4096) where
-    -- there is space for one more
-    pub space : i < 4096
-    space = omega (arith, s .count, ap length (front-row ws at l))
-
-    pub loading-next : (c : Call) → c ≡ callAt ws at → Loading ws (set calls i c) (at + 5) (i + 1)
-    loading-next c is =
-        let inside : i < length calls = omega (arith, space, s .size) in
-        let more : take (i + 1) (set calls i c) ≡ take i calls ++ (c ∷ []) = rw (add-one i) (take-suc-set calls i c inside) in
-        record {
-          near = omega arith;
-          size = length-set calls i c ∙ s .size;
-          left =
-              ap (λ (x : List Call). x ++ handedIn (drop (at + 5) ws)) more
-              ∙ append-assoc (take i calls) (c ∷ []) (handedIn (drop (at + 5) ws))
-              ∙ ap (λ (x : Call). take i calls ++ (x ∷ handedIn (drop (at + 5) ws))) is
-              ∙ ap (λ (x : List Call). take i calls ++ x) (sym (front-row ws at l))
-              ∙ s .left;
-          count = omega (arith, s .count, ap length (front-row ws at l));
-        }
-
-  -- no row is left
-  pub loaded : length ws ≤ at → take (length (handedIn ws)) calls ≡ handedIn ws
+  none-left : length ws ≤ from → length (handedIn ws) ≤ i
   unfolding handedIn
-  loaded past =
-      let nothing : handedIn (drop at ws) ≡ [] = ap handedIn (drop-of-length-le ws past) in
-      let all : i ≡ length (handedIn ws) = omega (arith, s .count, ap length nothing) in
-      ap (λ (n : ℕ). take n calls) (sym all)
-      ∙ sym (append-nil (take i calls))
-      ∙ ap (λ (x : List Call). take i calls ++ x) (sym nothing)
-      ∙ s .left
+  none-left past =
+      let nothing : drop i (handedIn ws) ≡ [] = b .left ∙ ap handedIn (drop-of-length-le ws past) in
+      omega (arith, length-drop i (handedIn ws), ap length nothing)
+
+-- ---- the first pass
+pub record Measures (ws : List ℕ) (words from i : ℕ) : Type 0 where
+  pub place : Begins ws from i
+  pub pass : Measuring (handedIn ws) words i
+
+pub measures-start : (ws : List ℕ) → Measures ws 0 0 0
+measures-start ws = record { place = begins-start ws; pass = measuring-start (handedIn ws) }
+
+module _ {ws : List ℕ} {words from i : ℕ} (m : Measures ws words from i) where
+  module _ (l : from < length ws) where
+    -- a row that doesn't fit is the first
+    pub measures-unfit : fits (callAt ws from) ≡ false → Unfit i ≡ measured (handedIn ws)
+    measures-unfit h = measured-unfit (m .pass) _ (front (m .place) l) (inside (m .place) l) h
+
+    pub measures-next : (w : ℕ) → w ≡ length (wordsOf (callAt ws from)) → fits (callAt ws from) ≡ true → Measures ws (words + w) (from + 5) (i + 1)
+    measures-next w e h =
+        record {
+          place = begins-next (m .place) l h;
+          pass = measuring-next (m .pass) _ (front (m .place) l) (inside (m .place) l) w e (rw e (one-or-two _ .1)) h;
+        }
+
+  pub measures-all : length ws ≤ from → Words words ≡ measured (handedIn ws)
+  measures-all past = measured-all (m .pass) (none-left (m .place) past)
+
+-- ---- the second pass: the number of the row is nowhere in the code
+pub record Puts (ws list₀ list : List ℕ) (from at : ℕ) : Type 0 where
+  pub i : ℕ
+  pub place : Begins ws from i
+  pub pass : Putting (handedIn ws) list₀ list at i
+
+pub puts-start : (ws list : List ℕ) → allFit (handedIn ws) ≡ true → Puts ws list list 0 0
+puts-start ws list h = record { i = 0; place = begins-start ws; pass = putting-start (handedIn ws) list h }
+
+module _ {ws list₀ list : List ℕ} {from at : ℕ} (p : Puts ws list₀ list from at) where
+  pub puts-next : length (written (handedIn ws)) ≤ length list₀ → from < length ws
+      → (w : ℕ) (list′ : List ℕ) → w ≡ length (wordsOf (callAt ws from)) → list′ ≡ putAt list at (callAt ws from) → length list′ ≡ length list
+      → Puts ws list₀ list′ (from + 5) (at + w)
+  puts-next enough l w list′ e put same =
+      let here = front (p .place) l in
+      let in-it = inside (p .place) l in
+      record {
+        i = p .i + 1;
+        place = begins-next (p .place) l (fits-here (p .pass) enough _ here in-it);
+        pass = putting-next (p .pass) enough _ here in-it w list′ e put same;
+      }
+
+  pub puts-done : length ws ≤ from → list ≡ written (handedIn ws) ++ drop (length (written (handedIn ws))) list₀
+  puts-done past = put-done (p .pass) (none-left (p .place) past)
+
+-- ---- between the two: a call wants a word at least, so that where the words aren't too many the calls aren't
+pub count-left-out : (cs : List Call) (words size : ℕ) → words ≡ length (written cs) → tooLong words words size ≡ tooLong (length cs) words size
+unfolding tooLong
+count-left-out cs words size e = go (decLe words longestList)
+  where
+    few : length cs ≤ words
+    few = omega (arith, each-wants-a-word cs)
+
+    either-way : (b : Bool) → true ≡ (b || true || ltb size words)
+    either-way true = refl
+    either-way false = refl
+
+    go : Dec (words ≤ longestList) → (ltb longestList words || ltb longestList words || ltb size words) ≡ (ltb longestList (length cs) || ltb longestList words || ltb size words)
+    go (yes h) =
+        let within : length cs ≤ longestList = omega (arith, few) in
+        rw (le-ltb longestList words h, le-ltb longestList (length cs) within)
+    go (no h) =
+        let past : longestList < words = omega arith in
+        rw (lt-ltb longestList words past) (either-way (ltb longestList (length cs)))

@@ -1,4 +1,3 @@
 -- What the contracts of this crate cite, and rows that pin it.
 pub mod Rows
-pub mod Scan
 pub mod Examples

@@ -1,11 +1,11 @@
 -- Calls as plain words, as C hands them over: five words a call, here a row. They are its kind, its caller, A, B, and C or, for
 -- a look up and a send, what the second word holds (document 02, (c)).
 use mathlib.Core.Path.{_≡_}
-use Prim.Native.Nat.{ℕ, min}
+use Prim.Native.Nat.{ℕ, _+_, min}
 use mathlib.Core.Bool.{cond, _&&_}
 use mathlib.Core.List.{List, [], _∷_}
-use lib.Dec.{eqb}
-use lib.ListN.{length}
+use lib.Dec.{eqb, ltb}
+use lib.ListN.{length, getD}
 use Rattle.machine.specs.Call as machine
 use Rattle.machine.specs.Call.{Kind.lookUp, Kind.send, Kind.receive, Kind.myEndpoints, Kind.myRights, Kind.grant, Kind.remove, Kind.revoke, Kind.stray, Kind.unknown}
 use Rattle.calls.specs.declared.Call.{Call}
@@ -37,6 +37,12 @@ ofColumns unknown u a b c = noCall
 -- the call of a row
 unfoldable pub rowCall : ℕ → ℕ → ℕ → ℕ → ℕ → Call
 rowCall k u a b c = ofColumns (machine.kindOf k) u a b c
+
+-- the call of the row that begins at a place of some words
+unfoldable pub callAt : List ℕ → ℕ → Call
+callAt ws at =
+    cond (ltb (length ws) (at + 5)) noCall
+    (rowCall (getD ws at 0) (getD ws (at + 1) 0) (getD ws (at + 2) 0) (getD ws (at + 3) 0) (getD ws (at + 4) 0))
 
 -- the calls of some words, five a call; fewer than five left at the end are no call
 unfoldable pub handedIn : List ℕ → List Call

@@ -1,15 +1,22 @@
-// Calls as C hands them to the writer: five words a call, here a row (document 02, (c)).
+// Calls as C hands them to the writer: five words a call, here a row (document 02, (c)). The writer's two passes go over the
+// rows as they are lent: a call is taken from its row in each, and none is kept, so that little stack is needed.
 use call_words::fits;
+use call_words::put;
+use call_words::width;
 use calls::Call;
 use calls::Refusal;
+use writer::Measured;
 use writer::Written;
-use writer::write;
+use writer::too_long;
 ghost use mathlib.Core.Path.{_≡_};
+ghost use mathlib.Core.Bool.{true};
+ghost use mathlib.Core.List.{_++_};
 ghost use Prim.Native.Nat.{_<_, _≤_};
-ghost use lib.ListN.{length, take};
+ghost use lib.ListN.{length, drop};
+ghost use Rattle.call_words.specs.Words.{allFit, written};
 ghost use Rattle.writer.specs.Write.{writtenCode, writtenNumber, WritePromise};
-ghost use Rattle.call_rows.specs.Rows.{whereZero, rowCall, handedIn};
-ghost use Rattle.call_rows.specs.Scan.{callAt, scanned};
+ghost use Rattle.writer.specs.FirstPass.{measured};
+ghost use Rattle.call_rows.specs.Rows.{whereZero, rowCall, callAt, handedIn};
 
 // What stands for a row that is no call.
 const NO_CALL: Call = Call::Refused {
@@ -120,62 +127,57 @@ fn call_at(rows: &[u32], at: usize) -> Call
     )
 }
 
-// What is found in the rows.
-enum Scanned {
-    // every one is a call that fits, and there are so many
-    Calls(usize),
-    // the row of this number isn't
-    Unfit(usize),
-}
-
-// The first row, of any number of them, that is no call or one that doesn't fit.
-fn scan(rows: &[u32]) -> Scanned
-    ensures { λ r. ⌜ r ≡ scanned (handedIn (now (rows .entry))) ⌝ }
+// The first pass, over all rows, also past the 4,096th.
+fn measure(rows: &[u32]) -> Measured
+    ensures { λ r. ⌜ r ≡ measured (handedIn (now (rows .entry))) ⌝ }
 {
-    let mut at: usize = 0;
+    let mut words: usize = 0;
+    let mut from: usize = 0;
     let mut i: usize = 0;
-    while at < rows.len() {
-        let call = call_at(rows, at);
+    while from < rows.len() {
+        let call = call_at(rows, from);
         if !fits(call) {
-            return Scanned::Unfit(i);
+            return Measured::Unfit(i);
         }
-        at += 5;
+        words += width(call);
+        from += 5;
         i += 1;
     }
-    Scanned::Calls(i)
+    Measured::Words(words)
 }
 
-// The calls of the rows, in front of an array.
-fn load(rows: &[u32]) -> [Call; 4096]
-    requires { ⌜ length (handedIn (now rows)) ≤ 4096 ⌝ }
-    ensures { λ r. ⌜ take (length (handedIn (now (rows .entry)))) r ≡ handedIn (now (rows .entry)) ⌝ }
+// The second pass: the words of the calls, which fit and have space.
+fn put_all(rows: &[u32], list: &mut [u32])
+    requires { ⌜ allFit (handedIn (now rows)) ≡ true ⌝ }
+    requires { ⌜ length (written (handedIn (now rows))) ≤ length (now list) ⌝ }
+    ensures { λ _. ⌜ now (list .exit) ≡ written (handedIn (now (rows .entry))) ++ drop (length (written (handedIn (now (rows .entry))))) (now (list .entry)) ⌝ }
 {
-    let none = NO_CALL;
-    let mut calls = [none; 4096];
+    let mut from: usize = 0;
     let mut at: usize = 0;
-    let mut i: usize = 0;
-    while at < rows.len() {
-        calls[i] = call_at(rows, at);
-        at += 5;
-        i += 1;
+    while from < rows.len() {
+        let call = call_at(rows, from);
+        put(list, at, call);
+        at += width(call);
+        from += 5;
     }
-    calls
 }
 
 // The calls of the rows, written into the front of the list; its words past them are left. A refusal writes no word. A bad call
-// is looked for among all rows, also past the 4,096th, before so many calls are too long a list.
+// is looked for among all rows before their words are too many. That there are more than 4,096 rows isn't looked at by itself:
+// each wants a word at least.
 pub fn write_rows(rows: &[u32], list: &mut [u32]) -> Written
     ensures { λ r. ⌜ WritePromise (handedIn (now (rows .entry))) (length (handedIn (now (rows .entry)))) (now (list .entry)) (writtenCode r) (writtenNumber r) (now (list .exit)) ⌝ }
 {
-    let scanned = scan(rows);
-    match scanned {
-        Scanned::Unfit(i) => Written::BadCall(i),
-        Scanned::Calls(n) => {
-            if 4096 < n {
+    let measured = measure(rows);
+    match measured {
+        Measured::Unfit(i) => Written::BadCall(i),
+        Measured::Words(words) => {
+            let size = list.len();
+            if too_long(words, words, size) {
                 return Written::TooLong;
             }
-            let calls = load(rows);
-            write(calls, n, list)
+            put_all(rows, list);
+            Written::Done(words)
         }
     }
 }

@@ -83,9 +83,13 @@ putting-start cs list h =
 
 module _ {cs : List Call} {list₀ list : List ℕ} {at i : ℕ} (p : Putting cs list₀ list at i) where
   module _ (enough : length (written cs) ≤ length list₀) (c : Call) (front : drop i cs ≡ c ∷ drop (i + 1) cs) (l : i < length cs) where
-    fits-here : (fits c && allFit (drop (i + 1) cs)) ≡ true
+    all-fit-here : (fits c && allFit (drop (i + 1) cs)) ≡ true
     unfolding allFit
-    fits-here = sym (ap allFit front) ∙ p .fit
+    all-fit-here = sym (ap allFit front) ∙ p .fit
+
+    -- the call fits
+    pub fits-here : fits c ≡ true
+    fits-here = and-left (fits c) (allFit (drop (i + 1) cs)) all-fit-here
 
     -- there is space for the call
     room : at + length (wordsOf c) ≤ length list
@@ -106,12 +110,12 @@ module _ {cs : List Call} {list₀ list : List ℕ} {at i : ℕ} (p : Putting cs
     putting-next w list′ e put same =
         record {
           within = omega arith;
-          fit = and-right (fits c) (allFit (drop (i + 1) cs)) fits-here;
+          fit = and-right (fits c) (allFit (drop (i + 1) cs)) all-fit-here;
           done = p .done ++ wordsOf c;
           long = length-append (p .done) (wordsOf c) ∙ omega (arith, p .long);
           filled =
               put
-              ∙ put-there list at c (and-left (fits c) (allFit (drop (i + 1) cs)) fits-here) room
+              ∙ put-there list at c fits-here room
               ∙ ap₂ (λ (x y : List ℕ). x ++ (wordsOf c ++ y)) before behind
               ∙ sym (append-assoc (p .done) (wordsOf c) (drop (at + w) list₀));
           whole =

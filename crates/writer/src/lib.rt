@@ -48,8 +48,8 @@ impl Written {
     }
 }
 
-// What the first pass finds.
-enum Measured {
+// What the first pass finds in some calls.
+pub enum Measured {
     // the calls are so many words
     Words(usize),
     // the call of this number can't be written
@@ -99,7 +99,7 @@ fn held(count: usize) -> usize
 }
 
 // 31: more calls than a list may have words, or words that pass that or the lent space.
-fn too_long(count: usize, words: usize, size: usize) -> bool
+pub fn too_long(count: usize, words: usize, size: usize) -> bool
     ensures { λ r. ⌜ r ≡ tooLong count words size ⌝ }
 {
     (4096 < count) | (4096 < words) | (size < words)

@@ -1,49 +1,50 @@
--- `write_rows` meets its contract: what the first round finds is refused, else all calls are in the array and are written.
--- Assumes nothing.
-use Prim.Native.Nat.{ℕ}
-use mathlib.Core.Path.{_≡_, sym, ap, subst₂, _∙_}
-use mathlib.Core.List.{List}
-use mathlib.Core.Option.{none}
-use native.Mathlib.Omega.{arith}
+-- `write_rows` meets its contract: each answer is the one that is due for what the first pass found. Assumes nothing.
+use mathlib.Core.Path.{_≡_, sym, _∙_}
+use mathlib.Core.Bool.{Bool}
 use borrow.Author.Needs.{needs}
 use denote.Ref.{now}
-use lib.ListN.{length, take}
-use Rattle.calls.specs.declared.Call.{Call}
-use Rattle.writer.specs.Write.{firstUnfit, writtenCode, writtenNumber, WritePromise}
-use Rattle.writer.proofs.Outcomes.{first-unfit, too-many}
+use lib.ListN.{length}
+use Rattle.writer.specs.declared.Measured.the-variants.{Words}
+use Rattle.writer.specs.Write.{tooLong}
+use Rattle.writer.specs.FirstPass.{measured}
+use Rattle.writer.proofs.Outcomes.{unfit, all-fit, words-counted, too-long, room, done}
 use Rattle.call_rows.specs.Rows.{handedIn}
-use Rattle.call_rows.proofs.Rounds.{found-unfit, found-none}
+use Rattle.call_rows.proofs.Rounds.{count-left-out}
 use Rattle.call_rows.proofs.write_rows.Statement.{statement}
 use Rattle.call_rows.proofs.write_rows.Tie as tie
 
--- where no row was found unfit
-counted : (c : tie.After-scanned2)
-    → (let cs = handedIn (now (c .before .before .before .before .before .args .rows)) in
-    (firstUnfit cs ≡ none) × (c .scanned2 .given .0 .0 ≡ length cs))
-counted c = found-none _ _ (sym (c .scanned2 .given .1) ∙ c .before .before .scan .ensures)
+-- the words that were counted, where no call was found unfit
+counted : (c : tie.After-measured2) → Words (c .measured2 .given .0 .0) ≡ measured (handedIn (now (c .before .before .before .before .before .args .rows)))
+counted c = sym (c .measured2 .given .1) ∙ c .before .before .measure .ensures
+
+-- whether they are too long
+told : (c : tie.After-too-long)
+    → (let a = c .before .before .before .before .before .before .before .args in
+    tooLong (length (handedIn (now (a .rows)))) (c .before .before .measured2 .given .0 .0) (length (now (a .list))) ≡ c .too-long .result)
+told c =
+    let found = c .before .before in
+    let a = found .before .before .before .before .before .args in
+    let words = words-counted (handedIn (now (a .rows))) (length (handedIn (now (a .rows)))) (now (a .list)) _ (counted found) in
+    sym (count-left-out (handedIn (now (a .rows))) _ _ words) ∙ sym (c .too-long .ensures)
 
 returns : tie.Need-returns
-returns c =
-    let found = counted (c .before .before) in
-    too-many _ _ _ (found .0) (omega (arith, c .if1 .taken, found .1))
+returns c = too-long _ _ _ _ (counted (c .before .before .before)) (told (c .before) ∙ c .if1 .taken)
 
-load-requires : tie.Need-load-requires
-load-requires c κs = omega (arith, c .if1 .left, counted (c .before .before) .1)
+put-all-requires : tie.Need-put-all-requires
+put-all-requires c κs =
+    let found = c .before .before .before .before in
+    let a = found .before .before .before .before .before .args in
+    let cs = handedIn (now (a .rows)) in
+    (all-fit cs (length cs) (now (a .list)) _ (counted found), room cs (length cs) (now (a .list)) _ (counted found) (told (c .before .before) ∙ c .before .if1 .left))
 
 returns-2 : tie.Need-returns-2
-returns-2 c = first-unfit _ _ _ _ (found-unfit _ _ (sym (c .before .scanned .given .1) ∙ c .before .before .before .scan .ensures))
+returns-2 c = unfit _ _ _ _ (sym (c .before .measured .given .1) ∙ c .before .before .before .measure .ensures)
 
 returns-3 : tie.Need-returns-3
 returns-3 c =
     let wrote = c .before .before in
-    let loaded = wrote .before .before in
-    let found = loaded .before .before .before in
-    let a = found .before .before .before .before .before .args in
-    let count = counted found .1 in
-    subst₂ (λ (cs : List Call) (n : ℕ). WritePromise cs n (now (a .list)) (writtenCode (wrote .write .result)) (writtenNumber (wrote .write .result)) (wrote .write .last .1 .1 .0))
-    (ap (λ (n : ℕ). take n (loaded .load .result)) count ∙ loaded .load .ensures)
-    count
-    (wrote .write .ensures)
+    let e = wrote .before .before in
+    done _ _ _ _ (counted (e .before .before .before)) (told (e .before) ∙ e .if1 .left) _ (wrote .put-all .ensures)
 
 pub write-rows-spec : {M : Type 1} → statement M
 write-rows-spec =
@@ -52,9 +53,9 @@ write-rows-spec =
     (λ c κs. tt)
     (λ c. c .match .keys1)
     (λ c. c .match .keys2)
-    returns
-    load-requires
     (λ c κs. tt)
+    returns
+    put-all-requires
     returns-2
     (λ c. search needs)
     returns-3)
