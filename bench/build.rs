@@ -19,12 +19,13 @@ use std::path::{Path, PathBuf};
 use std::process::Command;
 
 const ARCHIVE: &str = "target/staticlib/libbalkwizu.a";
-const EXPORTS: [&str; 5] = [
+const EXPORTS: [&str; 6] = [
     "balkwizu_table_check",
     "balkwizu_run",
     "balkwizu_component",
     "balkwizu_repair",
     "balkwizu_potential",
+    "balkwizu_write",
 ];
 
 /// An archive for tests alone: the crate, the variable that names another archive,

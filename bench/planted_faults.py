@@ -8,8 +8,9 @@ implementation with the faults in it, and with each of them switched on the same
 seeded fuzz must end with a reported difference between that and the kernel, and so
 must the same seeded steps where the fault is one of a single call. A fault that shows
 only on words that no check accepts must be reported by the same seeded queues, one of
-a repair by the same seeded tables. With none switched on all must pass. A panic, a run that doesn't end and a code never met
-are no reported difference.
+a repair or of potential rights by the same seeded tables, and one of the writer by the
+fuzz's lists alone. With none switched on all must pass. A panic, a run that doesn't end
+and a code never met are no reported difference.
 
     python3 bench/planted_faults.py            all faults
     python3 bench/planted_faults.py NAME...    some of them
@@ -33,8 +34,9 @@ ARCHIVES = {
     "BALKWIZU_STEP_ARCHIVE": "libstep_export.a",
     "BALKWIZU_QUEUE_ARCHIVE": "libqueue_export.a",
 }
-TABLES = ["tables", "--seed", "20", "--cases", "10000"]
-FUZZ = ["fuzz", "--seed", "20", "--cases", "10000", "--table-checks", "10000"]
+FUZZ = "fuzz --seed 20 --cases 10000 --table-checks 10000 --lists 0".split()
+LISTS = "fuzz --seed 20 --cases 0 --table-checks 0 --lists 600".split()
+TABLES = "tables --seed 20 --cases 10000".split()
 STEP = ["step", "--seed", "20", "--cases", "5000"]
 QUEUE = ["queue", "--seed", "20", "--cases", "10000"]
 LEAST = 20
@@ -54,20 +56,23 @@ UNSEEN = {
     "sources_without_refused_calls": "a refused call alters nothing that a member "
     "of the set sees",
     "view_*": "the same view is taken of both runs",
-    **dict.fromkeys(("writer_*", "columns_*", "read_*"), "the writer of lists, which no "
-    "command of the bench runs yet"),
     "send_past_the_slots_fills_the_last": "words that can't be served, where the "
     "papers leave the answer free",
 }
 
-# Faults that another command than the fuzz shows. On an accepted table the slots from
-# the waiting count on are empty, so queues of any words show what becomes of others.
+# Faults that another command than the fuzz of runs shows. On an accepted table the slots
+# from the waiting count on are empty, so queues of any words show what becomes of others.
+# A reader that tests the caller shows in no run, since a caller above the largest table's
+# is refused with 12 there.
 BY_ANOTHER = {
+    "columns_*": LISTS,
     "potential_*": TABLES,
     "receive_clears_the_slots_from_the_free_one_on": QUEUE,
     "receive_moves_all_eight": QUEUE,
     "receive_up_to_the_capacity": QUEUE,
+    "read_tests_the_caller": LISTS,
     "repair_*": TABLES,
+    "writer_*": LISTS,
 }
 
 # Faults that steps don't show, which run one call and check the table before it.
@@ -78,6 +83,7 @@ UNSEEN_BY_STEPS = {
     "group_*": "what hangs together",
     "members_*": "pairs of lines",
     "purge_*": "the striking rule",
+    "read_*": "calls as values",
     "shortcut_influence_from_last_table": "the striking rule",
     "shortcut_refused_send_gives_up_second_word": "the cutting of a list",
     "sources_*": "the striking rule",
@@ -103,7 +109,7 @@ def make(copy):
 
 def check_unedited(bench):
     """Against the separate implementation as it stands all must pass."""
-    for command in FUZZ, STEP, QUEUE, TABLES:
+    for command in FUZZ, LISTS, STEP, QUEUE, TABLES:
         ran = run([bench, *command], 0)
         if ran.returncode != 0:
             raise Wrong(f"{command[0]} fails:\n{ran.stdout}{ran.stderr}")
@@ -125,7 +131,7 @@ def reported(bench, fault, name, edit):
     of a call."""
     for pattern, command in BY_ANOTHER.items():
         if fnmatch(name, pattern):
-            return f"by bench {command[0]}: {difference(bench, command, fault)}"
+            return f"by {command[0]}: {difference(bench, command, fault)}"
     told = difference(bench, FUZZ, fault)
     if not any(fnmatch(name, pattern) for pattern in UNSEEN_BY_STEPS):
         told += f"; by steps: {difference(bench, STEP, fault)}"

@@ -35,11 +35,14 @@ static inline const char *code_meaning(uint32_t code)
         [BALKWIZU_NO_SUCH_DOMAIN] = "a domain named is not in the table",
         [BALKWIZU_BAD_RIGHTS] = "the rights named cannot be asked for",
         [BALKWIZU_LACKS_RIGHT] = "the caller lacks a right that the call needs",
-        [BALKWIZU_NOT_A_DOMAIN] = "the number is no domain of the table",
         [BALKWIZU_NOT_REPAIRABLE] =
             "word 0, the length, a name or an info is wrong, or a name repeats",
         [BALKWIZU_CHANGES_TOO_SHORT] = "the list of changes is too short",
         [BALKWIZU_MAY_NOT_GIVE] = "the recipient or holder is another, and the caller has no right on it",
+        [BALKWIZU_BAD_CALL] =
+            "a call is none, or has a field that exceeds its bits",
+        [BALKWIZU_WRITTEN_TOO_LONG] = "the words would pass 4,096 or the space",
+        [BALKWIZU_NOT_A_DOMAIN] = "the number is no domain of the table",
     };
     if (code < sizeof meanings / sizeof *meanings && meanings[code] != NULL)
         return meanings[code];

@@ -1,7 +1,7 @@
 /*
  * header_names.c: every name of balkwizu.h used on document 01's table T and list
- * L, on its edges, and on the largest table, and compared with what document 01
- * says. Numbers on the right of a comparison are the paper's, written out.
+ * L, on its edges, and on the largest table, and compared with what document 01, as
+ * document 02 changes it, says. Numbers on the right of a comparison are the paper's, written out.
  *
  * It is C11 and C++11. It prints what differs, then how many comparisons were
  * made; the exit status is 0 where nothing differs, else 1.
@@ -403,6 +403,73 @@ static void repair_of_t(void)
     IS(BALKWIZU_CHANGES_WORDS_MAX, 1152); /* 256 rights words, 10 for each of 32 */
 }
 
+/* The calls of L but for its stray, in columns, and what is written of them into a
+ * space of so many words. */
+static const uint32_t calls_of_l[][BALKWIZU_CALL_COLUMNS] = {
+    { BALKWIZU_KIND_SEND, 0, 0, 1, 5 },
+    { BALKWIZU_KIND_GRANT, 1, 2, 0, BALKWIZU_RIGHT_SEND },
+    { BALKWIZU_KIND_SEND, 0, 0, 1, 5 },
+    { BALKWIZU_KIND_SEND, 0, 0, 1, 6 },
+    { BALKWIZU_KIND_RECEIVE, 2, 0, 1, 0 },
+    { BALKWIZU_KIND_RECEIVE, 2, 0, 1, 0 },
+    { BALKWIZU_KIND_MY_RIGHTS, 0, 0, 0, 0 },
+    { BALKWIZU_KIND_MY_ENDPOINTS, 2, 0, 0, 0 },
+};
+
+static uint32_t write_l(size_t columns, size_t space)
+{
+    memset(list, 0x77, sizeof list);
+    return balkwizu_write((const uint32_t *)calls_of_l, columns, list, space);
+}
+
+static void list_l_written(void)
+{
+    size_t columns = sizeof calls_of_l / sizeof *calls_of_l[0];
+    IS(BALKWIZU_CALL_COLUMNS, 5);
+    uint32_t result = write_l(columns, 12);
+    IS(BALKWIZU_WRITE_CODE(result), BALKWIZU_OK);
+    IS(BALKWIZU_WRITE_NUMBER(result), 11);
+    for (size_t i = 0; i < 11; i++)
+        IS(list[i], example_list[i < 9 ? i : i + 1]); /* the stray is word 9 */
+    IS(list[11], 0x77777777);
+    IS(write_l(columns, 11), 0x000B0000);
+    IS(write_l(columns, 10), BALKWIZU_WRITTEN_TOO_LONG);
+    IS(list[0], 0x77777777);
+    IS(write_l(columns - 1, 10), 0x0007001E); /* four words left over: 30, not 31 */
+    IS(list[0], 0x77777777);
+    IS(write_l(0, 0), 0);
+    IS(BALKWIZU_BAD_CALL, 30);
+    IS(BALKWIZU_WRITTEN_TOO_LONG, 31);
+}
+
+/* One call in columns: the code, and its words where it is written. */
+static uint32_t write_one(uint32_t kind, uint32_t caller, uint32_t a, uint32_t b,
+                          uint32_t last)
+{
+    const uint32_t call[BALKWIZU_CALL_COLUMNS] = { kind, caller, a, b, last };
+    return balkwizu_write(call, BALKWIZU_CALL_COLUMNS, list, WORDS(list));
+}
+
+static void calls_written(void)
+{
+    IS(write_one(BALKWIZU_KIND_LOOK_UP, 63, 0, 0, 0x0FFFFFFF), 0x00020000);
+    IS(list[0], BALKWIZU_LOOK_UP(63));
+    IS(list[1], BALKWIZU_SECOND(0x0FFFFFFF));
+    IS(write_one(BALKWIZU_KIND_REMOVE, 1, 2, 0, BALKWIZU_RIGHT_REMOVE), 0x00010000);
+    IS(list[0], 0x70420004); /* P11 */
+    IS(write_one(BALKWIZU_KIND_REVOKE, 63, 63, 255, 255), 0x00010000);
+    IS(list[0], 0x8FFFFFFF);
+    IS(write_one(BALKWIZU_KIND_MY_RIGHTS, 64, 0, 0, 0), BALKWIZU_BAD_CALL);
+    IS(write_one(BALKWIZU_KIND_GRANT, 0, 64, 0, 1), BALKWIZU_BAD_CALL);
+    IS(write_one(BALKWIZU_KIND_RECEIVE, 0, 0, 256, 0), BALKWIZU_BAD_CALL);
+    IS(write_one(BALKWIZU_KIND_SEND, 0, 0, 0, 0x10000000), BALKWIZU_BAD_CALL);
+    IS(write_one(BALKWIZU_KIND_RECEIVE, 0, 0, 0, 1), BALKWIZU_BAD_CALL);
+    IS(write_one(BALKWIZU_KIND_SECOND, 0, 0, 0, 0), BALKWIZU_BAD_CALL);
+    IS(write_one(0, 0, 0, 0, 0), BALKWIZU_BAD_CALL);
+    IS(write_one(9, 0, 0, 0, 0), BALKWIZU_BAD_CALL);
+    IS(list[0], 0x8FFFFFFF); /* as the last that was written left it */
+}
+
 /* Every field with all its bits set, which no table and no answer has. */
 static void whole_fields(void)
 {
@@ -419,6 +486,8 @@ static void whole_fields(void)
         IS(balkwizu_answer_rights(answer, target), target);
     IS(BALKWIZU_RUN_CODE(0xFFFFFFFF), 65535);
     IS(BALKWIZU_RUN_CALLS(0xFFFFFFFF), 65535);
+    IS(BALKWIZU_WRITE_CODE(0xFFFFFFFF), 65535);
+    IS(BALKWIZU_WRITE_NUMBER(0xFFFFFFFF), 65535);
     IS(balkwizu_table_domains(sizes), 255);
     IS(balkwizu_table_endpoints(sizes), 255);
     IS(balkwizu_table_rights(words, 0, 0), 0x0FFFFFFF);
@@ -444,6 +513,8 @@ int main(void)
     components_of_t();
     potential_of_t();
     repair_of_t();
+    list_l_written();
+    calls_written();
     whole_fields();
     printf("%u compared, %u differ\n", compared, differ);
     return differ != 0;

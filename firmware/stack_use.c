@@ -24,9 +24,11 @@ static const uint64_t untouched = 0xA5A5A5A5A5A5A5A5u;
 static _Alignas(16) uint64_t stack[STACK_WORDS];
 static uint32_t table[BALKWIZU_TABLE_WORDS_MAX];
 static uint32_t list[BALKWIZU_LIST_WORDS_MAX];
+static uint32_t written[BALKWIZU_LIST_WORDS_MAX];
 static uint32_t answers[BALKWIZU_ANSWER_WORDS * BALKWIZU_LIST_WORDS_MAX];
 static uint32_t changes[BALKWIZU_CHANGES_WORDS_MAX];
 static uint32_t rights[DOMAINS * DOMAINS];
+static uint32_t calls[BALKWIZU_LIST_WORDS_MAX][BALKWIZU_CALL_COLUMNS];
 
 /* One of the kernel's functions, and up to six pointers and lengths for it. */
 struct call {
@@ -100,6 +102,24 @@ static void make_list(void)
     }
 }
 
+/* The calls of the list above in columns, to be written again: how many words they
+ * are. */
+static size_t make_calls(void)
+{
+    size_t count = 0;
+    for (size_t i = 0; i < BALKWIZU_LIST_WORDS_MAX && list[i] != 0; i++) {
+        uint32_t *call = calls[count++], kind = list[i] >> 28;
+        call[0] = kind;
+        call[1] = (list[i] >> 22) & 63u;
+        call[2] = (list[i] >> 16) & 63u;
+        call[3] = (list[i] >> 8) & 255u;
+        call[4] = list[i] & 255u;
+        if (kind == BALKWIZU_KIND_LOOK_UP || kind == BALKWIZU_KIND_SEND)
+            call[4] = BALKWIZU_CONTENT(list[++i]);
+    }
+    return count * BALKWIZU_CALL_COLUMNS;
+}
+
 /* The bytes of stack below top that one call takes; result is what it returns. */
 static size_t bytes_taken(const struct call *call, uint32_t *result)
 {
@@ -145,10 +165,14 @@ int main(void)
                                       (1u << DOMAINS) - 1, (uintptr_t)rights,
                                       DOMAINS * DOMAINS } };
     make_list();
+    const struct call write = { (void (*)(void))balkwizu_write,
+                                { (uintptr_t)calls, make_calls(),
+                                  (uintptr_t)written, BALKWIZU_LIST_WORDS_MAX } };
     int failed =
         tell("balkwizu_table_check", &check, BALKWIZU_TABLE_CHECK_STACK_BYTES);
     failed |= tell("balkwizu_component", &component, BALKWIZU_COMPONENT_STACK_BYTES);
     failed |= tell("balkwizu_potential", &potential, BALKWIZU_POTENTIAL_STACK_BYTES);
     failed |= tell("balkwizu_repair", &repair, BALKWIZU_REPAIR_STACK_BYTES);
+    failed |= tell("balkwizu_write", &write, BALKWIZU_WRITE_STACK_BYTES);
     return tell("balkwizu_run", &run, BALKWIZU_RUN_STACK_BYTES) | failed;
 }

@@ -16,7 +16,8 @@
  * believes the pointers and lengths that it is given.
  *
  * Numbers and layouts are those of document 01, "The line controller's
- * capability kernel". Bit 0 is the lowest bit of a word.
+ * capability kernel", with the change requests of document 02. Bit 0 is the lowest
+ * bit of a word.
  */
 #ifndef BALKWIZU_H
 #define BALKWIZU_H
@@ -60,12 +61,14 @@ extern "C" {
  *   balkwizu_repair: general and xmm registers, aligned stack
  *   balkwizu_run: general and xmm registers, aligned stack, unmarked jumps
  *   balkwizu_table_check: general and xmm registers, aligned stack, red zone
+ *   balkwizu_write: general registers, unmarked jumps
  */
 #define BALKWIZU_RUN_STACK_BYTES 512
 #define BALKWIZU_TABLE_CHECK_STACK_BYTES 256
 #define BALKWIZU_COMPONENT_STACK_BYTES 512
 #define BALKWIZU_REPAIR_STACK_BYTES 4096
 #define BALKWIZU_POTENTIAL_STACK_BYTES 512
+#define BALKWIZU_WRITE_STACK_BYTES 256
 
 /* The most that a table, a list and its answers can have, in words. */
 #define BALKWIZU_DOMAINS_MAX 16
@@ -125,6 +128,11 @@ enum balkwizu_code {
                                       revoke: no REVOKE */
     BALKWIZU_MAY_NOT_GIVE = 23,    /* grant: to another, with no right on it;
                                       revoke: from another, likewise */
+
+    /* Of a list that is written: no word was. */
+    BALKWIZU_BAD_CALL = 30,        /* a call is none, or has a field that exceeds
+                                      its bits */
+    BALKWIZU_WRITTEN_TOO_LONG = 31, /* the words would pass 4,096 or the list */
 
     /* Of a question about domains: nothing is told. */
     BALKWIZU_NOT_A_DOMAIN = 32,    /* a number isn't below n */
@@ -520,6 +528,69 @@ uint32_t balkwizu_potential(const uint32_t *table, size_t table_len,
  */
 uint32_t balkwizu_repair(uint32_t *table, size_t table_len,
                          uint32_t *changes, size_t changes_len);
+
+/*
+ * A call as balkwizu_write takes it: five words, here called columns. They are its
+ * kind, its caller, A, B, and C or, for a look up and a send, what the second word
+ * holds. A column that the call doesn't use is 0:
+ *
+ *   kind                        caller  A       B          last
+ *   BALKWIZU_KIND_LOOK_UP       caller  0       0          name
+ *   BALKWIZU_KIND_SEND          caller  0       endpoint   message
+ *   BALKWIZU_KIND_RECEIVE       caller  0       endpoint   0
+ *   BALKWIZU_KIND_MY_ENDPOINTS  caller  0       0          0
+ *   BALKWIZU_KIND_MY_RIGHTS     caller  0       0          0
+ *   BALKWIZU_KIND_GRANT         caller  target  recipient  rights
+ *   BALKWIZU_KIND_REMOVE        caller  target  0          rights
+ *   BALKWIZU_KIND_REVOKE        caller  target  holder     rights
+ *
+ *     const uint32_t calls[] = {
+ *         BALKWIZU_KIND_SEND, 0, 0, 1, 5,
+ *         BALKWIZU_KIND_RECEIVE, 2, 0, 1, 0,
+ *     };
+ *     uint32_t list[BALKWIZU_LIST_WORDS_MAX];
+ *     uint32_t result = balkwizu_write(calls, 2 * BALKWIZU_CALL_COLUMNS,
+ *                                      list, BALKWIZU_LIST_WORDS_MAX);
+ *
+ * This writes the three words of the list above. In columns a number is a whole
+ * word, so that one which exceeds its bits is refused and not cut.
+ */
+#define BALKWIZU_CALL_COLUMNS 5
+
+/* What balkwizu_write returns, taken apart. */
+#define BALKWIZU_WRITE_CODE(result) (BALKWIZU_WORD(result) & 0xFFFFu)
+#define BALKWIZU_WRITE_NUMBER(result) (BALKWIZU_WORD(result) >> 16)
+
+/*
+ * Writes a list out of calls, in words that a run takes apart into the same calls:
+ * none of them is answered with 10, 11, 13 or 14. Two different lists of calls are
+ * never written in the same words. No table is asked: caller and target have 6
+ * bits, endpoint, recipient, holder and rights 8, name and message 28, and what a
+ * run says of a number within them is the run's.
+ *
+ * Returns two numbers in one word: the code in bits 15-0 (BALKWIZU_WRITE_CODE), and
+ * a number in bits 31-16 (BALKWIZU_WRITE_NUMBER).
+ *   0   BALKWIZU_OK: so many words are written at the front of the list. Words
+ *       behind them are untouched.
+ *   30  BALKWIZU_BAD_CALL: the call of this number, from 0, is the first that has a
+ *       kind which isn't one, a column not 0 that it doesn't use, or a field that
+ *       exceeds its bits. Fewer than five words at the end are such a call too. All
+ *       calls are looked at, however many; a number above 65,535 is told as 65,535.
+ *   31  BALKWIZU_WRITTEN_TOO_LONG: every call can be written, but their words would
+ *       be more than 4,096 or than list_len. The number is 0.
+ * With 30 and 31 no word of the list was written. The calls are never written.
+ *
+ * The caller's duties:
+ *   - calls and list each point to as many words as their length says: calls may be
+ *     read, list may be read and written;
+ *   - both are aligned to four bytes, and neither is a null pointer, also where its
+ *     length is 0;
+ *   - the two do not overlap, in no word;
+ *   - nobody else reads or writes the list, and nobody writes the calls, during the
+ *     call: no other core, interrupt or transfer.
+ */
+uint32_t balkwizu_write(const uint32_t *calls, size_t calls_len,
+                        uint32_t *list, size_t list_len);
 
 #ifdef __cplusplus
 }

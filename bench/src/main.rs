@@ -14,7 +14,9 @@ mod progress;
 
 use std::process::ExitCode;
 
-use commands::{commission, fuzz, linerun, queue, repair, show, speed, step, tables, words};
+use commands::{
+    commission, fuzz, linerun, queue, read, repair, show, speed, step, tables, words, write,
+};
 
 /// The help before the list of commands, and after it.
 const HEAD: &str = "\
@@ -23,7 +25,8 @@ bench: commissioning, differential runs and benchmarks of the proved kernel
 ";
 const FOOT: &str = "
 FILE is an input of linerun: little-endian words, the table's length in words,
-the table, then the list to the end. `-` is standard input.
+the table, then the list to the end; for `words` and `write` it is a text. `-` is
+standard input.
 
 Exit status: 0 all is well; 1 something failed, was refused or differs; 2 bad
 usage, a file that can't be read or written, or a closed pipe: nobody reads what
@@ -41,7 +44,7 @@ struct Command {
     act: fn(&[String]) -> Result<bool, String>,
 }
 
-const COMMANDS: [Command; 10] = [
+const COMMANDS: [Command; 12] = [
     Command {
         name: "commission",
         given: "FILE",
@@ -111,6 +114,20 @@ const COMMANDS: [Command; 10] = [
         purpose: "hexadecimal words as text to an input, and back",
         help: words::HELP,
         act: words::command,
+    },
+    Command {
+        name: "write",
+        given: "FILE",
+        purpose: "calls as text, one a line, to a list",
+        help: write::HELP,
+        act: write::command,
+    },
+    Command {
+        name: "read",
+        given: "FILE",
+        purpose: "a list to calls as text",
+        help: read::HELP,
+        act: read::command,
     },
 ];
 

@@ -6,6 +6,7 @@ use std::path::PathBuf;
 use std::process::{Command, Output, Stdio};
 
 use reference::example::{LIST_L, PRINTED, TABLE_T};
+use reference::generate::{values_of_words, Rng};
 use reference::words::{hex, to_bytes};
 
 fn bench(line: &[&str]) -> Output {
@@ -53,7 +54,7 @@ fn archive_title() -> String {
 fn help_is_given_for_every_command() {
     assert_eq!(status(&["--help"]), 0);
     assert!(printed(&["--help"]).contains("or a closed pipe"));
-    let commands = "commission fuzz step linerun speed show words";
+    let commands = "commission fuzz step queue linerun speed show words write read";
     for command in commands.split(' ') {
         let help = printed(&[command, "--help"]);
         assert!(help.starts_with(&format!("bench {command}")), "{help}");
@@ -372,6 +373,172 @@ fn an_input_that_differs_comes_back_through_words() {
     let first = String::from_utf8(reference::linerun(&input.stdout)).expect("text");
     let first = first.lines().next().expect("a line");
     assert!(report.contains(&format!("line 1 should be: {first}")));
+}
+
+/// A call of each kind, as `bench read` writes it, and the text of its words.
+const CALLS: &str = "\
+look-up caller 1 name 17
+send caller 0 endpoint 1 message 5
+receive caller 2 endpoint 1
+my-endpoints caller 2
+my-rights caller 0
+grant caller 1 target 2 recipient 0 rights 1
+remove caller 1 target 2 rights 4
+revoke caller 1 target 2 holder 3 rights 8
+";
+const WORDS: &str = "\
+list
+10400000 F0000011
+20000100 F0000005
+30800100
+40800000
+50000000
+60420001
+70420004
+80420308
+";
+
+#[test]
+fn calls_to_a_list_and_back() {
+    let calls = file("calls.txt", CALLS.as_bytes());
+    assert_eq!(printed(&["write", &calls]), WORDS);
+    let words = file("calls-words.txt", WORDS.as_bytes());
+    assert_eq!(printed(&["read", &words]), CALLS);
+    assert_eq!(
+        (status(&["write", &calls]), status(&["read", &words])),
+        (0, 0)
+    );
+    let nothing = file("no-calls.txt", b"# no call\n");
+    assert_eq!(printed(&["write", &nothing]), "list\n");
+    let nothing = file("no-words.txt", b"list\n");
+    assert_eq!(printed(&["read", &nothing]), "");
+    assert_eq!(status(&["read", &nothing]), 0);
+}
+
+#[test]
+fn calls_to_an_input_and_back() {
+    let calls = file("input-calls.txt", CALLS.as_bytes());
+    let table = file("input-table.bin", &example());
+    let input = bench(&["write", &calls, "--table", &table]).stdout;
+    assert_eq!(input[..4 * 35], example()[..4 * 35]);
+    assert_eq!(input.len(), 4 * (35 + 10));
+    let path = file("input-written.bin", &input);
+    assert_eq!(printed(&["read", &path]), CALLS);
+    // the same by texts: as one, and put together
+    let text = printed(&["write", &calls, "--table", &table, "--text"]);
+    let by_text = file("input-text.txt", text.as_bytes());
+    assert_eq!(bench(&["words", &by_text]).stdout, input);
+    assert_eq!(printed(&["read", &by_text]), CALLS);
+    assert_eq!(bench(&["write", &calls, "--table", &by_text]).stdout, input);
+    let together = format!("table {}\n{WORDS}", hex(&TABLE_T));
+    let together = file("input-together.txt", together.as_bytes());
+    assert_eq!(bench(&["words", &together]).stdout, input);
+    // and the calls of an input, put behind its own table
+    let back = file("input-back.txt", printed(&["read", &path]).as_bytes());
+    assert_eq!(bench(&["write", &back, "--table", &path]).stdout, input);
+    assert_eq!(status(&["show", &path]), 0);
+}
+
+#[test]
+fn any_calls_go_both_ways() {
+    let mut rng = Rng::new(8);
+    for words in [1, 300, 4096] {
+        let calls = values_of_words(&mut rng, words);
+        let mut list = vec![0; words];
+        assert_eq!(reference::write(&calls, &mut list), (0, words as u32));
+        let lines: Vec<String> = reference::cut(&list)
+            .iter()
+            .map(|call| hex(&call.words()) + "\n")
+            .collect();
+        let text = format!("list\n{}", lines.concat());
+        let words = file("any-words.txt", text.as_bytes());
+        let read = file("any-calls.txt", printed(&["read", &words]).as_bytes());
+        assert_eq!(printed(&["write", &read]), text);
+    }
+}
+
+#[test]
+fn the_example_of_calls_runs_on_the_worked_table() {
+    let folder = env!("CARGO_MANIFEST_DIR");
+    let calls = format!("{folder}/examples/calls.txt");
+    let table = format!("{folder}/example.txt");
+    let input = bench(&["write", &calls, "--table", &table]).stdout;
+    let printed = String::from_utf8(reference::linerun(&input)).expect("text");
+    let codes: Vec<&str> = printed
+        .lines()
+        .skip(1)
+        .map(|line| line.split(' ').nth(7).expect("a code"))
+        .collect();
+    assert_eq!(codes, ["0", "17", "0", "0", "0", "0", "0", "0", "22"]);
+}
+
+#[test]
+fn a_mistake_in_calls_is_told_by_line_and_field() {
+    let wrong = |name: &str, text: &str| {
+        let path = file(name, text.as_bytes());
+        (status(&["write", &path]), told(&["write", &path]))
+    };
+    let (status_, told_) = wrong("wrong-kind.txt", "# calls\n\nsend-to caller 0\n");
+    assert!(told_.contains("line 3: there is no call `send-to`, only look-up, send,"));
+    assert_eq!(status_, 2);
+    let (status_, told_) = wrong("wrong-field.txt", "send caller 0 to 1 message 5\n");
+    assert!(told_.contains("line 1: send has no field `to`, only caller, endpoint, message"));
+    assert_eq!(status_, 2);
+    let (status_, told_) = wrong(
+        "wrong-bits.txt",
+        "my-rights caller 0\n\nmy-rights caller 64\n",
+    );
+    assert!(told_.contains("is refused with 30 ("), "{told_}");
+    assert!(told_.contains("line 3: caller 64 exceeds its 6 bits: 63 is the largest"));
+    assert_eq!(status_, 1);
+    let long = "my-rights caller 0\n".repeat(4095) + "\nsend caller 0 endpoint 0 message 0\n";
+    let (status_, told_) = wrong("wrong-length.txt", &long);
+    assert!(told_.contains("is refused with 31 ("), "{told_}");
+    assert!(
+        told_.contains("line 4097: its words pass the 4,096th"),
+        "{told_}"
+    );
+    assert_eq!(status_, 1);
+    // 30 before 31
+    let (status_, told_) = wrong("wrong-both.txt", &(long + "my-rights caller 99999999999\n"));
+    assert!(
+        told_.contains("line 4098: caller 99999999999 exceeds its 6 bits"),
+        "{told_}"
+    );
+    assert_eq!(status_, 1);
+    assert_eq!(status(&["write", "/no/such/file"]), 2);
+    assert_eq!(status(&["write", "-", "--table", "-"]), 2);
+    let calls = file("wrong-options.txt", CALLS.as_bytes());
+    assert!(told(&["write", &calls, "--text"]).contains("--text is for --table"));
+}
+
+#[test]
+fn a_call_that_the_reader_refuses_is_told_by_number_and_code() {
+    let input = file("refused.bin", &example());
+    assert_eq!(status(&["read", &input]), 1);
+    assert_eq!(printed(&["read", &input]), "");
+    assert_eq!(
+        told(&["read", &input]),
+        "bench read: call 6 is refused with 10 (a word of kind 15 stands alone): a stray word \
+         with content 9\n"
+    );
+    // Kind 9; a caller that no table has; a receive with C; a send alone.
+    let words = file("refused.txt", b"list 90000000 5FC00000 30000001 20000000");
+    let told_ = told(&["read", &words]);
+    let codes: Vec<&str> = told_.lines().map(|line| &line[12..37]).collect();
+    let wanted = [
+        "call 0 is refused with 11",
+        "call 2 is refused with 13",
+        "call 3 is refused with 14",
+    ];
+    assert_eq!(codes, wanted);
+    let many = file("refused-many.txt", b"list F0000000*13");
+    assert!(told(&["read", &many]).ends_with("bench read: 3 calls more\n"));
+    let long = file("refused-long.txt", b"list 50000000*4097");
+    assert!(told(&["read", &long]).contains("is refused with 1 ("));
+    let cut = file("refused-cut.bin", &example()[..50]);
+    assert!(told(&["read", &cut]).contains("is refused with 7 ("));
+    assert_eq!(status(&["read", &cut]), 1);
 }
 
 #[test]

@@ -2,7 +2,7 @@
 
 use crate::args::Options;
 use crate::line::explain::meaning;
-use crate::line::input::{read_at_most, read_input, shown, Input};
+use crate::line::input::{read_input, read_text, shown, Input};
 use crate::line::text;
 use crate::output;
 
@@ -24,7 +24,8 @@ the text of an input. `-` is standard input. A text looks like this:
 Words are eight hexadecimal digits, with 0x before them or not; F0000000*8 is
 the same word eight times, and 4,097 times is the most. Spaces, new lines, `;`
 and `,` separate words; a comment goes from # to the end of its line. The table's
-length is counted. `list` may be left out: then there are no calls.
+length is counted. `list` may be left out: then there are no calls. `bench write`
+makes the words of a list out of calls.
 
 A text without `table` and `list` is written as it stands. Its first word must
 then be the table's length, hexadecimal like the rest: 00000022 for 34 words. Up
@@ -35,8 +36,8 @@ Exit status: 0 written; 1 the input given with --back is refused; 2 bad usage,
 or what is given is no such text.
 ";
 
-/// The longest text that is read: far more than any input needs.
-const TEXT_BYTES_MAX: usize = 1_000_000;
+/// What is said where a file is no text.
+const NO_TEXT: &str = "`bench words --back FILE` makes the text of an input";
 
 /// The command: whether there was something to write.
 pub fn command(line: &[String]) -> Result<bool, String> {
@@ -45,7 +46,7 @@ pub fn command(line: &[String]) -> Result<bool, String> {
     if options.has("--back") {
         return back(file);
     }
-    let written = text::read(&typed(file)?);
+    let written = text::read(&read_text(file, NO_TEXT)?);
     output::write(&written.map_err(|why| format!("{}: {why}", shown(file)))?);
     Ok(true)
 }
@@ -65,19 +66,4 @@ fn back(file: &str) -> Result<bool, String> {
         }
     }
     Ok(true)
-}
-
-/// The text of a file.
-fn typed(file: &str) -> Result<String, String> {
-    let bytes = read_at_most(file, TEXT_BYTES_MAX + 1)?;
-    if bytes.len() > TEXT_BYTES_MAX {
-        return Err(format!("{} is above 1,000,000 bytes", shown(file)));
-    }
-    let text = String::from_utf8(bytes).ok();
-    text.filter(|text| !text.contains('\0')).ok_or_else(|| {
-        format!(
-            "{} is no text; `bench words --back FILE` makes the text of an input",
-            shown(file)
-        )
-    })
 }

@@ -1,8 +1,9 @@
 //! What a kernel did, beside what it should have done: the comparison with the
 //! separate machine, the counts of the queues, the exercise made from a table and the
 //! variants of a line that are tried, the checklist, the random runs, table images,
-//! single calls, single queues, pairs of lines and components, what `linerun` prints, what was met in all, what is
-//! wrong cut down and told, and how long it takes.
+//! lists to be written, single calls, single queues, pairs of lines and components, what
+//! `linerun` prints, what was met in all, what is wrong cut down and told, and how long
+//! it takes.
 
 pub mod checklist;
 pub mod compare;
@@ -10,6 +11,7 @@ pub mod counts;
 pub mod exercise;
 pub mod groups;
 pub mod images;
+pub mod lists;
 pub mod pairs;
 pub mod panics;
 pub mod potentials;

@@ -12,11 +12,12 @@ use crate::cases::random::run_case;
 use crate::judging::compare::{difference, isolation, separate_run};
 use crate::judging::counts;
 use crate::judging::groups;
+use crate::judging::lists::read_as_answered;
 use crate::judging::pairs::pair;
 use crate::judging::report::cut_down;
 use crate::judging::tally::{Revokes, Tally, Tried};
 use crate::judging::trying::{try_all, Draws, Found};
-use crate::kernels::boundary::Kernel;
+use crate::kernels::boundary::{Kernel, PROVED_WRITER};
 use crate::kernels::child::{self, LIMIT};
 use crate::kernels::lent::{run_here, Ran};
 
@@ -53,6 +54,7 @@ fn judged(case: &Case, ran: Ran, pick: u64) -> Result<Tried, String> {
     if let Some(told) = counts::difference(&case.table, &ran.table, &calls, &ran.answers) {
         return Err(told);
     }
+    let as_it_came = read_as_answered(PROVED_WRITER, &case.list, &ran.answers)?;
     let (mut views, mut struck, mut struck_by_component) = (0, 0, 0);
     for domain in domains_to_see(case, calls.len(), pick) {
         struck += isolation(case, &ran, domain)?.calls as u64;
@@ -67,6 +69,7 @@ fn judged(case: &Case, ran: Ran, pick: u64) -> Result<Tried, String> {
         views,
         struck,
         struck_by_component,
+        as_it_came,
     })
 }
 

@@ -26,6 +26,9 @@ pub struct Tried {
     pub struck: u64,
     /// How many calls were struck by components, of other domains.
     pub struck_by_component: u64,
+    /// Whether its list has no call that a reader refuses, so that the writer writes it
+    /// as it came.
+    pub as_it_came: bool,
     pub revokes: Revokes,
 }
 
@@ -45,6 +48,7 @@ impl Tried {
             views: 0,
             struck: 0,
             struck_by_component: 0,
+            as_it_came: false,
             revokes: Revokes::default(),
         }
     }
@@ -68,6 +72,7 @@ pub struct Tally {
     views: u64,
     struck: u64,
     struck_by_component: u64,
+    as_they_came: u64,
     revokes: Revokes,
     /// Pairs of lines; those that differ in the part of a domain that is no member, and
     /// those of which another domain was answered otherwise.
@@ -91,6 +96,7 @@ impl Counted for Tally {
             &mut self.views,
             &mut self.struck,
             &mut self.struck_by_component,
+            &mut self.as_they_came,
             &mut self.revokes.held,
             &mut self.revokes.missing,
             &mut self.pairs,
@@ -116,6 +122,7 @@ impl Tally {
         self.views += tried.views;
         self.struck += tried.struck;
         self.struck_by_component += tried.struck_by_component;
+        self.as_they_came += u64::from(tried.as_it_came && !case.list.is_empty());
         self.revokes.held += tried.revokes.held;
         self.revokes.missing += tried.revokes.missing;
         if outcome.code == 0 {
@@ -172,6 +179,7 @@ impl Tally {
              {} of a right that was there, {} of none\n  \
              {} of lines compared, {} with another part of a domain that can't reach, {} with \
              another answer to one\n  \
+             {} written as they came\n  \
              lists of up to {}, {} of domains, {} of endpoints\n",
             counted(self.views, "view"),
             counted(self.struck, "call"),
@@ -184,6 +192,7 @@ impl Tally {
             counted(self.pairs, "pair"),
             self.pairs_of_parts,
             self.pairs_of_answers,
+            counted(self.as_they_came, "list"),
             counted(self.longest, "word"),
             counted(self.domains_met.count_ones(), "number"),
             counted(self.endpoints_met.count_ones(), "number")
@@ -217,6 +226,7 @@ impl Tally {
             (self.emptied, "a queue left empty"),
             (self.struck, "a struck call"),
             (self.struck_by_component, "a call struck by its component"),
+            (self.as_they_came, "a list that is written as it came"),
             (self.revokes.held, "a revoke of a right that is there"),
             (self.revokes.missing, "a revoke of a right that isn't"),
             (self.pairs_of_parts, "a pair of lines that differ"),

@@ -238,6 +238,30 @@ pub fn repair(table: &mut [u32], changes: &mut [u32]) -> (u32, u32) {
     (bits(told, 15, 0), bits(told, 31, 16))
 }
 
+/// What a writer of lists answers: the code, and the number of words that it wrote or
+/// that of the first call that it can't write.
+pub type Written = (u32, u32);
+
+/// Writes the words of calls into a list; the calls are five words each.
+pub type Writer = fn(calls: &[u32], list: &mut [u32]) -> Written;
+
+/// The writer of the proved kernel.
+pub const PROVED_WRITER: Writer = |calls, list| {
+    extern "C" {
+        fn balkwizu_write(
+            calls: *const u32,
+            calls_len: usize,
+            list: *mut u32,
+            list_len: usize,
+        ) -> u32;
+    }
+    // SAFETY: two slices, each valid for its length and aligned; the one that is written
+    // is borrowed alone.
+    let told =
+        unsafe { balkwizu_write(calls.as_ptr(), calls.len(), list.as_mut_ptr(), list.len()) };
+    (bits(told, 15, 0), bits(told, 31, 16))
+};
+
 /// A send of a message to an endpoint's words, and a receive from them: whether it
 /// was done, or the words stayed as they were.
 #[derive(Clone, Copy)]

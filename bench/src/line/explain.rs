@@ -45,6 +45,8 @@ pub fn meaning(code: u32) -> &'static str {
         21 => "the rights named cannot be asked for",
         22 => "the caller lacks a right that the call needs",
         23 => "the recipient or holder is another, and the caller has no right on it",
+        30 => "a call is none, or has a field that exceeds its bits",
+        31 => "the words would pass 4,096 or the space",
         33 => "word 0, the length, a name, an owner or a capacity is wrong, or a name repeats",
         34 => "the list of changes is too short",
         _ => "not a number of the kernel",

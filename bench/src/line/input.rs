@@ -14,6 +14,9 @@ use crate::line::explain::counted;
 /// that is one word too long.
 pub const INPUT_BYTES_MAX: usize = 4 * (1 + TABLE_WORDS_MAX + LIST_WORDS_MAX + 1);
 
+/// The longest text that is read: far more than any input needs.
+pub const TEXT_BYTES_MAX: usize = 1_000_000;
+
 /// A table and a list.
 #[derive(Debug, Clone, PartialEq, Eq)]
 pub struct Input {
@@ -92,7 +95,7 @@ impl Input {
 }
 
 /// Whether bytes could be typed text: an input of linerun has zero bytes instead.
-fn is_text(bytes: &[u8]) -> bool {
+pub fn is_text(bytes: &[u8]) -> bool {
     let typed = |byte: &u8| !byte.is_ascii_control() || byte.is_ascii_whitespace();
     !bytes.is_empty() && bytes.iter().all(typed)
 }
@@ -100,6 +103,17 @@ fn is_text(bytes: &[u8]) -> bool {
 /// The bytes of a file that can matter to `linerun`.
 pub fn read_input(path: &str) -> Result<Vec<u8>, String> {
     read_at_most(path, INPUT_BYTES_MAX)
+}
+
+/// The text of a file; `otherwise` is said where it is none.
+pub fn read_text(path: &str, otherwise: &str) -> Result<String, String> {
+    let bytes = read_at_most(path, TEXT_BYTES_MAX + 1)?;
+    if bytes.len() > TEXT_BYTES_MAX {
+        return Err(format!("{} is above 1,000,000 bytes", shown(path)));
+    }
+    let text = String::from_utf8(bytes).ok();
+    text.filter(|text| !text.contains('\0'))
+        .ok_or_else(|| format!("{} is no text; {otherwise}", shown(path)))
 }
 
 /// The first bytes of a file, or of standard input where the path is `-`. What

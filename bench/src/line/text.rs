@@ -2,7 +2,7 @@
 //!
 //! The help of `bench words` says what a text looks like.
 
-use crate::line::input::Input;
+use crate::line::input::{is_text, read_at_most, shown, Input, TEXT_BYTES_MAX};
 
 /// How often a word may be repeated: once for each word of a list that is too long.
 const REPEATS_MAX: usize = 4097;
@@ -22,6 +22,8 @@ struct Parts {
     left_over: Vec<u8>,
     table: Option<Vec<u32>>,
     list: Option<Vec<u32>>,
+    /// Whether a list may stand without a table.
+    list_alone: bool,
 }
 
 /// The text of an input: a line for word 0, for each holder's rights, for each
@@ -31,11 +33,14 @@ pub fn write(input: &Input) -> String {
     for row in table_rows(&input.table) {
         text.push_str(&line(row));
     }
-    text.push_str("list\n");
-    for call in reference::cut(&input.list) {
-        text.push_str(&line(&call.words()));
-    }
-    text
+    text + &write_list(&input.list)
+}
+
+/// The text of a list: a line for each call.
+pub fn write_list(list: &[u32]) -> String {
+    let calls = reference::cut(list);
+    let lines: String = calls.iter().map(|call| line(&call.words())).collect();
+    format!("list\n{lines}")
 }
 
 /// The text of any bytes as they stand, in few lines.
@@ -90,9 +95,34 @@ fn items(words: &[u32]) -> Vec<String> {
 /// The bytes for `linerun` that a text stands for, or what is wrong with it and
 /// in which line.
 pub fn read(text: &str) -> Result<Vec<u8>, String> {
+    read_parts(text, false)
+}
+
+/// The same of a text whose list may stand without a table, which is then empty.
+pub fn read_list(text: &str) -> Result<Vec<u8>, String> {
+    read_parts(text, true)
+}
+
+/// The bytes for `linerun` of a file: its own, or those that it stands for where it is a
+/// text, which `read` takes.
+pub fn input_bytes(
+    path: &str,
+    read: fn(&str) -> Result<Vec<u8>, String>,
+) -> Result<Vec<u8>, String> {
+    let bytes = read_at_most(path, TEXT_BYTES_MAX)?;
+    match std::str::from_utf8(&bytes) {
+        Ok(text) if is_text(&bytes) => read(text).map_err(|why| format!("{}: {why}", shown(path))),
+        _ => Ok(bytes),
+    }
+}
+
+fn read_parts(text: &str, list_alone: bool) -> Result<Vec<u8>, String> {
     // Some editors put a byte-order mark before a text.
     let text = text.strip_prefix('\u{FEFF}').unwrap_or(text);
-    let mut parts = Parts::default();
+    let mut parts = Parts {
+        list_alone,
+        ..Parts::default()
+    };
     for (number, line) in text.lines().enumerate() {
         read_line(line, &mut parts).map_err(|why| format!("line {}: {why}", number + 1))?;
     }
@@ -130,6 +160,9 @@ impl Parts {
     }
 
     fn start_table(&mut self) -> Result<(), String> {
+        if self.list.is_some() && self.list_alone {
+            return Err("`table` is written behind `list`".to_string());
+        }
         if self.table.is_some() {
             return Err("`table` is written a second time".to_string());
         }
@@ -144,9 +177,13 @@ impl Parts {
         if self.list.is_some() {
             return Err("`list` is written a second time".to_string());
         }
-        if self.table.is_none() {
+        if self.table.is_none() && !self.list_alone {
             return Err("`list` is written without `table` before it".to_string());
         }
+        if !self.is_empty() {
+            return Err("words stand before `list`".to_string());
+        }
+        self.table.get_or_insert_default();
         self.list = Some(Vec::new());
         Ok(())
     }
@@ -297,6 +334,20 @@ mod tests {
         assert_eq!(alone, "line 1: `list` is written without `table` before it");
         let before = wrong("20000100\ntable\n10000100");
         assert_eq!(before, "line 2: words stand before `table`");
+    }
+
+    #[test]
+    fn a_list_stands_alone_where_it_may() {
+        let empty_table = read("table list 20000100 F0000005");
+        assert_eq!(read_list("list 20000100 F0000005"), empty_table);
+        assert_eq!(read_list(TYPED), read(TYPED));
+        assert_eq!(read_list("00000001 10000100"), read("00000001 10000100"));
+        let wrong = |text: &str| read_list(text).unwrap_err();
+        assert_eq!(wrong("20000100\nlist"), "line 2: words stand before `list`");
+        assert_eq!(
+            wrong("list\ntable"),
+            "line 2: `table` is written behind `list`"
+        );
     }
 
     #[test]

@@ -1,8 +1,9 @@
 // The C boundary: what the controller's firmware and the bench link, as target/staticlib/libbalkwizu.a.
 // Every exported name begins with `balkwizu_`. A slice passes as a pointer and then a length.
 ghost use mathlib.Core.Path.{_≡_};
-ghost use Prim.Native.Nat.{_/_, _%_};
+ghost use Prim.Native.Nat.{_/_, _%_, min};
 ghost use Rattle.machine.specs.Promise.{RunPromise};
+ghost use Rattle.call_rows.specs.Rows.{RowsPromise};
 ghost use Rattle.components.specs.Told.{ComponentTold};
 ghost use Rattle.image.specs.Bytes.{bytesCode};
 ghost use Rattle.repair.specs.Repair.{RepairPromise};
@@ -98,4 +99,32 @@ pub extern "C" fn balkwizu_potential(table: &[u32], actors: u32, rights: &mut [u
 {
     let told = potential_rights::potential_of(table, actors, rights);
     told.code()
+}
+
+// A number in 16 bits: one that is above them is told as their largest.
+fn in_16_bits(number: usize) -> u32
+    ensures { λ r. ⌜ r ≡ min number 65535 ⌝ }
+{
+    if number < 65535 { number as u32 } else { 65535 }
+}
+
+// The writing of a call list, out of five words a call: its kind, its caller, A, B, and C or, for a look up and a send, what the
+// second word holds. A column that a call doesn't use is 0. No table is asked.
+// C: uint32_t balkwizu_write(const uint32_t *calls, size_t calls_len, uint32_t *list, size_t list_len)
+//
+// The code stands in the low 16 bits of the answer: 0; 30 where a call is none or has a field that exceeds its bits; else 31
+// where the words would pass 4,096 or the list. In the high 16 bits stands the number of words written, for 30 that of the first
+// such call, counted from 0 and told as 65,535 where it is above, and for 31 nothing. Where the code is 0 the words stand in
+// front of the list, and those past them are left as they were; where it isn't no word is written.
+// It is defined for any words in slices of any length; fewer than five words at the end are a call that is none. Calls and
+// list may not overlap.
+#[no_mangle]
+pub extern "C" fn balkwizu_write(calls: &[u32], list: &mut [u32]) -> u32
+    ensures { λ r. ⌜ RowsPromise (now (calls .entry)) (now (list .entry)) (r % 65536) (r / 65536) (now (list .exit)) ⌝ }
+{
+    let written = call_rows::write_rows(calls, list);
+    let code = written.code();
+    let number = written.number();
+    let told = in_16_bits(number);
+    code + 65536 * told
 }

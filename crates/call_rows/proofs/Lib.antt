@@ -2,4 +2,5 @@
 pub mod ByKind
 pub mod RowAt
 pub mod Rounds
+pub mod Claims
 pub mod Examples

@@ -5,12 +5,13 @@ use mathlib.Core.Bool.{true}
 use mathlib.Core.List.{List, [], _∷_}
 use mathlib.Core.Option.{Option, none, some}
 use native.Mathlib.Omega.{arith}
-use borrow.Author.Tests.{le-ltb, eqb-false}
+use borrow.Author.Tests.{le-ltb, ltb-false, eqb-false}
+use lib.Dec.{ltb}
 use lib.ListN.{length, take, length-append, length-map}
 use lib.Seq.{take-at}
 use Rattle.machine.specs.Call.{cut}
 use Rattle.machine.specs.Entry.{longestList}
-use Rattle.machine.proofs.Bools.{and-left, and-right, cond-elim}
+use Rattle.machine.proofs.Bools.{and-left, and-right, or-none-left, or-none-right, cond-elim}
 use Rattle.machine.proofs.Cut.{cut-few}
 use Rattle.calls.specs.declared.Call.{Call}
 use Rattle.call_words.specs.Words.{fits, wordsOf, allFit, written}
@@ -35,6 +36,21 @@ written-whole : (o : Option ℕ) (count : ℕ) (ws list : List ℕ) → afterUnf
     → (o ≡ none) × (take (afterUnfit o count ws list .number) (afterUnfit o count ws list .list) ≡ ws)
 written-whole none count ws list e = (refl, in-front count ws list e)
 written-whole (some i) count ws list e = absurd (eqb-false 30 0 refl e)
+
+-- and there are no more of them than a list may have
+pub words-few : (cs : List Call) (count : ℕ) (list : List ℕ) → writing cs count list .code ≡ 0 → writing cs count list .number ≤ longestList
+unfolding writing wordsPut tooLong
+words-few cs count list = go (firstUnfit cs)
+  where
+    put : wordsPut count (written cs) list .code ≡ 0 → wordsPut count (written cs) list .number ≤ longestList
+    put =
+        cond-elim (λ (o : Outcome). o .code ≡ 0 → o .number ≤ longestList) (tooLong count (length (written cs)) (length list))
+        (λ _ e. absurd (eqb-false 31 0 refl e))
+        (λ short _. ltb-false longestList (length (written cs)) (or-none-right (ltb longestList count) _ (or-none-left _ _ short)))
+
+    go : (o : Option ℕ) → afterUnfit o count (written cs) list .code ≡ 0 → afterUnfit o count (written cs) list .number ≤ longestList
+    go none e = put e
+    go (some i) e = absurd (eqb-false 30 0 refl e)
 
 pub written-reads-back : WrittenReadsBack
 unfolding firstUnfit writing

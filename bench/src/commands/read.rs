@@ -1,0 +1,92 @@
+//! `bench read`: a list into calls as text, one a line.
+
+use reference::writer::{to_columns, COLUMNS};
+use reference::Value;
+
+use crate::args::Options;
+use crate::kernels::boundary::PROVED_WRITER;
+use crate::line::calls;
+use crate::line::explain::{call_in_words, counted, meaning};
+use crate::line::input::{shown, Input};
+use crate::line::text;
+use crate::output;
+
+pub const HELP: &str = "\
+bench read FILE
+
+Writes the calls of a list as text, one a line, as `bench write` takes them. FILE
+is an input of linerun, or a text of hexadecimal words as `bench words` takes it or
+as `bench write` gives it, whose `list` may stand without a table. `-` is standard
+input.
+
+The calls are written by the proved writer again, and must give the list as it
+came: two different lists of calls are never written in the same words, so these
+are the calls of the list. A call that the reader refuses whatever the table, with
+10, 11, 13 or 14, has no such text: it is told by its number, from 0, and its code.
+
+Exit status: 0 written; 1 the list has such a call, or FILE is refused; 2 bad
+usage, or a file that can't be read.
+";
+
+/// How many of the calls are told that have no text.
+const TOLD_MAX: usize = 10;
+
+/// The command: whether there was something to write.
+pub fn command(line: &[String]) -> Result<bool, String> {
+    let options = Options::parse(line, &[], &[])?;
+    let file = options.file()?;
+    let list = match Input::parse(&text::input_bytes(file, text::read_list)?) {
+        Ok(Input { list, .. }) => list,
+        Err((code, why)) => {
+            let (file, meaning) = (shown(file), meaning(code));
+            eprintln!("bench read: {file} is refused with {code} ({meaning}): {why}");
+            return Ok(false);
+        }
+    };
+    let values = reference::read(&list);
+    let refused = told_refused(&list, &values);
+    if !refused.is_empty() {
+        // Standard output is for the text alone.
+        eprint!("{refused}");
+        return Ok(false);
+    }
+    let calls: Vec<[u32; COLUMNS]> = values.iter().filter_map(to_columns).collect();
+    as_it_came(&list, &calls)?;
+    let text: String = calls.iter().map(calls::write).collect();
+    output::write(text.as_bytes());
+    Ok(true)
+}
+
+/// What is told of calls that have no text: nothing where there is none.
+fn told_refused(list: &[u32], values: &[Value]) -> String {
+    let cut = reference::cut(list);
+    let refused = values.iter().zip(&cut).enumerate();
+    let refused = refused.filter_map(|(number, (value, call))| match value {
+        Value::Refused(code) => Some(format!(
+            "bench read: call {number} is refused with {code} ({}): {}\n",
+            meaning(*code),
+            call_in_words(call)
+        )),
+        _ => None,
+    });
+    let refused: Vec<String> = refused.collect();
+    let mut told = refused[..refused.len().min(TOLD_MAX)].concat();
+    if refused.len() > TOLD_MAX {
+        let more = counted(refused.len() - TOLD_MAX, "call");
+        told += &format!("bench read: {more} more\n");
+    }
+    told
+}
+
+/// Whether the proved writer gives the list again.
+fn as_it_came(list: &[u32], calls: &[[u32; COLUMNS]]) -> Result<(), String> {
+    let mut written = vec![0; list.len()];
+    let answer = PROVED_WRITER(&calls.concat(), &mut written);
+    match answer == (0, list.len() as u32) && written == list {
+        true => Ok(()),
+        false => Err(format!(
+            "the calls that were read are written otherwise, with {} and {}",
+            answer.0, answer.1
+        )),
+    }
+}

@@ -1,0 +1,122 @@
+//! `bench write`: calls as text, one a line, into a list, by the proved writer.
+
+use reference::calls::LIST_WORDS_MAX;
+
+use crate::args::Options;
+use crate::kernels::boundary::PROVED_WRITER;
+use crate::line::calls::{self, Typed};
+use crate::line::explain::meaning;
+use crate::line::input::{read_text, shown, Input};
+use crate::line::text;
+use crate::output;
+
+pub const HELP: &str = "\
+bench write FILE
+bench write FILE --table INPUT [--text]
+
+Writes the list of the calls that stand in a text, one a line, by the proved
+writer. `-` is standard input. A text looks like this:
+
+  look-up caller 0 name 0x11
+  send caller 0 endpoint 1 message 5      # a comment goes to the end of its line
+  receive caller 2 endpoint 1
+  my-endpoints caller 2
+  my-rights caller 0
+  grant caller 1 target 2 recipient 0 rights 1
+  remove caller 1 target 2 rights 4
+  revoke caller 1 target 2 holder 0 rights 8
+
+A call has each of its fields once, in any order. Numbers are decimal, or
+hexadecimal behind 0x. Rights are a sum: SEND 1, GRANT 2, REMOVE 4, REVOKE 8. No
+table is asked: a field is within its bits or it isn't (caller and target 6,
+endpoint, recipient, holder and rights 8, name and message 28).
+
+The list is written as the text that `bench words` takes behind a table:
+
+  (cat table.txt; bench write calls.txt) | bench words - > LINE
+
+With --table the whole input of linerun is written: the table of INPUT, and this
+list in the place of INPUT's own. INPUT is an input of linerun, or a text as
+`bench words` takes it. With --text what is written is such a text too.
+
+A mistake is told by its line and field. `bench read` makes the text of a list
+again.
+
+Exit status: 0 written; 1 the writer refuses a call with 30 or the list with 31, or
+INPUT is refused; 2 bad usage, or what is given is no such text.
+";
+
+/// The command: whether there was something to write.
+pub fn command(line: &[String]) -> Result<bool, String> {
+    let options = Options::parse(line, &["--table"], &["--text"])?;
+    let file = options.file()?;
+    let input = options.text("--table");
+    if options.has("--text") && input.is_none() {
+        return Err("--text is for --table: without it a text is written".to_string());
+    }
+    if input == Some("-") && file == "-" {
+        return Err("the calls and the table can't both be standard input".to_string());
+    }
+    let typed = read_text(file, "calls as text, one a line, are wanted")?;
+    let typed = calls::read(&typed).map_err(|why| format!("{}: {why}", shown(file)))?;
+    let list = match written(&typed) {
+        Ok(list) => list,
+        Err((code, why)) => return Ok(refused(file, code, &why)),
+    };
+    let Some(path) = input else {
+        output::write(text::write_list(&list).as_bytes());
+        return Ok(true);
+    };
+    match Input::parse(&text::input_bytes(path, text::read)?) {
+        Ok(Input { table, .. }) => {
+            let input = Input { table, list };
+            match options.has("--text") {
+                true => output::write(text::write(&input).as_bytes()),
+                false => output::write(&input.to_bytes()),
+            }
+            Ok(true)
+        }
+        Err((code, why)) => Ok(refused(path, code, &why)),
+    }
+}
+
+/// Tells what is refused; standard output is for the list alone.
+fn refused(file: &str, code: u32, why: &str) -> bool {
+    let (file, meaning) = (shown(file), meaning(code));
+    eprintln!("bench write: {file} is refused with {code} ({meaning}): {why}");
+    false
+}
+
+/// The words of calls, or the writer's refusal and why.
+fn written(typed: &[Typed]) -> Result<Vec<u32>, (u32, String)> {
+    let columns: Vec<u32> = typed.iter().flat_map(|call| call.columns).collect();
+    let mut list = vec![0; LIST_WORDS_MAX];
+    let (code, number) = PROVED_WRITER(&columns, &mut list);
+    match code {
+        0 => {
+            list.truncate(number as usize);
+            Ok(list)
+        }
+        30 => {
+            let why = typed
+                .iter()
+                .skip(number as usize)
+                .find_map(|call| Some(format!("line {}: {}", call.line, call.too_large()?)));
+            Err((code, why.expect("a field exceeds its bits")))
+        }
+        _ => {
+            let line = first_too_long(typed).expect("the words are above 4,096");
+            Err((code, format!("line {line}: its words pass the 4,096th")))
+        }
+    }
+}
+
+/// The line of the first call of which a word is past the longest list.
+fn first_too_long(typed: &[Typed]) -> Option<usize> {
+    let mut words = 0;
+    let past = typed.iter().find(|call| {
+        words += calls::width(&call.columns);
+        words > LIST_WORDS_MAX
+    });
+    past.map(|call| call.line)
+}

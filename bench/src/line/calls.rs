@@ -1,0 +1,275 @@
+//! Calls as text, one a line, the way they are written by hand, and back.
+//!
+//! The help of `bench write` says what a text looks like. A call goes to the writer and
+//! comes from the reader as five words: its kind, its caller, A, B, and C or what the
+//! second word holds.
+
+use reference::calls::{GRANT, LOOK_UP, MY_ENDPOINTS, MY_RIGHTS, RECEIVE, REMOVE, REVOKE, SEND};
+use reference::writer::COLUMNS;
+
+/// A kind of call: its name and number, and its fields in the order that they are
+/// written in.
+struct Kind {
+    name: &'static str,
+    number: u32,
+    fields: &'static [Field],
+}
+
+/// A field of a call: which of the five words it is, and how many bits it has.
+#[derive(Debug, Clone, Copy, PartialEq, Eq)]
+struct Field {
+    name: &'static str,
+    column: usize,
+    bits: u32,
+}
+
+impl Field {
+    const fn new(name: &'static str, column: usize, bits: u32) -> Field {
+        Field { name, column, bits }
+    }
+}
+
+const CALLER: Field = Field::new("caller", 1, 6);
+const TARGET: Field = Field::new("target", 2, 6);
+const ENDPOINT: Field = Field::new("endpoint", 3, 8);
+const RECIPIENT: Field = Field::new("recipient", 3, 8);
+const HOLDER: Field = Field::new("holder", 3, 8);
+const RIGHTS: Field = Field::new("rights", 4, 8);
+const NAME: Field = Field::new("name", 4, 28);
+const MESSAGE: Field = Field::new("message", 4, 28);
+
+#[rustfmt::skip]
+const KINDS: [Kind; 8] = [
+    Kind { name: "look-up", number: LOOK_UP, fields: &[CALLER, NAME] },
+    Kind { name: "send", number: SEND, fields: &[CALLER, ENDPOINT, MESSAGE] },
+    Kind { name: "receive", number: RECEIVE, fields: &[CALLER, ENDPOINT] },
+    Kind { name: "my-endpoints", number: MY_ENDPOINTS, fields: &[CALLER] },
+    Kind { name: "my-rights", number: MY_RIGHTS, fields: &[CALLER] },
+    Kind { name: "grant", number: GRANT, fields: &[CALLER, TARGET, RECIPIENT, RIGHTS] },
+    Kind { name: "remove", number: REMOVE, fields: &[CALLER, TARGET, RIGHTS] },
+    Kind { name: "revoke", number: REVOKE, fields: &[CALLER, TARGET, HOLDER, RIGHTS] },
+];
+
+/// A call of a text.
+#[derive(Debug, Clone, PartialEq, Eq)]
+pub struct Typed {
+    /// Its line, counted from 1.
+    pub line: usize,
+    /// Its five words. A number that has no word is there as the largest that has one,
+    /// which is more than any field can hold.
+    pub columns: [u32; COLUMNS],
+    /// Its fields as they are written.
+    fields: Vec<(Field, String)>,
+}
+
+impl Typed {
+    /// The field that exceeds its bits, in words.
+    pub fn too_large(&self) -> Option<String> {
+        let (field, typed) = self
+            .fields
+            .iter()
+            .find(|(field, _)| self.columns[field.column] >> field.bits != 0)?;
+        Some(format!(
+            "{} {typed} exceeds its {} bits: {} is the largest",
+            field.name,
+            field.bits,
+            (1u32 << field.bits) - 1
+        ))
+    }
+}
+
+/// The calls of a text, or what is wrong with it and in which line.
+pub fn read(text: &str) -> Result<Vec<Typed>, String> {
+    // Some editors put a byte-order mark before a text.
+    let text = text.strip_prefix('\u{FEFF}').unwrap_or(text);
+    let mut calls = Vec::new();
+    for (before, line) in text.lines().enumerate() {
+        let line_number = before + 1;
+        let call = read_line(line).map_err(|why| format!("line {line_number}: {why}"))?;
+        calls.extend(call.map(|(columns, fields)| Typed {
+            line: line_number,
+            columns,
+            fields,
+        }));
+    }
+    Ok(calls)
+}
+
+/// A call's five words, and its fields as they are written.
+type Parts = ([u32; COLUMNS], Vec<(Field, String)>);
+
+/// The call of a line, where there is one.
+fn read_line(line: &str) -> Result<Option<Parts>, String> {
+    let mut words = line.split('#').next().unwrap_or("").split_whitespace();
+    let Some(name) = words.next() else {
+        return Ok(None);
+    };
+    let kind = KINDS.iter().find(|kind| kind.name == name).ok_or_else(|| {
+        let names = KINDS.map(|kind| kind.name);
+        format!("there is no call `{name}`, only {}", names.join(", "))
+    })?;
+    let mut columns = [0; COLUMNS];
+    columns[0] = kind.number;
+    let mut fields: Vec<(Field, String)> = Vec::new();
+    while let Some(word) = words.next() {
+        let field = kind.field(word)?;
+        if fields.iter().any(|(given, _)| *given == field) {
+            return Err(format!("{word} is given a second time"));
+        }
+        let typed = words
+            .next()
+            .ok_or_else(|| format!("{word} has no number"))?;
+        columns[field.column] = number(typed)
+            .ok_or_else(|| format!("{word} is `{typed}`, which is no number: 17 or 0x11 is one"))?;
+        fields.push((field, typed.to_string()));
+    }
+    let missing = kind
+        .fields
+        .iter()
+        .find(|wanted| fields.iter().all(|(given, _)| given != *wanted));
+    match missing {
+        None => Ok(Some((columns, fields))),
+        Some(field) => Err(format!("{name} needs {}", field.name)),
+    }
+}
+
+impl Kind {
+    /// The field of the name.
+    fn field(&self, name: &str) -> Result<Field, String> {
+        let found = self.fields.iter().find(|field| field.name == name);
+        found.copied().ok_or_else(|| {
+            let names: Vec<&str> = self.fields.iter().map(|field| field.name).collect();
+            format!(
+                "{} has no field `{name}`, only {}",
+                self.name,
+                names.join(", ")
+            )
+        })
+    }
+}
+
+/// A decimal number, or a hexadecimal one behind 0x; as the largest word where it is
+/// above that.
+fn number(typed: &str) -> Option<u32> {
+    let prefixed = typed.strip_prefix("0x").or(typed.strip_prefix("0X"));
+    let (digits, radix) = prefixed.map_or((typed, 10), |digits| (digits, 16));
+    let digits_only = digits.chars().all(|digit| digit.is_digit(radix));
+    if digits.is_empty() || !digits_only {
+        return None;
+    }
+    Some(u32::from_str_radix(digits, radix).unwrap_or(u32::MAX))
+}
+
+/// How many words a call is written in.
+pub fn width(columns: &[u32]) -> usize {
+    match columns[0] {
+        LOOK_UP | SEND => 2,
+        _ => 1,
+    }
+}
+
+/// A call's line, with every field in its place and in decimal.
+pub fn write(columns: &[u32; COLUMNS]) -> String {
+    let kind = KINDS.iter().find(|kind| kind.number == columns[0]);
+    let kind = kind.expect("a kind of call");
+    let fields = kind.fields.iter();
+    let fields = fields.map(|field| format!(" {} {}", field.name, columns[field.column]));
+    format!("{}{}\n", kind.name, fields.collect::<String>())
+}
+
+#[cfg(test)]
+mod tests {
+    use super::*;
+    use reference::generate::{value, Rng};
+    use reference::writer::to_columns;
+
+    const EACH_KIND: &str = "\
+look-up caller 1 name 17
+send caller 0 endpoint 1 message 5
+receive caller 2 endpoint 1
+my-endpoints caller 2
+my-rights caller 0
+grant caller 1 target 2 recipient 0 rights 1
+remove caller 1 target 2 rights 4
+revoke caller 1 target 2 holder 3 rights 8
+";
+
+    fn columns(text: &str) -> Vec<[u32; COLUMNS]> {
+        let calls = read(text).unwrap();
+        calls.iter().map(|call| call.columns).collect()
+    }
+
+    fn wrong(text: &str) -> String {
+        read(text).unwrap_err()
+    }
+
+    #[test]
+    fn each_kind_goes_both_ways() {
+        let calls = columns(EACH_KIND);
+        assert_eq!(calls[0], [1, 1, 0, 0, 17]);
+        assert_eq!(calls[1], [2, 0, 0, 1, 5]);
+        assert_eq!(calls[7], [8, 1, 2, 3, 8]);
+        let back: String = calls.iter().map(write).collect();
+        assert_eq!(back, EACH_KIND);
+    }
+
+    #[test]
+    fn every_call_goes_both_ways() {
+        let mut rng = Rng::new(7);
+        for _ in 0..2000 {
+            let call = to_columns(&value(&mut rng)).unwrap();
+            assert_eq!(columns(&write(&call)), [call]);
+        }
+    }
+
+    #[test]
+    fn a_text_may_have_comments_other_orders_and_hexadecimal_numbers() {
+        let text =
+            "\u{FEFF}# a comment\r\n\r\n  send message 0x0F caller 0 endpoint 1 # and one more\r\n";
+        let calls = read(text).unwrap();
+        assert_eq!(calls.len(), 1);
+        assert_eq!((calls[0].line, calls[0].columns), (3, [2, 0, 0, 1, 15]));
+        assert_eq!(read("# nothing\n\n"), Ok(Vec::new()));
+    }
+
+    #[test]
+    fn a_mistake_is_told_by_its_line_and_field() {
+        let told = wrong("my-rights caller 0\n\nsned caller 0");
+        assert!(told.starts_with("line 3: there is no call `sned`, only look-up, send,"));
+        let told = wrong("send caller 0 target 1 message 5");
+        assert_eq!(
+            told,
+            "line 1: send has no field `target`, only caller, endpoint, message"
+        );
+        let told = wrong("send caller 0 endpoint 1 caller 2");
+        assert_eq!(told, "line 1: caller is given a second time");
+        assert_eq!(wrong("my-rights caller"), "line 1: caller has no number");
+        assert_eq!(
+            wrong("send caller 0 message 5"),
+            "line 1: send needs endpoint"
+        );
+        for no_number in ["x", "-1", "0x", "1.5", "+1", "0xG"] {
+            let told = wrong(&format!("\nmy-rights caller {no_number}"));
+            let start = format!("line 2: caller is `{no_number}`, which is no number");
+            assert!(told.starts_with(&start), "{told}");
+        }
+    }
+
+    #[test]
+    fn a_field_that_exceeds_its_bits_is_told_as_it_is_written() {
+        let told = |line: &str| read(line).unwrap()[0].too_large();
+        assert_eq!(
+            told("send caller 0 endpoint 256 message 5").unwrap(),
+            "endpoint 256 exceeds its 8 bits: 255 is the largest"
+        );
+        assert_eq!(
+            told("send caller 64 endpoint 256 message 5").unwrap(),
+            "caller 64 exceeds its 6 bits: 63 is the largest"
+        );
+        assert_eq!(
+            told("look-up caller 0 name 99999999999999999999").unwrap(),
+            "name 99999999999999999999 exceeds its 28 bits: 268435455 is the largest"
+        );
+        assert_eq!(told("look-up caller 63 name 0x0FFFFFFF"), None);
+    }
+}
