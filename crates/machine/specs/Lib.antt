@@ -10,6 +10,7 @@ pub mod Machine
 pub mod Run
 pub mod Entry
 pub mod Influence
+pub mod Holders
 pub mod DomainSet
 pub mod Purge
 pub mod Unwinding

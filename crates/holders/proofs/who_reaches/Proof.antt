@@ -1,0 +1,33 @@
+-- `who_reaches` meets its contract: the question is refused, or the closure of the domain alone is told. Assumes nothing.
+use mathlib.Core.Path.{sym, ap, _∙_}
+use native.Mathlib.Omega.{arith}
+use borrow.Author.Tests.{not-true, not-false}
+use borrow.Author.Needs.{needs}
+use Rattle.reach.specs.Closure.{closed}
+use Rattle.holders.proofs.Told.{askable-parts, told-nothing, told}
+use Rattle.holders.proofs.who_reaches.Statement.{statement}
+use Rattle.holders.proofs.who_reaches.Tie as tie
+
+askable-requires : tie.Need-askable-requires
+askable-requires c κs = search needs
+
+returns : tie.Need-returns
+returns c = told-nothing _ _ (sym (not-true _ (c .if1 .taken)) ∙ c .before .askable .ensures)
+
+bit-requires : tie.Need-bit-requires
+bit-requires c κs =
+    let (few, _, below) = askable-parts _ _ (sym (c .before .askable .ensures) ∙ not-false _ (c .if1 .left)) in
+    omega (arith, few, below)
+
+closure-requires : tie.Need-closure-requires
+closure-requires c κs = search needs
+
+returns-2 : tie.Need-returns-2
+returns-2 c =
+    let test = c .before .before in
+    told _ _ (sym (not-false _ (test .if1 .left)) ∙ test .before .askable .ensures) _
+    (c .closure .ensures ∙ ap (closed (test .before .before .before .args .words .now)) (c .before .bit .ensures))
+
+pub who-reaches-spec : {M : Type 1} → statement M
+who-reaches-spec =
+    tie.close (tie.spec askable-requires returns bit-requires closure-requires returns-2)

@@ -1,0 +1,35 @@
+// When words can be asked about a domain.
+use crate::bits::bit;
+ghost use mathlib.Core.Path.{_≡_};
+ghost use Prim.Native.Nat.{_≤_};
+ghost use lib.ListN.{length};
+ghost use Rattle.holders.specs.Asked.{bitsWithin, askable};
+
+// No word has a bit from their number on.
+fn bits_within(words: &[u32]) -> bool
+    requires { ⌜ length (now words) ≤ 16 ⌝ }
+    ensures { λ b. ⌜ b ≡ bitsWithin (now (words .entry)) ⌝ }
+{
+    let bound = bit(words.len() as u32);
+    let mut v: usize = 0;
+    while v < words.len() {
+        if bound <= words[v] {
+            return false;
+        }
+        v += 1;
+    }
+    true
+}
+
+// The words are 1 to 16, none has a bit from their number on, and the domain is below it.
+pub fn askable(words: &[u32], domain: u32) -> bool
+    ensures { λ b. ⌜ b ≡ askable (now (words .entry)) domain ⌝ }
+{
+    if 16 < words.len() {
+        return false;
+    }
+    if words.len() <= domain as usize {
+        return false;
+    }
+    bits_within(words)
+}

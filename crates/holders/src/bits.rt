@@ -1,0 +1,38 @@
+// Sets of domains as words, with a bit for each member.
+use words::KIND;
+ghost use mathlib.Core.Path.{_≡_};
+ghost use mathlib.Core.Bool.{cond};
+ghost use Prim.Native.Nat.{_<_, _^_};
+ghost use Rattle.machine.specs.Word.{payload};
+ghost use Rattle.machine.specs.Right.{hasAny};
+ghost use Rattle.holders.specs.Noted.{withBit};
+
+// The set of one.
+pub fn bit(i: u32) -> u32
+    requires { ⌜ i < 32 ⌝ }
+    ensures { λ r. ⌜ r ≡ 2 ^ i ⌝ }
+{
+    1 << i
+}
+
+// A bit of a word set or cleared.
+pub fn with_bit(word: u32, i: u32, set: bool) -> u32
+    requires { ⌜ i < 32 ⌝ }
+    ensures { λ r. ⌜ r ≡ withBit word i set ⌝ }
+{
+    let one = bit(i);
+    if set {
+        return word | one;
+    }
+    word - (word & one)
+}
+
+// A holder's own set where a rights word has any right in it, else none.
+pub fn held(rights: u32, holder: u32) -> u32
+    ensures { λ r. ⌜ r ≡ cond (hasAny (payload rights)) holder 0 ⌝ }
+{
+    if rights % KIND != 0 {
+        return holder;
+    }
+    0
+}

@@ -1,0 +1,64 @@
+// The words worked out from a table, row by row: the rights that one domain holds stand side by side.
+use crate::bits::bit;
+use crate::bits::held;
+use layout::rights_at;
+ghost use mathlib.Core.Path.{_≡_};
+ghost use Prim.Native.Nat.{_<_};
+ghost use lib.ListN.{length};
+ghost use Rattle.machine.specs.Below.{wordsBelow};
+ghost use Rattle.machine.specs.Table.{domains};
+ghost use Rattle.machine.specs.Holders.{holdersOf};
+ghost use Rattle.holders.specs.Noted.{roomFor, HasRoom, withRow};
+
+// As many words are lent as there are domains, at most 16, and the table has their rights words.
+pub fn fillable(n: u32, size: usize, lent: usize) -> bool
+    ensures { λ b. ⌜ b ≡ roomFor n size lent ⌝ }
+{
+    if 16 < n {
+        return false;
+    }
+    let count = n as usize;
+    (lent == count) & (count * count < size)
+}
+
+// No domain holds anything.
+fn clear(holders: &mut [u32])
+    ensures { λ _. ⌜ now (holders .exit) ≡ wordsBelow (length (now (holders .entry))) (λ _. 0) ⌝ }
+{
+    let mut g: usize = 0;
+    while g < holders.len() {
+        holders[g] = 0;
+        g += 1;
+    }
+}
+
+// What one domain holds is added.
+fn add_row(table: &[u32], n: u32, h: u32, holders: &mut [u32])
+    requires { ⌜ HasRoom (now table) n (now holders) ⌝ }
+    requires { ⌜ h < n ⌝ }
+    ensures { λ _. ⌜ now (holders .exit) ≡ wordsBelow n (withRow (now (table .entry)) n h (now (holders .entry))) ⌝ }
+{
+    let holder = bit(h);
+    let mut g: u32 = 0;
+    while g < n {
+        let at = rights_at(n, h, g);
+        let one = held(table[at], holder);
+        let word = g as usize;
+        holders[word] = holders[word] | one;
+        g += 1;
+    }
+}
+
+// The words of all n domains.
+pub fn fill_rows(table: &[u32], n: u32, holders: &mut [u32])
+    requires { ⌜ HasRoom (now table) n (now holders) ⌝ }
+    requires { ⌜ n ≡ domains (now table) ⌝ }
+    ensures { λ _. ⌜ now (holders .exit) ≡ holdersOf (now (table .entry)) ⌝ }
+{
+    clear(holders);
+    let mut h: u32 = 0;
+    while h < n {
+        add_row(table, n, h, holders);
+        h += 1;
+    }
+}
