@@ -19,13 +19,14 @@ use std::path::{Path, PathBuf};
 use std::process::Command;
 
 const ARCHIVE: &str = "target/staticlib/libbalkwizu.a";
-const EXPORTS: [&str; 6] = [
+const EXPORTS: [&str; 7] = [
     "balkwizu_table_check",
     "balkwizu_run",
     "balkwizu_component",
     "balkwizu_repair",
     "balkwizu_potential",
     "balkwizu_write",
+    "balkwizu_who_reaches",
 ];
 
 /// An archive for tests alone: the crate, the variable that names another archive,

@@ -45,8 +45,6 @@ LEAST = 20
 # are caught by the tests of the separate implementation itself.
 UNSEEN = {
     "agree_*": "the second table of a pair of lines is drawn so that it agrees",
-    **dict.fromkeys(("holders_*", "reach_*"), "the panel's words, which no command of the "
-    "bench lends yet"),
     "group_keeps_*": "a stray and a call of nobody alter nothing",
     "linerun_*": "linerun's reading: the fuzz runs the library",
     "potential_list_*": "lists that are longer than they need be",
@@ -63,9 +61,10 @@ UNSEEN = {
 # Faults that another command than the fuzz of runs shows. On an accepted table the slots
 # from the waiting count on are empty, so queues of any words show what becomes of others.
 # A reader that tests the caller shows in no run, since a caller above the largest table's
-# is refused with 12 there.
+# is refused with 12 there. What a step does to the holders' words isn't what a run does.
 BY_ANOTHER = {
     "columns_*": LISTS,
+    "holders_of_the_caller_alone": STEP,
     "potential_*": TABLES,
     "receive_clears_the_slots_from_the_free_one_on": QUEUE,
     "receive_moves_all_eight": QUEUE,
@@ -81,8 +80,12 @@ UNSEEN_BY_STEPS = {
     "cut_*": "the cutting of a list",
     "entry_*": "the entry of a run",
     "group_*": "what hangs together",
+    "holders_cleared_when_refused": "the entry of a run",
+    "holders_more_than_n_pass": "the entry of a run",
+    "holders_stay_where_no_call_is_done": "the entry of a run",
     "members_*": "pairs of lines",
     "purge_*": "the striking rule",
+    "reach_*": "questions about the holders",
     "read_*": "calls as values",
     "shortcut_influence_from_last_table": "the striking rule",
     "shortcut_refused_send_gives_up_second_word": "the cutting of a list",

@@ -19,8 +19,8 @@ static inline const char *code_meaning(uint32_t code)
         [BALKWIZU_TABLE_BAD_RIGHTS] = "a rights word breaks its layout",
         [BALKWIZU_TABLE_BAD_ENDPOINT] =
             "an endpoint word breaks its layout, or a name repeats",
-        [BALKWIZU_ANSWERS_TOO_SHORT] =
-            "the answer space is under three words a call",
+        [BALKWIZU_WRONG_SPACE] =
+            "the answer space is under three words a call, or the holders' is not one word a domain",
         [BALKWIZU_STRAY] = "a word of kind 15 stands alone",
         [BALKWIZU_UNKNOWN_KIND] = "the kind is unknown",
         [BALKWIZU_UNKNOWN_CALLER] = "the caller is no domain of the table",

@@ -17,6 +17,7 @@
 static uint32_t table[BALKWIZU_TABLE_WORDS_MAX];
 static uint32_t list[BALKWIZU_LIST_WORDS_MAX + 1];
 static uint32_t answers[BALKWIZU_ANSWER_WORDS * BALKWIZU_LIST_WORDS_MAX];
+static uint32_t holders[BALKWIZU_DOMAINS_MAX + 1];
 static unsigned compared, differ;
 
 static void is(const char *what, uint32_t found, uint32_t wanted)
@@ -38,7 +39,15 @@ static void put_table_t(void)
 
 static uint32_t run(size_t table_words, const uint32_t *calls, size_t words)
 {
-    return balkwizu_run(table, table_words, calls, words, answers, WORDS(answers));
+    return balkwizu_run(table, table_words, calls, words, answers, WORDS(answers),
+                        holders, balkwizu_table_domains(table));
+}
+
+/* L on T, with so many words for answers and holders. */
+static uint32_t run_l(size_t answer_words, size_t holder_words)
+{
+    return balkwizu_run(table, EXAMPLE_TABLE_WORDS, example_list, EXAMPLE_LIST_WORDS,
+                        answers, answer_words, holders, holder_words);
 }
 
 static uint32_t check(size_t words)
@@ -253,12 +262,10 @@ static void edges(void)
     put_table_t();
     IS(check(EXAMPLE_TABLE_WORDS), BALKWIZU_OK);
     IS(run(EXAMPLE_TABLE_WORDS, list, 0), 0);
-    IS(balkwizu_run(table, EXAMPLE_TABLE_WORDS, example_list, EXAMPLE_LIST_WORDS,
-                    answers, 26),
-       BALKWIZU_ANSWERS_TOO_SHORT);
-    IS(balkwizu_run(table, EXAMPLE_TABLE_WORDS, example_list, EXAMPLE_LIST_WORDS,
-                    answers, 27),
-       0x00090000);
+    IS(run_l(26, 3), BALKWIZU_WRONG_SPACE);
+    IS(run_l(27, 2), BALKWIZU_WRONG_SPACE);
+    IS(run_l(27, 4), BALKWIZU_WRONG_SPACE);
+    IS(run_l(27, 3), 0x00090000);
     IS(check(33), BALKWIZU_TABLE_BAD_LENGTH);
     IS(check_with(0, 0x10001101), BALKWIZU_TABLE_BAD_HEADER);
     IS(check_with(0, 0x10000002), BALKWIZU_TABLE_BAD_HEADER);
@@ -277,7 +284,7 @@ static void edges(void)
     IS(BALKWIZU_TABLE_BAD_LENGTH, 3);
     IS(BALKWIZU_TABLE_BAD_RIGHTS, 4);
     IS(BALKWIZU_TABLE_BAD_ENDPOINT, 5);
-    IS(BALKWIZU_ANSWERS_TOO_SHORT, 6);
+    IS(BALKWIZU_WRONG_SPACE, 6);
 }
 
 /* The largest table: domain 15 owns endpoint 31, whose queue is full and whose
@@ -356,6 +363,30 @@ static void components_of_t(void)
     IS(BALKWIZU_COMPONENT_HAS(apart, 1), 1);
     IS(BALKWIZU_COMPONENT_HAS(apart, 2), 0);
     IS(component(EXAMPLE_TABLE_WORDS, 2), 0x00040000);
+}
+
+/* The holders of T, after an empty list and after L, which gives 0 a right on 2: on T 0
+ * and 1 have rights on each other and 1 has some on 2. */
+static void holders_of_t(void)
+{
+    put_table_t();
+    memset(holders, 0xFF, sizeof holders);
+    IS(run(EXAMPLE_TABLE_WORDS, list, 0), 0);
+    IS(holders[0], 2);
+    IS(holders[1], 1);
+    IS(holders[2], 2);
+    IS(holders[3], 0xFFFFFFFF);
+    IS(balkwizu_who_reaches(holders, 3, 2), 0x00070000);
+    IS(run_l(27, 3), 0x00090000);
+    IS(holders[2], 3);
+    uint32_t reached = balkwizu_who_reaches(holders, 3, 0);
+    IS(BALKWIZU_REACHES_CODE(reached), BALKWIZU_OK);
+    IS(BALKWIZU_REACHES(reached, 0), 1);
+    IS(BALKWIZU_REACHES(reached, 1), 1);
+    IS(BALKWIZU_REACHES(reached, 2), 0);
+    IS(balkwizu_who_reaches(holders, 3, 3), BALKWIZU_NOT_A_DOMAIN);
+    IS(balkwizu_who_reaches(holders, 1, 0), BALKWIZU_NOT_A_DOMAIN); /* bit 1 of one */
+    IS(balkwizu_who_reaches(holders, 0, 0), BALKWIZU_NOT_A_DOMAIN);
 }
 
 /* On T domain 1 has SEND on 0 and SEND, GRANT and REMOVE on 2: it could give 0 these
@@ -515,6 +546,7 @@ int main(void)
     repair_of_t();
     list_l_written();
     calls_written();
+    holders_of_t();
     whole_fields();
     printf("%u compared, %u differ\n", compared, differ);
     return differ != 0;

@@ -1,6 +1,7 @@
 /*
- * run_line.c: runs document 01's list L on its table T and prints each answer
- * with what it means. Table, list and answers are static: nothing is allocated.
+ * run_line.c: runs document 01's list L on its table T, prints each answer with
+ * what it means, and then who can reach each domain. Table, list, answers and
+ * holders are static: nothing is allocated.
  *
  * The exit status is 0 where the list was run, 1 where the run was refused.
  */
@@ -13,6 +14,7 @@
 
 static uint32_t table[EXAMPLE_TABLE_WORDS];
 static uint32_t answers[BALKWIZU_ANSWER_WORDS * EXAMPLE_LIST_WORDS];
+static uint32_t holders[BALKWIZU_DOMAINS_MAX];
 
 static void print_answer(uint32_t number, const uint32_t *answer)
 {
@@ -23,16 +25,30 @@ static void print_answer(uint32_t number, const uint32_t *answer)
            (unsigned)answer[1], (unsigned)answer[2], code_meaning(code));
 }
 
+/* The panel's question: who has a chain of rights to the domain. */
+static void print_reach(uint32_t n, uint32_t domain)
+{
+    uint32_t result = balkwizu_who_reaches(holders, n, domain);
+    printf("domain %u is reached by", (unsigned)domain);
+    for (uint32_t u = 0; u < n; u++)
+        if (BALKWIZU_REACHES(result, u))
+            printf(" %u", (unsigned)u);
+    printf("\n");
+}
+
 int main(void)
 {
     memcpy(table, example_table, sizeof table);
+    uint32_t n = balkwizu_table_domains(table);
     uint32_t result =
         balkwizu_run(table, EXAMPLE_TABLE_WORDS, example_list, EXAMPLE_LIST_WORDS,
-                     answers, sizeof answers / sizeof *answers);
+                     answers, sizeof answers / sizeof *answers, holders, n);
     uint32_t code = BALKWIZU_RUN_CODE(result), calls = BALKWIZU_RUN_CALLS(result);
     printf("calls %u code %u: %s\n", (unsigned)calls, (unsigned)code,
            code_meaning(code));
     for (uint32_t i = 0; i < calls; i++)
         print_answer(i, answers + BALKWIZU_ANSWER_AT(i));
+    for (uint32_t domain = 0; code == BALKWIZU_OK && domain < n; domain++)
+        print_reach(n, domain);
     return code == BALKWIZU_OK ? 0 : 1;
 }

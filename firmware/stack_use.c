@@ -21,7 +21,8 @@ enum { STACK_WORDS = 8192, DOMAINS = 16, ENDPOINTS = 32 };
 
 static const uint64_t untouched = 0xA5A5A5A5A5A5A5A5u;
 
-static _Alignas(16) uint64_t stack[STACK_WORDS];
+/* Below the two words on it of a call that has more than six things given to it. */
+static _Alignas(16) uint64_t stack[STACK_WORDS + 2];
 static uint32_t table[BALKWIZU_TABLE_WORDS_MAX];
 static uint32_t list[BALKWIZU_LIST_WORDS_MAX];
 static uint32_t written[BALKWIZU_LIST_WORDS_MAX];
@@ -29,15 +30,16 @@ static uint32_t answers[BALKWIZU_ANSWER_WORDS * BALKWIZU_LIST_WORDS_MAX];
 static uint32_t changes[BALKWIZU_CHANGES_WORDS_MAX];
 static uint32_t rights[DOMAINS * DOMAINS];
 static uint32_t calls[BALKWIZU_LIST_WORDS_MAX][BALKWIZU_CALL_COLUMNS];
+static uint32_t holders[DOMAINS];
 
-/* One of the kernel's functions, and up to six pointers and lengths for it. */
+/* One of the kernel's functions, and up to eight pointers and lengths for it. */
 struct call {
     void (*function)(void);
-    uintptr_t given[6];
+    uintptr_t given[8];
 };
 
-/* Makes the call with the stack pointer at top, a multiple of 16. In struct call the
-   function stands at 0 and what is given from 8 on. */
+/* Makes the call with the last two of what is given pushed from top on, a multiple of
+   16. In struct call the function stands at 0 and what is given from 8 on. */
 uint32_t call_on_stack(const struct call *call, uint64_t *top);
 
 __asm__(".text\n"
@@ -48,6 +50,8 @@ __asm__(".text\n"
         "    mov %rsp, %rbp\n"
         "    mov %rsi, %rsp\n"
         "    mov %rdi, %rax\n"
+        "    push 64(%rax)\n"
+        "    push 56(%rax)\n"
         "    mov 8(%rax), %rdi\n"
         "    mov 16(%rax), %rsi\n"
         "    mov 24(%rax), %rdx\n"
@@ -127,7 +131,7 @@ static size_t bytes_taken(const struct call *call, uint32_t *result)
     for (size_t i = 0; i < STACK_WORDS; i++)
         stack[i] = untouched;
     make_table();
-    *result = call_on_stack(call, stack + STACK_WORDS);
+    *result = call_on_stack(call, stack + STACK_WORDS + 2);
     while (lowest < STACK_WORDS && stack[lowest] == untouched)
         lowest++;
     return sizeof *stack * (STACK_WORDS - lowest);
@@ -153,7 +157,10 @@ int main(void)
                               { (uintptr_t)table, BALKWIZU_TABLE_WORDS_MAX,
                                 (uintptr_t)list, BALKWIZU_LIST_WORDS_MAX,
                                 (uintptr_t)answers,
-                                sizeof answers / sizeof *answers } };
+                                sizeof answers / sizeof *answers,
+                                (uintptr_t)holders, DOMAINS } };
+    const struct call who_reaches = { (void (*)(void))balkwizu_who_reaches,
+                                      { (uintptr_t)holders, DOMAINS, 0 } };
     const struct call component = { (void (*)(void))balkwizu_component,
                                     { (uintptr_t)table, BALKWIZU_TABLE_WORDS_MAX,
                                       DOMAINS - 1 } };
@@ -174,5 +181,8 @@ int main(void)
     failed |= tell("balkwizu_potential", &potential, BALKWIZU_POTENTIAL_STACK_BYTES);
     failed |= tell("balkwizu_repair", &repair, BALKWIZU_REPAIR_STACK_BYTES);
     failed |= tell("balkwizu_write", &write, BALKWIZU_WRITE_STACK_BYTES);
-    return tell("balkwizu_run", &run, BALKWIZU_RUN_STACK_BYTES) | failed;
+    failed |= tell("balkwizu_run", &run, BALKWIZU_RUN_STACK_BYTES);
+    /* The run has left the holders: everybody has every right, so that none is added. */
+    return failed
+           | tell("balkwizu_who_reaches", &who_reaches, BALKWIZU_WHO_REACHES_STACK_BYTES);
 }

@@ -61,6 +61,7 @@ extern "C" {
  *   balkwizu_repair: general and xmm registers, aligned stack
  *   balkwizu_run: general and xmm registers, aligned stack, unmarked jumps
  *   balkwizu_table_check: general and xmm registers, aligned stack, red zone
+ *   balkwizu_who_reaches: general registers
  *   balkwizu_write: general registers, unmarked jumps
  */
 #define BALKWIZU_RUN_STACK_BYTES 512
@@ -69,6 +70,7 @@ extern "C" {
 #define BALKWIZU_REPAIR_STACK_BYTES 4096
 #define BALKWIZU_POTENTIAL_STACK_BYTES 512
 #define BALKWIZU_WRITE_STACK_BYTES 256
+#define BALKWIZU_WHO_REACHES_STACK_BYTES 256
 
 /* The most that a table, a list and its answers can have, in words. */
 #define BALKWIZU_DOMAINS_MAX 16
@@ -104,7 +106,9 @@ enum balkwizu_code {
     BALKWIZU_TABLE_BAD_LENGTH = 3,   /* not the length that word 0 asks for */
     BALKWIZU_TABLE_BAD_RIGHTS = 4,   /* a rights word breaks its layout */
     BALKWIZU_TABLE_BAD_ENDPOINT = 5, /* an endpoint word does, or a name repeats */
-    BALKWIZU_ANSWERS_TOO_SHORT = 6,  /* answer space under three words a call */
+    BALKWIZU_WRONG_SPACE = 6,        /* answer space under three words a call, or
+                                        other than one word a domain for the
+                                        holders */
 
     /* Of one call, the first that fails: the table is as before it, and the list
        goes on behind it. */
@@ -135,7 +139,8 @@ enum balkwizu_code {
     BALKWIZU_WRITTEN_TOO_LONG = 31, /* the words would pass 4,096 or the list */
 
     /* Of a question about domains: nothing is told. */
-    BALKWIZU_NOT_A_DOMAIN = 32,    /* a number isn't below n */
+    BALKWIZU_NOT_A_DOMAIN = 32,    /* a number isn't below n, or words are lent
+                                      that can't be the holders of a table */
 
     /* Of a repair, the first that fails: nothing was changed. */
     BALKWIZU_NOT_REPAIRABLE = 33,  /* word 0, the length, a name or an info is
@@ -420,25 +425,58 @@ uint32_t balkwizu_table_check(const uint8_t *bytes, size_t len);
  *      own code in the first. Words beyond three for each call are untouched.
  *   1  BALKWIZU_LIST_TOO_LONG
  *   2 to 5  as balkwizu_table_check answers, for the table's words
- *   6  BALKWIZU_ANSWERS_TOO_SHORT
- * With 1 to 6 the number of calls is 0, and no word of the table or of the
- * answers was written. The list is never written.
+ *   6  BALKWIZU_WRONG_SPACE
+ * With 1 to 6 the number of calls is 0, and no word of the table, of the answers
+ * or of the holders was written. The list is never written.
+ *
+ * Holders are one word a domain: holders_len is n. Whatever they held, a list that
+ * runs, an empty one too, leaves in word g the domains that have a right on domain g
+ * now, bit h for domain h. They are kept call by call, so that whoever looks at them
+ * after a run need not go through the table; balkwizu_who_reaches asks them.
+ * (They came with request (h) of document 02. Calls with the six parameters of before
+ * don't compile any more: a run that isn't lent these words would be one that doesn't
+ * refuse them.)
  *
  * Codes 10 to 23 belong to single calls and stand in their answers; a call that
  * is refused doesn't end the run. 3 * list_len answer words are always enough.
  *
  * The caller's duties:
- *   - table, list and answers each point to as many words as their length says:
- *     table and answers may be read and written, list may be read;
- *   - all three are aligned to four bytes, and none is a null pointer, also
+ *   - table, list, answers and holders each point to as many words as their length
+ *     says: list may be read, the others may be read and written;
+ *   - all four are aligned to four bytes, and none is a null pointer, also
  *     where its length is 0;
- *   - the three do not overlap, in no word;
- *   - nobody else reads or writes table or answers, and nobody writes the list,
- *     during the call: no other core, interrupt or transfer.
+ *   - the four do not overlap, in no word;
+ *   - nobody else reads or writes table, answers or holders, and nobody writes the
+ *     list, during the call: no other core, interrupt or transfer.
  */
 uint32_t balkwizu_run(uint32_t *table, size_t table_len,
                       const uint32_t *list, size_t list_len,
-                      uint32_t *answers, size_t answers_len);
+                      uint32_t *answers, size_t answers_len,
+                      uint32_t *holders, size_t holders_len);
+
+/* What balkwizu_who_reaches returns, taken apart. */
+#define BALKWIZU_REACHES_CODE(result) (BALKWIZU_WORD(result) & 0xFFFFu)
+#define BALKWIZU_REACHES(result, domain)                                       \
+    ((BALKWIZU_WORD(result) >> (16 + (domain))) & 1u)
+
+/*
+ * Who can reach a domain: every domain with a chain of rights to it, of any length,
+ * itself included, by the words that balkwizu_run leaves for the holders. After a run
+ * these are just the chains in the table that it left. Nothing is written.
+ *
+ * Returns two things in one word: the code in bits 15-0 (BALKWIZU_REACHES_CODE), and
+ * in bit 16 + u whether domain u has a chain (BALKWIZU_REACHES).
+ *   0   BALKWIZU_OK
+ *   32  BALKWIZU_NOT_A_DOMAIN: holders_len isn't 1 to 16, a word has a bit from
+ *       holders_len on, or domain isn't below holders_len; nobody is named
+ *
+ * The caller's duties:
+ *   - holders points to holders_len words that may be read, aligned to four bytes;
+ *     it isn't a null pointer, also where holders_len is 0;
+ *   - nobody writes them during the call: no other core, interrupt or transfer.
+ */
+uint32_t balkwizu_who_reaches(const uint32_t *holders, size_t holders_len,
+                              uint32_t domain);
 
 /* What balkwizu_component returns, taken apart. */
 #define BALKWIZU_COMPONENT_CODE(result) (BALKWIZU_WORD(result) & 0xFFFFu)
@@ -482,7 +520,7 @@ uint32_t balkwizu_component(const uint32_t *table, size_t table_len,
  *           enum balkwizu_right, that domain h could ever have on domain g; what it
  *           has in the table is part of it
  *   2 to 5  as balkwizu_table_check answers, for the table's words
- *   6       BALKWIZU_ANSWERS_TOO_SHORT: rights_len isn't n * n
+ *   6       BALKWIZU_WRONG_SPACE: rights_len isn't n * n
  *   32      BALKWIZU_NOT_A_DOMAIN: actors has a bit from n on
  * With another code than 0 no word was written.
  *

@@ -5,7 +5,8 @@
  * bits for each target, so that a right is tested by a shift and `my rights` is
  * the row itself; a grant, a remove or a revoke writes the row and the table's word.
  * Names stand side by side for look up, and so do the sets of endpoints owned.
- * Queues are worked on in the table.
+ * Queues are worked on in the table. The holders' words are worked out with the rows
+ * and then kept call by call.
  */
 #include "plain.h"
 
@@ -21,6 +22,7 @@ enum { LIST_WORDS_MAX = 4096, DOMAINS_MAX = 16, ENDPOINTS_MAX = 32 };
 struct line {
     uint32_t *table;
     uint32_t *endpoints; /* the first endpoint's words */
+    uint32_t *holders;   /* bit h of word g: domain h has a right on g */
     uint32_t n, m;
     uint64_t rights[DOMAINS_MAX];
     uint32_t owned[DOMAINS_MAX];
@@ -67,17 +69,30 @@ static size_t count_calls(const uint32_t *list, size_t len)
 static void take_in_rights(struct line *line)
 {
     const uint32_t *word = line->table + 1;
+    memset(line->holders, 0, line->n * sizeof *line->holders);
     for (uint32_t holder = 0; holder < line->n; holder++) {
         uint64_t row = 0;
-        for (uint32_t target = 0; target < line->n; target++)
-            row |= (uint64_t)(*word++ & ALL) << (4 * target);
+        for (uint32_t target = 0; target < line->n; target++) {
+            uint32_t rights = *word++ & ALL;
+            row |= (uint64_t)rights << (4 * target);
+            line->holders[target] |= (uint32_t)(rights != 0) << holder;
+        }
         line->rights[holder] = row;
     }
 }
 
-static void take_in(struct line *line, uint32_t *table)
+/* The holders' words after the rights of a holder on a target were written. */
+static inline void note(struct line *line, uint32_t holder, uint32_t target)
+{
+    uint32_t any = rights_on(line, holder, target) != 0;
+    uint32_t others = line->holders[target] & ~(1u << holder);
+    line->holders[target] = others | any << holder;
+}
+
+static void take_in(struct line *line, uint32_t *table, uint32_t *holders)
 {
     line->table = table;
+    line->holders = holders;
     line->n = (table[0] >> 8) & 255u;
     line->m = table[0] & 255u;
     line->endpoints = table + 1 + (size_t)line->n * line->n;
@@ -167,6 +182,7 @@ static uint32_t grant(struct line *line, struct call call)
         return 23;
     line->rights[recipient] |= (uint64_t)set << (4 * target);
     line->table[1 + recipient * line->n + target] |= set;
+    note(line, recipient, target);
     return 0;
 }
 
@@ -182,6 +198,7 @@ static uint32_t remove_rights(struct line *line, struct call call)
         return 22;
     line->rights[caller] &= ~((uint64_t)set << (4 * target));
     line->table[1 + caller * line->n + target] &= ~set;
+    note(line, caller, target);
     return 0;
 }
 
@@ -199,6 +216,7 @@ static uint32_t revoke(struct line *line, struct call call)
         return 23;
     line->rights[holder] &= ~((uint64_t)set << (4 * target));
     line->table[1 + holder * line->n + target] &= ~set;
+    note(line, holder, target);
     return 0;
 }
 
@@ -270,7 +288,8 @@ static void run_calls(struct line *restrict line, const uint32_t *restrict list,
 
 uint32_t plain_run(uint32_t *table, size_t table_len,
                    const uint32_t *list, size_t list_len,
-                   uint32_t *answers, size_t answers_len)
+                   uint32_t *answers, size_t answers_len,
+                   uint32_t *holders, size_t holders_len)
 {
     if (list_len > LIST_WORDS_MAX)
         return 1;
@@ -280,8 +299,10 @@ uint32_t plain_run(uint32_t *table, size_t table_len,
     size_t calls = count_calls(list, list_len);
     if (answers_len < 3 * calls)
         return 6;
+    if (holders_len != ((table[0] >> 8) & 255u))
+        return 6;
     struct line line;
-    take_in(&line, table);
+    take_in(&line, table, holders);
     run_calls(&line, list, list_len, answers);
     return (uint32_t)calls << 16;
 }

@@ -6,11 +6,13 @@
 
 use reference::calls::{cut, LIST_WORDS_MAX, STRAY};
 use reference::entry::ANSWER_WORDS;
-use reference::generate::{call_word, case, damaged_table, list, table, table_of, Case, Rng};
+use reference::generate::{call_word, case, damaged_table, lent_panel, list, table, table_of, Rng};
 use reference::table::{
-    check_table, domains, endpoint_place, endpoints, name, owner, HEADER, NAME,
+    check_table, domains, endpoint_place, endpoints, name, owner, DOMAINS_MAX, HEADER, NAME,
 };
 use reference::words::{to_bytes, word};
+
+use crate::cases::Case;
 
 /// How often one of the runs has a list that may be as long as a list can be.
 const LONG_EVERY: u64 = 1024;
@@ -35,16 +37,34 @@ pub fn rng_for(seed: u64, number: u64) -> Rng {
 pub fn run_case(seed: u64, number: u64) -> Case {
     let rng = &mut rng_for(seed, number);
     if number % LONG_EVERY == LONG_EVERY - 1 {
-        return case(rng, 16, 32, LIST_WORDS_MAX);
+        return drawn_case(rng, 16, 32, LIST_WORDS_MAX);
     }
     match (number % 8) as usize {
         6 => queues_case(rng),
         7 => fields_case(rng),
         turn => {
             let (n, m, words) = SIZES[turn];
-            case(rng, n, m, words)
+            drawn_case(rng, n, m, words)
         }
     }
+}
+
+/// A run, now and then with something that an entry refuses, 1 to 6.
+fn drawn_case(rng: &mut Rng, n: usize, m: usize, words: usize) -> Case {
+    let lent = case(rng, n, m, words);
+    let holders = holders_space(rng, &lent.table);
+    Case {
+        table: lent.table,
+        list: lent.list,
+        answers: lent.answers,
+        holders,
+    }
+}
+
+/// Words for the holders of any words as a table, mostly one a domain.
+pub fn holders_space(rng: &mut Rng, table: &[u32]) -> Vec<u32> {
+    let n = table.first().map_or(1, |_| domains(table));
+    lent_panel(rng, n.clamp(1, DOMAINS_MAX))
 }
 
 /// A small table of which the queues are driven full and empty: runs of sends by
@@ -132,10 +152,12 @@ fn bring_names_near(rng: &mut Rng, table: &mut [u32]) {
 fn with_space(rng: &mut Rng, table: Vec<u32>, list: Vec<u32>) -> Case {
     let space = ANSWER_WORDS * cut(&list).len() + rng.below(5);
     let answers = (0..space).map(|_| rng.word()).collect();
+    let holders = (0..domains(&table)).map(|_| rng.word()).collect();
     Case {
         table,
         list,
         answers,
+        holders,
     }
 }
 

@@ -1,10 +1,10 @@
 //! `bench commission`: the checklist that a field engineer runs on the controller's
 //! own table and list before a line is put into service.
 
-use reference::generate::Case;
 use reference::table::domains;
 
 use crate::args::Options;
+use crate::cases::Case;
 use crate::judging::checklist::{Checklist, Line};
 use crate::judging::compare::kept_calls;
 use crate::judging::variants::case_of;

@@ -6,9 +6,10 @@ use std::os::unix::fs::MetadataExt;
 
 use reference::cut;
 use reference::entry::ANSWER_WORDS;
-use reference::generate::Case;
+use reference::table::domains;
 
 use crate::args::Options;
+use crate::cases::Case;
 use crate::kernels::boundary::PROVED;
 use crate::kernels::child;
 use crate::kernels::lent::Ran;
@@ -103,6 +104,7 @@ fn ran(input: &Input) -> Result<Ran, String> {
         table: input.table.clone(),
         list: input.list.clone(),
         answers: vec![0; ANSWER_WORDS * cut(&input.list).len()],
+        holders: vec![0; domains(&input.table)],
     };
     let ran = child::run(&PROVED, &case, child::LIMIT)?;
     match ran.outcome.code {

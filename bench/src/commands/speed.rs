@@ -1,10 +1,11 @@
 //! `bench speed`: the proved kernel's speed beside the plain C kernel's, in one
 //! run, as ratios.
 
-use reference::generate::Case;
+use reference::table::domains;
 
 use crate::args::Options;
 use crate::cases::workloads::{by_kind, workloads, Workload};
+use crate::cases::Case;
 use crate::judging::compare::{difference, separate_run};
 use crate::judging::timing::{row, runs, subjects};
 use crate::kernels::boundary::KERNELS;
@@ -67,6 +68,7 @@ fn first_wrong(workload: &Workload) -> Option<String> {
         table: workload.table.clone(),
         list: workload.list.clone(),
         answers: vec![0; 3 * workload.list.len()],
+        holders: vec![0; domains(&workload.table)],
     };
     KERNELS.iter().find_map(|kernel| {
         let ran = child::run(kernel, &case, child::LIMIT).map_err(String::from);

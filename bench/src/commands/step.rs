@@ -9,10 +9,11 @@ pub const HELP: &str = "\
 bench step [--cases N] [--seed S] [--from K] [--time T]
 
 Feeds the calls of random lists one by one to the proved kernel's public step, and
-to the separate machine, and compares the code, the answer words, every table word
-and the words around them after each call. Tables are sound or damaged, answer
-spaces large enough or not; some calls get a second word that no list gives them: a
-kind that takes none gets one, or it is of another kind than 15.
+to the separate machine, and compares the code, the answer words, every table word,
+the holders' words and the words around them after each call. Tables are sound or
+damaged, answer spaces large enough or not, the holders' words as many as domains or
+not; some calls get a second word that no list gives them: a kind that takes none
+gets one, or it is of another kind than 15.
 
   --cases N  tables and lists to try (default 20,000)
   --seed S   the seed that everything is drawn from (default 1)
@@ -59,7 +60,7 @@ mod tests {
         assert!(HELP.contains("From 5,000 lists on") && STEPS.enough == 5_000);
         let missing = Met::default().missing().join(", ");
         assert!(
-            missing.starts_with("code 0, code 2, code 3, code 4, code 5, code 99, answer"),
+            missing.starts_with("code 0, code 2, code 3, code 4, code 5, code 6, code 99, answer"),
             "{missing}"
         );
     }

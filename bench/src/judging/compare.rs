@@ -3,12 +3,12 @@
 
 use reference::calls::{cut, Call};
 use reference::entry::ANSWER_WORDS;
-use reference::generate::Case;
 use reference::influence::{QueueView, View};
 use reference::table::{domains, rights_place};
 use reference::words::bits;
-use reference::{from_group, purge, step, view};
+use reference::{from_group, purge, run_with_holders, step, view};
 
+use crate::cases::Case;
 use crate::judging::panics::or_panic;
 use crate::kernels::boundary::Outcome;
 use crate::kernels::lent::Ran;
@@ -19,11 +19,13 @@ use crate::line::explain::{call_in_words, counted, meaning, place_in_words};
 pub fn separate_run(case: &Case) -> Result<Ran, String> {
     or_panic(|| {
         let (mut table, mut answers) = (case.table.clone(), case.answers.clone());
-        let (code, calls) = reference::run(&mut table, &case.list, &mut answers);
+        let mut holders = case.holders.clone();
+        let (code, calls) = run_with_holders(&mut table, &case.list, &mut answers, &mut holders);
         Ran {
             outcome: Outcome { code, calls },
             table,
             answers,
+            holders,
         }
     })
 }
@@ -33,6 +35,7 @@ pub fn difference(case: &Case, kernel: &Ran, separate: &Ran) -> Option<String> {
     outcome_difference(kernel.outcome, separate.outcome)
         .or_else(|| answers_difference(case, kernel, separate))
         .or_else(|| table_difference(case, kernel, separate))
+        .or_else(|| holders_difference(case, kernel, separate))
 }
 
 fn outcome_difference(kernel: Outcome, separate: Outcome) -> Option<String> {
@@ -96,6 +99,15 @@ fn table_difference(case: &Case, kernel: &Ran, separate: &Ran) -> Option<String>
     Some(format!(
         "{told}, was {:08X}: the kernel leaves {:08X}, the separate machine {:08X}",
         case.table[place], kernel.table[place], separate.table[place]
+    ))
+}
+
+pub fn holders_difference(case: &Case, kernel: &Ran, separate: &Ran) -> Option<String> {
+    let place = first_unequal(&kernel.holders, &separate.holders)?;
+    Some(format!(
+        "the holders of domain {place}, lent as {:08X}: the kernel leaves {:08X}, the separate \
+         machine {:08X}",
+        case.holders[place], kernel.holders[place], separate.holders[place]
     ))
 }
 
@@ -288,6 +300,14 @@ mod tests {
     fn a_wrong_table_is_told() {
         let told = told(&faulty::WRONG_TABLE).unwrap();
         assert!(told.starts_with("word 33, endpoint 1's message slot 7, was F0000000"));
+    }
+
+    #[test]
+    fn wrong_holders_are_told() {
+        let wrong = told(&faulty::WRONG_HOLDERS).unwrap();
+        assert!(wrong.starts_with("the holders of domain 2"), "{wrong}");
+        let behind = told(&faulty::WRITES_BEHIND_HOLDERS).unwrap();
+        assert!(behind.contains("outside the holders' words"), "{behind}");
     }
 
     #[test]

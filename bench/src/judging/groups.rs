@@ -2,10 +2,10 @@
 //! the proved function tells of them beside the separate one, and what they keep apart
 //! in a run.
 
-use reference::generate::Case;
 use reference::table::domains;
 use reference::{check_table, component, influences};
 
+use crate::cases::Case;
 use crate::judging::compare::component_isolation;
 use crate::kernels::boundary;
 use crate::kernels::lent::Ran;
@@ -55,8 +55,10 @@ pub fn kept_apart(case: &Case, ran: &Ran, domain: usize) -> Result<u64, String> 
 #[cfg(test)]
 mod tests {
     use super::*;
+    use crate::judging::variants::case_of;
     use crate::kernels::boundary::PROVED;
     use crate::kernels::lent::run_here;
+    use crate::line::input::Input;
     use reference::example::TABLE_T;
     use reference::generate::{list, walled_table, Rng};
 
@@ -84,12 +86,7 @@ mod tests {
         for _ in 0..500 {
             let table = walled_table(&mut rng, 6, 3);
             let list = list(&mut rng, &table, 30);
-            let answers = vec![0; 3 * list.len()];
-            let case = Case {
-                table,
-                list,
-                answers,
-            };
+            let case = case_of(&Input { table, list });
             let ran = run_here(&PROVED, &case).unwrap();
             let domain = rng.below(domains(&case.table));
             struck += kept_apart(&case, &ran, domain).unwrap();
@@ -97,11 +94,10 @@ mod tests {
         assert!(struck > 100, "{struck}");
         let mut apart = TABLE_T.to_vec();
         apart[6] = 0x2000_0000;
-        let case = Case {
+        let case = case_of(&Input {
             table: apart,
             list: Vec::new(),
-            answers: Vec::new(),
-        };
+        });
         let mut ran = run_here(&PROVED, &case).unwrap();
         ran.table[6] = 0x2000_0001;
         let told = kept_apart(&case, &ran, 0).unwrap_err();

@@ -10,6 +10,7 @@ pub mod compare;
 pub mod counts;
 pub mod exercise;
 pub mod groups;
+pub mod holders;
 pub mod images;
 pub mod lists;
 pub mod pairs;

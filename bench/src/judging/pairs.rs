@@ -3,11 +3,12 @@
 //! of both runs. The second table is drawn: all that isn't a member's is drawn anew.
 
 use reference::calls::cut;
-use reference::generate::{redrawn_but_for, Case, Rng};
+use reference::generate::{redrawn_but_for, Rng};
 use reference::table::domains;
 use reference::{agree, members, view};
 
 use crate::cases::random::rng_for;
+use crate::cases::Case;
 use crate::kernels::lent::{Failure, Ran};
 
 /// Lists with more calls than this are left out: the set takes a run of its own.

@@ -179,7 +179,11 @@ fn sets(table: &[u32]) -> Vec<u32> {
 fn left(table: &[u32], list: &[u32]) -> Result<Vec<u32>, String> {
     let mut after = table.to_vec();
     let mut answers = vec![0; ANSWER_WORDS * cut(list).len()];
-    match PROVED.run(&mut after, list, &mut answers).code {
+    let mut holders = vec![0; domains(table)];
+    match PROVED
+        .run(&mut after, list, &mut answers, &mut holders)
+        .code
+    {
         0 => Ok(after),
         code => Err(format!("the kernel refuses a list with {code}")),
     }

@@ -4,8 +4,8 @@
 use std::time::Duration;
 
 use reference::cut;
-use reference::generate::Case;
 
+use crate::cases::Case;
 use crate::judging::shrink::shrink;
 use crate::kernels::boundary::Kernel;
 use crate::kernels::child;

@@ -4,14 +4,15 @@
 use std::ops::Range;
 
 use reference::calls::{cut, Call, REVOKE};
-use reference::generate::Case;
 use reference::table::domains;
 use reference::words::bits;
 
-use crate::cases::random::run_case;
+use crate::cases::random::{rng_for, run_case};
+use crate::cases::Case;
 use crate::judging::compare::{difference, isolation, separate_run};
 use crate::judging::counts;
 use crate::judging::groups;
+use crate::judging::holders::{after_each_call, ask_anything};
 use crate::judging::lists::read_as_answered;
 use crate::judging::pairs::pair;
 use crate::judging::report::cut_down;
@@ -35,9 +36,20 @@ pub fn try_runs(kernel: &Kernel, draws: &Draws, tally: &mut Tally) -> Result<(),
         if let Some(pair) = pair(&case, &tried.ran, (draws.seed, number), second)? {
             tally.add_pair(pair);
         }
+        if is_looked_at_call_by_call(&tried.ran, number) {
+            let mut asked = after_each_call(&case, number, second)?;
+            ask_anything(&mut rng_for(draws.seed.rotate_left(48), number), &mut asked)?;
+            tally.add_asked(asked);
+        }
         Ok(())
     });
     found.map_err(|found| report(kernel, draws, &found))
+}
+
+/// Whether the holders' words of a run are looked at after each call: of one in eight, of
+/// each kind of case.
+fn is_looked_at_call_by_call(ran: &Ran, number: u64) -> bool {
+    ran.outcome.code == 0 && number / 8 % 8 == 0
 }
 
 /// What a run came to, or what is wrong with it. `pick` chooses the domain whose view
@@ -119,9 +131,14 @@ fn report(kernel: &Kernel, draws: &Draws, found: &Found) -> String {
         let run = |case: &Case| child::run(kernel, case, limit);
         let tried = run(case).map_err(String::from);
         let tried = tried.and_then(|ran| judged(case, ran, *number));
-        tried
-            .and_then(|tried| pair(case, &tried.ran, (seed, *number), run))
-            .err()
+        let tried = tried.and_then(|tried| {
+            pair(case, &tried.ran, (seed, *number), run)?;
+            match is_looked_at_call_by_call(&tried.ran, *number) {
+                true => after_each_call(case, *number, run).map(drop),
+                false => Ok(()),
+            }
+        });
+        tried.err()
     };
     match cut_down(&run_case(seed, *number), draws.limit.min(LIMIT), wrong) {
         Some(shorter) => head + &again(*number, 1) + &shorter,
@@ -165,6 +182,8 @@ mod tests {
             faulty::WRITES_OUTSIDE,
             faulty::WRITES_LIST,
             faulty::LOSES_COUNT,
+            faulty::WRONG_HOLDERS,
+            faulty::WRITES_BEHIND_HOLDERS,
         ];
         for kernel in faulty {
             let told = found(kernel);
@@ -195,15 +214,16 @@ mod tests {
     fn a_kernel_that_is_wrong_only_behind_other_runs_is_told_so() {
         use std::sync::atomic::{AtomicU32, Ordering::Relaxed};
         static RUNS: AtomicU32 = AtomicU32::new(0);
-        let kernel = PROVED.with_run("tires", |table, list, answers| unsafe {
-            let outcome = PROVED.run(&mut *table, &*list, &mut *answers);
-            outcome.calls << 16 | outcome.code | u32::from(RUNS.fetch_add(1, Relaxed) == 20)
+        let kernel = PROVED.with_run("tires", |table, list, answers, holders| unsafe {
+            let outcome = PROVED.run(&mut *table, &*list, &mut *answers, &mut *holders);
+            outcome.calls << 16 | outcome.code | u32::from(RUNS.fetch_add(1, Relaxed) == 400)
         });
         let told = found(kernel);
-        // Not the kernel's twenty-first run: some numbers have two, for a pair of lines.
+        // Far fewer than the kernel's runs: some numbers have two, for a pair of lines, and
+        // some one for each call.
         let number = told.strip_prefix("DIFFERENCE in run ").expect("a run");
         let number: u64 = number.split(' ').next().unwrap().parse().unwrap();
-        assert!((10..=20).contains(&number), "{told}");
+        assert!((10..200).contains(&number), "{told}");
         assert!(told.contains("Only behind the runs before it"), "{told}");
         let again = format!("--from 0 --cases {} ", number + 1);
         assert!(told.contains(&again), "{told}");

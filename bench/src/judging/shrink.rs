@@ -3,7 +3,8 @@
 use std::time::{Duration, Instant};
 
 use reference::calls::{cut, Call};
-use reference::generate::Case;
+
+use crate::cases::Case;
 
 /// How long fewer parts are tried.
 const TIME: Duration = Duration::from_secs(5);

@@ -8,13 +8,14 @@
 //! kind only bits 27–0 count, which is how the separate machine takes them too.
 
 use reference::calls::{cut, Call, LOOK_UP, SEND, STRAY};
-use reference::check_table;
 use reference::entry::ANSWER_WORDS;
-use reference::generate::{Case, Rng};
+use reference::generate::Rng;
+use reference::step_with_holders;
 use reference::words::{bits, content, kind, word};
 
-use crate::cases::random::{rng_for, run_case};
-use crate::judging::compare::{answer_as_printed, first_unequal};
+use crate::cases::random::{holders_space, rng_for, run_case};
+use crate::cases::Case;
+use crate::judging::compare::{answer_as_printed, first_unequal, holders_difference};
 use crate::judging::panics::or_panic;
 use crate::judging::trying::{try_all, Counted, Draws, Found, Summary};
 use crate::kernels::boundary::{Outcome, Step, NO_SPACE};
@@ -28,7 +29,7 @@ use crate::line::text;
 const CALLS_MAX: usize = 64;
 
 /// The codes of the step, and those of its answers.
-const STEP_CODES: [u32; 6] = [0, 2, 3, 4, 5, NO_SPACE];
+const STEP_CODES: [u32; 7] = [0, 2, 3, 4, 5, 6, NO_SPACE];
 const CALL_CODES: std::ops::RangeInclusive<u32> = 10..=23;
 
 /// What the steps came to.
@@ -147,10 +148,12 @@ fn try_list(
     let mut table = list.table;
     for call in cut(&list.list).iter().take(CALLS_MAX) {
         let call = &with_any_second(rng, call);
+        let holders = holders_space(rng, &table);
         let case = Case {
             table,
             list: call.words(),
             answers: space(rng),
+            holders,
         };
         let wanted = separate_step(&case, call)?;
         let told = match step(&case, call) {
@@ -197,20 +200,22 @@ fn space(rng: &mut Rng) -> Vec<u32> {
 fn separate_step(case: &Case, call: &Call) -> Result<Ran, String> {
     or_panic(|| {
         let (mut table, mut answers) = (case.table.clone(), case.answers.clone());
+        let mut holders = case.holders.clone();
         let code = match answers.first_chunk_mut::<ANSWER_WORDS>() {
             None => NO_SPACE,
-            Some(answer) => {
-                let code = check_table(&table);
-                if code == 0 {
-                    *answer = reference::step(&mut table, call);
+            Some(answer) => match step_with_holders(&mut table, call, &mut holders) {
+                Ok(words) => {
+                    *answer = words;
+                    0
                 }
-                code
-            }
+                Err(code) => code,
+            },
         };
         Ran {
             outcome: Outcome { code, calls: 1 },
             table,
             answers,
+            holders,
         }
     })
 }
@@ -225,7 +230,9 @@ fn difference(case: &Case, ran: &Ran, wanted: &Ran) -> Option<String> {
             meaning(wanted_code)
         ));
     }
-    answer_difference(case, ran, wanted).or_else(|| table_difference(case, ran, wanted))
+    answer_difference(case, ran, wanted)
+        .or_else(|| table_difference(case, ran, wanted))
+        .or_else(|| holders_difference(case, ran, wanted))
 }
 
 fn answer_difference(case: &Case, ran: &Ran, wanted: &Ran) -> Option<String> {
@@ -289,8 +296,8 @@ mod tests {
     /// What is told of a step that does one more thing once the proved one is done.
     macro_rules! told {
         (|$table:ident, $call:ident, $answer:ident, $code:ident| $fault:expr) => {
-            first_difference(|$table, $call, $answer| {
-                let $code = PROVED($table, $call, $answer);
+            first_difference(|$table, $call, $answer, holders| {
+                let $code = PROVED($table, $call, $answer, holders);
                 $fault
             })
             .expect("it is found")
@@ -359,6 +366,18 @@ mod tests {
     }
 
     #[test]
+    fn a_step_that_keeps_the_holders_it_was_lent_is_found() {
+        let kept = first_difference(|table, call, answer, holders| {
+            let lent = holders.to_vec();
+            let code = PROVED(table, call, answer, holders);
+            holders.copy_from_slice(&lent);
+            code
+        });
+        let kept = kept.expect("it is found");
+        assert!(kept.contains("\n  the holders of domain 0"), "{kept}");
+    }
+
+    #[test]
     fn a_step_that_writes_what_it_should_leave_is_found() {
         let beyond = told!(|_t, _c, answer, code| {
             if let Some(word) = answer.get_mut(3) {
@@ -378,9 +397,9 @@ mod tests {
 
     #[test]
     fn a_step_that_takes_second_words_otherwise_is_found() {
-        let stray_only = first_difference(|table, call, answer| {
+        let stray_only = first_difference(|table, call, answer, holders| {
             let second = call.second.filter(|&word| kind(word) == STRAY);
-            PROVED(table, &Call { second, ..*call }, answer)
+            PROVED(table, &Call { second, ..*call }, answer, holders)
         });
         assert!(stray_only.expect("it is found").contains("code 14"));
         let table = [0x1000_0100, 0x2000_0000];
@@ -392,6 +411,7 @@ mod tests {
             table: table.to_vec(),
             list: call.words(),
             answers: vec![7; 4],
+            holders: vec![7],
         };
         let wanted = separate_step(&case, &call).unwrap();
         assert_eq!(wanted.answers, [0x5000_0000, 0, 0, 7]);

@@ -1,12 +1,14 @@
 //! What a fuzz has met: how often each code, and how often each thing that runs
 //! must be driven to. What was never met was never compared.
 
+use reference::calls::cut;
 use reference::entry::ANSWER_WORDS;
-use reference::generate::Case;
 use reference::table::{domains, endpoints};
 use reference::words::bits;
 
+use crate::cases::Case;
 use crate::judging::counts::Counts;
+use crate::judging::holders::Asked;
 use crate::judging::pairs::Pair;
 use crate::judging::trying::Counted;
 use crate::kernels::lent::Ran;
@@ -79,6 +81,9 @@ pub struct Tally {
     pairs: u64,
     pairs_of_parts: u64,
     pairs_of_answers: u64,
+    asked: Asked,
+    /// Runs refused with 6 that had answer space enough.
+    wrong_holders: u64,
 }
 
 impl Counted for Tally {
@@ -102,10 +107,12 @@ impl Counted for Tally {
             &mut self.pairs,
             &mut self.pairs_of_parts,
             &mut self.pairs_of_answers,
+            &mut self.wrong_holders,
         ];
         let by_code = self.entry.iter_mut().chain(&mut self.call);
         let by_code = by_code.chain(&mut self.image);
-        single.into_iter().chain(by_code)
+        let single = single.into_iter().chain(self.asked.numbers());
+        single.chain(by_code)
     }
 }
 
@@ -125,6 +132,8 @@ impl Tally {
         self.as_they_came += u64::from(tried.as_it_came && !case.list.is_empty());
         self.revokes.held += tried.revokes.held;
         self.revokes.missing += tried.revokes.missing;
+        let needed = ANSWER_WORDS * cut(&case.list).len();
+        self.wrong_holders += u64::from(outcome.code == 6 && case.answers.len() >= needed);
         if outcome.code == 0 {
             self.domains_met |= 1 << domains(&case.table);
             self.endpoints_met |= 1 << endpoints(&case.table);
@@ -141,6 +150,13 @@ impl Tally {
         self.pairs += 1;
         self.pairs_of_parts += u64::from(pair.parts_differ);
         self.pairs_of_answers += u64::from(pair.answers_differ);
+    }
+
+    /// Holders' words that don't differ.
+    pub fn add_asked(&mut self, mut asked: Asked) {
+        for (all, more) in self.asked.numbers().zip(asked.numbers()) {
+            *all += *more;
+        }
     }
 
     pub fn add_image(&mut self, code: u32) {
@@ -177,6 +193,8 @@ impl Tally {
              {} found the queue full, {} with the lost count at its top; {} left the queue \
              empty\n  \
              {} of a right that was there, {} of none\n  \
+             holders' words compared after {}, {} about them answered, {} by longer chains, {} \
+             refused\n  \
              {} of lines compared, {} with another part of a domain that can't reach, {} with \
              another answer to one\n  \
              {} written as they came\n  \
@@ -189,6 +207,10 @@ impl Tally {
             counted(self.emptied, "receive"),
             counted(self.revokes.held, "revoke"),
             self.revokes.missing,
+            counted(self.asked.prefixes, "list beginning"),
+            counted(self.asked.answered, "question"),
+            self.asked.by_chains,
+            self.asked.refused,
             counted(self.pairs, "pair"),
             self.pairs_of_parts,
             self.pairs_of_answers,
@@ -229,6 +251,10 @@ impl Tally {
             (self.as_they_came, "a list that is written as it came"),
             (self.revokes.held, "a revoke of a right that is there"),
             (self.revokes.missing, "a revoke of a right that isn't"),
+            (self.wrong_holders, "holders that are other than n words"),
+            (self.asked.prefixes, "the beginning of a list"),
+            (self.asked.by_chains, "a domain reached by a chain"),
+            (self.asked.refused, "a question refused with 32"),
             (self.pairs_of_parts, "a pair of lines that differ"),
             (
                 self.pairs_of_answers,

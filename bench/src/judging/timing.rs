@@ -4,6 +4,7 @@
 use std::time::{Duration, Instant};
 
 use reference::example::TABLE_T;
+use reference::table::domains;
 use reference::words::to_bytes;
 
 use crate::cases::workloads::{largest_table, Workload};
@@ -63,12 +64,14 @@ pub fn runs(workload: &Workload) -> Subject<'_> {
         act: Box::new(move |kernel, times| {
             let mut table = workload.table.clone();
             let mut answers = vec![0; 3 * workload.list.len()];
+            let mut holders = vec![0; domains(&workload.table)];
             let mut timed = Duration::ZERO;
             for _ in 0..times {
                 table.copy_from_slice(&workload.table);
                 answers.fill(0);
                 let start = Instant::now();
-                let outcome = kernel.run(&mut table, &workload.list, &mut answers);
+                let list = &workload.list;
+                let outcome = kernel.run(&mut table, list, &mut answers, &mut holders);
                 timed += start.elapsed();
                 assert_eq!(outcome.code, 0);
             }
@@ -87,9 +90,11 @@ fn entries(workload: &Workload) -> Subject<'_> {
         act: Box::new(move |kernel, times| {
             let mut table = workload.table.clone();
             let mut answers = [0; 3];
+            let mut holders = vec![0; domains(&workload.table)];
             let start = Instant::now();
             for _ in 0..times {
-                assert_eq!(kernel.run(&mut table, &[], &mut answers).code, 0);
+                let outcome = kernel.run(&mut table, &[], &mut answers, &mut holders);
+                assert_eq!(outcome.code, 0);
             }
             start.elapsed()
         }),

@@ -3,13 +3,14 @@
 
 use reference::calls::{cut, Call, LIST_WORDS_MAX};
 use reference::entry::ANSWER_WORDS;
-use reference::generate::{Case, Rng};
+use reference::generate::Rng;
 use reference::table::{
     capacity, domains, endpoint_place, endpoints, name, owner, DOMAINS_MAX, ENDPOINTS_MAX,
     ENDPOINT_WORDS, HEADER, INFO, INFO_PLACE, NAME, NAME_PLACE, SLOTS, WAITING, WAITING_PLACE,
 };
 use reference::words::{word, CONTENT_MAX};
 
+use crate::cases::Case;
 use crate::line::explain::counted;
 use crate::line::input::Input;
 
@@ -24,6 +25,15 @@ pub struct Variant {
 const SCRAMBLED: usize = 300;
 const SEVERAL: usize = 100;
 
+/// Words to lend for the holders of a table: one a domain, and none of them right.
+pub fn holders_for(table: &[u32]) -> Vec<u32> {
+    let n = match table {
+        [] => 0,
+        table => domains(table),
+    };
+    (0..n as u32).map(|place| 0xC0DE_0000 | place).collect()
+}
+
 /// What a run is lent for an input: answer space that is just enough, and some
 /// words beyond it that must stay.
 pub fn case_of(input: &Input) -> Case {
@@ -32,6 +42,7 @@ pub fn case_of(input: &Input) -> Case {
         table: input.table.clone(),
         list: input.list.clone(),
         answers: (0..space as u32).map(|place| 0xC0DE_0000 | place).collect(),
+        holders: holders_for(&input.table),
     }
 }
 
@@ -148,13 +159,21 @@ pub fn scrambled_lists(input: &Input, rng: &mut Rng) -> Vec<Variant> {
 }
 
 /// The list on both sides of what the entry refuses: with the answer space that it needs
-/// and one word less, and repeated to 4,096 words and one more.
-pub fn entry_edges(input: &Input) -> [Variant; 4] {
+/// and one word less, with a word too few and one too many for the holders, and repeated
+/// to 4,096 words and one more. And no list at all, which runs and sets the holders.
+pub fn entry_edges(input: &Input) -> [Variant; 7] {
     let longest = "the list repeated to 4,096 words";
     let too_long = "the list repeated to 4,097 words";
     [
         spaced(input, 0, "the answer space just as it is needed"),
         spaced(input, 1, "the answer space one word too short"),
+        with_holders(input, "one word too few for the holders", |lent| {
+            lent.pop();
+        }),
+        with_holders(input, "one word too many for the holders", |lent| {
+            lent.push(7)
+        }),
+        repeated(input, 0, "no list"),
         repeated(input, LIST_WORDS_MAX, longest),
         repeated(input, LIST_WORDS_MAX + 1, too_long),
     ]
@@ -165,6 +184,16 @@ fn spaced(input: &Input, less: usize, what: &str) -> Variant {
     let mut case = case_of(input);
     let enough = ANSWER_WORDS * cut(&input.list).len();
     case.answers.truncate(enough.saturating_sub(less));
+    Variant {
+        what: what.to_string(),
+        case,
+    }
+}
+
+/// The list as it is, with other words for the holders.
+fn with_holders(input: &Input, what: &str, alter: fn(&mut Vec<u32>)) -> Variant {
+    let mut case = case_of(input);
+    alter(&mut case.holders);
     Variant {
         what: what.to_string(),
         case,
@@ -235,6 +264,7 @@ fn mixed(list: &[u32], rng: &mut Rng) -> Vec<u32> {
 #[cfg(test)]
 mod tests {
     use super::*;
+    use crate::judging::compare::separate_run;
 
     #[test]
     fn there_are_hundreds_and_they_meet_every_entry_code() {
@@ -246,8 +276,7 @@ mod tests {
         variants.extend(scrambled_lists(&input, &mut rng));
         let mut met = [0; 7];
         for Variant { case, .. } in &variants {
-            let (mut table, mut answers) = (case.table.clone(), case.answers.clone());
-            met[reference::run(&mut table, &case.list, &mut answers).0 as usize] += 1;
+            met[separate_run(case).unwrap().outcome.code as usize] += 1;
         }
         assert!(met.iter().all(|&count| count > 0), "{met:?}");
     }

@@ -13,9 +13,14 @@ use reference::Call;
 /// The check of bytes that are valid for reads.
 type TableCheck = unsafe fn(bytes: *const [u8]) -> u32;
 
-/// A run on words that are valid for reads, those of the table and the answers for
-/// writes too, and that don't overlap.
-type Run = unsafe fn(table: *mut [u32], list: *const [u32], answers: *mut [u32]) -> u32;
+/// A run on words that are valid for reads, all but those of the list for writes too, and
+/// that don't overlap.
+type Run = unsafe fn(
+    table: *mut [u32],
+    list: *const [u32],
+    answers: *mut [u32],
+    holders: *mut [u32],
+) -> u32;
 
 /// A kernel behind the C boundary.
 #[derive(Clone, Copy)]
@@ -43,11 +48,17 @@ impl Kernel {
         unsafe { (self.table_check)(bytes) }
     }
 
-    /// Runs a list on a table and writes the answers.
-    pub fn run(&self, table: &mut [u32], list: &[u32], answers: &mut [u32]) -> Outcome {
-        // SAFETY: three slices, each valid for its length and aligned; the two
-        // that are written are borrowed alone, so that none overlaps another.
-        let result = unsafe { (self.run)(table, list, answers) };
+    /// Runs a list on a table, writes the answers and sets the holders' words.
+    pub fn run(
+        &self,
+        table: &mut [u32],
+        list: &[u32],
+        answers: &mut [u32],
+        holders: &mut [u32],
+    ) -> Outcome {
+        // SAFETY: four slices, each valid for its length and aligned; those that
+        // are written are borrowed alone, so that none overlaps another.
+        let result = unsafe { (self.run)(table, list, answers, holders) };
         Outcome {
             code: result & 0xFFFF,
             calls: result >> 16,
@@ -77,7 +88,8 @@ impl Kernel {
 ///
 /// uint32_t balkwizu_run(uint32_t *table, size_t table_len,
 ///                       const uint32_t *list, size_t list_len,
-///                       uint32_t *answers, size_t answers_len);
+///                       uint32_t *answers, size_t answers_len,
+///                       uint32_t *holders, size_t holders_len);
 macro_rules! kernel {
     ($name:literal, $title:expr, $table_check:ident, $run:ident) => {{
         extern "C" {
@@ -89,6 +101,8 @@ macro_rules! kernel {
                 list_len: usize,
                 answers: *mut u32,
                 answers_len: usize,
+                holders: *mut u32,
+                holders_len: usize,
             ) -> u32;
         }
         Kernel {
@@ -96,7 +110,7 @@ macro_rules! kernel {
             title: $title,
             // SAFETY: in both, the caller's duties are those of the C function.
             table_check: |bytes| unsafe { $table_check(bytes.cast(), bytes.len()) },
-            run: |table, list, answers| unsafe {
+            run: |table, list, answers, holders| unsafe {
                 $run(
                     table.cast(),
                     table.len(),
@@ -104,6 +118,8 @@ macro_rules! kernel {
                     list.len(),
                     answers.cast(),
                     answers.len(),
+                    holders.cast(),
+                    holders.len(),
                 )
             },
         }
@@ -135,9 +151,10 @@ pub const PLAIN_CLANG: Kernel = kernel!(
     plain_clang_run
 );
 
-/// One call on any table: 0 with three words of the answer written, the table's 2 to
-/// 5, or [`NO_SPACE`].
-pub type Step = fn(table: &mut [u32], call: &Call, answer: &mut [u32]) -> u32;
+/// One call on any table: 0 with three words of the answer written and the holders' words
+/// set, the table's 2 to 5, 6 where other than n words are lent for the holders, or
+/// [`NO_SPACE`].
+pub type Step = fn(table: &mut [u32], call: &Call, answer: &mut [u32], holders: &mut [u32]) -> u32;
 
 /// What the exported step returns for an answer space under three words. No paper
 /// uses the number.
@@ -148,7 +165,7 @@ pub const NO_SPACE: u32 = 99;
 pub const PROVED_STEP: Option<Step> = None;
 
 #[cfg(step)]
-pub const PROVED_STEP: Option<Step> = Some(|table, call, answer| {
+pub const PROVED_STEP: Option<Step> = Some(|table, call, answer, holders| {
     extern "C" {
         fn balkwizu_test_step(
             table: *mut u32,
@@ -158,9 +175,11 @@ pub const PROVED_STEP: Option<Step> = Some(|table, call, answer| {
             has_second: u32,
             answer: *mut u32,
             answer_len: usize,
+            holders: *mut u32,
+            holders_len: usize,
         ) -> u32;
     }
-    // SAFETY: two slices, each valid for its length, aligned and borrowed alone.
+    // SAFETY: three slices, each valid for its length, aligned and borrowed alone.
     unsafe {
         balkwizu_test_step(
             table.as_mut_ptr(),
@@ -170,6 +189,8 @@ pub const PROVED_STEP: Option<Step> = Some(|table, call, answer| {
             u32::from(call.second.is_some()),
             answer.as_mut_ptr(),
             answer.len(),
+            holders.as_mut_ptr(),
+            holders.len(),
         )
     }
 });
@@ -182,6 +203,17 @@ pub fn component(table: &[u32], domain: u32) -> (u32, u32) {
     }
     // SAFETY: a slice, valid for its length and aligned.
     let told = unsafe { balkwizu_component(table.as_ptr(), table.len(), domain) };
+    (bits(told, 15, 0), bits(told, 31, 16))
+}
+
+/// Who has a chain of rights to a domain, by the holders' words and the proved kernel: its
+/// code, and those domains as bits.
+pub fn who_reaches(holders: &[u32], domain: u32) -> (u32, u32) {
+    extern "C" {
+        fn balkwizu_who_reaches(holders: *const u32, holders_len: usize, domain: u32) -> u32;
+    }
+    // SAFETY: a slice, valid for its length and aligned.
+    let told = unsafe { balkwizu_who_reaches(holders.as_ptr(), holders.len(), domain) };
     (bits(told, 15, 0), bits(told, 31, 16))
 }
 
@@ -320,13 +352,18 @@ mod tests {
     use super::*;
     use reference::example::{LIST_L, TABLE_T};
 
+    /// Who has a right on each domain once L has run on T: a bit for each holder.
+    const HOLDERS_AFTER_L: [u32; 3] = [0b010, 0b001, 0b011];
+
     #[test]
     fn every_kernel_runs_the_worked_example() {
         for kernel in KERNELS {
             let mut table = TABLE_T;
             let mut answers = [7; 28];
-            let outcome = kernel.run(&mut table, &LIST_L, &mut answers);
+            let mut holders = [7; 3];
+            let outcome = kernel.run(&mut table, &LIST_L, &mut answers, &mut holders);
             assert_eq!(outcome, Outcome { code: 0, calls: 9 }, "{}", kernel.name);
+            assert_eq!(holders, HOLDERS_AFTER_L, "{}", kernel.name);
             assert_eq!(answers[12..15], [0x3080_0000, 6, 1], "{}", kernel.name);
             assert_eq!(answers[27], 7, "{}", kernel.name);
         }

@@ -11,9 +11,9 @@ use std::sync::atomic::Ordering::Relaxed;
 use std::time::Duration;
 use std::{io, thread};
 
-use reference::generate::Case;
 use reference::Call;
 
+use crate::cases::Case;
 use crate::kernels::boundary::{Kernel, Outcome, Step};
 use crate::kernels::lent::{run_here, step_here, Failure, Forbidden, Ran, Stopped};
 use crate::kernels::process::{Child, Shared};
@@ -146,7 +146,7 @@ fn runs_by(
     let mut words = 0;
     for case in cases {
         places.push(words);
-        words += HEAD + case.table.len() + case.answers.len();
+        words += HEAD + case.table.len() + case.answers.len() + case.holders.len();
     }
     let board = Board::new(words);
     let watched = watch(&board, limit, || {
@@ -162,29 +162,28 @@ fn runs_by(
     ran.chain(stopped).collect()
 }
 
-/// The words before the table and the answers that a run leaves on a board: what it came
+/// The words before the table, the answers and the holders that a run leaves on a board: what it came
 /// to, its code and its number of calls.
 const HEAD: usize = 3;
 
 /// What a run came to: it ran, or by [`FORBIDDEN`] what it wrote.
 const RAN: u64 = 1;
 const WROTE: u64 = 2;
-const FORBIDDEN: [Forbidden; 4] = [
+const FORBIDDEN: [Forbidden; 5] = [
     Forbidden::List,
     Forbidden::AroundList,
     Forbidden::AroundTable,
     Forbidden::AroundAnswers,
+    Forbidden::AroundHolders,
 ];
 
 fn leave_run(board: &Board, place: usize, ran: &Result<Ran, Failure>) {
     match ran {
         Ok(ran) => {
             let Outcome { code, calls } = ran.outcome;
-            let words = ran.table.iter().chain(&ran.answers).copied();
-            board.leave(
-                place + 1,
-                [code, calls].into_iter().chain(words).map(u64::from),
-            );
+            let words = ran.table.iter().chain(&ran.answers).chain(&ran.holders);
+            let all = [code, calls].into_iter().chain(words.copied());
+            board.leave(place + 1, all.map(u64::from));
             board.leave(place, [RAN]);
         }
         Err(Failure::Wrote(forbidden)) => {
@@ -200,6 +199,7 @@ fn leave_run(board: &Board, place: usize, ran: &Result<Ran, Failure>) {
 fn left_run(board: &Board, place: usize, case: &Case) -> Option<Result<Ran, Failure>> {
     let table = place + HEAD..place + HEAD + case.table.len();
     let answers = table.end..table.end + case.answers.len();
+    let holders = answers.end..answers.end + case.holders.len();
     let words = |places| {
         board
             .left(places)
@@ -217,6 +217,7 @@ fn left_run(board: &Board, place: usize, case: &Case) -> Option<Result<Ran, Fail
                 },
                 table: words(table),
                 answers: words(answers),
+                holders: words(holders),
             }))
         }
         wrote => {
@@ -275,6 +276,7 @@ mod tests {
         };
         let ran = run(&PROVED, &refused, LIMIT).unwrap();
         assert_eq!((ran.outcome.code, ran.answers), (2, refused.answers));
+        assert_eq!(ran.holders, refused.holders);
     }
 
     #[test]
@@ -313,7 +315,7 @@ mod tests {
 
     #[test]
     fn each_run_has_the_whole_time() {
-        let slow = PROVED.with_run("slow", |_, _, _| {
+        let slow = PROVED.with_run("slow", |_, _, _, _| {
             thread::sleep(SOON / 4);
             0
         });

@@ -8,14 +8,22 @@ use reference::words::kind;
 use crate::kernels::boundary::{Kernel, PROVED};
 
 /// A kernel that does one more thing once the proved one has run: to the table, the
-/// list, the answer space and the returned word.
+/// list, the answer space and the returned word, or to the holders' words.
 macro_rules! faulty {
     ($name:literal, |$table:ident, $list:ident, $answers:ident, $result:ident| $fault:block) => {
-        PROVED.with_run($name, |table, list, answers| unsafe {
+        PROVED.with_run($name, |table, list, answers, holders| unsafe {
             let ($table, $list, $answers) = (&mut *table, &*list, &mut *answers);
-            let outcome = PROVED.run($table, $list, $answers);
+            let outcome = PROVED.run($table, $list, $answers, &mut *holders);
             let $result = outcome.calls << 16 | outcome.code;
             $fault
+        })
+    };
+    ($name:literal, |$holders:ident| $fault:block) => {
+        PROVED.with_run($name, |table, list, answers, holders| unsafe {
+            let $holders = &mut *holders;
+            let outcome = PROVED.run(&mut *table, &*list, &mut *answers, $holders);
+            $fault
+            outcome.calls << 16 | outcome.code
         })
     };
 }
@@ -73,6 +81,17 @@ pub const WRITES_LIST: Kernel = faulty!("writes the list", |_t, list, _a, result
         *list.as_ptr().cast_mut() ^= 1;
     }
     result
+});
+
+pub const WRONG_HOLDERS: Kernel = faulty!("wrong holders", |holders| {
+    if let Some(last) = holders.last_mut() {
+        *last ^= 1;
+    }
+});
+
+pub const WRITES_BEHIND_HOLDERS: Kernel = faulty!("writes behind the holders", |holders| {
+    // The comparison lends them from the middle of a larger space.
+    *holders.as_mut_ptr().add(holders.len()) = 0;
 });
 
 pub const LOSES_COUNT: Kernel = faulty!("loses the lost count", |table, _l, _a, result| {

@@ -4,9 +4,9 @@
 use std::fmt::{self, Display};
 use std::time::Duration;
 
-use reference::generate::Case;
 use reference::Call;
 
+use crate::cases::Case;
 use crate::kernels::boundary::{Kernel, Outcome, Step};
 use crate::kernels::process::signal_in_words;
 
@@ -16,6 +16,7 @@ pub struct Ran {
     pub outcome: Outcome,
     pub table: Vec<u32>,
     pub answers: Vec<u32>,
+    pub holders: Vec<u32>,
 }
 
 /// What a kernel did where there is no run to compare.
@@ -43,6 +44,7 @@ pub enum Forbidden {
     AroundList,
     AroundTable,
     AroundAnswers,
+    AroundHolders,
     AroundWords,
 }
 
@@ -79,6 +81,7 @@ impl Display for Forbidden {
             Forbidden::AroundList => "list",
             Forbidden::AroundTable => "table",
             Forbidden::AroundAnswers => "answer space",
+            Forbidden::AroundHolders => "holders' words",
             Forbidden::AroundWords => "words",
         };
         write!(to, "the kernel wrote outside the {what} it was lent")
@@ -142,7 +145,8 @@ pub fn run_here(kernel: &Kernel, case: &Case) -> Result<Ran, Failure> {
     let mut table = Fenced::new(&case.table);
     let mut list = Fenced::new(&case.list);
     let mut answers = Fenced::new(&case.answers);
-    let outcome = kernel.run(table.lent(), list.lent(), answers.lent());
+    let mut holders = Fenced::new(&case.holders);
+    let outcome = kernel.run(table.lent(), list.lent(), answers.lent(), holders.lent());
     if list.words(Forbidden::AroundList)? != case.list {
         return Err(Failure::Wrote(Forbidden::List));
     }
@@ -150,6 +154,7 @@ pub fn run_here(kernel: &Kernel, case: &Case) -> Result<Ran, Failure> {
         outcome,
         table: table.words(Forbidden::AroundTable)?,
         answers: answers.words(Forbidden::AroundAnswers)?,
+        holders: holders.words(Forbidden::AroundHolders)?,
     })
 }
 
@@ -157,10 +162,12 @@ pub fn run_here(kernel: &Kernel, case: &Case) -> Result<Ran, Failure> {
 pub fn step_here(step: Step, case: &Case, call: &Call) -> Result<Ran, Failure> {
     let mut table = Fenced::new(&case.table);
     let mut answers = Fenced::new(&case.answers);
-    let code = step(table.lent(), call, answers.lent());
+    let mut holders = Fenced::new(&case.holders);
+    let code = step(table.lent(), call, answers.lent(), holders.lent());
     Ok(Ran {
         outcome: Outcome { code, calls: 1 },
         table: table.words(Forbidden::AroundTable)?,
         answers: answers.words(Forbidden::AroundAnswers)?,
+        holders: holders.words(Forbidden::AroundHolders)?,
     })
 }

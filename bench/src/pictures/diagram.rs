@@ -13,6 +13,7 @@ use crate::line::explain::{answer_in_words, call_in_words, counted, letters, sen
 use crate::line::input::Input;
 use crate::pictures::groups::groups_in_words;
 use crate::pictures::potential::potential_in_words;
+use crate::pictures::reach::{holders_of, reach_in_words};
 
 /// An accepted table and a list in words, and what was left where it was run.
 pub fn in_words(input: &Input, left: Option<&Ran>, calls: usize) -> String {
@@ -20,15 +21,17 @@ pub fn in_words(input: &Input, left: Option<&Ran>, calls: usize) -> String {
     let answers = left.map(|left| left.answers.as_slice());
     let after = left.map(|left| {
         let (rights, queues) = (rights_in_words(&left.table), queues_in_words(&left.table));
-        format!("\nAfter the list\n\n{rights}\n{queues}")
+        let reach = reach_in_words(&left.holders);
+        format!("\nAfter the list\n\n{rights}Reached by a chain of rights: {reach}\n\n{queues}")
     });
     format!(
-        "Table: {}, {}, {}\n\n{}{}{}\n{}\n{}{}",
+        "Table: {}, {}, {}\n\n{}{}Reached by a chain of rights: {}\n{}\n{}\n{}{}",
         counted(domains(table), "domain"),
         counted(endpoints(table), "endpoint"),
         counted(table.len(), "word"),
         rights_in_words(table),
         groups_in_words(table),
+        reach_in_words(&holders_of(table)),
         potential_in_words(table),
         queues_in_words(table),
         calls_in_words(&input.list, answers, calls),
@@ -166,6 +169,8 @@ mod tests {
         assert_eq!(answers, wanted, "{told}");
         let after = told.split("After the list").nth(1).unwrap();
         assert!(after.contains("domain  0     .    S    S\n"), "{after}");
+        let reach = "chain of rights: domain 0 by 0 1, domain 1 by 0 1, domain 2 by 0 1 2\n";
+        assert!(after.contains(reach), "{after}");
         assert!(after.contains("0 of 1 waiting, 1 lost"), "{after}");
     }
 

@@ -5,4 +5,5 @@ pub mod diagram;
 mod groups;
 pub mod picture;
 pub mod potential;
+pub mod reach;
 pub mod svg;

@@ -1,6 +1,6 @@
 //! The picture of a table and a list: who has which right on whom, as arrows
-//! where there are few and as a grid always, the queues with what waits in them,
-//! and the first calls of the list.
+//! where there are few and as a grid always, who can reach whom by a chain of rights,
+//! the queues with what waits in them, and the first calls of the list.
 
 use std::f64::consts::PI;
 
@@ -14,6 +14,7 @@ use reference::words::{content, hex};
 use crate::line::explain::{call_in_words, counted, senders, NAMED_RIGHTS};
 use crate::line::input::Input;
 use crate::pictures::groups::groups;
+use crate::pictures::reach::{holders_of, reached_by};
 use crate::pictures::svg::{Drawing, Style, INK, LINE, QUIET};
 
 const WIDTH: f64 = 1080.0;
@@ -72,6 +73,7 @@ pub fn svg(input: &Input, calls: usize) -> String {
     drawing.text(MARGIN, 66.0, SUBTITLE, &told);
     let mut y = 92.0;
     y = rights_panels(&mut drawing, table, y) + GAP;
+    y = reach_panel(&mut drawing, table, y) + GAP;
     y = queues_panel(&mut drawing, table, y) + GAP;
     y = calls_panel(&mut drawing, &cut(&input.list), calls, y) + MARGIN;
     drawing.finish(WIDTH, y, &format!("Capability table: {told}"))
@@ -121,6 +123,33 @@ pub fn without_arrows(table: &[u32]) -> Option<&'static str> {
     let held = (0..n * n).filter(|i| rights(table, i / n, i % n) != 0);
     let few = n <= DOMAINS_WITH_ARROWS && held.count() <= ARROWS;
     (!few).then_some(NO_ARROWS)
+}
+
+/// Each domain with the others that have a chain of rights to it.
+fn reach_panel(drawing: &mut Drawing, table: &[u32], y: f64) -> f64 {
+    let holders = holders_of(table);
+    let height = PANEL_HEAD + ROW * holders.len() as f64 + 8.0;
+    let heading = "Who can reach a domain, by a chain of rights";
+    let mut at = panel(drawing, (MARGIN, y), (INNER, height), heading);
+    for domain in 0..holders.len() {
+        let middle = at + ROW / 2.0;
+        chip(drawing, MARGIN + 32.0, middle, 11.0, domain);
+        let mut x = MARGIN + 64.0;
+        let others = reached_by(&holders, domain);
+        let others: Vec<usize> = others.into_iter().filter(|u| *u != domain).collect();
+        let told = if others.is_empty() {
+            "by nobody else"
+        } else {
+            "by"
+        };
+        drawing.text(x, middle, LABEL, told);
+        for other in others {
+            x += 32.0;
+            chip(drawing, x, middle, 11.0, other);
+        }
+        at += ROW;
+    }
+    y + height
 }
 
 fn rights_panels(drawing: &mut Drawing, table: &[u32], y: f64) -> f64 {
@@ -507,6 +536,7 @@ mod tests {
         assert_eq!(bent, 3, "three rights words are not empty");
         assert!(picture.contains("domain 0 sends 5 to endpoint 1"));
         assert!(picture.contains("name 18"));
+        assert!(picture.contains("Who can reach a domain, by a chain of rights"));
     }
 
     #[test]

@@ -93,7 +93,8 @@ impl More {
     fn comes_by(&self, table: &[u32], list: &[u32]) -> bool {
         let mut after = table.to_vec();
         let mut answers = vec![0; ANSWER_WORDS * cut(list).len()];
-        let ran = PROVED.run(&mut after, list, &mut answers);
+        let mut holders = vec![0; domains(table)];
+        let ran = PROVED.run(&mut after, list, &mut answers, &mut holders);
         let held = rights(&after, self.holder, self.target);
         ran.code == 0 && held & self.with_all == self.with_all
     }

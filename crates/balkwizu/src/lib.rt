@@ -4,6 +4,7 @@ ghost use mathlib.Core.Path.{_≡_};
 ghost use Prim.Native.Nat.{_/_, _%_, min};
 ghost use Rattle.machine.specs.Promise.{RunPromise};
 ghost use Rattle.call_rows.specs.Rows.{RowsPromise};
+ghost use Rattle.holders.specs.Asked.{ReachTold};
 ghost use Rattle.components.specs.Told.{ComponentTold};
 ghost use Rattle.image.specs.Bytes.{bytesCode};
 ghost use Rattle.repair.specs.Repair.{RepairPromise};
@@ -29,20 +30,44 @@ pub extern "C" fn balkwizu_table_check(bytes: &[u8]) -> u32
 }
 
 // The run of a list of calls on a table.
-// C: uint32_t balkwizu_run(uint32_t *table, size_t table_len, const uint32_t *list, size_t list_len, uint32_t *answers, size_t answers_len)
+// C: uint32_t balkwizu_run(uint32_t *table, size_t table_len, const uint32_t *list, size_t list_len, uint32_t *answers, size_t answers_len,
+//                          uint32_t *holders, size_t holders_len)
 //
 // The entry's code, 0 to 6, stands in the low 16 bits of the answer, and the number of calls in the high 16 bits. Where the
-// code is not 0 the number is 0 and no word of the table or of the answers is changed. Where it is 0 every call of the list
-// was run, the table is rewritten, and each call has three answer words; words behind them are left as they were.
-// It is defined for any words in slices of any length. Table, list and answers may not overlap.
+// code is not 0 the number is 0 and no word of the table, of the answers or of the holders is changed. Where it is 0 every call of
+// the list was run, the table is rewritten, and each call has three answer words; words behind them are left as they were. The
+// holders are one word a domain, and 6 is also for another number of them: bit h of word d is then set where the domain h has any
+// right on the domain d in the table as it was left, whatever the words held before.
+// It is defined for any words in slices of any length. Table, list, answers and holders may not overlap.
 #[no_mangle]
-pub extern "C" fn balkwizu_run(table: &mut [u32], list: &[u32], answers: &mut [u32]) -> u32
-    ensures { λ r. ⌜ RunPromise (now (table .entry)) (now (list .entry)) (now (answers .entry)) (r % 65536) (r / 65536) (now (answers .exit)) (now (table .exit)) ⌝ }
+pub extern "C" fn balkwizu_run(
+    table: &mut [u32],
+    list: &[u32],
+    answers: &mut [u32],
+    holders: &mut [u32],
+) -> u32
+    ensures { λ r. ⌜ RunPromise (now (table .entry)) (now (list .entry)) (now (answers .entry)) (now (holders .entry)) (r % 65536) (r / 65536) (now (answers .exit)) (now (table .exit)) (now (holders .exit)) ⌝ }
 {
-    let ran = kernel::run(table, list, answers);
+    let ran = kernel::run(table, list, answers, holders);
     let code = ran.code();
     let calls = ran.calls();
     code + 65536 * calls as u32
+}
+
+// Who can reach a domain: every domain with a chain of rights to it, of any length, that domain included, in the words that a run
+// keeps. C: uint32_t balkwizu_who_reaches(const uint32_t *holders, size_t holders_len, uint32_t domain)
+//
+// The code stands in the low 16 bits of the answer: 0, or 32 where the words aren't 1 to 16, or one has a bit from their number on,
+// or the domain isn't below it. The domains stand in the high 16 bits, bit 16 + u for the domain u; with 32 there are none.
+// It is defined for any words in a slice of any length and for any number as the domain, writes nothing and keeps nothing.
+#[no_mangle]
+pub extern "C" fn balkwizu_who_reaches(holders: &[u32], domain: u32) -> u32
+    ensures { λ r. ⌜ ReachTold (now (holders .entry)) domain (r % 65536) (r / 65536) ⌝ }
+{
+    let asked = holders::who_reaches(holders, domain);
+    let code = asked.code();
+    let domains = asked.set();
+    code + 65536 * domains
 }
 
 // The component of a domain in a table: the domains that hang together with it, where two are joined when either has a right on

@@ -1,8 +1,8 @@
--- The numbers of a run's answer: its code and its number of calls (document 01, 'Where each number is checked').
+-- The numbers of a run's answer: its code and its number of calls (document 01, 'Where each number is checked'; document 02 (h)).
 use Prim.Native.Nat.{ℕ}
 use Rattle.table.specs.Checked.{refusalCode}
 use Rattle.entry.specs.declared.EntryRefusal.{EntryRefusal}
-use Rattle.entry.specs.declared.EntryRefusal.the-variants.{ListTooLong, BadTable, SpaceTooSmall}
+use Rattle.entry.specs.declared.EntryRefusal.the-variants.{ListTooLong, BadTable, SpaceTooSmall, BadHolders}
 use Rattle.entry.specs.declared.Ran.{Ran}
 use Rattle.entry.specs.declared.Ran.the-variants.{Refused, Done}
 
@@ -11,6 +11,7 @@ abbrev pub entryRefusalCode : EntryRefusal → ℕ
 entryRefusalCode ListTooLong = 1
 entryRefusalCode (BadTable r) = refusalCode r
 entryRefusalCode SpaceTooSmall = 6
+entryRefusalCode BadHolders = 6
 
 -- a run's code: its refusal's number, or 0
 abbrev pub ranCode : Ran → ℕ

@@ -8,6 +8,7 @@ pub enum EntryRefusal {
     ListTooLong, // 1
     BadTable(TableRefusal), // 2 to 5
     SpaceTooSmall, // 6
+    BadHolders, // 6 too: other than one word a domain is lent for the holders
 }
 
 impl EntryRefusal {
@@ -18,6 +19,7 @@ impl EntryRefusal {
             EntryRefusal::ListTooLong => 1,
             EntryRefusal::BadTable(refusal) => refusal.code(),
             EntryRefusal::SpaceTooSmall => 6,
+            EntryRefusal::BadHolders => 6,
         }
     }
 }

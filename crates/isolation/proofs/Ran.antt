@@ -12,16 +12,16 @@ use Rattle.machine.proofs.Promise.{runs-accepted, entry-ran, entry-code}
 use Rattle.isolation.specs.PromisedRun.{PromisedRun}
 
 module _ (t ws : List ℕ) (p : PromisedRun t ws) where
-  runs : Runs t ws (length (p .space))
-  runs = sym (entry-code t ws (p .space)) ∙ sym (p .promise .sameCode)
+  runs : Runs t ws (length (p .space)) (length (p .holders))
+  runs = sym (entry-code t ws (p .space) (p .holders)) ∙ sym (p .promise .sameCode)
 
   pub ran-accepted : Accepted t
-  ran-accepted = runs-accepted t ws (length (p .space)) runs
+  ran-accepted = runs-accepted t ws (length (p .space)) (length (p .holders)) runs
 
   pub ran-table : p .end ≡ machine.run t (cut ws)
   unfolding ran
-  ran-table = p .promise .sameTable ∙ ap (λ o. o .table) (entry-ran t ws (p .space) runs)
+  ran-table = p .promise .sameTable ∙ ap (λ o. o .table) (entry-ran t ws (p .space) (p .holders) runs)
 
   pub ran-answers : p .answers ≡ machine.answers t (cut ws) ++ drop (3 * length (cut ws)) (p .space)
   unfolding ran
-  ran-answers = p .promise .sameAnswers ∙ ap (λ o. o .answers) (entry-ran t ws (p .space) runs)
+  ran-answers = p .promise .sameAnswers ∙ ap (λ o. o .answers) (entry-ran t ws (p .space) (p .holders) runs)

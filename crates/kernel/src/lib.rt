@@ -1,43 +1,59 @@
-// The kernel: what a call and a list of calls do to a lent table, and what they answer. A table is checked before any call runs.
+// The kernel: what a call and a list of calls do to a lent table and to the holders kept beside it, and what they answer. A table
+// is checked before any call runs.
 mod list;
 mod serve;
+mod space;
 
 use answers::Answer;
 use cutting::Second;
 use entry::EntryRefusal;
 use entry::Ran;
-use list::has_space;
+use holders::fill;
 use list::run_calls;
 use serve::serve;
+use space::has_space;
+use space::one_a_domain;
 use table::Checked;
-use table::TableRefusal;
-use table::check;
+ghost use mathlib.Core.Path.{_≡_};
+ghost use Rattle.machine.specs.Check.{tableCode};
 ghost use Rattle.machine.specs.Promise.{RunPromise};
+ghost use Rattle.table.specs.Checked.{checkedCode};
 ghost use Rattle.cutting.specs.Cutting.{callOf};
 ghost use Rattle.kernel.specs.Step.{StepPromise};
 ghost use Rattle.entry.specs.Entry.{ranCode, ranCalls};
 
-// What one call by itself comes to: the table is refused, or the call is answered.
+// What one call by itself comes to: it is refused at the entry, or answered.
 pub enum Stepped {
-    Refused(TableRefusal),
+    Refused(EntryRefusal),
     Answered(Answer),
 }
 
-// One call on any table.
-pub fn step(table: &mut [u32], first: u32, second: Second) -> Stepped
-    ensures { λ r. ⌜ StepPromise (now (table .entry)) (callOf first second) r (now (table .exit)) ⌝ }
+// The check of a table by itself.
+pub fn check(table: &[u32]) -> Checked
+    ensures { λ r. ⌜ checkedCode r ≡ tableCode (now (table .entry)) ⌝ }
+{
+    table::check(table)
+}
+
+// One call on any table, with any words for the holders: a run of one call.
+pub fn step(table: &mut [u32], first: u32, second: Second, holders: &mut [u32]) -> Stepped
+    ensures { λ r. ⌜ StepPromise (now (table .entry)) (callOf first second) (now (holders .entry)) r (now (table .exit)) (now (holders .exit)) ⌝ }
 {
     let checked = check(table);
     if let Checked::Refused(refusal) = checked {
-        return Stepped::Refused(refusal);
+        return Stepped::Refused(EntryRefusal::BadTable(refusal));
     }
-    let words = serve(table, first, second);
+    if !one_a_domain(table, holders.len()) {
+        return Stepped::Refused(EntryRefusal::BadHolders);
+    }
+    fill(table, holders);
+    let words = serve(table, first, second, holders);
     Stepped::Answered(words)
 }
 
-// A list of calls on any table, with any answer space.
-pub fn run(table: &mut [u32], list: &[u32], answers: &mut [u32]) -> Ran
-    ensures { λ r. ⌜ RunPromise (now (table .entry)) (now (list .entry)) (now (answers .entry)) (ranCode r) (ranCalls r) (now (answers .exit)) (now (table .exit)) ⌝ }
+// A list of calls on any table, with any answer space and any words for the holders.
+pub fn run(table: &mut [u32], list: &[u32], answers: &mut [u32], holders: &mut [u32]) -> Ran
+    ensures { λ r. ⌜ RunPromise (now (table .entry)) (now (list .entry)) (now (answers .entry)) (now (holders .entry)) (ranCode r) (ranCalls r) (now (answers .exit)) (now (table .exit)) (now (holders .exit)) ⌝ }
 {
     if 4096 < list.len() {
         return Ran::Refused(EntryRefusal::ListTooLong);
@@ -49,6 +65,9 @@ pub fn run(table: &mut [u32], list: &[u32], answers: &mut [u32]) -> Ran
     if !has_space(list, answers.len()) {
         return Ran::Refused(EntryRefusal::SpaceTooSmall);
     }
-    let calls = run_calls(table, list, answers);
+    if !one_a_domain(table, holders.len()) {
+        return Ran::Refused(EntryRefusal::BadHolders);
+    }
+    let calls = run_calls(table, list, answers, holders);
     Ran::Done(calls)
 }

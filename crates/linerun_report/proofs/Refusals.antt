@@ -1,19 +1,23 @@
 -- Two refusals of `linerun` for every input: a list one word too long gives 1, whatever is wrong with the table and whatever
--- follows; and 6 never comes, since there is space for every list that is short enough. Assumes nothing.
+-- follows; and 6 never comes, since there is space for every list that is short enough, and a word for each domain of a table that
+-- is accepted. Assumes nothing.
 use Prim.Native.Nat.{ℕ, _*_, _≤_, _<_}
 use mathlib.Core.Path.{_≡_, sym, _∙_}
 use mathlib.Core.Bool.{not}
 use mathlib.Core.List.{List, append-nil}
-use borrow.Author.Tests.{ltb-true, ltb-false}
+use borrow.Author.Tests.{eqb-true, ltb-true, ltb-false}
+use native.Mathlib.Nat.{min-eq-left}
 use native.Mathlib.Omega.{arith}
 use lib.Dec.{eqb, ltb}
-use lib.ListN.{length, length-take}
+use lib.ListN.{length, length-take, length-replicate}
 use Rattle.machine.specs.Call.{cut}
-use Rattle.machine.specs.Check.{headerOk, lengthOk, rightsOk, endpointsOk, tableCode}
+use Rattle.machine.specs.Table.{domains}
+use Rattle.machine.specs.Check.{headerOk, lengthOk, rightsOk, endpointsOk, tableCode, Accepted}
 use Rattle.machine.specs.Entry.{longestList, spaceCode, entryCode, refusal, entry}
 use Rattle.machine.proofs.Bools.{cond-elim}
 use Rattle.machine.proofs.Cut.{cut-few}
-use Rattle.machine.proofs.Promise.{entry-code, entry-refused, code-long}
+use Rattle.machine.proofs.Accepted.{accepted-counts}
+use Rattle.machine.proofs.Promise.{entry-code, entry-refused, code-long, holders-fit}
 use Rattle.reading.specs.Bytes.{wordsOf}
 use Rattle.reading.specs.TableInput.{tableOf, afterTable}
 use Rattle.reading.proofs.WordLaws.{length-wordsOf}
@@ -21,7 +25,7 @@ use Rattle.reading.proofs.TableLaws.{Whole, whole-table}
 use Rattle.linerun_input.specs.Input.{listWordsRead, listOf, unreadable}
 use Rattle.linerun_text.specs.Lines.{firstLine}
 use Rattle.linerun_report.specs.Lines.{callLines, allLines}
-use Rattle.linerun_report.specs.Report.{answerSpace, outcomeLines, report, NeverSix}
+use Rattle.linerun_report.specs.Report.{answerSpace, holdersSpace, outcomeLines, report, NeverSix}
 use Rattle.linerun_input.proofs.InputLaws.{no-left-over}
 
 -- where there are as many list words as are read, the list is one word too long
@@ -40,11 +44,11 @@ unfolding report unreadable outcomeLines allLines callLines refusal
 one-word-too-many bytes w h =
     let t = tableOf bytes in
     let ws = listOf bytes in
-    let one : entryCode t ws (length answerSpace) ≡ 1 = code-long t ws (length answerSpace) (long bytes h) in
-    let refused = entry-refused t ws answerSpace (λ z. omega arith) in
+    let one : entryCode t ws (length answerSpace) (length (holdersSpace t)) ≡ 1 = code-long t ws _ _ (long bytes h) in
+    let refused = entry-refused t ws answerSpace (holdersSpace t) (λ z. omega arith) in
     simp (whole-table bytes w, no-left-over (afterTable bytes) h, refused, one, append-nil)
 
--- 6 comes from an answer space that is too small alone, and one with three words for each word of the longest list never is
+-- 6 comes from an answer space that is too small, and one with three words for each word of the longest list never is,
 no-table-six : (t : List ℕ) → tableCode t ≡ 6 → ⊥
 unfolding tableCode
 no-table-six t =
@@ -55,15 +59,20 @@ no-table-six t =
     cond-elim (λ (code : ℕ). code ≡ 6 → ⊥) (not (rightsOk t)) (λ _ e. omega arith)
     (λ _. cond-elim (λ (code : ℕ). code ≡ 6 → ⊥) (not (endpointsOk t)) (λ _ e. omega arith) (λ _ e. omega arith))))
 
+-- or from other than a word for each domain, of which an accepted table has at most sixteen
+one-a-domain : (t : List ℕ) → Accepted t → length (holdersSpace t) ≡ domains t
+unfolding holdersSpace
+one-a-domain t a = length-replicate _ _ ∙ min-eq-left (accepted-counts t a .1)
+
 pub never-six : NeverSix
 unfolding entryCode spaceCode answerSpace
 never-six t ws e =
     cond-elim (λ (code : ℕ). code ≡ 6 → ⊥) (ltb longestList (length ws)) (λ _ e. omega arith)
     (λ short.
     cond-elim (λ (code : ℕ). code ≡ 6 → ⊥) (eqb (tableCode t) 0)
-    (λ _.
+    (λ accepted.
     cond-elim (λ (code : ℕ). code ≡ 6 → ⊥) (ltb (length answerSpace) (3 * length (cut ws)))
     (λ more _. omega (arith, ltb-true (length answerSpace) (3 * length (cut ws)) more, ltb-false longestList (length ws) short, cut-few ws))
-    (λ _ e. omega arith))
+    (λ _ e. omega (arith, e, holders-fit t _ (one-a-domain t (eqb-true _ _ accepted)))))
     (λ _. no-table-six t))
-    (sym (entry-code t ws answerSpace) ∙ e)
+    (sym (entry-code t ws answerSpace (holdersSpace t)) ∙ e)

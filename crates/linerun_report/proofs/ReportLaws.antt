@@ -1,13 +1,15 @@
 -- The report as the functions make it up: the two ways that the definition goes, and how many calls there are; and where the
 -- reading stops before the input ends, no further byte makes a difference to it. Assumes nothing.
-use Prim.Native.Nat.{ℕ, _*_, _≤_}
-use mathlib.Core.Path.{_≡_, refl, sym, _∙_}
+use Prim.Native.Nat.{ℕ, zero, suc, _-_, _*_, _≤_, min}
+use mathlib.Core.Path.{_≡_, refl, sym, ap, _∙_}
 use mathlib.Core.Bool.{Bool, true, false}
-use mathlib.Core.List.{List, _++_, append-nil}
+use mathlib.Core.List.{List, _∷_, _++_, append-nil}
 use borrow.Author.Tests.{ltb-false}
+use native.Mathlib.Nat.{not-suc-le-zero, le-of-suc-le-suc, min-le-right, sub-zero}
 use native.Mathlib.Omega.{arith}
 use lib.Dec.{ltb}
-use lib.ListN.{length, length-append}
+use lib.ListN.{length, take, drop, replicate, length-append}
+use Rattle.machine.specs.Table.{domains}
 use Rattle.machine.specs.Entry.{longestList}
 use Rattle.machine.specs.Promise.{RunPromise}
 use Rattle.machine.proofs.Promise.{calls-few}
@@ -17,28 +19,39 @@ use Rattle.linerun_input.specs.Input.{listWordsRead, listOf, unreadable, wanted
 use Rattle.linerun_text.specs.Lines.{firstLine}
 use Rattle.linerun_input.proofs.InputLaws.{no-left-over, listOf-more}
 use Rattle.linerun_report.specs.Lines.{allLines}
-use Rattle.linerun_report.specs.Report.{answerSpace, outcomeLines, report, NothingFollows, Follows, Prints}
+use Rattle.linerun_report.specs.Report.{answerSpace, holdersSpace, outcomeLines, report, NothingFollows, Follows, Prints}
 
 pub report-unreadable : (bytes : List ℕ) → unreadable bytes ≡ true → report bytes ≡ firstLine 0 7
 unfolding report
 report-unreadable bytes e = simp e
 
 -- where what ran is the input's table and list, the lines of its answers are the report
-pub report-ran : (bytes : List ℕ) {table list : List ℕ} {code calls c k : ℕ} {answers end : List ℕ} → unreadable bytes ≡ false
-    → table ≡ tableOf bytes → list ≡ listOf bytes → RunPromise table list answerSpace code calls answers end → k ≡ calls → c ≡ code
+pub report-ran : (bytes : List ℕ) {table list : List ℕ} {code calls c k : ℕ} {holders answers end kept : List ℕ} → unreadable bytes ≡ false
+    → table ≡ tableOf bytes → list ≡ listOf bytes → holders ≡ holdersSpace (tableOf bytes)
+    → RunPromise table list answerSpace holders code calls answers end kept → k ≡ calls → c ≡ code
     → report bytes ≡ allLines k c answers
 unfolding report outcomeLines
-report-ran bytes e t l p same-calls same-code =
-    let q = rw (t, l) at p in
+report-ran bytes e t l h p same-calls same-code =
+    let q = rw (t, l, h) at p in
     let calls-are = q .sameCalls in
     let code-is = q .sameCode in
     let answers-are = q .sameAnswers in
     simp e (cc)
 
+-- the words that are lent for the holders, as a part of sixteen
+take-replicate : (k n : ℕ) → k ≤ n → take k (replicate {A = ℕ} n 0) ≡ replicate k 0
+take-replicate zero n l = refl
+take-replicate (suc k) zero l = absurd (not-suc-le-zero l)
+take-replicate (suc k) (suc n) l = ap (λ (ws : List ℕ). 0 ∷ ws) (take-replicate k n (le-of-suc-le-suc l))
+
+pub lent-part : (t : List ℕ) {k : ℕ} → k ≡ min (domains t) 16 → take (k - 0) (drop 0 (replicate {A = ℕ} 16 0)) ≡ holdersSpace t
+unfolding holdersSpace
+lent-part t {k} e = rw (sub-zero k, e) (take-replicate (min (domains t) 16) 16 (min-le-right (domains t) 16))
+
 -- a run has no more calls than the longest list has words
-pub ran-few : {table list space : List ℕ} {code calls : ℕ} {answers end : List ℕ}
-    → RunPromise table list space code calls answers end → calls ≤ longestList
-ran-few {table} {list} {space} p = omega (arith, p .sameCalls, calls-few table list space)
+pub ran-few : {table list space holders : List ℕ} {code calls : ℕ} {answers end kept : List ℕ}
+    → RunPromise table list space holders code calls answers end kept → calls ≤ longestList
+ran-few {table} {list} {space} {holders} p = omega (arith, p .sameCalls, calls-few table list space holders)
 
 -- where the reading asks for nothing more, what follows makes no difference
 pub nothing-follows : NothingFollows

@@ -1,9 +1,10 @@
 -- `linerun` as one definition: from the bytes read to the bytes written (document 01, 'Into firmware and onto the bench').
-use Prim.Native.Nat.{ℕ, _*_}
+use Prim.Native.Nat.{ℕ, _*_, min}
 use mathlib.Core.Path.{_≡_}
 use mathlib.Core.Bool.{Bool, true, cond}
 use mathlib.Core.List.{List, [], _++_}
 use lib.ListN.{replicate}
+use Rattle.machine.specs.Table.{domains}
 use Rattle.machine.specs.Entry.{Outcome, entry, longestList}
 use Rattle.reading.specs.TableInput.{tableOf}
 use Rattle.linerun_input.specs.Input.{listOf, unreadable, wanted}
@@ -14,13 +15,19 @@ use Rattle.linerun_report.specs.Lines.{allLines}
 unfoldable pub answerSpace : List ℕ
 answerSpace = replicate (3 * longestList) 0
 
+-- words for the holders that are never too few: one for each domain of the table, up to the sixteen that one may have
+unfoldable pub holdersSpace : List ℕ → List ℕ
+holdersSpace t = replicate (min (domains t) 16) 0
+
 -- the lines of what a run came to
 unfoldable pub outcomeLines : Outcome → List ℕ
 outcomeLines o = allLines (o .calls) (o .code) (o .answers)
 
 -- what is printed for these bytes: 7 where they are refused by it, else the lines of their table's and list's run
 unfoldable pub report : List ℕ → List ℕ
-report bytes = cond (unreadable bytes) (firstLine 0 7) (outcomeLines (entry (tableOf bytes) (listOf bytes) answerSpace))
+report bytes =
+    cond (unreadable bytes) (firstLine 0 7)
+    (outcomeLines (entry (tableOf bytes) (listOf bytes) answerSpace (holdersSpace (tableOf bytes))))
 
 -- Where no further byte is wanted, what follows alters nothing;
 abbrev pub NothingFollows : Type 0
@@ -28,7 +35,7 @@ NothingFollows = (bytes more : List ℕ) → wanted bytes ≡ 0 → report (byte
 
 -- and 6 never comes.
 abbrev pub NeverSix : Type 0
-NeverSix = (t ws : List ℕ) → entry t ws answerSpace .code ≡ 6 → ⊥
+NeverSix = (t ws : List ℕ) → entry t ws answerSpace (holdersSpace t) .code ≡ 6 → ⊥
 
 -- what may follow the bytes read in the input: nothing where it ended behind them, anything where it did not
 abbrev pub Follows : Bool → List ℕ → Type 0

@@ -110,25 +110,32 @@ everyCode =
 
 abbrev pub codeRows : List Row
 codeRows =
-    leaves fourDomains (callWords everyCode) (spaceOf 111)
+    leaves fourDomains (callWords everyCode) (spaceOf 111) (spaceOf 4)
     (record {
       code = 0;
       calls = 37;
       table = set (set fourDomains 10 0x2000_0004) 21 0xF000_000A;
       answers = callAnswers everyCode;
+      holders = 2 ∷ 7 ∷ 5 ∷ 0 ∷ [];
     })
-    -- nine domains: a right on target 8 shows in the second data word
-    ∷ leaves (set (0x1000_0900 ∷ replicate 81 0x2000_0000) 9 0x2000_0005) (0x5000_0000 ∷ []) (spaceOf 3)
+    -- nine domains: a right on target 8 shows in the second data word, and in the word of domain 8
+    ∷ leaves (set (0x1000_0900 ∷ replicate 81 0x2000_0000) 9 0x2000_0005) (0x5000_0000 ∷ []) (spaceOf 3) (spaceOf 9)
     (record {
       code = 0;
       calls = 1;
       table = set (0x1000_0900 ∷ replicate 81 0x2000_0000) 9 0x2000_0005;
       answers = 0x5000_0000 ∷ 0 ∷ 5 ∷ [];
+      holders = replicate 8 0 ++ (1 ∷ []);
     })
     -- a repeated name
-    ∷ leaves (set T 22 0x3000_0011) [] [] (unchanged 5 (set T 22 0x3000_0011) [])
+    ∷ leaves (set T 22 0x3000_0011) [] [] (spaceOf 3) (unchanged 5 (set T 22 0x3000_0011) [] (spaceOf 3))
     -- 4,096 words are a list, and 4,097 are none, whatever the table is
-    ∷ leaves T (replicate 4096 0x4080_0000) [] (unchanged 6 T [])
-    ∷ leaves [] (replicate 4097 0x4080_0000) [] (unchanged 1 [] [])
-    ∷ leaves [] (replicate 4096 0x4080_0000) [] (unchanged 2 [] [])
+    ∷ leaves T (replicate 4096 0x4080_0000) [] (spaceOf 3) (unchanged 6 T [] (spaceOf 3))
+    ∷ leaves [] (replicate 4097 0x4080_0000) [] [] (unchanged 1 [] [] [])
+    ∷ leaves [] (replicate 4096 0x4080_0000) [] [] (unchanged 2 [] [] [])
+    -- 6: for the holders one word fewer than there are domains, one more, or none; the table's 5 comes before it
+    ∷ leaves T (0x4080_0000 ∷ []) (spaceOf 3) (spaceOf 2) (unchanged 6 T (spaceOf 3) (spaceOf 2))
+    ∷ leaves T (0x4080_0000 ∷ []) (spaceOf 3) (spaceOf 4) (unchanged 6 T (spaceOf 3) (spaceOf 4))
+    ∷ leaves T [] [] [] (unchanged 6 T [] [])
+    ∷ leaves (set T 22 0x3000_0011) [] [] (spaceOf 2) (unchanged 5 (set T 22 0x3000_0011) [] (spaceOf 2))
     ∷ []

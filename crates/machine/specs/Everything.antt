@@ -1,5 +1,5 @@
 -- One name for the definitions of the machine and its counts, for a proof that computes with them: `unfolding everything`.
-use Rattle.machine.specs.Below.{allBelow, numbersBelow, firstBelow, sumBelow}
+use Rattle.machine.specs.Below.{allBelow, numbersBelow, firstBelow, sumBelow, wordsBelow, bitsBelow}
 use Rattle.machine.specs.Right.{isSet, holds, adds, without, hasAny}
 use Rattle.machine.specs.Table.{domains, endpoints, rightsWord, rights, endpoint, setRights, setEndpoint}
 use Rattle.machine.specs.Check as check
@@ -9,12 +9,13 @@ use Rattle.machine.specs.Machine as machine
 use Rattle.machine.specs.Run.{run, answers}
 use Rattle.machine.specs.Entry as «entry»
 use Rattle.machine.specs.Influence.{reaches, influences}
+use Rattle.machine.specs.Holders.{holdersOf}
 use Rattle.machine.specs.DomainSet.{member, callerIn, calledBy}
 use Rattle.machine.specs.Purge as purge
 use Rattle.machine.specs.Counts as counts
 
 unfoldable pub everything : Unit {0}
-unfolding allBelow numbersBelow firstBelow sumBelow
+unfolding allBelow numbersBelow firstBelow sumBelow wordsBelow bitsBelow
     isSet holds adds without hasAny
     domains endpoints rightsWord rights endpoint setRights setEndpoint
     check.headerWordOk check.rightsWordOk check.nameWordOk check.infoWordOk check.waitingWordOk check.lostWordOk
@@ -29,8 +30,8 @@ unfolding allBelow numbersBelow firstBelow sumBelow
     machine.effect machine.after machine.step machine.ownedBits machine.rightsBits machine.code machine.firstData
     machine.secondData machine.shownCaller machine.answerWord machine.answerTo machine.answer
     run answers
-    «entry».spaceCode «entry».entryCode «entry».refusal «entry».ran «entry».entry
-    reaches influences
+    «entry».holdersCode «entry».spaceCode «entry».entryCode «entry».refusal «entry».ran «entry».entry
+    reaches influences holdersOf
     member callerIn calledBy
     purge.reachesAny purge.joinedBy purge.sources purge.purge
     purge.answersOf purge.rightsOf purge.ownedBy purge.queuesOf purge.lostOf purge.view

@@ -239,27 +239,35 @@ bothEnds =
 
 abbrev pub fieldRows : List Row
 fieldRows =
-    leaves fourDomains (callWords spareFields) (spaceOf 132)
-    (record { code = 0; calls = 44; table = fourDomains; answers = callAnswers spareFields })
-    ∷ leaves oneRight (callWords (unknowns ++ cutting)) (spaceOf 114)
-    (record { code = 0; calls = 38; table = oneRight; answers = callAnswers (unknowns ++ cutting) })
+    leaves fourDomains (callWords spareFields) (spaceOf 132) (spaceOf 4)
+    (record { code = 0; calls = 44; table = fourDomains; answers = callAnswers spareFields; holders = 2 ∷ 7 ∷ 5 ∷ 0 ∷ [] })
+    ∷ leaves oneRight (callWords (unknowns ++ cutting)) (spaceOf 114) (spaceOf 4)
+    (record {
+      code = 0;
+      calls = 38;
+      table = oneRight;
+      answers = callAnswers (unknowns ++ cutting);
+      holders = 2 ∷ 13 ∷ 5 ∷ 9 ∷ [];
+    })
     -- what was given: GRANT on 0 to 0, and every right on 3 to 1
-    ∷ leaves oneRight (callWords rightAsked) (spaceOf 69)
+    ∷ leaves oneRight (callWords rightAsked) (spaceOf 69) (spaceOf 4)
     (record {
       code = 0;
       calls = 23;
       table = set (set oneRight 1 0x2000_0002) 8 0x2000_000F;
       answers = callAnswers rightAsked;
+      holders = 3 ∷ 13 ∷ 5 ∷ 11 ∷ [];
     })
-    ∷ leaves (set oneRight 8 0x2000_000F) (callWords removes) (spaceOf 192)
+    ∷ leaves (set oneRight 8 0x2000_000F) (callWords removes) (spaceOf 192) (spaceOf 4)
     (record {
       code = 0;
       calls = 64;
       table = set (set oneRight 8 0x2000_000F) 16 0x2000_000D;
       answers = callAnswers removes;
+      holders = 2 ∷ 13 ∷ 5 ∷ 11 ∷ [];
     })
     -- the queue has five left, from 0 on, and three free slots
-    ∷ leaves (set selfSender 44 0x6FFF_FFFE) (callWords wholeQueue) (spaceOf 39)
+    ∷ leaves (set selfSender 44 0x6FFF_FFFE) (callWords wholeQueue) (spaceOf 39) (spaceOf 4)
     (record {
       code = 0;
       calls = 13;
@@ -272,30 +280,34 @@ fieldRows =
           48 0xF000_000A)
           49 0xF000_000B;
       answers = callAnswers wholeQueue;
+      holders = 3 ∷ 7 ∷ 5 ∷ 0 ∷ [];
     })
-    ∷ leaves largest (callWords bothEnds) (spaceOf 33)
+    ∷ leaves largest (callWords bothEnds) (spaceOf 33) (spaceOf 16)
     (record {
       code = 0;
       calls = 11;
       table = set (set (set largest 256 0x2000_0003) 631 0x5000_0001) 633 0xF000_0005;
       answers = callAnswers bothEnds;
+      holders = replicate 15 1 ++ (0x8001 ∷ []);
     })
     -- what was taken back: SEND of 1 on itself, all of 2 on 1, REVOKE of 3 on itself
-    ∷ leaves revokers (callWords revokes) (spaceOf 87)
+    ∷ leaves revokers (callWords revokes) (spaceOf 87) (spaceOf 4)
     (record {
       code = 0;
       calls = 29;
       table = set (set (set revokers 6 0x2000_0000) 10 0x2000_0000) 16 0x2000_0000;
       answers = callAnswers revokes;
+      holders = 2 ∷ 9 ∷ 5 ∷ 0 ∷ [];
     })
-    -- every right on sixteen targets fills both data words
-    ∷ leaves (0x1000_1000 ∷ replicate 256 0x2000_000F) (0x53C0_0000 ∷ []) (spaceOf 3)
+    -- every right on sixteen targets fills both data words, and each of sixteen holders has its bit
+    ∷ leaves (0x1000_1000 ∷ replicate 256 0x2000_000F) (0x53C0_0000 ∷ []) (spaceOf 3) (spaceOf 16)
     (record {
       code = 0;
       calls = 1;
       table = 0x1000_1000 ∷ replicate 256 0x2000_000F;
       answers = 0x53C0_0000 ∷ 0xFFFF_FFFF ∷ 0xFFFF_FFFF ∷ [];
+      holders = replicate 16 0xFFFF;
     })
     -- 4,097 words are no list though they make 4,096 calls, and nothing is changed
-    ∷ leaves T (0x1000_0000 ∷ 0xF000_0011 ∷ replicate 4095 0x4080_0000) (spaceOf 3) (unchanged 1 T (spaceOf 3))
+    ∷ leaves T (0x1000_0000 ∷ 0xF000_0011 ∷ replicate 4095 0x4080_0000) (spaceOf 3) (spaceOf 3) (unchanged 1 T (spaceOf 3) (spaceOf 3))
     ∷ []

@@ -1,5 +1,6 @@
--- What is promised of whoever runs a list: from the table t, the list ws and the answer space, it answered a code and a
--- number of calls and left the space as answers and the table as end. The kernel's contract is this record.
+-- What is promised of whoever runs a list: from the table t, the list ws, the answer space and the words lent for the holders, it
+-- answered a code and a number of calls and left the space as answers, the table as end and the holders as kept. The kernel's
+-- contract is this record.
 use Prim.Native.Nat.{ℕ, _<_}
 use mathlib.Core.Path.{_≡_}
 use mathlib.Core.List.{List}
@@ -8,13 +9,15 @@ use Rattle.machine.specs.Call.{cut}
 use Rattle.machine.specs.Entry.{entry}
 use Rattle.machine.specs.RunClaims.{Noninterference, NoRightFromNowhere, CountsBorneOut, InTurn}
 
-pub record RunPromise (t ws space : List ℕ) (code calls : ℕ) (answers end : List ℕ) : Type 0 where
+pub record RunPromise (t ws space holders : List ℕ) (code calls : ℕ) (answers end kept : List ℕ) : Type 0 where
   -- demands 1 and 2 (docs/ASSURANCE has the checklist with its lines): the code, the number of calls, every answer word and every table word are those of the machine of
   -- document 01, for any words at all; a refusal changes nothing
-  pub sameCode : code ≡ entry t ws space .code
-  pub sameCalls : calls ≡ entry t ws space .calls
-  pub sameAnswers : answers ≡ entry t ws space .answers
-  pub sameTable : end ≡ entry t ws space .table
+  pub sameCode : code ≡ entry t ws space holders .code
+  pub sameCalls : calls ≡ entry t ws space holders .calls
+  pub sameAnswers : answers ≡ entry t ws space holders .answers
+  pub sameTable : end ≡ entry t ws space holders .table
+  -- and so is every word of the holders (document 02 (h)): where the list ran, what the table says when worked out afresh
+  pub sameHolders : kept ≡ entry t ws space holders .holders
   -- demand 3, of the words that were left: where the list ran, what each domain sees of them is what it sees of the machine
   -- fed the kept calls alone
   pub noninterference : code ≡ 0 → Noninterference t (cut ws) answers end

@@ -7,11 +7,11 @@ use std::ops::RangeInclusive;
 use reference::calls::{
     cut, Call, GRANT, LOOK_UP, MY_ENDPOINTS, MY_RIGHTS, RECEIVE, REMOVE, REVOKE, SEND,
 };
-use reference::generate::Case;
 use reference::step;
 use reference::table::{domains, endpoints};
 use reference::words::bits;
 
+use crate::cases::Case;
 use crate::judging::counts::{follow, Queue};
 
 /// The numbers that a call can be refused by.

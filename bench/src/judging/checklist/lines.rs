@@ -1,18 +1,19 @@
 //! Lines 2, 3 and 4: answers and table, isolation, counts.
 
 use reference::calls::cut;
-use reference::generate::Case;
 use reference::table::{domains, endpoints, lost, waiting};
 use reference::words::CONTENT_MAX;
 
 use super::{each_run, Checklist, Found, Judged, Runs};
+use crate::cases::Case;
 use crate::judging::checklist::basis::Basis;
 use crate::judging::checklist::shown;
 use crate::judging::compare::{difference, isolation, separate_run, Struck};
 use crate::judging::counts;
 use crate::judging::variants::Variant;
-use crate::kernels::lent::Ran;
+use crate::kernels::lent::{Failure, Ran};
 use crate::line::explain::counted;
+use crate::pictures::reach::reach_in_words;
 
 impl Checklist {
     /// Line 2.
@@ -69,7 +70,10 @@ impl Checklist {
         let of_list = has_calls.then_some(&list[..]);
         Ok(Found {
             in_order: "every domain sees the same without the calls struck for it",
-            stands_on: vec![struck_in_words(&list, &exercise)],
+            stands_on: vec![
+                struck_in_words(&list, &exercise),
+                reach_at_the_end(runs.last()),
+            ],
             not_shown: shown::isolation(&self.this_list().table, &exercise, of_list),
             shown: exercise.iter().any(|struck| struck.by_domains != 0),
         })
@@ -193,6 +197,18 @@ fn count_difference(case: &Case, ran: &Ran) -> Result<(), String> {
     match counts::difference(&case.table, &ran.table, &calls, &ran.answers) {
         Some(why) => Err(why),
         None => Ok(()),
+    }
+}
+
+/// Who can reach each domain once the list that was handed in has run, by the words that
+/// the kernel left.
+fn reach_at_the_end(last: Option<&Result<Ran, Failure>>) -> String {
+    match last {
+        Some(Ok(ran)) => format!(
+            "by a chain of rights, at the end of this list: {}",
+            reach_in_words(&ran.holders)
+        ),
+        _ => "this list did not come to its end".to_string(),
     }
 }
 

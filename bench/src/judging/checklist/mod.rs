@@ -6,8 +6,9 @@ mod lines;
 mod refusals;
 mod shown;
 
-use reference::generate::{Case, Rng};
+use reference::generate::Rng;
 
+use crate::cases::Case;
 use crate::judging::checklist::basis::Basis;
 use crate::judging::checklist::shown::NotShown;
 use crate::judging::exercise::{exercise, Planned};

@@ -5,7 +5,6 @@ use std::collections::BTreeMap;
 
 use reference::calls::{cut, Call};
 use reference::check_bytes;
-use reference::generate::Case;
 use reference::influence::tables_before;
 use reference::machine::refusal;
 use reference::table::{
@@ -14,6 +13,7 @@ use reference::table::{
 use reference::words::to_bytes;
 
 use super::{at_a_time, each_run, Checklist, Found, Judged, Runs};
+use crate::cases::Case;
 use crate::judging::checklist::basis::{by_number, Basis};
 use crate::judging::checklist::shown;
 use crate::judging::compare::{difference, separate_run};
@@ -199,7 +199,8 @@ fn wrongly_ended(case: &Case, ran: &Ran) -> Option<String> {
             meaning(should)
         ));
     }
-    let changed = ran.table != case.table || ran.answers != case.answers;
+    let lent = (&case.table, &case.answers, &case.holders);
+    let changed = (&ran.table, &ran.answers, &ran.holders) != lent;
     if should != 0 && (changed || ran.outcome.calls != 0) {
         return Some(format!(
             "refused with {should}, and yet it counts {} or a word was changed",

@@ -6,12 +6,13 @@ use reference::calls::{
     cut, Call, GRANT, LIST_WORDS_MAX, LOOK_UP, MY_ENDPOINTS, MY_RIGHTS, RECEIVE, REMOVE, REVOKE,
     SEND, STRAY,
 };
-use reference::generate::{call_word, Case};
+use reference::generate::call_word;
 use reference::machine::refusal;
 use reference::step;
 use reference::table::{domains, right};
 use reference::words::{word, CONTENT_MAX};
 
+use crate::cases::Case;
 use crate::judging::variants::case_of;
 use crate::line::input::Input;
 

@@ -15,15 +15,15 @@ use Rattle.balkwizu.proofs.balkwizu_run.Tie as tie
 -- at most 4,096 calls, and a code of at most 6
 few : (c : tie.After-calls) → c .calls .result ≤ 4096
 few c =
-    let a = c .before .before .before .before .before .before .before .before .before .before .before .before .args in
-    let p = c .before .before .before .before .before .before .run .ensures in
-    omega (arith, c .calls .ensures, p .sameCalls, calls-few (now (a .table)) (now (a .list)) (now (a .answers)))
+    let a = c .before .before .before .before .before .before .before .before .before .before .before .before .before .before .before .before .args in
+    let p = c .before .before .before .before .before .before .before .before .run .ensures in
+    omega (arith, c .calls .ensures, p .sameCalls, calls-few (now (a .table)) (now (a .list)) (now (a .answers)) (now (a .holders)))
 
 small : (c : tie.After-calls) → c .before .code .result ≤ 6
 small c =
-    let a = c .before .before .before .before .before .before .before .before .before .before .before .before .args in
-    let p = c .before .before .before .before .before .before .run .ensures in
-    omega (arith, c .before .code .ensures, p .sameCode, code-small (now (a .table)) (now (a .list)) (now (a .answers)))
+    let a = c .before .before .before .before .before .before .before .before .before .before .before .before .before .before .before .before .args in
+    let p = c .before .before .before .before .before .before .before .before .run .ensures in
+    omega (arith, c .before .code .ensures, p .sameCode, code-small (now (a .table)) (now (a .list)) (now (a .answers)) (now (a .holders)))
 
 run-requires : tie.Need-run-requires
 run-requires c κs = search needs
@@ -49,11 +49,15 @@ same-length c = search needs
 same-length-2 : tie.Need-same-length-2
 same-length-2 c = search needs
 
+same-length-3 : tie.Need-same-length-3
+same-length-3 c = search needs
+
 returns : tie.Need-returns
 returns c =
-    let a = c .before .before .before .before .before .before .before .before .before .before .before .before .args in
-    let run = c .before .before .before .before .before .before .run in
-    subst₂ (λ (code calls : ℕ). RunPromise (now (a .table)) (now (a .list)) (now (a .answers)) code calls (run .last .1 .1 .0) (run .last .0))
+    let a = c .before .before .before .before .before .before .before .before .before .before .before .before .before .before .before .before .args in
+    let run = c .before .before .before .before .before .before .before .before .run in
+    subst₂
+    (λ (code calls : ℕ). RunPromise (now (a .table)) (now (a .list)) (now (a .answers)) (now (a .holders)) code calls (run .last .1 .1 .0) (run .last .0) (run .last .1 .1 .1 .0))
     (sym (c .before .code .ensures) ∙ low (c .before .code .result) (c .calls .result) (omega (arith, small c)))
     (sym (c .calls .ensures) ∙ high (c .before .code .result) (c .calls .result) (omega (arith, small c)))
     (run .ensures)
@@ -70,4 +74,5 @@ balkwizu-run-spec =
     add-result
     same-length
     same-length-2
+    same-length-3
     returns)

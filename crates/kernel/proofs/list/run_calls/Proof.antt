@@ -1,8 +1,10 @@
 -- `list::run_calls` meets its contract: the loop's invariant is a run on its way. Assumes nothing.
+use mathlib.Core.Path.{_∙_}
 use Prim.Native.Nat.{_+_, _*_, _-_, _≤_}
 use native.Mathlib.Omega.{arith}
 use lib.ListN.{length}
 use borrow.Author.Needs.{needs}
+use Rattle.holders.proofs.Filled.{filled-accepted}
 use Rattle.cutting.specs.Cutting.{widthOf}
 use Rattle.cutting.specs.declared.Second.{Second}
 use Rattle.cutting.specs.declared.Second.the-variants.{Nothing, Word}
@@ -11,25 +13,27 @@ use Rattle.kernel.proofs.list.run_calls.Statement.{statement}
 use Rattle.kernel.proofs.list.run_calls.Tie as tie
 
 abbrev Inv-loop : tie.InvT-loop
-Inv-loop table₀ list answers₀ calls₀ i₀ table answers calls i = Underway table₀ list answers₀ table answers calls i
+Inv-loop table₀ list answers₀ holders₀ calls₀ i₀ table answers holders calls i =
+    Underway table₀ list answers₀ holders₀ table answers holders calls i
 
 abbrev μ-loop : tie.MeasureT-loop
-μ-loop table₀ list answers₀ calls₀ i₀ table answers calls i = length list - i
+μ-loop table₀ list answers₀ holders₀ calls₀ i₀ table answers holders calls i = length list - i
 
 -- there is space for one answer more
 next-room : (c : tie.In-loop Inv-loop μ-loop) → 3 * c .before .loop .calls + 3 ≤ length (c .before .loop .answers)
-next-room c = room (c .before .loop .inv) (c .loop-test .taken) (c .before .before .before .before .before .pre .1 .1)
+next-room c = room (c .before .loop .inv) (c .loop-test .taken) (c .before .before .before .before .before .before .before .before .before .before .before .pre .1 .1 .0)
 
 -- one call more
 next : tie.Need-loop-again Inv-loop μ-loop
 next c =
     let call = c .before .before .before in
-    let served = call .before .before .before .before in
-    let second = served .before .before .before in
+    let served = call .before .before .before .before .before .before in
+    let second = served .before .before .before .before in
     let at = second .before .before in
-    underway-next (at .loop .inv) (second .before .loop-test .taken) (second .second-at .result) _ _ _ _ (second .second-at .ensures)
+    underway-next (at .loop .inv) (second .before .loop-test .taken) (second .second-at .result) _ _ _ _ _ (second .second-at .ensures)
     (c .width .ensures)
     (served .serve .ensures)
+    (served .serve .kept .1 .1 .1 .0)
     (call .put .ensures)
     (call .put .kept .0)
 
@@ -39,17 +43,22 @@ wide Nothing = omega arith
 wide (Word v) = omega arith
 
 next-place : (c : tie.After-width Inv-loop μ-loop)
-    → let i = c .before .before .before .before .before .before .before .before .before .before .before .before .loop .i in
-    (i + c .width .result ≤ length (c .before .before .before .before .before .before .before .before .before .before .before .before .before .before .before .before .args .list .now))
+    → let i = c .before .before .before .before .before .before .before .before .before .before .before .before .before .before .before .loop .i in
+    (i + c .width .result ≤ length (c .before .before .before .before .before .before .before .before .before .before .before .before .before .before .before .before .before .before .before .before .before .before .before .before .before .args .list .now))
     × (1 ≤ c .width .result)
-next-place c = (next c .within, omega (arith, c .width .ensures, wide (c .before .before .before .before .before .before .before .before .before .before .second-at .result)))
+next-place c = (next c .within, omega (arith, c .width .ensures, wide (c .before .before .before .before .before .before .before .before .before .before .before .before .before .second-at .result)))
+
+fill-requires : tie.Need-fill-requires Inv-loop μ-loop
+fill-requires c κs = tt
 
 loop-holds : tie.Need-loop-holds Inv-loop μ-loop
 loop-holds c =
-    underway-start _ _ _ (c .before .before .before .pre .0)
+    let filled = c .before .before in
+    let start = filled .before .before .before .before .before .before .before in
+    underway-start _ _ _ _ (start .pre .0) (filled .fill .ensures ∙ filled-accepted _ _ (start .pre .0) (start .pre .1 .1 .1))
 
 second-at-requires : tie.Need-second-at-requires Inv-loop μ-loop
-second-at-requires c κs = search needs
+second-at-requires c κs = tt
 
 mul-serve : tie.Need-mul-serve Inv-loop μ-loop
 mul-serve c = omega arith
@@ -58,19 +67,21 @@ shared-slice-read-serve : tie.Need-shared-slice-read-serve Inv-loop μ-loop
 shared-slice-read-serve c = omega arith
 
 serve-requires : tie.Need-serve-requires Inv-loop μ-loop
-serve-requires c κs = c .before .before .before .before .loop .inv .accepted
+serve-requires c κs =
+    let u = c .before .before .before .before .before .loop .inv in
+    (u .accepted, u .holders)
 
 mul-put : tie.Need-mul-put Inv-loop μ-loop
-mul-put c = omega (arith, next-room (c .before .before .before .before .before .before .before))
+mul-put c = omega (arith, next-room (c .before .before .before .before .before .before .before .before .before .before))
 
 put-requires : tie.Need-put-requires Inv-loop μ-loop
-put-requires c κs = next-room (c .before .before .before .before .before .before .before)
+put-requires c κs = next-room (c .before .before .before .before .before .before .before .before .before .before)
 
 add-calls : tie.Need-add-calls Inv-loop μ-loop
-add-calls c = omega (arith, next-room (c .before .before .before .before .before .before .before .before .before .before))
+add-calls c = omega (arith, next-room (c .before .before .before .before .before .before .before .before .before .before .before .before .before))
 
 width-requires : tie.Need-width-requires Inv-loop μ-loop
-width-requires c κs = search needs
+width-requires c κs = tt
 
 add-i : tie.Need-add-i Inv-loop μ-loop
 add-i c = omega (arith, next-place c)
@@ -87,6 +98,9 @@ same-length c = c .before .loop .inv .tableSize
 same-length-2 : tie.Need-same-length-2 Inv-loop μ-loop
 same-length-2 c = c .before .loop .inv .spaceSize
 
+same-length-3 : tie.Need-same-length-3 Inv-loop μ-loop
+same-length-3 c = c .before .loop .inv .holdersSize ∙ c .before .before .before .before .fill .kept .1 .0
+
 returns : tie.Need-returns Inv-loop μ-loop
 returns c = underway-end (c .before .loop .inv) (c .loop-test .left)
 
@@ -96,6 +110,7 @@ run-calls-spec =
     (tie.spec
     Inv-loop
     μ-loop
+    fill-requires
     loop-holds
     second-at-requires
     mul-serve
@@ -110,4 +125,5 @@ run-calls-spec =
     loop-again
     same-length
     same-length-2
+    same-length-3
     returns)

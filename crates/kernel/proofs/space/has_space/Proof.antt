@@ -1,4 +1,4 @@
--- `list::has_space` meets its contract: a list has no more calls than words. Assumes nothing.
+-- `space::has_space` meets its contract: a list has no more calls than words. Assumes nothing.
 use mathlib.Core.Path.{sym, ap, _∙_}
 use mathlib.Core.Bool.{not}
 use Prim.Native.Nat.{ℕ, _*_}
@@ -10,8 +10,8 @@ use borrow.Author.Tests.{le-ltb}
 use Rattle.machine.specs.Call.{cut}
 use Rattle.machine.proofs.Cut.{cut-few}
 use Rattle.kernel.proofs.Entries.{at-most}
-use Rattle.kernel.proofs.list.has_space.Statement.{statement}
-use Rattle.kernel.proofs.list.has_space.Tie as tie
+use Rattle.kernel.proofs.space.has_space.Statement.{statement}
+use Rattle.kernel.proofs.space.has_space.Tie as tie
 
 mul-if1 : tie.Need-mul-if1
 mul-if1 c = search needs
@@ -22,7 +22,7 @@ returns c =
     sym (ap not (le-ltb (a .size) (3 * length (cut (a .list .now))) (omega (arith, cut-few (a .list .now), c .if1 .taken))))
 
 count-requires : tie.Need-count-requires
-count-requires c κs = search needs
+count-requires c κs = tt
 
 mul-result : tie.Need-mul-result
 mul-result c = omega (arith, c .count .ensures, cut-few (c .before .before .before .args .list .now), c .before .before .before .pre)

@@ -1,0 +1,2 @@
+-- What is proved of the refusals besides their functions.
+pub mod Refusals
