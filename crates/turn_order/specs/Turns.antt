@@ -1,0 +1,120 @@
+-- Calls that domains hand in one by one, served by turns (document 02 (m)): what is pending, what handing in comes to, what a turn
+-- comes to, and what each leaves. Nothing here knows in which words any of this stands.
+use Prim.Native.Nat.{ℕ, _+_}
+use mathlib.Core.Bool.{Bool, false, cond, not, _&&_, _||_}
+use mathlib.Core.List.{List, [], _∷_, _++_}
+use mathlib.Core.Option.{Option, none, some}
+use lib.Dec.{eqb, leb, ltb}
+use lib.ListN.{length, drop}
+use Rattle.machine.specs.Below.{firstBelow}
+use Rattle.machine.specs.Table.{domains}
+use Rattle.machine.specs.Check.{tableCode}
+use Rattle.machine.specs.Call.{Call, callerOf, cut, Call.one, Call.two}
+use Rattle.machine.specs.Machine.{step, answer}
+use Rattle.machine.specs.DomainSet.{calledBy}
+use Rattle.machine.specs.Holders.{holdersOf}
+
+-- What stands between turns: each domain's pending words, oldest first, and the place of the turn, which is the domain at which the
+-- next turn begins to look.
+pub record Turns : Type 0 where
+  pub pending : ℕ → List ℕ
+  pub place : ℕ
+
+-- the beginning: nothing is pending, and the first turn of all starts at 0
+unfoldable pub begun : Turns
+begun = record { pending = λ d. []; place = 0 }
+
+-- every domain's words as f has them, but for d's
+unfoldable pub replaced : (ℕ → List ℕ) → ℕ → List ℕ → ℕ → List ℕ
+replaced f d ws e = cond (eqb d e) ws (f e)
+
+-- ---- handing in
+
+-- the most words that are pending of a domain
+abbrev pub mostPending : ℕ
+mostPending = 16
+
+-- the calls are exactly one, no stray, with the caller d
+unfoldable pub isOneOf : ℕ → List Call → Bool
+isOneOf d [] = false
+isOneOf d (c ∷ []) = calledBy d (callerOf c)
+isOneOf d (c ∷ next ∷ cs) = false
+
+-- the code of handing in the words ws for the domain d: the table's 2 to 5, then 35 where the domain isn't below n, 36 where the
+-- words aren't exactly one call of it, and 37 where its pending words would pass 16; 0 where none refuses
+unfoldable pub handInCode : List ℕ → Turns → ℕ → List ℕ → ℕ
+handInCode t s d ws =
+    cond (not (eqb (tableCode t) 0)) (tableCode t)
+    (cond (not (ltb d (domains t))) 35
+    (cond (not (isOneOf d (cut ws))) 36 (cond (ltb mostPending (length (s .pending d) + length ws)) 37 0)))
+
+-- the words ws go behind those of the domain d
+unfoldable pub handedIn : Turns → ℕ → List ℕ → Turns
+handedIn s d ws = record { pending = replaced (s .pending) d (s .pending d ++ ws); place = s .place }
+
+-- ---- a turn
+
+-- a domain has a call pending
+unfoldable pub waits : Turns → ℕ → Bool
+waits s d = not (eqb (length (s .pending d)) 0)
+
+-- the first of the n domains, from a place on, that has one
+unfoldable pub firstFrom : ℕ → Turns → ℕ → Option ℕ
+firstFrom n s place = firstBelow n (λ d. leb place d && waits s d)
+
+-- the first that has one from the place of the turn on, up and then round to 0
+unfoldable pub orElse : Option ℕ → Option ℕ → Option ℕ
+orElse none next = next
+orElse (some d) next = some d
+
+unfoldable pub firstWaiting : ℕ → Turns → Option ℕ
+firstWaiting n s = orElse (firstFrom n s (s .place)) (firstFrom n s 0)
+
+-- What a turn that isn't refused comes to: nothing was pending, or the call c of the domain d is served.
+pub data Turn : Type 0 where
+  idle : Turn
+  serves : (d : ℕ) (c : Call) → Turn
+
+-- the oldest of a domain's pending calls
+unfoldable pub servesOldest : ℕ → List Call → Turn
+servesOldest d [] = idle
+servesOldest d (c ∷ cs) = serves d c
+
+-- whom a turn among n domains serves
+unfoldable pub servesAt : Turns → Option ℕ → Turn
+servesAt s none = idle
+servesAt s (some d) = servesOldest d (cut (s .pending d))
+
+unfoldable pub turnOf : ℕ → Turns → Turn
+turnOf n s = servesAt s (firstWaiting n s)
+
+-- how many words a call is
+abbrev pub width : Call → ℕ
+width (one w) = 1
+width (two w v) = 2
+
+-- what stands after a turn: the words of the call served are gone, and the next turn starts after its domain
+unfoldable pub afterTurn : Turns → Turn → Turns
+afterTurn s idle = s
+afterTurn s (serves d c) =
+    record { pending = replaced (s .pending) d (drop (width c) (s .pending d)); place = d + 1 }
+
+-- the table after a turn, and the words of its answer, none where it is idle
+unfoldable pub tableAfter : List ℕ → Turn → List ℕ
+tableAfter t idle = t
+tableAfter t (serves d c) = step t c
+
+unfoldable pub answerOf : List ℕ → Turn → List ℕ
+answerOf t idle = []
+answerOf t (serves d c) = answer t c
+
+-- the holders (document 02: the panel's words) that a turn leaves of those it was lent
+unfoldable pub holdersAfter : List ℕ → Turn → List ℕ → List ℕ
+holdersAfter t idle holders = holders
+holdersAfter t (serves d c) holders = holdersOf (step t c)
+
+-- the code of a turn with so many words lent for its answer and for the holders: the table's 2 to 5, then 6 where the answer's three
+-- words have no space or the holders aren't one word a domain; 0 where none refuses
+unfoldable pub turnCode : List ℕ → ℕ → ℕ → ℕ
+turnCode t space lent =
+    cond (not (eqb (tableCode t) 0)) (tableCode t) (cond (ltb space 3 || not (eqb lent (domains t))) 6 0)
