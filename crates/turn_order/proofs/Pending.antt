@@ -93,7 +93,7 @@ unfolding isOneOf
 one-of d c [] h = (h, refl)
 one-of d c (next ∷ cs) h = absurd (false≢true h)
 
-oldest-first : (w : ℕ) (ws : List ℕ) → first (oldest w ws) ≡ w
+pub oldest-first : (w : ℕ) (ws : List ℕ) → first (oldest w ws) ≡ w
 unfolding oldest first
 oldest-first w [] = refl
 oldest-first w (v ∷ ws) = go (pairs w v)
@@ -135,9 +135,17 @@ first-here : (k : ℕ) (p : ℕ → Bool) → firstBelow k p ≡ none → p k �
 unfolding firstBelow
 first-here k p is h = rw (is, h)
 
-first-not : (k : ℕ) (p : ℕ → Bool) → firstBelow k p ≡ none → p k ≡ false → firstBelow (suc k) p ≡ none
+pub first-not : (k : ℕ) (p : ℕ → Bool) → firstBelow k p ≡ none → p k ≡ false → firstBelow (suc k) p ≡ none
 unfolding firstBelow
 first-not k p is h = rw (is, h)
+
+-- none below e, and e passes
+pub first-found : (k : ℕ) (p : ℕ → Bool) (e : ℕ) → firstBelow e p ≡ none → p e ≡ true → e < k → firstBelow k p ≡ some e
+first-found zero p e is h l = absurd (not-suc-le-zero l)
+first-found (suc k) p e is h l =
+    ⊎-elim (λ less. first-before k p e (first-found k p e is h less))
+    (λ same. subst (λ (x : ℕ). firstBelow (suc x) p ≡ some e) same (first-here e p is h))
+    (below-or-last k e l)
 
 -- what the search for the first comes to: it is found, or there is none
 abbrev pub Searched : ℕ → (ℕ → Bool) → Type 0

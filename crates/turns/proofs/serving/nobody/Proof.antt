@@ -1,0 +1,62 @@
+-- `serving::nobody` meets its contract: each place that refuses a turn, in its order. Assumes nothing.
+use mathlib.Core.Path.{_≡_, refl, sym, ap, _∙_}
+use Prim.Native.Nat.{ℕ, _+_, _*_}
+use native.Mathlib.Omega.{arith}
+use borrow.Author.Needs.{needs}
+use Rattle.machine.specs.Check.{Accepted}
+use Rattle.table.specs.Checked.{checkedCode}
+use Rattle.table.proofs.Refusals.{refusal-code}
+use Rattle.turns.proofs.Blocks.{domains-few}
+use Rattle.turns.proofs.Codes.{turn-table, turn-space, turn-holders, turn-fine, turns-refused, turns-size, turns-turn}
+use Rattle.turns.proofs.serving.nobody.Statement.{statement}
+use Rattle.turns.proofs.serving.nobody.Tie as tie
+
+returns : tie.Need-returns
+returns c =
+    let check = c .before .before .before in
+    let code = sym (ap checkedCode (c .before .checked .given .1)) ∙ check .check .ensures in
+    let bad = refusal-code (c .before .checked .given .0 .0) in
+    (turns-refused _ _ _ _ _ (turn-table _ _ _ _ code bad) bad, refl)
+
+accepted : (c : tie.After-enum-told) → Accepted (c .before .before .before .before .args .table .now)
+accepted c = sym (sym (ap checkedCode (c .enum-told .given .1)) ∙ c .before .before .check .ensures)
+
+returns-2 : tie.Need-returns-2
+returns-2 c = (turns-refused _ _ _ _ _ (turn-space _ _ _ (accepted (c .before)) (c .if1 .taken)) (λ z. omega arith), refl)
+
+returns-3 : tie.Need-returns-3
+returns-3 c =
+    let told = c .before .before in
+    let n = told .before .before .before .before .pre in
+    (turns-refused _ _ _ _ _ (turn-holders _ _ _ (accepted told) (omega (arith, c .before .if1 .left)) (λ same. c .if2 .taken (same ∙ sym n))) (λ z. omega arith), refl)
+
+returns-4 : tie.Need-returns-4
+returns-4 c =
+    let told = c .before .before .before in
+    let n = told .before .before .before .before .pre in
+    let a = told .before .before .before .before .args in
+    let fine = turn-fine (a .table .now) (a .space) (a .lent) (accepted told) (omega (arith, c .before .before .if1 .left)) (c .before .if2 .left ∙ n) in
+    (turns-size _ _ _ _ fine (λ same. c .if3 .taken (same ∙ ap (λ (k : ℕ). 1 + 17 * k) (sym n))), refl)
+
+returns-5 : tie.Need-returns-5
+returns-5 c =
+    let told = c .before .before .before in
+    let n = told .before .before .before .before .pre in
+    let a = told .before .before .before .before .args in
+    let fine = turn-fine (a .table .now) (a .space) (a .lent) (accepted told) (omega (arith, c .before .before .if1 .left)) (c .before .if2 .left ∙ n) in
+    (fine ∙ sym (turns-turn _ _ _ _ (c .if3 .left ∙ ap (λ (k : ℕ). 1 + 17 * k) n)), refl)
+
+pub nobody-spec : {M : Type 1} → statement M
+nobody-spec =
+    tie.close
+    (tie.spec
+    (λ c κs. search needs)
+    (λ c. search needs)
+    returns
+    (λ c. search needs)
+    returns-2
+    returns-3
+    (λ c. omega (arith, c .before .before .before .before .before .before .pre, domains-few (c .before .before .before .before .before .before .args .table .now)))
+    (λ c. omega (arith, c .before .before .before .before .before .before .pre, domains-few (c .before .before .before .before .before .before .args .table .now)))
+    returns-4
+    returns-5)

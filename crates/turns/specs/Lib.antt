@@ -1,0 +1,4 @@
+-- What the contracts of handing in and turns cite.
+pub mod State
+pub mod Told
+pub mod Promise

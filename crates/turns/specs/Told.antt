@@ -1,0 +1,50 @@
+-- The numbers of the answers (document 02 (m)): 35, 36 and 37, document 01's 2 to 6, and 99, which no paper uses, for a state of another
+-- length than n domains ask for.
+use Prim.Native.Nat.{ℕ}
+use mathlib.Core.Bool.{Bool, not, _&&_}
+use lib.Dec.{eqb}
+use Rattle.machine.specs.Word.{kind, caller}
+use Rattle.table.specs.Checked.{refusalCode}
+use Rattle.entry.specs.Entry.{entryRefusalCode}
+use Rattle.turns.specs.declared.HandInRefusal.{HandInRefusal}
+use Rattle.turns.specs.declared.HandInRefusal.the-variants as handIn
+use Rattle.turns.specs.declared.HandedIn.{HandedIn}
+use Rattle.turns.specs.declared.HandedIn.the-variants as handed
+use Rattle.turns.specs.declared.TurnRefusal.{TurnRefusal}
+use Rattle.turns.specs.declared.TurnRefusal.the-variants as turn
+use Rattle.turns.specs.declared.Turned.{Turned}
+use Rattle.turns.specs.declared.Turned.the-variants as turned
+
+-- the number for a state of another length
+abbrev pub badTurns : ℕ
+badTurns = 99
+
+abbrev pub handInRefusalCode : HandInRefusal → ℕ
+handInRefusalCode (handIn.BadTable r) = refusalCode r
+handInRefusalCode handIn.UnknownDomain = 35
+handInRefusalCode handIn.NotOneCall = 36
+handInRefusalCode handIn.BadTurns = badTurns
+handInRefusalCode handIn.NoRoom = 37
+
+abbrev pub handedInCode : HandedIn → ℕ
+handedInCode (handed.Refused r) = handInRefusalCode r
+handedInCode handed.Pending = 0
+
+abbrev pub turnRefusalCode : TurnRefusal → ℕ
+turnRefusalCode (turn.Entry r) = entryRefusalCode r
+turnRefusalCode turn.BadTurns = badTurns
+
+abbrev pub turnedCode : Turned → ℕ
+turnedCode (turned.Refused r) = turnRefusalCode r
+turnedCode turned.Idle = 0
+turnedCode turned.Served = 0
+
+-- how many calls a turn served
+abbrev pub turnedServed : Turned → ℕ
+turnedServed (turned.Refused r) = 0
+turnedServed turned.Idle = 0
+turnedServed turned.Served = 1
+
+-- a call's first word is no stray, and its caller is d
+unfoldable pub isCallOf : ℕ → ℕ → Bool
+isCallOf w d = not (eqb (kind w) 15) && eqb (caller w) d

@@ -1,0 +1,157 @@
+// Turns for calls that domains hand in one by one (document 02 (m)), a layer above the kernel: it stands on what `kernel::check` and
+// `kernel::step` say of themselves. What is pending and the place of the turn stand in 1 + 17 n words that the caller lends: the place
+// first, then seventeen words for each domain, lowest number first (crate pending).
+mod domain;
+mod order;
+mod serving;
+
+use domain::add;
+use domain::fits;
+use domain::is_one_call;
+use domain::number;
+use entry::EntryRefusal;
+use kernel::check;
+use order::next_to_serve;
+use serving::nobody;
+use serving::serve;
+use table::Checked;
+use table::TableRefusal;
+ghost use mathlib.Core.Path.{_≡_};
+ghost use lib.ListN.{length, replicate};
+ghost use Rattle.turns.specs.Told.{handInRefusalCode, handedInCode, turnRefusalCode, turnedCode, turnedServed};
+ghost use Rattle.turns.specs.Promise.{HandInPromise, TurnPromise};
+
+// Why words aren't handed in.
+pub enum HandInRefusal {
+    BadTable(TableRefusal), // 2 to 5
+    UnknownDomain, // 35
+    NotOneCall, // 36
+    BadTurns, // 99, which no paper uses: the state isn't 1 + 17 n words
+    NoRoom, // 37
+}
+
+impl HandInRefusal {
+    pub fn code(self) -> u32
+        ensures { λ r. ⌜ r ≡ handInRefusalCode self ⌝ }
+    {
+        match self {
+            HandInRefusal::BadTable(refusal) => refusal.code(),
+            HandInRefusal::UnknownDomain => 35,
+            HandInRefusal::NotOneCall => 36,
+            HandInRefusal::BadTurns => 99,
+            HandInRefusal::NoRoom => 37,
+        }
+    }
+}
+
+// What handing in comes to.
+pub enum HandedIn {
+    Refused(HandInRefusal),
+    Pending,
+}
+
+impl HandedIn {
+    pub fn code(self) -> u32
+        ensures { λ r. ⌜ r ≡ handedInCode self ⌝ }
+    {
+        match self {
+            HandedIn::Refused(refusal) => refusal.code(),
+            HandedIn::Pending => 0,
+        }
+    }
+}
+
+// Why a turn isn't taken.
+pub enum TurnRefusal {
+    Entry(EntryRefusal), // 2 to 6
+    BadTurns, // 99, which no paper uses: the state isn't 1 + 17 n words
+}
+
+impl TurnRefusal {
+    pub fn code(self) -> u32
+        ensures { λ r. ⌜ r ≡ turnRefusalCode self ⌝ }
+    {
+        match self {
+            TurnRefusal::Entry(refusal) => refusal.code(),
+            TurnRefusal::BadTurns => 99,
+        }
+    }
+}
+
+// What a turn comes to.
+pub enum Turned {
+    Refused(TurnRefusal),
+    Idle,
+    Served,
+}
+
+impl Turned {
+    pub fn code(self) -> u32
+        ensures { λ r. ⌜ r ≡ turnedCode self ⌝ }
+    {
+        match self {
+            Turned::Refused(refusal) => refusal.code(),
+            Turned::Idle => 0,
+            Turned::Served => 0,
+        }
+    }
+
+    // How many calls it served.
+    pub fn served(self) -> u32
+        ensures { λ r. ⌜ r ≡ turnedServed self ⌝ }
+    {
+        match self {
+            Turned::Refused(_) => 0,
+            Turned::Idle => 0,
+            Turned::Served => 1,
+        }
+    }
+}
+
+// The beginning: nothing is pending, and the first turn of all starts at 0.
+pub fn begin(state: &mut [u32])
+    ensures { λ _. ⌜ now (state .exit) ≡ replicate (length (now (state .entry))) 0 ⌝ }
+{
+    let mut i: usize = 0;
+    while i < state.len() {
+        state[i] = 0;
+        i += 1;
+    }
+}
+
+// A domain hands in the words of one call.
+pub fn hand_in(table: &[u32], state: &mut [u32], domain: u32, words: &[u32]) -> HandedIn
+    ensures { λ r. ⌜ HandInPromise (now (table .entry)) (now (state .entry)) domain (now (words .entry)) (handedInCode r) (now (state .exit)) ⌝ }
+{
+    let checked = check(table);
+    if let Checked::Refused(refusal) = checked {
+        return HandedIn::Refused(HandInRefusal::BadTable(refusal));
+    }
+    let n = number(table);
+    if n <= domain as usize {
+        return HandedIn::Refused(HandInRefusal::UnknownDomain);
+    }
+    if !is_one_call(words, domain) {
+        return HandedIn::Refused(HandInRefusal::NotOneCall);
+    }
+    if !fits(state.len(), n) {
+        return HandedIn::Refused(HandInRefusal::BadTurns);
+    }
+    if !add(state, n, domain as usize, words) {
+        return HandedIn::Refused(HandInRefusal::NoRoom);
+    }
+    HandedIn::Pending
+}
+
+// A turn: the oldest call of the domain that is next, or none where nothing is pending. A call that is served is answered in the first
+// three words of the answer space.
+pub fn turn(table: &mut [u32], state: &mut [u32], holders: &mut [u32], answer: &mut [u32]) -> Turned
+    ensures { λ r. ⌜ TurnPromise (now (table .entry)) (now (state .entry)) (now (holders .entry)) (now (answer .entry)) (turnedCode r) (turnedServed r) (now (table .exit)) (now (state .exit)) (now (holders .exit)) (now (answer .exit)) ⌝ }
+{
+    let n = number(table);
+    let next = next_to_serve(state, n, answer.len());
+    if next == n {
+        return nobody(table, n, state.len(), holders.len(), answer.len());
+    }
+    serve(table, state, holders, answer, n, next)
+}
