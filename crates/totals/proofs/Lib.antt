@@ -1,0 +1,3 @@
+-- What is proved of the totals.
+pub mod TotalsLaws
+pub mod Examples
