@@ -1,0 +1,2 @@
+-- What the contracts of `counting` cite besides the machine.
+pub mod Counted
