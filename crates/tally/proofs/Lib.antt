@@ -1,0 +1,3 @@
+-- What is proved of counting and adding, as definitions: laws that the functions' proofs cite.
+pub mod SumLaws
+pub mod RunLaws
