@@ -1,0 +1,3 @@
+-- What is proved of linetotals' lines as definitions: laws that the program's proofs cite.
+pub mod LineLaws
+pub mod Examples

@@ -1,0 +1,2 @@
+-- What the contracts of `totals_text` cite: linetotals' lines.
+pub mod Lines

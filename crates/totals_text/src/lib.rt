@@ -1,0 +1,2 @@
+// The lines that linetotals prints, as bytes.
+pub mod lines;
