@@ -1,0 +1,5 @@
+-- What the contracts of `totals_input` cite: what linetotals reads.
+pub mod Input
+pub mod Next
+pub mod Read
+pub mod Examples

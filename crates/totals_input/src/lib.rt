@@ -1,0 +1,33 @@
+// What linetotals reads: the table, then each list with its length in words before it. What stands before a list says, and the
+// reading of standard input.
+pub mod stdin;
+
+use reading::words::word_at;
+ghost use mathlib.Core.Path.{_≡_};
+ghost use Rattle.totals_input.specs.Next.{nextOf};
+
+// What comes next: the lists end, by a number that is 0 at the input's end, or a list of so many words.
+pub enum Next {
+    Ends(u32),
+    Words(usize),
+}
+
+// By the bytes that stand before a list, where so many lists may still come.
+pub fn next_list(left: usize, bytes: &[u8]) -> Next
+    ensures { λ r. ⌜ r ≡ nextOf left (now (bytes .entry)) ⌝ }
+{
+    if bytes.len() == 0 {
+        return Next::Ends(0);
+    }
+    if left == 0 {
+        return Next::Ends(1);
+    }
+    if bytes.len() < 4 {
+        return Next::Ends(7);
+    }
+    let words = word_at(bytes, 0) as usize;
+    if 4096 < words {
+        return Next::Ends(1);
+    }
+    Next::Words(words)
+}
