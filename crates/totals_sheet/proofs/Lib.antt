@@ -1,0 +1,3 @@
+-- What is proved of what linetotals prints, as definitions.
+pub mod SheetLaws
+pub mod Examples

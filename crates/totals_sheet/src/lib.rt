@@ -1,0 +1,1 @@
+// What linetotals prints for what it read, as bytes.
