@@ -35,7 +35,7 @@ fn send_with_space(q: &mut [u32], message: u32)
 }
 
 // What a lost count rises to: one more, staying at its largest.
-fn lost_after(count: u32) -> u32
+pub fn lost_after(count: u32) -> u32
     ensures { λ r. ⌜ r ≡ min (count + 1) mostLost ⌝ }
 {
     if count < MOST_LOST {
