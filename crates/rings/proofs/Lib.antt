@@ -1,0 +1,5 @@
+-- Laws of rings that the proofs of several functions, and other crates, cite.
+pub mod Words
+pub mod Filled
+pub mod Along
+pub mod Examples
