@@ -103,9 +103,9 @@ pub fn put_out(rows: &[[u8; 16]; 16], n: u32, table: &mut [u32])
     }
     let mut h: u32 = 0;
     while h < n {
-        let start = rights_at(n, h, 0);
-        let end = start + n as usize;
-        row_out(rows, h, &mut table[start..end]);
+        let from = rights_at(n, h, 0);
+        let to = from + n as usize;
+        row_out(rows, h, &mut table[from..to]);
         h += 1;
     }
 }

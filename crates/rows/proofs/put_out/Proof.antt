@@ -36,8 +36,8 @@ loop-holds c = (out-start _ _ _, has-rights _ _ (sym (c .before .has-rights .ens
 rights-at-requires : tie.Need-rights-at-requires Inv-loop μ-loop
 rights-at-requires c κs = search needs
 
-add-end : tie.Need-add-end Inv-loop μ-loop
-add-end c = omega (arith, end-within c)
+add-to : tie.Need-add-to Inv-loop μ-loop
+add-to c = omega (arith, end-within c)
 
 mul-row-out : tie.Need-mul-row-out Inv-loop μ-loop
 mul-row-out c = omega (arith, end-within c)
@@ -85,7 +85,7 @@ put-out-spec =
     returns
     loop-holds
     rights-at-requires
-    add-end
+    add-to
     mul-row-out
     sub-row-out
     part-row-out-start
