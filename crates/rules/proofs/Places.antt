@@ -12,10 +12,10 @@ use Rattle.calls.specs.declared.Call.{Call}
 use Rattle.calls.specs.declared.Call.the-variants.{LookUp, Send, Receive, MyEndpoints, MyRights, Grant, Remove, Revoke, Refused}
 use Rattle.rules.specs.declared.range.Range.{Range}
 use Rattle.rules.specs.Range.{followed, callerNumber, refusedNumbers, endpointNumbers, grantNumbers, removeNumbers, callNumbers}
-use Rattle.rules.specs.Access.{sendAccess, receiveAccess, grantAccess, revokeAccess, removeAccess, callAccess}
+use Rattle.rules.specs.Access.{sendAccess, receiveAccess, grantAccess, revokeAccess, removeAccess, readingOf, accessBy, decidedBy}
 
-pub decide-places : (t : List ℕ) (call : Call) → callNumbers (domains t) (endpoints t) call (callAccess t call) ≡ decideCall t call
-unfolding callNumbers callAccess decideCall callerNumber knownCaller refusedNumbers refusedCall endpointNumbers grantNumbers removeNumbers sendAccess receiveAccess grantAccess revokeAccess removeAccess maySend influences reaches machine.sendPlaces machine.receivePlaces machine.rightsPlaces machine.grantPlaces machine.revokePlaces machine.removePlaces
+pub decide-places : (t : List ℕ) (call : Call) → decidedBy (domains t) (endpoints t) (readingOf t) call ≡ decideCall t call
+unfolding callNumbers accessBy decideCall callerNumber knownCaller refusedNumbers refusedCall endpointNumbers grantNumbers removeNumbers sendAccess receiveAccess grantAccess revokeAccess removeAccess maySend influences reaches machine.sendPlaces machine.receivePlaces machine.rightsPlaces machine.grantPlaces machine.revokePlaces machine.removePlaces
 decide-places t (Refused u r) = refl
 decide-places t (LookUp u x) = refl
 decide-places t (Send u e message) = refl
@@ -31,6 +31,8 @@ pub decided : (t : List ℕ) (n m : ℕ) (call : Call) (r : Range)
     → n ≡ domains t
     → m ≡ endpoints t
     → ((next : Decision) → followed r next ≡ callNumbers n m call next)
-    → followed r (callAccess t call) ≡ decideCall t call
+    → followed r (accessBy (readingOf t) call) ≡ decideCall t call
 decided t n m call r en em tested =
-    tested (callAccess t call) ∙ ap₂ (λ (a b : ℕ). callNumbers a b call (callAccess t call)) en em ∙ decide-places t call
+    tested (accessBy (readingOf t) call)
+    ∙ ap₂ (λ (a b : ℕ). decidedBy a b (readingOf t) call) en em
+    ∙ decide-places t call

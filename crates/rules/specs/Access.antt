@@ -13,6 +13,7 @@ use Rattle.machine.specs.Machine.{Decision.refused, Decision.sends, Decision.re
 use Rattle.calls.specs.Number.{numberOf}
 use Rattle.calls.specs.declared.Call.{Call}
 use Rattle.calls.specs.declared.Call.the-variants.{LookUp, Send, Receive, MyEndpoints, MyRights, Grant, Remove, Revoke, Refused}
+use Rattle.rules.specs.Range.{callNumbers}
 use Rattle.rules.specs.declared.access.Found.{Found}
 use Rattle.rules.specs.declared.access.Found.the-variants.{At, Nothing}
 
@@ -43,14 +44,36 @@ revokeAccess u g h r s toward =
 unfoldable pub removeAccess : ℕ → ℕ → ℕ → ℕ → Decision
 removeAccess u g r s = place (not (holds s REMOVE && holds s r)) 22 (removes g u r)
 
--- the places of a call behind the tests of its numbers, by what the table holds
-unfoldable pub callAccess : List ℕ → Call → Decision
-callAccess t (Refused u r) = refused (numberOf r)
-callAccess t (LookUp u x) = lookUpPlaces (named t x)
-callAccess t (Send u e message) = sendAccess (rights t u (owner (endpoint t e))) e message
-callAccess t (Receive u e) = receiveAccess u (owner (endpoint t e)) (waiting (endpoint t e)) e
-callAccess t (MyEndpoints u) = listsEndpoints u
-callAccess t (MyRights u) = listsRights u
-callAccess t (Grant u g h r) = grantAccess u g h r (rights t u g) (rights t u h)
-callAccess t (Remove u g r) = removeAccess u g r (rights t u g)
-callAccess t (Revoke u g h r) = revokeAccess u g h r (rights t u g) (rights t u h)
+-- What is read for a call, in whatever layout a table is held: a holder's rights on a target, an endpoint's owner and waiting
+-- count, and the endpoint that has a name.
+pub record Reading : Type 0 where
+  pub rights : ℕ → ℕ → ℕ
+  pub owner : ℕ → ℕ
+  pub waiting : ℕ → ℕ
+  pub named : ℕ → Option ℕ
+
+-- what a table's words hold
+abbrev pub readingOf : List ℕ → Reading
+readingOf t =
+    record {
+      rights = rights t;
+      owner = λ e. owner (endpoint t e);
+      waiting = λ e. waiting (endpoint t e);
+      named = named t;
+    }
+
+-- the places of a call behind the tests of its numbers, by what is read for it
+unfoldable pub accessBy : Reading → Call → Decision
+accessBy r (Refused u k) = refused (numberOf k)
+accessBy r (LookUp u x) = lookUpPlaces (r .named x)
+accessBy r (Send u e message) = sendAccess (r .rights u (r .owner e)) e message
+accessBy r (Receive u e) = receiveAccess u (r .owner e) (r .waiting e) e
+accessBy r (MyEndpoints u) = listsEndpoints u
+accessBy r (MyRights u) = listsRights u
+accessBy r (Grant u g h s) = grantAccess u g h s (r .rights u g) (r .rights u h)
+accessBy r (Remove u g s) = removeAccess u g s (r .rights u g)
+accessBy r (Revoke u g h s) = revokeAccess u g h s (r .rights u g) (r .rights u h)
+
+-- what a call comes to among n domains and m endpoints: the tests of its numbers, and then of what is read
+abbrev pub decidedBy : ℕ → ℕ → Reading → Call → Decision
+decidedBy n m r call = callNumbers n m call (accessBy r call)

@@ -2,3 +2,4 @@
 pub mod Decision
 pub mod Range
 pub mod Access
+pub mod Readings

@@ -2,13 +2,13 @@
 use mathlib.Core.Path.{_∙_}
 use Rattle.rules.specs.Decision.{decisionOf}
 use Rattle.rules.specs.Range.{callNumbers}
-use Rattle.rules.specs.Access.{callAccess}
+use Rattle.rules.specs.Access.{accessBy}
 use Rattle.rules.proofs.Places.{decided}
 use Rattle.decide.proofs.decide.Statement.{statement}
 use Rattle.decide.proofs.decide.Tie as tie
 
 returns : tie.Need-returns
-unfolding decisionOf callNumbers callAccess
+unfolding decisionOf callNumbers accessBy
 returns c =
     let counts = c .before .before .before .before .before in
     rw (c .before .before .before .call .given .1)
@@ -24,14 +24,14 @@ returns-4 : tie.Need-returns-4
 returns-4 c = rw (c .before .before .call4 .given .1) (c .receive .ensures)
 
 returns-5 : tie.Need-returns-5
-unfolding decisionOf callNumbers callAccess
+unfolding decisionOf callNumbers accessBy
 returns-5 c =
     let counts = c .before .before .before .before .before in
     rw (c .before .before .before .call5 .given .1)
     (c .followed2 .ensures ∙ decided _ _ _ _ _ (counts .before .domains .ensures) (counts .endpoints .ensures) (c .before .of-caller .ensures))
 
 returns-6 : tie.Need-returns-6
-unfolding decisionOf callNumbers callAccess
+unfolding decisionOf callNumbers accessBy
 returns-6 c =
     let counts = c .before .before .before .before .before in
     rw (c .before .before .before .call6 .given .1)

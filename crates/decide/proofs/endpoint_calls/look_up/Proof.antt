@@ -3,7 +3,7 @@ use mathlib.Core.Path.{ap, _∙_}
 use Rattle.machine.specs.Machine.{lookUpPlaces}
 use Rattle.rules.specs.Decision.{decisionOf}
 use Rattle.rules.specs.Range.{callNumbers}
-use Rattle.rules.specs.Access.{callAccess}
+use Rattle.rules.specs.Access.{accessBy}
 use Rattle.rules.proofs.Guards.{outside, within}
 use Rattle.rules.proofs.Places.{decided}
 use Rattle.decide.proofs.endpoint_calls.look_up.Statement.{statement}
@@ -17,7 +17,7 @@ returns c =
     outside _ (c .before .range .given .1) (decided _ _ _ _ _ (start .pre .0) (start .pre .1) (numbers .of-caller .ensures))
 
 returns-2 : tie.Need-returns-2
-unfolding callNumbers callAccess
+unfolding callNumbers accessBy
 returns-2 c =
     let told = c .before .before in
     let numbers = told .before .before in

@@ -3,7 +3,7 @@ use mathlib.Core.Path.{ap₂, _∙_}
 use Prim.Native.Nat.{ℕ}
 use Rattle.rules.specs.Decision.{decisionOf}
 use Rattle.rules.specs.Range.{callNumbers}
-use Rattle.rules.specs.Access.{receiveAccess, callAccess}
+use Rattle.rules.specs.Access.{receiveAccess, accessBy}
 use Rattle.rules.proofs.Guards.{outside, within}
 use Rattle.rules.proofs.Places.{decided}
 use Rattle.decide.proofs.Reading.{owner-is, waiting-is}
@@ -18,7 +18,7 @@ returns c =
     outside _ (c .before .range .given .1) (decided _ _ _ _ _ (start .pre .0) (start .pre .1) (numbers .of-endpoint .ensures))
 
 returns-2 : tie.Need-returns-2
-unfolding callNumbers callAccess
+unfolding callNumbers accessBy
 returns-2 c =
     let count = c .before in
     let info = count .before in

@@ -4,7 +4,7 @@ use Prim.Native.Nat.{ℕ}
 use Rattle.machine.specs.Table.{rights}
 use Rattle.rules.specs.Decision.{decisionOf}
 use Rattle.rules.specs.Range.{callNumbers}
-use Rattle.rules.specs.Access.{sendAccess, callAccess}
+use Rattle.rules.specs.Access.{sendAccess, accessBy}
 use Rattle.rules.proofs.Guards.{outside, within}
 use Rattle.rules.proofs.Places.{decided}
 use Rattle.decide.proofs.Reading.{rights-are, owner-is}
@@ -19,7 +19,7 @@ returns c =
     outside _ (c .before .range .given .1) (decided _ _ _ _ _ (start .pre .0) (start .pre .1) (numbers .of-endpoint .ensures))
 
 returns-2 : tie.Need-returns-2
-unfolding callNumbers callAccess
+unfolding callNumbers accessBy
 returns-2 c =
     let held = c .before in
     let info = held .before in

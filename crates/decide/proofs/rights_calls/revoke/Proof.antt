@@ -2,7 +2,7 @@
 use mathlib.Core.Path.{refl, ap₂, _∙_}
 use Rattle.rules.specs.Decision.{decisionOf}
 use Rattle.rules.specs.Range.{callNumbers}
-use Rattle.rules.specs.Access.{revokeAccess, callAccess}
+use Rattle.rules.specs.Access.{revokeAccess, accessBy}
 use Rattle.rules.proofs.Guards.{outside, within}
 use Rattle.rules.proofs.Places.{decided}
 use Rattle.decide.proofs.Reading.{rights-are}
@@ -17,7 +17,7 @@ returns c =
     outside _ (c .before .range .given .1) (decided _ _ _ _ _ (start .pre) refl (numbers .of-grant .ensures))
 
 returns-2 : tie.Need-returns-2
-unfolding callNumbers callAccess
+unfolding callNumbers accessBy
 returns-2 c =
     let toward = c .before in
     let held = toward .before in
