@@ -1,7 +1,7 @@
 -- A number by its digits, the last first: each step multiplies what it has and adds the next digit. Assumes nothing.
 use mathlib.Core.Path.{_≡_, refl, sym, ap, _∙_}
 use Prim.Native.Nat.{ℕ, zero, suc, _+_, _*_, _-_, _%_, _^_, _<_, _≤_}
-use native.Mathlib.Nat.{add-zero, add-suc, zero-mul, mul-one, pow-zero, pow-suc, add-mul, mul-assoc, mul-comm}
+use native.Mathlib.Nat.{add-zero, add-suc, zero-mul, mul-one, pow-zero, pow-suc, add-mul, mul-assoc, mul-comm, mul-le-mul-right}
 use native.Mathlib.Omega.{arith}
 use Rattle.machine.specs.Below.{sumBelow}
 
@@ -17,6 +17,15 @@ digits-end b d k (suc j) none =
     let last : d (k + j) * b ^ (k + j) ≡ 0 =
     ap (λ (x : ℕ). x * b ^ (k + j)) (none (k + j) (omega arith) (omega arith)) ∙ zero-mul (b ^ (k + j)) in
     ap (digitSum b d) (add-suc k j) ∙ omega (arith, digits-end b d k j (λ i l h. none i l (omega arith)), last)
+
+-- digits below the base make a number with as many digits
+pub digits-below : (b : ℕ) (d : ℕ → ℕ) (k : ℕ) → ((i : ℕ) → i < k → d i < b) → digitSum b d k < b ^ k
+unfolding sumBelow
+digits-below b d zero small = rw pow-zero (omega arith)
+digits-below b d (suc k) small =
+    let rest : digitSum b d k < b ^ k = digits-below b d k (λ i l. small i (omega arith)) in
+    let top : (d k + 1) * b ^ k ≤ b * b ^ k = mul-le-mul-right (b ^ k) (omega (arith, small k (omega arith))) in
+    rw (pow-suc, mul-comm (b ^ k) b) (omega (arith, add-mul (d k) 1 (b ^ k)))
 
 -- the digits from e on are in acc, and those below e are still to be found
 abbrev Found : ℕ → (ℕ → ℕ) → ℕ → ℕ → ℕ → Type 0

@@ -1,5 +1,6 @@
 // A call's three answer words, by the table as it stands before the call: nothing is written to it. Any words will do as a table:
 // data that isn't in it is 0, and data of more than 32 bits, which no accepted table has, is cut.
+pub mod given;
 mod lists;
 
 use calls::Refusal;

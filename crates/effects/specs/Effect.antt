@@ -30,17 +30,21 @@ fits t (NewRights h g s) = rightsFit t h g s
 fits t (Send e message) = sendable (endpoint t e) message
 fits t (Receive e) = receivable (endpoint t e)
 
+-- the effect of a decision, by what each holds on each
+abbrev pub effectBy : (ℕ → ℕ → ℕ) → machine.Decision → Effect
+effectBy held (machine.refused code) = Nothing
+effectBy held (machine.lookedUp e) = Nothing
+effectBy held (machine.sends e message) = Send e message
+effectBy held (machine.receives e) = Receive e
+effectBy held (machine.listsEndpoints u) = Nothing
+effectBy held (machine.listsRights u) = Nothing
+effectBy held (machine.grants g h r) = NewRights h g (adds (held h g) r)
+effectBy held (machine.removes g u r) = NewRights u g (without (held u g) r)
+effectBy held (machine.revokes g h r) = NewRights h g (without (held h g) r)
+
 -- the effect of a decision on the table t
 unfoldable pub effectFor : List ℕ → machine.Decision → Effect
-effectFor t (machine.refused code) = Nothing
-effectFor t (machine.lookedUp e) = Nothing
-effectFor t (machine.sends e message) = Send e message
-effectFor t (machine.receives e) = Receive e
-effectFor t (machine.listsEndpoints u) = Nothing
-effectFor t (machine.listsRights u) = Nothing
-effectFor t (machine.grants g h r) = NewRights h g (adds (rights t h g) r)
-effectFor t (machine.removes g u r) = NewRights u g (without (rights t u g) r)
-effectFor t (machine.revokes g h r) = NewRights h g (without (rights t h g) r)
+effectFor t d = effectBy (rights t) d
 
 -- the table after an effect; one that doesn't fit leaves it as it is
 unfoldable pub performed : List ℕ → Effect → List ℕ

@@ -5,8 +5,8 @@ use mathlib.Core.Path.{_≡_, refl, ap₂, _∙_}
 use mathlib.Core.Bool.{Bool, true, false, cond}
 use mathlib.Core.List.{List, _∷_, []}
 use mathlib.Core.Option.{Option, none, some}
-use Prim.Native.Nat.{ℕ, zero, suc, _+_, _*_, _-_, _%_, _^_, _<_, _≤_}
-use native.Mathlib.Nat.{add-mul, le-trans, lt-of-lt-of-le, mod-eq-of-lt, mul-comm, mul-le-mul-right, pow-le-pow-right, pow-suc, pow-zero}
+use Prim.Native.Nat.{ℕ, zero, suc, _+_, _-_, _^_, _<_, _≤_}
+use native.Mathlib.Nat.{le-trans, lt-of-lt-of-le, mod-eq-of-lt, pow-le-pow-right}
 use native.Mathlib.Omega.{arith}
 use lib.Dec.{eqb, ltb}
 use lib.ListN.{length}
@@ -15,7 +15,7 @@ use Rattle.machine.specs.Word.{caller, fieldB}
 use Rattle.machine.specs.Right.{allRights}
 use Rattle.machine.specs.Table.{domains, endpoints, rightsAt, endpointAt, endpoint}
 use Rattle.machine.specs.Queue.{name, owner, oldest, lost}
-use Rattle.machine.specs.Below.{firstBelow, sumBelow}
+use Rattle.machine.specs.Below.{firstBelow}
 use Rattle.machine.specs.Check.{Accepted}
 use Rattle.machine.specs.Call.{Call, Call.one, first}
 use Rattle.machine.specs.Machine.{Decision, named, ownedBits, rightsBits, code, firstData, secondData, shownCaller, answerWord, answerTo, decide}
@@ -32,18 +32,9 @@ use Rattle.cutting.specs.declared.Second.{Second}
 use Rattle.cutting.specs.declared.Second.the-variants.{Nothing, Word}
 use Rattle.queue.proofs.Laws.{may-be-sent, may-be-received}
 use Rattle.answers.specs.Answer.{readable, shown, answerOf}
-use Rattle.answers.proofs.Digits.{digitSum}
+use Rattle.answers.proofs.Digits.{digits-below}
 use Rattle.answers.proofs.AnswerWords.{ownsAt, owned-digits, rightsOn}
 use Rattle.effects.specs.Effect.{rightsFit, fits, effectFor}
-
--- digits below the base make a number with as many digits
-digits-below : (b : ℕ) (d : ℕ → ℕ) (k : ℕ) → ((i : ℕ) → i < k → d i < b) → digitSum b d k < b ^ k
-unfolding sumBelow
-digits-below b d zero small = rw pow-zero (omega arith)
-digits-below b d (suc k) small =
-    let rest : digitSum b d k < b ^ k = digits-below b d k (λ i l. small i (omega arith)) in
-    let top : (d k + 1) * b ^ k ≤ b * b ^ k = mul-le-mul-right (b ^ k) (omega (arith, small k (omega arith))) in
-    rw (pow-suc, mul-comm (b ^ k) b) (omega (arith, add-mul (d k) 1 (b ^ k)))
 
 -- the first number below k that passes a test is below k
 abbrev FirstBelow : ℕ → Option ℕ → Type 0

@@ -1,0 +1,46 @@
+// Answers by plain values, for whoever has read the data in a layout of its own, and the writing of an answer's words.
+use crate::Answer;
+use crate::head;
+use crate::refused;
+use calls::Refusal;
+ghost use mathlib.Core.Path.{_≡_};
+ghost use mathlib.Core.Bool.{cond};
+ghost use mathlib.Core.List.{[], _∷_};
+ghost use lib.Dec.{eqb};
+ghost use lib.ListN.{length};
+ghost use Rattle.machine.specs.Call.{Call.one};
+ghost use Rattle.machine.specs.Machine.{answerWord};
+ghost use Rattle.calls.specs.Number.{numberOf};
+ghost use Rattle.answers.specs.Answer.{answerWords};
+
+// The answer to a call, given by its first word, that is refused.
+pub fn refusal(first: u32, refusal: Refusal) -> Answer
+    ensures { λ a. ⌜ answerWords a ≡ answerWord (one first) (numberOf refusal) ∷ 0 ∷ 0 ∷ [] ⌝ }
+{
+    let head = head(first);
+    refused(head, refusal)
+}
+
+// The answer to one that is done, with its data words.
+pub fn done(first: u32, x: u32, y: u32) -> Answer
+    ensures { λ a. ⌜ answerWords a ≡ answerWord (one first) 0 ∷ x ∷ y ∷ [] ⌝ }
+{
+    let head = head(first);
+    Answer {
+        head,
+        first: x,
+        second: y,
+    }
+}
+
+// An answer's words, put into three lent ones; other than three are left as they are.
+pub fn put(space: &mut [u32], words: Answer)
+    ensures { λ _. ⌜ now (space .exit) ≡ cond (eqb (length (now (space .entry))) 3) (answerWords words) (now (space .entry)) ⌝ }
+{
+    if space.len() != 3 {
+        return;
+    }
+    space[0] = words.head;
+    space[1] = words.first;
+    space[2] = words.second;
+}
