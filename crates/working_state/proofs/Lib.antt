@@ -1,0 +1,4 @@
+-- What is proved of the working state.
+pub mod Rings
+pub mod Reading
+pub mod Along

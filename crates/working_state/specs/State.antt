@@ -1,0 +1,80 @@
+-- The working state of a run (document 02 (l)), part by part: the rights as rows (crate rows), the queues as rings of twelve words
+-- (crate rings), the endpoints' names side by side, and for each domain the endpoints that it owns as bits. What is read of it for
+-- a call, what is answered, and what an effect leaves of it. Any numbers and words will do.
+use Prim.Native.Nat.{ℕ, _+_, _*_, _%_, _^_}
+use mathlib.Core.List.{List, [], _∷_, _++_}
+use lib.Dec.{eqb}
+use lib.ListN.{getD, take, drop}
+use Rattle.machine.specs.Below.{firstBelow, sumBelow}
+use Rattle.machine.specs.Call.{Call.one}
+use Rattle.machine.specs.Machine as machine
+use Rattle.machine.specs.Machine.{answerWord, code}
+use Rattle.rules.specs.Access.{Reading}
+use Rattle.effects.specs.declared.Effect.{Effect}
+use Rattle.effects.specs.declared.Effect.the-variants.{Nothing, NewRights, Send, Receive}
+use Rattle.rows.specs.Rows.{heldIn, withHeld}
+use Rattle.rings.specs.Ring.{count, lostCount, ringOwner, messageAt, ringSent, ringTake, ofTwelve}
+
+-- the ring of the endpoint e, and the rings with another in its place
+abbrev pub ringAt : List ℕ → ℕ → List ℕ
+ringAt rings e = take 12 (drop (12 * e) rings)
+
+abbrev pub withRing : List ℕ → ℕ → List ℕ → List ℕ
+withRing rings e r = take (12 * e) rings ++ (r ++ drop 12 (drop (12 * e) rings))
+
+-- what is read for a call among m endpoints
+abbrev pub readingFrom : ℕ → List (List ℕ) → List ℕ → List ℕ → Reading
+readingFrom m rows rings names =
+    record {
+      rights = heldIn rows;
+      owner = λ e. ringOwner (ringAt rings e);
+      waiting = λ e. count (ringAt rings e);
+      named = λ x. firstBelow m (λ e. eqb (getD names (e % 32) 0) x);
+    }
+
+-- the rights of u on the eight targets from g on, four bits each, as far as they go into a word
+unfoldable pub rowBits : List (List ℕ) → ℕ → ℕ → ℕ
+rowBits rows u g = sumBelow 8 (λ i. heldIn rows u (g + i) * 16 ^ i) % 2 ^ 32
+
+-- the first data word of the answer to a decision, zero where nothing is named
+unfoldable pub firstFrom : List (List ℕ) → List ℕ → List ℕ → machine.Decision → ℕ
+firstFrom rows rings owned (machine.refused n) = 0
+firstFrom rows rings owned (machine.lookedUp e) = e
+firstFrom rows rings owned (machine.sends e message) = 0
+firstFrom rows rings owned (machine.receives e) = ofTwelve (ringAt rings e) (messageAt (ringAt rings e) 0) 0
+firstFrom rows rings owned (machine.listsEndpoints u) = getD owned (u % 16) 0
+firstFrom rows rings owned (machine.listsRights u) = rowBits rows u 0
+firstFrom rows rings owned (machine.grants g h r) = 0
+firstFrom rows rings owned (machine.removes g u r) = 0
+firstFrom rows rings owned (machine.revokes g h r) = 0
+
+-- and the second
+unfoldable pub secondFrom : List (List ℕ) → List ℕ → machine.Decision → ℕ
+secondFrom rows rings (machine.refused n) = 0
+secondFrom rows rings (machine.lookedUp e) = 0
+secondFrom rows rings (machine.sends e message) = 0
+secondFrom rows rings (machine.receives e) = ofTwelve (ringAt rings e) (lostCount (ringAt rings e)) 0
+secondFrom rows rings (machine.listsEndpoints u) = 0
+secondFrom rows rings (machine.listsRights u) = rowBits rows u 8
+secondFrom rows rings (machine.grants g h r) = 0
+secondFrom rows rings (machine.removes g u r) = 0
+secondFrom rows rings (machine.revokes g h r) = 0
+
+-- the answer to a call with the first word w, on which a decision fell
+unfoldable pub answerFrom : ℕ → List (List ℕ) → List ℕ → List ℕ → machine.Decision → List ℕ
+answerFrom w rows rings owned d =
+    answerWord (one w) (code d) ∷ firstFrom rows rings owned d ∷ secondFrom rows rings d ∷ []
+
+-- the rows after an effect, and the rings; a row has room for eight bits
+unfoldable pub rowsAfter : List (List ℕ) → Effect → List (List ℕ)
+rowsAfter rows Nothing = rows
+rowsAfter rows (NewRights h g s) = withHeld rows h g (s % 256)
+rowsAfter rows (Send e message) = rows
+rowsAfter rows (Receive e) = rows
+
+unfoldable pub ringsAfter : List ℕ → Effect → List ℕ
+ringsAfter rings Nothing = rings
+ringsAfter rings (NewRights h g s) = rings
+ringsAfter rings (Send e message) =
+    withRing rings e (ofTwelve (ringAt rings e) (ringSent (ringAt rings e) message) (ringAt rings e))
+ringsAfter rings (Receive e) = withRing rings e (ofTwelve (ringAt rings e) (ringTake (ringAt rings e)) (ringAt rings e))
