@@ -2,3 +2,4 @@
 pub mod Rings
 pub mod Reading
 pub mod Along
+pub mod Passed

@@ -1,0 +1,84 @@
+-- What is answered and left, by what a call came to. Assumes nothing.
+use mathlib.Core.Path.{_≡_, refl, sym, ap, ap₂, subst, _∙_}
+use mathlib.Core.List.{List, [], _∷_}
+use mathlib.Core.Option.{Option, none, some}
+use Prim.Native.Nat.{ℕ, _%_}
+use lib.ListN.{getD}
+use Rattle.machine.specs.Call.{Call.one}
+use Rattle.machine.specs.Machine as machine
+use Rattle.machine.specs.Machine.{Decision, lookUpPlaces, code, answerWord}
+use Rattle.rules.specs.Decision.{decisionOf}
+use Rattle.rules.specs.declared.Decision as rules
+use Rattle.effects.specs.Effect.{effectBy}
+use Rattle.effects.specs.declared.Effect.the-variants.{Send, Receive}
+use Rattle.rows.specs.Rows.{heldIn}
+use Rattle.rings.specs.Ring.{messageAt, lostCount, ofTwelve}
+use Rattle.working_state.proofs.Passed.{IsDone, not-refused}
+use Rattle.working_state.specs.State.{ringAt, firstFrom, secondFrom, answerFrom, ringsAfter}
+use Rattle.working_queues.specs.Served.{numberIn, QueueServed}
+
+-- a refusal answers its number, and nothing else
+pub refused-answer :
+    (d : Decision) (k w : ℕ) (rows : List (List ℕ)) (rings owned words : List ℕ)
+    → machine.refused k ≡ d
+    → words ≡ answerWord (one w) k ∷ 0 ∷ 0 ∷ []
+    → words ≡ answerFrom w rows rings owned d
+unfolding answerFrom firstFrom secondFrom code
+refused-answer d k w rows rings owned words is told =
+    subst (λ (x : Decision). words ≡ answerFrom w rows rings owned x) is told
+
+module _ (d : Decision) (w : ℕ) (rings words : List ℕ) where
+  pub queue-refused : (k : ℕ) → machine.refused k ≡ d → words ≡ answerWord (one w) k ∷ 0 ∷ 0 ∷ [] → QueueServed d w rings words rings
+  unfolding ringsAfter
+  queue-refused k is told =
+      record {
+        answer = refused-answer d k w [] rings [] words is told;
+        left = subst (λ (x : Decision). rings ≡ ringsAfter rings (effectBy (heldIn []) x)) is refl;
+      }
+
+  pub queue-sent :
+      (e message : ℕ) (rings′ : List ℕ)
+      → machine.sends e message ≡ d
+      → words ≡ answerWord (one w) 0 ∷ 0 ∷ 0 ∷ []
+      → rings′ ≡ ringsAfter rings (Send e message)
+      → QueueServed d w rings words rings′
+  unfolding answerFrom firstFrom secondFrom code
+  queue-sent e message rings′ is told left =
+      subst (λ (x : Decision). QueueServed x w rings words rings′) is (record { answer = told; left = left })
+
+  pub queue-received :
+      (e x y : ℕ) (rings′ : List ℕ)
+      → machine.receives e ≡ d
+      → words ≡ answerWord (one w) 0 ∷ x ∷ y ∷ []
+      → x ≡ ofTwelve (ringAt rings e) (messageAt (ringAt rings e) 0) 0
+      → y ≡ ofTwelve (ringAt rings e) (lostCount (ringAt rings e)) 0
+      → rings′ ≡ ringsAfter rings (Receive e)
+      → QueueServed d w rings words rings′
+  unfolding answerFrom firstFrom secondFrom code
+  queue-received e x y rings′ is told message lost left =
+      subst (λ (v : Decision). QueueServed v w rings words rings′) is
+      (record { answer = told ∙ ap₂ (λ (i j : ℕ). answerWord (one w) 0 ∷ i ∷ j ∷ []) message lost; left = left })
+
+-- an endpoint that was found: where the decision is no refusal there is one, and its number is shown
+pub looked-up :
+    (x : rules.Decision) (o : Option ℕ) (d : Decision) (w e : ℕ) (rows : List (List ℕ)) (rings owned words : List ℕ)
+    → IsDone x
+    → decisionOf x ≡ lookUpPlaces o
+    → decisionOf x ≡ d
+    → e ≡ numberIn o
+    → words ≡ answerWord (one w) 0 ∷ e ∷ 0 ∷ []
+    → words ≡ answerFrom w rows rings owned d
+unfolding lookUpPlaces numberIn answerFrom firstFrom secondFrom code
+looked-up x none d w e rows rings owned words told is same number shown = absurd (not-refused x 15 told is)
+looked-up x (some i) d w e rows rings owned words told is same number shown =
+    subst (λ (v : Decision). words ≡ answerFrom w rows rings owned v) (sym is ∙ same)
+    (shown ∙ ap (λ (k : ℕ). answerWord (one w) 0 ∷ k ∷ 0 ∷ []) number)
+
+-- the endpoints that a domain owns
+pub listed :
+    (u : ℕ) (d : Decision) (w : ℕ) (rows : List (List ℕ)) (rings owned words : List ℕ)
+    → machine.listsEndpoints u ≡ d
+    → words ≡ answerWord (one w) 0 ∷ getD owned (u % 16) 0 ∷ 0 ∷ []
+    → words ≡ answerFrom w rows rings owned d
+unfolding answerFrom firstFrom secondFrom code
+listed u d w rows rings owned words is told = subst (λ (v : Decision). words ≡ answerFrom w rows rings owned v) is told
