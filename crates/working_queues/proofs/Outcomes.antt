@@ -13,19 +13,10 @@ use Rattle.effects.specs.Effect.{effectBy}
 use Rattle.effects.specs.declared.Effect.the-variants.{Send, Receive}
 use Rattle.rows.specs.Rows.{heldIn}
 use Rattle.rings.specs.Ring.{messageAt, lostCount, ofTwelve}
+use Rattle.working_state.proofs.Answered.{refused-answer}
 use Rattle.working_state.proofs.Passed.{IsDone, not-refused}
 use Rattle.working_state.specs.State.{ringAt, firstFrom, secondFrom, answerFrom, ringsAfter}
 use Rattle.working_queues.specs.Served.{numberIn, QueueServed}
-
--- a refusal answers its number, and nothing else
-pub refused-answer :
-    (d : Decision) (k w : ℕ) (rows : List (List ℕ)) (rings owned words : List ℕ)
-    → machine.refused k ≡ d
-    → words ≡ answerWord (one w) k ∷ 0 ∷ 0 ∷ []
-    → words ≡ answerFrom w rows rings owned d
-unfolding answerFrom firstFrom secondFrom code
-refused-answer d k w rows rings owned words is told =
-    subst (λ (x : Decision). words ≡ answerFrom w rows rings owned x) is told
 
 module _ (d : Decision) (w : ℕ) (rings words : List ℕ) where
   pub queue-refused : (k : ℕ) → machine.refused k ≡ d → words ≡ answerWord (one w) k ∷ 0 ∷ 0 ∷ [] → QueueServed d w rings words rings

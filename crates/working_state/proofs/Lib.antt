@@ -1,5 +1,6 @@
 -- What is proved of the working state.
 pub mod Rings
 pub mod Reading
+pub mod Answered
 pub mod Along
 pub mod Passed

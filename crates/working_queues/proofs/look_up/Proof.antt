@@ -8,7 +8,8 @@ use Rattle.rules.specs.Access.{accessBy, decidedBy}
 use Rattle.rules.specs.Decision.{decisionOf}
 use Rattle.rules.proofs.Guards.{outside, within}
 use Rattle.working_state.specs.State.{readingFrom}
-use Rattle.working_queues.proofs.Outcomes.{refused-answer, looked-up}
+use Rattle.working_state.proofs.Answered.{refused-answer}
+use Rattle.working_queues.proofs.Outcomes.{looked-up}
 use borrow.Author.Needs.{needs}
 use Rattle.working_queues.proofs.look_up.Statement.{statement}
 use Rattle.working_queues.proofs.look_up.Tie as tie

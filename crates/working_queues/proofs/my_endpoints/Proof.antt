@@ -2,7 +2,8 @@
 use Rattle.rules.specs.Range.{callNumbers}
 use Rattle.rules.specs.Access.{accessBy}
 use Rattle.rules.proofs.Guards.{outside, within}
-use Rattle.working_queues.proofs.Outcomes.{refused-answer, listed}
+use Rattle.working_state.proofs.Answered.{refused-answer}
+use Rattle.working_queues.proofs.Outcomes.{listed}
 use borrow.Author.Needs.{needs}
 use Rattle.working_queues.proofs.my_endpoints.Statement.{statement}
 use Rattle.working_queues.proofs.my_endpoints.Tie as tie

@@ -2,7 +2,7 @@
 use Rattle.rules.specs.Range.{callNumbers}
 use Rattle.rules.specs.Access.{accessBy}
 use Rattle.rules.proofs.Guards.{outside, within}
-use Rattle.working_queues.proofs.Outcomes.{refused-answer}
+use Rattle.working_state.proofs.Answered.{refused-answer}
 use borrow.Author.Needs.{needs}
 use Rattle.working_queues.proofs.refuse.Statement.{statement}
 use Rattle.working_queues.proofs.refuse.Tie as tie
