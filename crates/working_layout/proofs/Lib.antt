@@ -1,0 +1,4 @@
+-- Laws of taking in and putting out.
+pub mod Places
+pub mod TakingIn
+pub mod PuttingOut

@@ -1,0 +1,2 @@
+-- What the contracts of taking in and putting out cite.
+pub mod Layout

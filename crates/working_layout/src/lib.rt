@@ -1,0 +1,57 @@
+// A table's endpoints taken in from it and put out to it: the queues as rings, the names side by side, and for each domain the
+// endpoints that it owns as bits. Any words will do as a table.
+use layout::endpoint_at;
+use layout::endpoint_word;
+use words::KIND;
+ghost use mathlib.Core.Path.{_≡_};
+ghost use mathlib.Core.Bool.{cond};
+ghost use Prim.Native.Nat.{_%_, _<_};
+ghost use lib.ListN.{length};
+ghost use Rattle.working_layout.specs.Layout.{hasQueues, ringsOf, queuesOut};
+
+// At most 32 endpoints, words enough for them in the table, and twelve lent for each.
+fn has_queues(n: u32, m: u32, size: usize, lent: usize) -> bool
+    ensures { λ b. ⌜ b ≡ hasQueues (n % 256) m size lent ⌝ }
+{
+    if 32 < m {
+        return false;
+    }
+    let end = endpoint_at(n, m);
+    (end <= size) & (lent == 12 * m as usize)
+}
+
+// The rings of the table's queues. They stay as they are where they or the table aren't of the right length.
+pub fn rings_in(table: &[u32], n: u32, m: u32, rings: &mut [u32])
+    ensures { λ _. ⌜ now (rings .exit) ≡ cond (hasQueues (n % 256) m (length (now (table .entry))) (length (now (rings .entry)))) (ringsOf (n % 256) m (now (table .entry))) (now (rings .entry)) ⌝ }
+{
+    if !has_queues(n, m, table.len(), rings.len()) {
+        return;
+    }
+    let mut e: u32 = 0;
+    while e < m {
+        let start = endpoint_at(n, e);
+        let end = start + 12;
+        let from = 12 * e as usize;
+        let to = from + 12;
+        rings::take_in(&table[start..end], &mut rings[from..to]);
+        e += 1;
+    }
+}
+
+// The rings put out to the table's queues. It stays as it is where it or the rings aren't of the right length.
+pub fn rings_out(rings: &[u32], n: u32, m: u32, table: &mut [u32])
+    ensures { λ _. ⌜ now (table .exit) ≡ cond (hasQueues (n % 256) m (length (now (table .entry))) (length (now (rings .entry)))) (queuesOut (n % 256) m (now (rings .entry)) (now (table .entry))) (now (table .entry)) ⌝ }
+{
+    if !has_queues(n, m, table.len(), rings.len()) {
+        return;
+    }
+    let mut e: u32 = 0;
+    while e < m {
+        let from = 12 * e as usize;
+        let to = from + 12;
+        let start = endpoint_at(n, e);
+        let end = start + 12;
+        rings::put_out(&rings[from..to], &mut table[start..end]);
+        e += 1;
+    }
+}
