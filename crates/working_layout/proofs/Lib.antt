@@ -2,3 +2,4 @@
 pub mod Places
 pub mod TakingIn
 pub mod PuttingOut
+pub mod Gathering

@@ -1,11 +1,11 @@
 -- A table's endpoints in the working state: what is made of its words, and of its words by what is put out (document 02 (l)).
 -- Any words will do as a table of n domains and m endpoints.
-use Prim.Native.Nat.{ℕ, _+_, _-_, _*_, _/_, _%_, _^_, min}
+use Prim.Native.Nat.{ℕ, _+_, _-_, _*_, _/_, _%_, min}
 use mathlib.Core.Bool.{Bool, cond, _&&_}
 use mathlib.Core.List.{List}
 use lib.Dec.{eqb, leb, ltb}
 use lib.ListN.{length, getD, take, drop}
-use Rattle.machine.specs.Below.{sumBelow, wordsBelow}
+use Rattle.machine.specs.Below.{wordsBelow, bitsBelow}
 use Rattle.machine.specs.Word.{payload, fieldB}
 use Rattle.machine.specs.Table.{endpointAt}
 use Rattle.rings.specs.Ring.{ringOf, putOutQueue}
@@ -41,4 +41,4 @@ namesOf n m t = wordsBelow 32 (λ e. cond (ltb e m) (payload (getD t (endpointAt
 
 -- for each of sixteen domains the endpoints, among the first 32, that it owns, of whose number four bits count
 unfoldable pub ownedOf : ℕ → ℕ → List ℕ → List ℕ
-ownedOf n m t = wordsBelow 16 (λ u. sumBelow (min m 32) (λ e. cond (eqb (fieldB (getD t (endpointAt n e + 1) 0) % 16) u) (2 ^ e) 0))
+ownedOf n m t = wordsBelow 16 (λ u. bitsBelow (min m 32) (λ e. eqb (fieldB (getD t (endpointAt n e + 1) 0) % 16) u))

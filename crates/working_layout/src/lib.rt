@@ -5,9 +5,9 @@ use layout::endpoint_word;
 use words::KIND;
 ghost use mathlib.Core.Path.{_≡_};
 ghost use mathlib.Core.Bool.{cond};
-ghost use Prim.Native.Nat.{_%_, _<_};
+ghost use Prim.Native.Nat.{_%_, _^_, _<_, min};
 ghost use lib.ListN.{length};
-ghost use Rattle.working_layout.specs.Layout.{hasQueues, ringsOf, queuesOut};
+ghost use Rattle.working_layout.specs.Layout.{hasQueues, ringsOf, queuesOut, namesOf, ownedOf};
 
 // At most 32 endpoints, words enough for them in the table, and twelve lent for each.
 fn has_queues(n: u32, m: u32, size: usize, lent: usize) -> bool
@@ -54,4 +54,55 @@ pub fn rings_out(rings: &[u32], n: u32, m: u32, table: &mut [u32])
         rings::put_out(&rings[from..to], &mut table[start..end]);
         e += 1;
     }
+}
+
+// At most 32.
+fn at_most(m: u32) -> u32
+    ensures { λ r. ⌜ r ≡ min m 32 ⌝ }
+{
+    if m < 32 {
+        return m;
+    }
+    32
+}
+
+// The endpoints' names, side by side; 0 where there is none.
+pub fn names_in(table: &[u32], n: u32, m: u32) -> [u32; 32]
+    ensures { λ r. ⌜ r ≡ namesOf (n % 256) m (now (table .entry)) ⌝ }
+{
+    let mut names = [0u32; 32];
+    let few = at_most(m);
+    let mut e: u32 = 0;
+    while e < few {
+        let word = endpoint_word(table, n, e, 0);
+        let at = e as usize;
+        names[at] = word % KIND;
+        e += 1;
+    }
+    names
+}
+
+// The set of one endpoint.
+fn bit(e: u32) -> u32
+    requires { ⌜ e < 32 ⌝ }
+    ensures { λ r. ⌜ r ≡ 2 ^ e ⌝ }
+{
+    1 << e
+}
+
+// What each domain owns, a bit for each endpoint. Of an owner's number four bits count.
+pub fn owned_in(table: &[u32], n: u32, m: u32) -> [u32; 16]
+    ensures { λ r. ⌜ r ≡ ownedOf (n % 256) m (now (table .entry)) ⌝ }
+{
+    let mut owned = [0u32; 16];
+    let few = at_most(m);
+    let mut e: u32 = 0;
+    while e < few {
+        let info = endpoint_word(table, n, e, 1);
+        let u = (info / 256 % 256 % 16) as usize;
+        let one = bit(e);
+        owned[u] = owned[u] + one;
+        e += 1;
+    }
+    owned
 }
