@@ -3,3 +3,5 @@ pub mod Places
 pub mod TakingIn
 pub mod PuttingOut
 pub mod Gathering
+pub mod Stands
+pub mod PutOut

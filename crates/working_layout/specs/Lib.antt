@@ -1,2 +1,3 @@
--- What the contracts of taking in and putting out cite.
+-- What the contracts of taking in and putting out cite, and what is claimed of them.
 pub mod Layout
+pub mod Claims

@@ -47,11 +47,11 @@ pub fn rings_out(rings: &[u32], n: u32, m: u32, table: &mut [u32])
     }
     let mut e: u32 = 0;
     while e < m {
-        let from = 12 * e as usize;
-        let to = from + 12;
-        let start = endpoint_at(n, e);
-        let end = start + 12;
-        rings::put_out(&rings[from..to], &mut table[start..end]);
+        let place = 12 * e as usize;
+        let behind = place + 12;
+        let first = endpoint_at(n, e);
+        let next = first + 12;
+        rings::put_out(&rings[place..behind], &mut table[first..next]);
         e += 1;
     }
 }

@@ -1,6 +1,6 @@
 -- `names_in` meets its contract: the names are filled in one after the other. Assumes nothing.
-use mathlib.Core.Path.{_≡_, ap, _∙_}
-use Prim.Native.Nat.{ℕ, _-_, _%_, _≤_, min}
+use mathlib.Core.Path.{ap, _∙_}
+use Prim.Native.Nat.{ℕ, _-_, _%_, _≤_}
 use native.Mathlib.Nat.{add-zero}
 use native.Mathlib.Omega.{arith}
 use lib.ListN.{getD}
@@ -44,14 +44,17 @@ loop-less : tie.Need-loop-less Inv-loop μ-loop
 loop-less c = omega (arith, c .before .loop-test .taken)
 
 loop-again : tie.Need-loop-again Inv-loop μ-loop
-loop-again c = 
+loop-again c =
     let at = c .before .before in
-    let t = at .before .before .before .args .table .now in
-    (filling-next 0 _ _ _ _ _ (at .loop .inv .0) (omega (arith, c .before .loop-test .taken, at .loop .inv .2))
-    (ap payload (c .endpoint-word .ensures ∙ ap (λ (i : ℕ). getD t i 0) (add-zero _))), omega (arith, c .before .loop-test .taken), at .loop .inv .2)
+    let t = at .before .before .before .args .table .now in (
+      filling-next 0 _ _ _ _ _ (at .loop .inv .0) (omega (arith, c .before .loop-test .taken, at .loop .inv .2))
+          (ap payload (c .endpoint-word .ensures ∙ ap (λ (i : ℕ). getD t i 0) (add-zero _))),
+      omega (arith, c .before .loop-test .taken),
+      at .loop .inv .2,
+    )
 
 returns : tie.Need-returns Inv-loop μ-loop
-returns c = 
+returns c =
     let at = c .before in
     names-filled _ _ _ _ _ (at .loop .inv .0) (omega (arith, at .loop .inv .1, c .loop-test .left, c .before .before .at-most .ensures))
 

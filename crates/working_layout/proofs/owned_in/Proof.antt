@@ -1,5 +1,5 @@
 -- `owned_in` meets its contract: the bits are set one after the other. Assumes nothing.
-use mathlib.Core.Path.{_≡_, ap, _∙_}
+use mathlib.Core.Path.{_≡_, ap}
 use Prim.Native.Nat.{ℕ, _-_, _%_, _<_, _≤_}
 use native.Mathlib.Omega.{arith}
 use lib.ListN.{getD}
@@ -63,12 +63,12 @@ loop-less : tie.Need-loop-less Inv-loop μ-loop
 loop-less c = omega (arith, c .before .before .loop-test .taken)
 
 loop-again : tie.Need-loop-again Inv-loop μ-loop
-loop-again c = 
+loop-again c =
     let at = c .before .before .before in
     (gather-next _ _ _ _ (at .loop .inv .0) (inside c) _ _ (owner c) (c .bit .ensures), omega (arith, c .before .before .loop-test .taken), at .loop .inv .2)
 
 returns : tie.Need-returns Inv-loop μ-loop
-returns c = 
+returns c =
     let at = c .before in
     gather-end _ _ _ _ _ (at .loop .inv .0) (omega (arith, at .loop .inv .1, c .loop-test .left, c .before .before .at-most .ensures))
 

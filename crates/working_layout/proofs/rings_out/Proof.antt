@@ -33,20 +33,20 @@ returns c = out-none _ _ (c .before .before .before .before .args .rings .now) (
 loop-holds : tie.Need-loop-holds Inv-loop μ-loop
 loop-holds c = (out-start _ _ _ _, has-queues _ _ _ _ (sym (c .before .has-queues .ensures) ∙ not-false _ (c .if1 .left)), omega arith)
 
-cast-from : tie.Need-cast-from Inv-loop μ-loop
-cast-from c = omega arith
+cast-place : tie.Need-cast-place Inv-loop μ-loop
+cast-place c = omega arith
 
-mul-from : tie.Need-mul-from Inv-loop μ-loop
-mul-from c = omega (arith, small c)
+mul-place : tie.Need-mul-place Inv-loop μ-loop
+mul-place c = omega (arith, small c)
 
-add-to : tie.Need-add-to Inv-loop μ-loop
-add-to c = omega (arith, small c)
+add-behind : tie.Need-add-behind Inv-loop μ-loop
+add-behind c = omega (arith, small c)
 
 endpoint-at-requires : tie.Need-endpoint-at-requires Inv-loop μ-loop
 endpoint-at-requires c κs = search needs
 
-add-end : tie.Need-add-end Inv-loop μ-loop
-add-end c = omega (arith, end-within c)
+add-next : tie.Need-add-next Inv-loop μ-loop
+add-next c = omega (arith, end-within c)
 
 mul-put-out : tie.Need-mul-put-out Inv-loop μ-loop
 mul-put-out c = omega (arith, small (c .before))
@@ -105,11 +105,11 @@ rings-out-spec =
     has-queues-requires
     returns
     loop-holds
-    cast-from
-    mul-from
-    add-to
+    cast-place
+    mul-place
+    add-behind
     endpoint-at-requires
-    add-end
+    add-next
     mul-put-out
     sub-put-out
     part-put-out-start
