@@ -23,7 +23,7 @@ SHOWN = {
 
 # The tests that draw little are tried first: they take no time, and catch most.
 FIRST = ("codes", "example", "rows", "queue", "influence", "linerun", "writer")
-FIRST += ("repair", "holders", "potential")
+FIRST += ("repair", "holders", "potential", "totals")
 FIXED = [f"{module}::" for module in FIRST]
 DRAWN = [word for module in FIXED for word in ("--skip", module)]
 
@@ -36,7 +36,7 @@ lto = "off"
 
 
 def prepare():
-    """A copy of the package without its program, which no test runs."""
+    """A copy of the package without its programs, which none of these tests runs."""
     copy = Copy(ROOT / "build" / "mutants", ["reference"], PROFILE)
     package = copy.folder / "reference"
     shutil.rmtree(package / "src" / "bin")

@@ -6,6 +6,7 @@
 
 mod grants;
 mod panel;
+mod sheet;
 mod worn;
 
 use std::collections::BTreeSet;
@@ -28,6 +29,7 @@ use crate::writer::{from_columns, to_columns, Value, COLUMNS};
 
 pub use grants::{chained_table, list_by, potential_case, set_of_domains, PotentialCase};
 pub use panel::{lent_panel, panel, panel_case, question, PanelCase};
+pub use sheet::{totals_input, Limits};
 pub use worn::{
     break_few, but_for_the_frame, damage_frame, flip_one_bit, overwrite_many, overwrite_runs,
     repair_case, worn_table, RepairCase,

@@ -21,6 +21,7 @@
 //! | [`holders`](mod@holders) | document 02, request (h): the panel's words, codes 6 and 32 |
 //! | [`repair`](mod@repair) | document 02, request (k): a table from a worn card, codes 33 and 34 |
 //! | [`potential`] | of no paper: the rights that some domains' calls could ever give |
+//! | [`totals`](mod@totals) | document 02, request (e): the end-of-shift sheet, codes 7, 2 to 5 and 1 |
 //! | [`bytes`] | the table's check over little-endian bytes |
 //! | `linerun` | the program: its reading and printing, codes 7 and 1 |
 //! | [`example`] | table T, list L and what is printed for it |
@@ -41,6 +42,7 @@ pub mod potential;
 pub mod queue;
 pub mod repair;
 pub mod table;
+pub mod totals;
 pub mod words;
 pub mod writer;
 
@@ -56,4 +58,5 @@ pub use machine::step;
 pub use potential::{grants_for, grants_for_all, potential_rights};
 pub use repair::{repair, undo};
 pub use table::check_table;
+pub use totals::{totals, totals_of};
 pub use writer::{fits, read, write, write_columns, Value};

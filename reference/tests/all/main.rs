@@ -7,8 +7,9 @@
 //! rules themselves; `writer` has rows for what is written and then round trips;
 //! `repair` has rows for what is broken and then worn tables; `holders` has rows for the
 //! panel's words and for chains of rights, and then drawn ones; `potential` has rows for
-//! what grants could ever give, and then both ways. The others are property tests over
-//! seeded random tables and lists; on failure they show the seed and the words.
+//! what grants could ever give, and then both ways; `totals` has rows for the sheet and
+//! its codes, and then drawn inputs. The others are property tests over seeded random
+//! tables and lists; on failure they show the seed and the words.
 
 mod codes;
 mod counts;
@@ -26,4 +27,5 @@ mod repair;
 mod rows;
 mod steps;
 mod support;
+mod totals;
 mod writer;

@@ -1,0 +1,68 @@
+//! The program of the end-of-shift sheet itself: an input that is held open is answered
+//! as soon as its answer is known.
+
+use std::io::{Read, Write};
+use std::process::{Child, Command, Stdio};
+use std::sync::mpsc;
+use std::thread;
+use std::time::Duration;
+
+use reference::example::{LIST_L, TABLE_T};
+use reference::totals;
+use reference::words::to_bytes;
+
+/// Far longer than any answer takes.
+const WAIT: Duration = Duration::from_secs(60);
+
+fn started() -> Child {
+    Command::new(env!("CARGO_BIN_EXE_linetotals_reference"))
+        .stdin(Stdio::piped())
+        .stdout(Stdio::piped())
+        .spawn()
+        .expect("the program starts")
+}
+
+/// What the program prints for an input, which stays open until then where that is
+/// asked for.
+fn printed(input: &[u8], held_open: bool) -> Vec<u8> {
+    let mut program = started();
+    let mut pipe = program.stdin.take().unwrap();
+    pipe.write_all(input).unwrap();
+    // A pipe that isn't held ends here.
+    let held = held_open.then_some(pipe);
+    let mut output = program.stdout.take().unwrap();
+    let (tell, told) = mpsc::channel();
+    thread::spawn(move || {
+        let mut sheet = Vec::new();
+        output.read_to_end(&mut sheet).unwrap();
+        tell.send(sheet)
+    });
+    let sheet = told.recv_timeout(WAIT).expect("an answer");
+    drop(held);
+    assert!(program.wait().unwrap().success());
+    sheet
+}
+
+fn input(table: &[u32], list: &[u32]) -> Vec<u8> {
+    let lengths = [table.len() as u32, list.len() as u32];
+    to_bytes(&[&lengths[..1], table, &lengths[1..], list].concat())
+}
+
+#[test]
+fn an_input_that_ends() {
+    let whole = input(&TABLE_T, &LIST_L);
+    for length in [0, 3, 4, 140, 141, 144, whole.len() - 1, whole.len()] {
+        let bytes = &whole[..length];
+        assert_eq!(printed(bytes, false), totals(bytes), "{length} bytes");
+    }
+}
+
+#[test]
+fn an_input_held_open() {
+    let mut broken = TABLE_T;
+    broken[33] = 0;
+    let too_long = to_bytes(&[&[34], &TABLE_T[..], &[4097]].concat());
+    for bytes in [to_bytes(&[642]), input(&broken, &[]), too_long] {
+        assert_eq!(printed(&bytes, true), totals(&bytes));
+    }
+}
