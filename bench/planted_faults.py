@@ -53,6 +53,8 @@ UNSEEN = {
     "alters nothing else, which leaves the views equal",
     "sources_without_refused_calls": "a refused call alters nothing that a member "
     "of the set sees",
+    "totals_*": "sheets, which a program of its own prints",
+    "turns_*": "turns, which no command of the bench takes yet",
     "view_*": "the same view is taken of both runs",
     "send_past_the_slots_fills_the_last": "words that can't be served, where the "
     "papers leave the answer free",

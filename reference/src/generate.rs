@@ -4,6 +4,7 @@
 //! code is met, most calls do something, queues fill and empty, and lost counts
 //! reach their top. `tests/all/generator.rs` counts that this is so.
 
+mod events;
 mod grants;
 mod panel;
 mod sheet;
@@ -27,6 +28,7 @@ use crate::table::{
 use crate::words::{content, to_bytes, word, CONTENT_MAX, EMPTY_SLOT};
 use crate::writer::{from_columns, to_columns, Value, COLUMNS};
 
+pub use events::{events, Event};
 pub use grants::{chained_table, list_by, potential_case, set_of_domains, PotentialCase};
 pub use panel::{lent_panel, panel, panel_case, question, PanelCase};
 pub use sheet::{totals_input, Limits};

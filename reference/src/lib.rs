@@ -22,6 +22,7 @@
 //! | [`repair`](mod@repair) | document 02, request (k): a table from a worn card, codes 33 and 34 |
 //! | [`potential`] | of no paper: the rights that some domains' calls could ever give |
 //! | [`totals`](mod@totals) | document 02, request (e): the end-of-shift sheet, codes 7, 2 to 5 and 1 |
+//! | [`turns`] | document 02, request (m): calls handed in one by one, codes 35 to 37 |
 //! | [`bytes`] | the table's check over little-endian bytes |
 //! | `linerun` | the program: its reading and printing, codes 7 and 1 |
 //! | [`example`] | table T, list L and what is printed for it |
@@ -43,6 +44,7 @@ pub mod queue;
 pub mod repair;
 pub mod table;
 pub mod totals;
+pub mod turns;
 pub mod words;
 pub mod writer;
 
@@ -59,4 +61,5 @@ pub use potential::{grants_for, grants_for_all, potential_rights};
 pub use repair::{repair, undo};
 pub use table::check_table;
 pub use totals::{totals, totals_of};
+pub use turns::{Turn, Turns};
 pub use writer::{fits, read, write, write_columns, Value};

@@ -8,8 +8,9 @@
 //! `repair` has rows for what is broken and then worn tables; `holders` has rows for the
 //! panel's words and for chains of rights, and then drawn ones; `potential` has rows for
 //! what grants could ever give, and then both ways; `totals` has rows for the sheet and
-//! its codes, and then drawn inputs. The others are property tests over seeded random
-//! tables and lists; on failure they show the seed and the words.
+//! its codes, and then drawn inputs; `turns` has rows for their order and for handing in,
+//! and then drawn events. The others are property tests over seeded random tables and
+//! lists; on failure they show the seed and the words.
 
 mod codes;
 mod counts;
@@ -28,4 +29,5 @@ mod rows;
 mod steps;
 mod support;
 mod totals;
+mod turns;
 mod writer;
