@@ -15,7 +15,7 @@ mod progress;
 use std::process::ExitCode;
 
 use commands::{
-    commission, fuzz, linerun, queue, read, repair, show, speed, step, tables, words, write,
+    commission, fuzz, linerun, queue, read, repair, show, speed, step, tables, totals, words, write,
 };
 
 /// The help before the list of commands, and after it.
@@ -44,7 +44,7 @@ struct Command {
     act: fn(&[String]) -> Result<bool, String>,
 }
 
-const COMMANDS: [Command; 12] = [
+const COMMANDS: [Command; 13] = [
     Command {
         name: "commission",
         given: "FILE",
@@ -86,6 +86,13 @@ const COMMANDS: [Command; 12] = [
         purpose: "the program linerun beside the separate one",
         help: linerun::HELP,
         act: linerun::command,
+    },
+    Command {
+        name: "totals",
+        given: "PROGRAM",
+        purpose: "the program linetotals beside the separate one",
+        help: totals::HELP,
+        act: totals::command,
     },
     Command {
         name: "speed",

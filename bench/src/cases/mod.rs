@@ -3,6 +3,7 @@
 
 pub mod inputs;
 pub mod random;
+pub mod sheets;
 pub mod workloads;
 
 /// What is lent to one run.

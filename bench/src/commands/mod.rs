@@ -12,5 +12,6 @@ pub mod show;
 pub mod speed;
 pub mod step;
 pub mod tables;
+pub mod totals;
 pub mod words;
 pub mod write;

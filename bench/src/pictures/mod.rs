@@ -6,4 +6,5 @@ mod groups;
 pub mod picture;
 pub mod potential;
 pub mod reach;
+pub mod sheet;
 pub mod svg;

@@ -1,0 +1,166 @@
+//! The end-of-shift sheet as a page to read and to print, out of what `linetotals` prints.
+
+/// What one endpoint's line says.
+struct Row {
+    endpoint: u64,
+    sent: u64,
+    received: u64,
+    lost: u64,
+    start: u64,
+    end: u64,
+}
+
+/// The page of a sheet; what is wrong where it isn't one.
+pub fn page(printed: &str) -> Result<String, String> {
+    let mut lines: Vec<&str> = printed.lines().collect();
+    let last = lines.pop().ok_or("it is empty")?;
+    let (lists, code) = last_line(last).ok_or_else(|| format!("its last line is `{last}`"))?;
+    let rows = lines
+        .into_iter()
+        .map(|line| row(line).ok_or_else(|| format!("a line is `{line}`")));
+    let rows: Vec<Row> = rows.collect::<Result<_, _>>()?;
+    if let Some(wrong) = rows.iter().find(|row| !row.is_borne_out()) {
+        return Err(format!("endpoint {} isn't borne out", wrong.endpoint));
+    }
+    Ok(with_rows(&rows, lists, code))
+}
+
+/// The number of lists and the code of the last line.
+pub fn last_line(line: &str) -> Option<(u64, u64)> {
+    let [lists, code] = numbers(line, ["lists", "code"])?;
+    Some((lists, code))
+}
+
+fn row(line: &str) -> Option<Row> {
+    let names = ["endpoint", "sent", "received", "lost", "start", "end"];
+    let [endpoint, sent, received, lost, start, end] = numbers(line, names)?;
+    Some(Row {
+        endpoint,
+        sent,
+        received,
+        lost,
+        start,
+        end,
+    })
+}
+
+/// The numbers of a line of names, each followed by one.
+fn numbers<const N: usize>(line: &str, names: [&str; N]) -> Option<[u64; N]> {
+    let words: Vec<&str> = line.split(' ').collect();
+    let named = words.chunks(2).map(|pair| pair[0]).eq(names);
+    let values: Option<Vec<u64>> = words
+        .chunks(2)
+        .map(|pair| pair.get(1)?.parse().ok())
+        .collect();
+    values.filter(|_| named)?.try_into().ok()
+}
+
+impl Row {
+    /// What was sent and what waited is what was received, what was lost and what waits.
+    fn is_borne_out(&self) -> bool {
+        self.sent.checked_add(self.start) == self.received.checked_add(self.lost + self.end)
+    }
+
+    fn cells(&self) -> String {
+        let numbers = [
+            self.endpoint,
+            self.sent,
+            self.received,
+            self.lost,
+            self.start,
+            self.end,
+        ];
+        numbers
+            .map(|number| format!("<td>{}</td>", grouped(number)))
+            .concat()
+    }
+}
+
+/// A number with its digits in threes.
+fn grouped(number: u64) -> String {
+    let digits = number.to_string();
+    let mut text = String::new();
+    for (place, digit) in digits.chars().enumerate() {
+        if place > 0 && (digits.len() - place) % 3 == 0 {
+            text.push(',');
+        }
+        text.push(digit);
+    }
+    text
+}
+
+fn with_rows(rows: &[Row], lists: u64, code: u64) -> String {
+    let body: String = rows
+        .iter()
+        .map(|row| format!("<tr>{}</tr>\n", row.cells()))
+        .collect();
+    let all = |of: fn(&Row) -> u64| grouped(rows.iter().map(of).sum());
+    let ended = match code {
+        0 => format!("<p>{} lists ran, all there were.</p>", grouped(lists)),
+        _ => format!(
+            "<p class=\"refused\">{} lists ran; what came then was refused with {code}.</p>",
+            grouped(lists)
+        ),
+    };
+    format!(
+        "<!DOCTYPE html>\n<html lang=\"en\"><head><meta charset=\"utf-8\">\n\
+         <title>End of shift</title>\n<style>\n{STYLE}</style></head>\n<body>\n\
+         <h1>End of shift</h1>\n{ended}\n<table>\n<thead><tr><th>Endpoint</th><th>Sent</th>\
+         <th>Received</th><th>Lost</th><th>Waiting at the start</th><th>Waiting at the end</th>\
+         </tr></thead>\n<tbody>\n{body}</tbody>\n<tfoot><tr><td>All</td><td>{}</td><td>{}</td>\
+         <td>{}</td><td>{}</td><td>{}</td></tr></tfoot>\n</table>\n\
+         <p>Sent and waiting at the start is received, lost and waiting at the end, for each \
+         endpoint.</p>\n</body></html>\n",
+        all(|row| row.sent),
+        all(|row| row.received),
+        all(|row| row.lost),
+        all(|row| row.start),
+        all(|row| row.end)
+    )
+}
+
+const STYLE: &str = "\
+@page { size: A4; margin: 18mm }
+body { font: 11pt sans-serif; max-width: 60em; margin: 1em auto; color: #111 }
+table { border-collapse: collapse; width: 100% }
+th, td { border: 1px solid #999; padding: .25em .6em; text-align: right }
+th { background: #eee; text-align: left }
+tfoot td { font-weight: bold }
+thead { display: table-header-group }
+tr { break-inside: avoid }
+.refused { border-left: .4em solid #b00; padding-left: .6em }
+";
+
+#[cfg(test)]
+mod tests {
+    use super::*;
+
+    const SHEET: &str = "endpoint 0 sent 0 received 0 lost 0 start 0 end 0\n\
+                         endpoint 1 sent 1234567 received 1234560 lost 3 start 1 end 5\n\
+                         lists 2 code 0\n";
+
+    #[test]
+    fn a_page_has_every_number() {
+        let page = page(SHEET).unwrap();
+        assert!(page.contains("<td>1</td><td>1,234,567</td><td>1,234,560</td><td>3</td>"));
+        assert!(
+            page.contains("<p>2 lists ran, all there were.</p>"),
+            "{page}"
+        );
+    }
+
+    #[test]
+    fn a_refused_list_and_a_refused_table_are_told() {
+        let refused = page("lists 0 code 4\n").unwrap();
+        assert!(refused.contains("0 lists ran; what came then was refused with 4"));
+    }
+
+    #[test]
+    fn what_is_no_sheet_or_not_borne_out_is_refused() {
+        assert!(page("").is_err());
+        assert!(page("calls 0 code 7\n").is_err());
+        assert!(page("endpoint 0 sent 1\nlists 1 code 0\n").is_err());
+        let wrong = "endpoint 0 sent 2 received 0 lost 0 start 0 end 1\nlists 1 code 0\n";
+        assert_eq!(page(wrong), Err("endpoint 0 isn't borne out".to_string()));
+    }
+}
