@@ -4,3 +4,4 @@ pub mod Words
 pub mod Codes
 pub mod Next
 pub mod Serves
+pub mod Claims

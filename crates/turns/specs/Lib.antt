@@ -2,3 +2,4 @@
 pub mod State
 pub mod Told
 pub mod Promise
+pub mod Claims
