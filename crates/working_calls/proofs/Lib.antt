@@ -1,0 +1,2 @@
+-- What holds of a call on part of a state holds of it on the whole.
+pub mod Whole

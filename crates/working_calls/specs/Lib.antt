@@ -1,0 +1,2 @@
+-- What the contract of a call on a working state cites.
+pub mod Served
