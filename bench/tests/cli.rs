@@ -54,7 +54,9 @@ fn archive_title() -> String {
 fn help_is_given_for_every_command() {
     assert_eq!(status(&["--help"]), 0);
     assert!(printed(&["--help"]).contains("or a closed pipe"));
-    let commands = "commission fuzz step queue linerun speed show words write read";
+    let commands =
+        "commission fuzz step queue tables linerun totals speed show repair words write \
+                    read";
     for command in commands.split(' ') {
         let help = printed(&[command, "--help"]);
         assert!(help.starts_with(&format!("bench {command}")), "{help}");
@@ -551,4 +553,70 @@ fn speed_prints_a_table() {
         assert!(table.contains("reset outside the timed part"), "{table}");
         assert!(table.contains(&format!("| What | {} |", archive_title())));
     }
+}
+
+/// A path for a file that a command writes.
+fn path(name: &str) -> String {
+    let path = PathBuf::from(env!("CARGO_TARGET_TMPDIR")).join(name);
+    path.to_str().expect("a plain path").to_string()
+}
+
+#[test]
+fn a_worn_table_is_repaired_and_its_old_words_are_put_back() {
+    let mut worn = TABLE_T;
+    (worn[6], worn[24]) = (0x2000_0017, 0x5000_0009);
+    let input = file(
+        "worn.bin",
+        &to_bytes(&[&[34], &worn[..], &LIST_L[..]].concat()),
+    );
+    assert!(printed(&["commission", &input]).contains("`bench repair "));
+    let (sound, list, back) = (path("sound.bin"), path("list.bin"), path("back.bin"));
+    let told = printed(&["repair", &input, &sound, "--changes", &list]);
+    assert!(told.starts_with("2 words altered\n  word 6, "), "{told}");
+    assert!(
+        told.contains("the queue of endpoint 1 (name 18) was emptied"),
+        "{told}"
+    );
+    assert_eq!(status(&["commission", &sound]), 0);
+    assert_eq!(status(&["repair", &sound, &back, "--undo", &list]), 0);
+    assert_eq!(fs::read(&back).unwrap(), fs::read(&input).unwrap());
+    let image = file("worn.image", &to_bytes(&worn));
+    assert_eq!(status(&["repair", &image, &back, "--image"]), 0);
+    assert_eq!(
+        fs::read(&back).unwrap(),
+        fs::read(&sound).unwrap()[4..4 + 4 * 34]
+    );
+}
+
+#[test]
+fn what_cannot_be_repaired_is_told_and_nothing_is_written() {
+    let mut worn = TABLE_T;
+    worn[10] = 0x3000_0000;
+    let image = file("nameless.image", &to_bytes(&worn));
+    let out = path("never.bin");
+    let _ = fs::remove_file(&out);
+    let line = ["repair", &image, &out, "--image"];
+    assert_eq!(status(&line), 1);
+    let told = printed(&line);
+    assert!(
+        told.starts_with("refused with 33") && told.contains("the name is 0"),
+        "{told}"
+    );
+    assert!(fs::metadata(&out).is_err());
+    assert_eq!(status(&["repair", &image, &image, "--image"]), 2);
+    assert_eq!(status(&["repair", &image]), 2);
+}
+
+#[test]
+fn a_sheet_becomes_a_page() {
+    let sheet = file(
+        "sheet.txt",
+        b"endpoint 0 sent 2 received 1 lost 0 start 0 end 1\nlists 3 code 0\n",
+    );
+    let page = printed(&["totals", "--html", &sheet]);
+    assert!(page.contains("<td>0</td><td>2</td><td>1</td><td>0</td><td>0</td><td>1</td>"));
+    assert_eq!(
+        status(&["totals", "--html", &file("no.txt", b"calls 0 code 7\n")]),
+        1
+    );
 }
