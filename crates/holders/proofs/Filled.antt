@@ -1,11 +1,12 @@
--- The words as they are worked out from a table, one after the other and row by row. Assumes nothing.
+-- The words as they are worked out from a table, one after the other and row by row; for callers, that it is done for each accepted
+-- table. Assumes nothing.
 use mathlib.Core.Path.{_≡_, refl, sym, ap, ap₂, _∙_}
-use mathlib.Core.Bool.{true, false, cond, _&&_}
+use mathlib.Core.Bool.{true, cond, _&&_}
 use mathlib.Core.List.{List, [], _∷_, _++_}
 use Prim.Native.Nat.{ℕ, suc, _+_, _*_, _^_, _<_, _≤_}
 use native.Mathlib.Numerals.{add-one}
 use native.Mathlib.Omega.{arith}
-use borrow.Author.Tests.{ltb-true, leb-true, eqb-true, lt-ltb, le-leb, eq-eqb}
+use borrow.Author.Tests.{ltb-true, leb-true, eqb-true}
 use lib.Bits.{bitOr}
 use lib.Dec.{eqb, leb, ltb}
 use lib.ListN.{length, getD, take, drop, set, length-set}
@@ -14,16 +15,16 @@ use Rattle.machine.specs.Below.{sumBelow, wordsBelow, bitsBelow}
 use Rattle.machine.specs.Word.{payload}
 use Rattle.machine.specs.Right.{hasAny}
 use Rattle.machine.specs.Table.{domains, rightsAt}
-use Rattle.machine.specs.Check.{Accepted}
 use Rattle.machine.specs.Influence.{reaches}
 use Rattle.machine.specs.Holders.{holdersOf}
-use Rattle.machine.proofs.Bools.{and-left, and-right, and-intro}
+use Rattle.machine.proofs.Bools.{and-left, and-right}
 use Rattle.machine.proofs.Below.{words-at, words-same, words-length}
 use Rattle.machine.proofs.Table.{rights-below}
-use Rattle.machine.proofs.Accepted.{accepted-sized, accepted-counts}
 use Rattle.layout.proofs.Places.{rights-read}
-use Rattle.holders.specs.Noted.{roomFor, HasRoom, filled, withRow}
-use Rattle.holders.proofs.OneBit.{bits-next}
+use Rattle.holder_words.specs.Noted.{roomFor}
+use Rattle.holders.specs.Rows.{HasRoom, withRow}
+use Rattle.holder_words.proofs.OneBit.{bits-next}
+pub use Rattle.holder_words.proofs.Filled.{filled-accepted}
 
 -- ---- words written from the front: g of them are there, and the rest is as it was in ws
 pub record Written (f : ℕ → ℕ) (ws ps : List ℕ) (g : ℕ) : Type 0 where
@@ -122,26 +123,3 @@ has-room t n p h =
       words = eqb-true _ _ (and-right (leb n 16) (eqb (length p) n) both);
       table = ltb-true _ _ (and-right (leb n 16 && eqb (length p) n) (ltb (n * n) (length t)) h);
     }
-
-module _ (t p : List ℕ) (n : ℕ) (e : n ≡ domains t) where
-  pub filled-done : roomFor n (length t) (length p) ≡ true → holdersOf t ≡ filled t p
-  unfolding filled
-  filled-done h = rw (← e, h)
-
-  pub filled-stays : roomFor n (length t) (length p) ≡ false → p ≡ filled t p
-  unfolding filled
-  filled-stays h = rw (← e, h)
-
--- ---- for callers: an accepted table is worked out into as many words as it has domains
-pub filled-accepted : (t p : List ℕ) → Accepted t → length p ≡ domains t → filled t p ≡ holdersOf t
-unfolding roomFor
-filled-accepted t p a e =
-    sym
-    (filled-done t p (domains t) refl
-    (and-intro
-    (and-intro (le-leb (domains t) 16 (accepted-counts t a .1)) (eq-eqb (length p) (domains t) e))
-    (lt-ltb (domains t * domains t) (length t) (omega (arith, accepted-sized t a)))))
-
-pub holders-length : (t : List ℕ) → length (holdersOf t) ≡ domains t
-unfolding holdersOf
-holders-length t = words-length (domains t) (λ g. bitsBelow (domains t) (λ h. reaches t h g))

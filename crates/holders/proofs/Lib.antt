@@ -1,6 +1,4 @@
--- What is proved of the panel's words, and laws that the proofs of the functions cite.
-pub mod OneBit
+-- Laws that the proofs of the functions cite, and what callers cite.
 pub mod Filled
 pub mod Kept
 pub mod Told
-pub mod Examples

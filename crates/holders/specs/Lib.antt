@@ -1,5 +1,4 @@
--- What the contracts of this crate cite, and what is claimed of the panel's words.
+-- What the contracts of this crate cite besides the words themselves, which stand in crates/holder_words.
 pub mod Noted
+pub mod Rows
 pub mod Asked
-pub mod Claims
-pub mod Examples

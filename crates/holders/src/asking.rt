@@ -3,7 +3,7 @@ use crate::bits::bit;
 ghost use mathlib.Core.Path.{_≡_};
 ghost use Prim.Native.Nat.{_≤_};
 ghost use lib.ListN.{length};
-ghost use Rattle.holders.specs.Asked.{bitsWithin, askable};
+ghost use Rattle.holder_words.specs.Asked.{bitsWithin, askable};
 
 // No word has a bit from their number on.
 fn bits_within(words: &[u32]) -> bool

@@ -5,7 +5,7 @@ ghost use mathlib.Core.Bool.{cond};
 ghost use Prim.Native.Nat.{_<_, _^_};
 ghost use Rattle.machine.specs.Word.{payload};
 ghost use Rattle.machine.specs.Right.{hasAny};
-ghost use Rattle.holders.specs.Noted.{withBit};
+ghost use Rattle.holder_words.specs.Noted.{withBit};
 
 // The set of one.
 pub fn bit(i: u32) -> u32

@@ -13,8 +13,9 @@ use reach::closure;
 use rows::fill_rows;
 use rows::fillable;
 ghost use mathlib.Core.Path.{_≡_};
-ghost use Rattle.holders.specs.Noted.{noted, filled};
-ghost use Rattle.holders.specs.Asked.{ReachTold, askedCode, askedSet};
+ghost use Rattle.holder_words.specs.Noted.{noted, filled};
+ghost use Rattle.holder_words.specs.Asked.{ReachTold};
+ghost use Rattle.holders.specs.Asked.{askedCode, askedSet};
 
 // What the table says, worked out afresh. Where the words aren't those of the table's domains, or the table has not all its rights
 // words, they stay.

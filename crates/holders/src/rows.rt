@@ -8,7 +8,8 @@ ghost use lib.ListN.{length};
 ghost use Rattle.machine.specs.Below.{wordsBelow};
 ghost use Rattle.machine.specs.Table.{domains};
 ghost use Rattle.machine.specs.Holders.{holdersOf};
-ghost use Rattle.holders.specs.Noted.{roomFor, HasRoom, withRow};
+ghost use Rattle.holder_words.specs.Noted.{roomFor};
+ghost use Rattle.holders.specs.Rows.{HasRoom, withRow};
 
 // As many words are lent as there are domains, at most 16, and the table has their rights words.
 pub fn fillable(n: u32, size: usize, lent: usize) -> bool

@@ -4,7 +4,8 @@ use native.Mathlib.Omega.{arith}
 use borrow.Author.Tests.{not-true, not-false}
 use borrow.Author.Needs.{needs}
 use Rattle.reach.specs.Closure.{closed}
-use Rattle.holders.proofs.Told.{askable-parts, told-nothing, told}
+use Rattle.holder_words.proofs.Told.{askable-parts}
+use Rattle.holders.proofs.Told.{told-nothing, told}
 use Rattle.holders.proofs.who_reaches.Statement.{statement}
 use Rattle.holders.proofs.who_reaches.Tie as tie
 

@@ -4,9 +4,9 @@ use Rattle.machine.specs.Below.{wordsBelow, bitsBelow}
 use Rattle.machine.specs.Holders.{holdersOf}
 use Rattle.machine.specs.Everything.{everything}
 use Rattle.reach.specs.Closure.{withWords, widened, rounds, closed}
-use Rattle.holders.specs.Noted.{withBit, noted, roomFor, filled, holdersAfter, holdersAlong}
-use Rattle.holders.specs.Asked.{bitsWithin, askable, askCode, asked}
-use Rattle.holders.specs.Examples.{EveryHoldersRow, tableRows, changeRows, askingRows}
+use Rattle.holder_words.specs.Noted.{withBit, noted, roomFor, filled, holdersAfter, holdersAlong}
+use Rattle.holder_words.specs.Asked.{bitsWithin, askable, askCode, asked}
+use Rattle.holder_words.specs.Examples.{EveryHoldersRow, tableRows, changeRows, askingRows}
 
 pub every-table-row : EveryHoldersRow tableRows
 unfolding everything wordsBelow bitsBelow holdersOf withBit noted roomFor filled holdersAfter holdersAlong

@@ -15,8 +15,8 @@ use Rattle.machine.specs.Influence.{reaches}
 use Rattle.machine.specs.Holders.{holdersOf}
 use Rattle.reach.specs.Chain.{Chain, linked, among}
 use Rattle.effects.specs.Effect.{effectFor}
-use Rattle.holders.specs.Noted.{holdersAfter, notedBy, holdersAlong}
-use Rattle.holders.specs.Asked.{askable, askCode, asked}
+use Rattle.holder_words.specs.Noted.{holdersAfter, notedBy, holdersAlong}
+use Rattle.holder_words.specs.Asked.{askable, askCode, asked}
 
 -- Noting what a call alters makes of the words of the table before it those of the table after it, worked out afresh.
 abbrev pub HoldersKept : Type 0

@@ -18,7 +18,7 @@ use Rattle.machine.proofs.Below.{bits-lt, bits-at, bits-past}
 use Rattle.machine.proofs.Right.{holds-bit, holds-without}
 use Rattle.machine.proofs.Table.{equal-either}
 use Rattle.reach.proofs.Bits.{bit-or, bit-none, bit-zero, bit-half, bit-own, bit-other, some-bit}
-use Rattle.holders.specs.Noted.{withBit}
+use Rattle.holder_words.specs.Noted.{withBit}
 
 -- one bit stays in a word
 pub one-bit : (i : ℕ) → i < 32 → 1 * 2 ^ i % 2 ^ 32 ≡ 2 ^ i

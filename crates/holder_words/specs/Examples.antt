@@ -7,8 +7,8 @@ use Rattle.machine.specs.Call.{cut}
 use Rattle.machine.specs.Holders.{holdersOf}
 use Rattle.machine.specs.Examples.{T, L}
 use Rattle.reach.specs.Examples.{road, ring}
-use Rattle.holders.specs.Noted.{noted, filled, holdersAlong}
-use Rattle.holders.specs.Asked.{askCode, asked}
+use Rattle.holder_words.specs.Noted.{noted, filled, holdersAlong}
+use Rattle.holder_words.specs.Asked.{askCode, asked}
 
 -- A row: the words of a table; those lent, once a table is worked out into them; those noted along a list that runs from a table;
 -- words before and after new rights of a holder on a target; or what is told of a domain.

@@ -1,0 +1,6 @@
+-- What is proved of the panel's words, and laws of them that the proofs of functions cite.
+pub mod OneBit
+pub mod Filled
+pub mod Kept
+pub mod Told
+pub mod Examples

@@ -1,0 +1,51 @@
+-- What becomes of the panel's words (document 02 (h)): they are worked out from a table, and each change of rights is noted in them.
+-- Any words will do.
+use Prim.Native.Nat.{ℕ, _-_, _*_, _^_}
+use mathlib.Core.Bool.{Bool, cond, _&&_}
+use mathlib.Core.List.{List, [], _∷_}
+use lib.Bits.{bitAnd, bitOr}
+use lib.Dec.{eqb, leb, ltb}
+use lib.ListN.{length, getD, set}
+use Rattle.machine.specs.Right.{hasAny}
+use Rattle.machine.specs.Table.{domains}
+use Rattle.machine.specs.Call.{Call}
+use Rattle.machine.specs.Machine.{Effect, decide, effect, step, Effect.nothing, Effect.newRights, Effect.newEndpoint}
+use Rattle.machine.specs.Holders.{holdersOf}
+use Rattle.effects.specs.declared.Effect as effects
+use Rattle.effects.specs.declared.Effect.the-variants.{Nothing, NewRights, Send, Receive}
+
+-- bit i of the word w, set where b holds, else cleared
+unfoldable pub withBit : ℕ → ℕ → Bool → ℕ
+withBit w i b = cond b (bitOr w (2 ^ i)) (w - bitAnd w (2 ^ i))
+
+-- the words p once the rights of h on g have become s: bit h of word g says whether any is left. Where there is no word g, or
+-- no bit h in a word, p as it is
+unfoldable pub noted : List ℕ → ℕ → ℕ → ℕ → List ℕ
+noted p h g s = cond (ltb h 32 && ltb g (length p)) (set p g (withBit (getD p g 0) h (hasAny s))) p
+
+-- so many lent words are those of n domains, at most 16, and a table of that size has all their rights words
+unfoldable pub roomFor : ℕ → ℕ → ℕ → Bool
+roomFor n size lent = leb n 16 && eqb lent n && ltb (n * n) size
+
+-- the words p once they are worked out from the table t; where they aren't those of its domains, or it has not all its rights
+-- words, p as it is
+unfoldable pub filled : List ℕ → List ℕ → List ℕ
+filled t p = cond (roomFor (domains t) (length t) (length p)) (holdersOf t) p
+
+-- the words p after an effect of the machine: new rights are noted, and nothing else alters them
+unfoldable pub holdersAfter : List ℕ → Effect → List ℕ
+holdersAfter p nothing = p
+holdersAfter p (newRights h g s) = noted p h g s
+holdersAfter p (newEndpoint e q) = p
+
+-- the same of an effect as a value of the code
+unfoldable pub notedBy : List ℕ → effects.Effect → List ℕ
+notedBy p Nothing = p
+notedBy p (NewRights h g s) = noted p h g s
+notedBy p (Send e message) = p
+notedBy p (Receive e) = p
+
+-- the words p after the calls, of which each is noted on the table that it finds, the first on t
+unfoldable pub holdersAlong : List ℕ → List ℕ → List Call → List ℕ
+holdersAlong p t [] = p
+holdersAlong p t (c ∷ cs) = holdersAlong (holdersAfter p (effect t (decide t c))) (step t c) cs
