@@ -1,5 +1,2 @@
--- Laws of mending that callers cite, and what the proofs of several functions cite.
-pub mod Places
-pub mod Mended
-pub mod Claims
+-- Laws of the passes, which the proofs of several functions cite.
 pub mod Passes

@@ -1,4 +1,2 @@
--- What becomes of a table's words when it is mended, what is claimed of it, and what the passes over the words leave.
-pub mod Mend
-pub mod Claims
+-- What the passes over a table's words leave.
 pub mod Passes

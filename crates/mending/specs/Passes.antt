@@ -4,7 +4,7 @@ use mathlib.Core.Path.{_≡_}
 use mathlib.Core.List.{List}
 use lib.ListN.{length, getD}
 use Rattle.machine.specs.Table.{domains, endpoints, endpoint}
-use Rattle.mending.specs.Mend.{mendedRights, mendedEndpoint, endpointsFrom}
+use Rattle.mended.specs.Mend.{mendedRights, mendedEndpoint, endpointsFrom}
 
 -- the first i rights words are mended, and every other word is as it was
 pub record RightsMended (t t′ : List ℕ) (i : ℕ) : Type 0 where

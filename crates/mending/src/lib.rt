@@ -8,7 +8,7 @@ ghost use Prim.Native.Nat.{_*_};
 ghost use lib.ListN.{length};
 ghost use Rattle.machine.specs.Table.{domains, endpoints};
 ghost use Rattle.table.specs.Checked.{Headed};
-ghost use Rattle.mending.specs.Mend.{mendedRights, mendedEndpoint, mended};
+ghost use Rattle.mended.specs.Mend.{mendedRights, mendedEndpoint, mended};
 ghost use Rattle.mending.specs.Passes.{RightsMended, EndpointsMended};
 
 // A rights word with no right, and the words of an empty queue: nothing waits, nothing was lost, a slot has no message.

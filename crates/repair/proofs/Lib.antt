@@ -1,6 +1,3 @@
--- Laws of repairs that callers cite, and what the proofs of several functions cite.
-pub mod Changes
+-- What the proofs of several functions cite, and what callers cite.
 pub mod Passes
 pub mod Outcomes
-pub mod Claims
-pub mod Examples

@@ -1,6 +1,3 @@
--- What a repair answers and leaves, what is claimed of it, and rows that pin it.
-pub mod Changes
+-- The answers of the code, and for callers what is promised of them.
 pub mod Repair
 pub mod Answer
-pub mod Claims
-pub mod Examples

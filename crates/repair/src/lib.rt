@@ -7,9 +7,9 @@ ghost use mathlib.Core.Path.{_≡_};
 ghost use mathlib.Core.List.{_++_};
 ghost use Prim.Native.Nat.{_≤_};
 ghost use lib.ListN.{length, drop};
-ghost use Rattle.mending.specs.Mend.{mended, mendable};
-ghost use Rattle.repair.specs.Changes.{differing, changes};
-ghost use Rattle.repair.specs.Repair.{RepairPromise};
+ghost use Rattle.mended.specs.Mend.{mended, mendable};
+ghost use Rattle.repaired.specs.Changes.{differing, changes};
+ghost use Rattle.repaired.specs.Repair.{RepairPromise};
 ghost use Rattle.repair.specs.Answer.{repairedCode, repairedCount};
 
 // The most words that a table has: those of 16 domains and 32 endpoints.

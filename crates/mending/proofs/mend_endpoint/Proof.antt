@@ -4,7 +4,7 @@ use mathlib.Core.Path.{refl, sym, _∙_}
 use native.Mathlib.Omega.{arith}
 use borrow.Author.Count.{falls}
 use lib.ListN.{length-set}
-use Rattle.mending.proofs.Mended.{queue-kept}
+use Rattle.mended.proofs.Mended.{queue-kept}
 use Rattle.mending.proofs.Passes.{SlotsCleared, slots-start, slots-next, slots-end}
 use Rattle.mending.proofs.mend_endpoint.Statement.{statement}
 use Rattle.mending.proofs.mend_endpoint.Tie as tie

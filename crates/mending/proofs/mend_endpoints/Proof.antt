@@ -12,7 +12,7 @@ use Rattle.machine.proofs.Table.{Sized}
 use Rattle.table.proofs.Places.{headed-most, headed-size}
 use Rattle.table.proofs.Bounds.{count-fits, from-fits, words-fit, start-fits, end-fits, bytes-fit, end-within, next-fits}
 use Rattle.mending.specs.Passes.{EndpointsMended}
-use Rattle.mending.proofs.Mended.{headed-sized}
+use Rattle.mended.proofs.Mended.{headed-sized}
 use Rattle.mending.proofs.Passes.{endpoints-start, lent-twelve, endpoints-next}
 use Rattle.mending.proofs.mend_endpoints.Statement.{statement}
 use Rattle.mending.proofs.mend_endpoints.Tie as tie

@@ -1,6 +1,6 @@
 -- `mended_rights` meets its contract: a sound word stays, a broken one has no right any more. Assumes nothing.
 use mathlib.Core.Path.{sym, _∙_}
-use Rattle.mending.proofs.Mended.{rights-kept, rights-cleared}
+use Rattle.mended.proofs.Mended.{rights-kept, rights-cleared}
 use Rattle.mending.proofs.mended_rights.Statement.{statement}
 use Rattle.mending.proofs.mended_rights.Tie as tie
 

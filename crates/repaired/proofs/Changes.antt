@@ -13,7 +13,7 @@ use lib.ListN.{length, getD, set, length-append, length-set, List·getD-append}
 use lib.Seq.{getD-at, getD-set-same, getD-set-other, ext-getD}
 use Rattle.machine.specs.Below.{numbersBelow}
 use Rattle.machine.proofs.Below.{below-or-last}
-use Rattle.repair.specs.Changes.{differing, pairs, changes, putBack}
+use Rattle.repaired.specs.Changes.{differing, pairs, changes, putBack}
 
 -- ---- the numbers below k of which p holds
 

@@ -22,10 +22,10 @@ use Rattle.machine.proofs.Right.{holds-bit}
 use Rattle.machine.proofs.Table.{endpoint-length, endpoint-word}
 use Rattle.machine.proofs.Accepted.{parts, accepted-endpoint}
 use Rattle.table.specs.Checked.{Headed}
-use Rattle.mending.specs.Mend.{mendedRights, mendedEndpoint, mended, mendable}
-use Rattle.mending.specs.Claims.{EachPartMended, MendedAccepted, UnmendableRefused, SoundStays, NoRightAdded, NoRightInAnyReading, MayAlter, MayAlter.brokenRights, MayAlter.brokenQueue, OnlyBrokenAltered}
-use Rattle.mending.proofs.Places.{place-elim}
-use Rattle.mending.proofs.Mended.{rights-kept, mended-rights-ok, queue-kept, mended-identity, mended-name, mended-endpoint-ok, mended-length, mended-stays, headed-either, headed-sized, mended-header, mended-domains, mended-endpoints, mended-at-rights, mended-at-endpoint, mended-rights, mended-endpoint, mended-is}
+use Rattle.mended.specs.Mend.{mendedRights, mendedEndpoint, mended, mendable}
+use Rattle.mended.specs.Claims.{EachPartMended, MendedAccepted, UnmendableRefused, SoundStays, NoRightAdded, NoRightInAnyReading, MayAlter, MayAlter.brokenRights, MayAlter.brokenQueue, OnlyBrokenAltered}
+use Rattle.mended.proofs.Places.{place-elim}
+use Rattle.mended.proofs.Mended.{rights-kept, mended-rights-ok, queue-kept, mended-identity, mended-name, mended-endpoint-ok, mended-length, mended-stays, headed-either, headed-sized, mended-header, mended-domains, mended-endpoints, mended-at-rights, mended-at-endpoint, mended-rights, mended-endpoint, mended-is}
 
 pub each-part-mended : EachPartMended
 each-part-mended t header size =

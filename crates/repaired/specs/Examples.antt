@@ -6,8 +6,8 @@ use mathlib.Core.List.{List, [], _∷_, _++_}
 use lib.ListN.{take, set, replicate}
 use Rattle.machine.specs.Examples.{T}
 use Rattle.machine.specs.CodeExamples.{fourDomains}
-use Rattle.repair.specs.Changes.{putBack}
-use Rattle.repair.specs.Repair.{Outcome, repair}
+use Rattle.repaired.specs.Changes.{putBack}
+use Rattle.repaired.specs.Repair.{Outcome, repair}
 
 -- a row: what the repair of a table with a lent list comes to
 pub record Row : Type 0 where

@@ -10,16 +10,16 @@ use borrow.Author.Tests.{eqb-false, eq-eqb, ne-eqb, not-true, le-ltb}
 use lib.ListN.{length, getD, take, drop, length-append, length-drop, List·getD-append, List·getD-eq-default}
 use lib.Seq.{take-at, drop-at}
 use Rattle.machine.specs.Check.{tableCode, Accepted}
-use Rattle.mending.specs.Mend.{mended, mendable}
-use Rattle.mending.specs.Claims.{AddsNoRight, AddsNoRightInAnyReading, AltersOnlyBroken}
-use Rattle.mending.proofs.Mended.{mended-length}
-use Rattle.mending.proofs.Claims.{accepted-exactly, mended-accepted, sound-stays, no-right-added, no-right-in-any-reading, only-broken-altered}
-use Rattle.repair.specs.Changes.{differing, pairs, changes, putBack}
-use Rattle.repair.specs.Repair.{altered, alteredCount, repairCode, Outcome, refusal, repaired, repair}
-use Rattle.repair.specs.Claims as claims
-use Rattle.repair.specs.Claims.{PromisedRepair, TellsChanges, ToldExactly}
-use Rattle.repair.proofs.Changes.{Lists, none-listed, lists-numbers, pairs-length, pairs-place, pairs-content, put-back-changes, differsAt}
-use Rattle.repair.proofs.Outcomes.{altered-length, repair-elim}
+use Rattle.mended.specs.Mend.{mended, mendable}
+use Rattle.mended.specs.Claims.{AddsNoRight, AddsNoRightInAnyReading, AltersOnlyBroken}
+use Rattle.mended.proofs.Mended.{mended-length}
+use Rattle.mended.proofs.Claims.{accepted-exactly, mended-accepted, sound-stays, no-right-added, no-right-in-any-reading, only-broken-altered}
+use Rattle.repaired.specs.Changes.{differing, pairs, changes, putBack}
+use Rattle.repaired.specs.Repair.{altered, alteredCount, repairCode, Outcome, refusal, repaired, repair}
+use Rattle.repaired.specs.Claims as claims
+use Rattle.repaired.specs.Claims.{PromisedRepair, TellsChanges, ToldExactly}
+use Rattle.repaired.proofs.Changes.{Lists, none-listed, lists-numbers, pairs-length, pairs-place, pairs-content, put-back-changes, differsAt}
+use Rattle.repaired.proofs.Outcomes.{altered-length, repair-elim}
 
 -- the outcome that was promised
 abbrev outcomeOf : {t list : List ℕ} → PromisedRepair t list → Outcome

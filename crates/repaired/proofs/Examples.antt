@@ -2,10 +2,10 @@
 use mathlib.Core.Path.{refl}
 use Rattle.machine.specs.Below.{wordsBelow}
 use Rattle.machine.specs.Everything.{everything}
-use Rattle.mending.specs.Mend.{mendedRights, mendedEndpoint, mendedAt, mended, mendable}
-use Rattle.repair.specs.Changes.{differing, pairs, changes, putBack}
-use Rattle.repair.specs.Repair.{altered, alteredCount, repairCode, refusal, repaired, repair}
-use Rattle.repair.specs.Examples.{EveryRow, soundRows, rightsRows, queueRows, listRows, frameRows, PutBackHolds}
+use Rattle.mended.specs.Mend.{mendedRights, mendedEndpoint, mendedAt, mended, mendable}
+use Rattle.repaired.specs.Changes.{differing, pairs, changes, putBack}
+use Rattle.repaired.specs.Repair.{altered, alteredCount, repairCode, refusal, repaired, repair}
+use Rattle.repaired.specs.Examples.{EveryRow, soundRows, rightsRows, queueRows, listRows, frameRows, PutBackHolds}
 
 -- one name for all that a row computes with
 unfoldable rows-compute : Unit {0}

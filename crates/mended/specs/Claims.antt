@@ -8,7 +8,7 @@ use Rattle.machine.specs.Word.{word}
 use Rattle.machine.specs.Right.{holds}
 use Rattle.machine.specs.Table.{domains, endpoints, rightsAt, endpointAt, rightsWord, rights, endpoint}
 use Rattle.machine.specs.Check.{rightsWordOk, queueOk, headerOk, lengthOk, Accepted}
-use Rattle.mending.specs.Mend.{mendedRights, mendedEndpoint, mended, mendable}
+use Rattle.mended.specs.Mend.{mendedRights, mendedEndpoint, mended, mendable}
 
 -- The table t′ is t mended, part by part.
 pub record Mended (t t′ : List ℕ) : Type 0 where

@@ -5,9 +5,9 @@ use mathlib.Core.Path.{_≡_}
 use mathlib.Core.List.{List}
 use lib.ListN.{length, getD, take, drop}
 use Rattle.machine.specs.Check.{Accepted}
-use Rattle.mending.specs.Claims.{AddsNoRight, AddsNoRightInAnyReading, AltersOnlyBroken}
-use Rattle.repair.specs.Changes.{putBack}
-use Rattle.repair.specs.Repair.{RepairPromise}
+use Rattle.mended.specs.Claims.{AddsNoRight, AddsNoRightInAnyReading, AltersOnlyBroken}
+use Rattle.repaired.specs.Changes.{putBack}
+use Rattle.repaired.specs.Repair.{RepairPromise}
 
 -- A repair of the table t with the lent words list, by whoever keeps the promise.
 pub record PromisedRepair (t list : List ℕ) : Type 0 where
