@@ -6,7 +6,7 @@ use native.Mathlib.Omega.{arith}
 use borrow.Author.Tests.{ne-eqb}
 use lib.Dec.{eqb}
 use Rattle.machine.specs.Call.{kindOf, Kind.stray, Kind.unknown}
-use Rattle.call_rows.specs.Rows.{noCall, ofColumns, rowCall}
+use Rattle.written_lists.specs.Rows.{noCall, ofColumns, rowCall}
 
 module _ (u a b c : ℕ) where
   -- a row goes by its kind

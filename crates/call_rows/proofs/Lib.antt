@@ -1,6 +1,4 @@
--- What is proved of the rows.
+-- What the proofs of several functions cite.
 pub mod ByKind
 pub mod RowAt
 pub mod Rounds
-pub mod Claims
-pub mod Examples

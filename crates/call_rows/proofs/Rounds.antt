@@ -12,14 +12,15 @@ use lib.ListN.{length, drop, length-drop, drop-of-length-le}
 use lib.Seq.{drop-drop}
 use Rattle.machine.specs.Entry.{longestList}
 use Rattle.calls.specs.declared.Call.{Call}
-use Rattle.call_words.specs.Words.{fits, wordsOf, allFit, written, putAt}
-use Rattle.call_words.proofs.FieldWords.{one-or-two}
+use Rattle.written_calls.specs.Words.{fits, wordsOf, allFit, written}
+use Rattle.call_words.specs.Put.{putAt}
+use Rattle.written_calls.proofs.FieldWords.{one-or-two}
 use Rattle.writer.specs.declared.Measured.the-variants.{Words, Unfit}
-use Rattle.writer.specs.Write.{tooLong}
+use Rattle.written_lists.specs.Write.{tooLong}
 use Rattle.writer.specs.FirstPass.{measured}
-use Rattle.writer.proofs.Claims.{each-wants-a-word}
+use Rattle.written_lists.proofs.Claims.{each-wants-a-word}
 use Rattle.writer.proofs.Passes.{Measuring, measuring-start, measured-unfit, measuring-next, measured-all, Putting, putting-start, fits-here, putting-next, put-done}
-use Rattle.call_rows.specs.Rows.{callAt, handedIn}
+use Rattle.written_lists.specs.Rows.{callAt, handedIn}
 use Rattle.call_rows.proofs.RowAt.{front-row, whole-row}
 
 -- ---- where the row of a number begins: from that place on stand the calls from that number on

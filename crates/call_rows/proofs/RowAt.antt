@@ -9,8 +9,8 @@ use borrow.Author.Tests.{lt-ltb, le-ltb}
 use lib.ListN.{length, getD, drop, length-drop, drop-of-length-le}
 use lib.Seq.{drop-cons}
 use Rattle.calls.specs.declared.Call.{Call}
-use Rattle.call_words.specs.Words.{fieldsOf, withinBits, fits}
-use Rattle.call_rows.specs.Rows.{noCall, rowCall, callAt, handedIn}
+use Rattle.written_calls.specs.Words.{fieldsOf, withinBits, fits}
+use Rattle.written_lists.specs.Rows.{noCall, rowCall, callAt, handedIn}
 
 module _ (ws : List ℕ) (at : ℕ) where
   pub too-few : length ws < at + 5 → noCall ≡ callAt ws at

@@ -1,4 +1,2 @@
--- What the contracts of this crate cite, what is claimed of it, and rows that pin it.
+-- For callers, what is promised of rows.
 pub mod Rows
-pub mod Claims
-pub mod Examples

@@ -13,10 +13,11 @@ ghost use mathlib.Core.Bool.{true};
 ghost use mathlib.Core.List.{_++_};
 ghost use Prim.Native.Nat.{_<_, _≤_};
 ghost use lib.ListN.{length, drop};
-ghost use Rattle.call_words.specs.Words.{allFit, written};
-ghost use Rattle.writer.specs.Write.{writtenCode, writtenNumber, WritePromise};
+ghost use Rattle.written_calls.specs.Words.{allFit, written};
+ghost use Rattle.writer.specs.Answer.{writtenCode, writtenNumber};
+ghost use Rattle.written_lists.specs.Write.{WritePromise};
 ghost use Rattle.writer.specs.FirstPass.{measured};
-ghost use Rattle.call_rows.specs.Rows.{whereZero, rowCall, callAt, handedIn};
+ghost use Rattle.written_lists.specs.Rows.{whereZero, rowCall, callAt, handedIn};
 
 // What stands for a row that is no call.
 const NO_CALL: Call = Call::Refused {

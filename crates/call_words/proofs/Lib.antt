@@ -1,5 +1,2 @@
--- What is proved of the words of calls.
-pub mod FieldWords
+-- What the proofs of several functions cite, and callers.
 pub mod Putting
-pub mod Reading
-pub mod Writing

@@ -1,3 +1,2 @@
--- What the contracts of this crate cite, and what is claimed of the words of a call.
-pub mod Words
-pub mod Claims
+-- What the contracts of this crate cite besides the words of a call, which stand in crates/written_calls.
+pub mod Put

@@ -1,37 +1,26 @@
 // A call as a value and the words that it is written in (document 02, (c)): the other way round from crate calls, which takes
 // words apart. No table is lent: what is asked of a call is that it is no refused one and that its fields are within their bits.
 use calls::Call;
+use written_calls::Fields;
 ghost use mathlib.Core.Path.{_≡_};
 ghost use mathlib.Core.Bool.{true};
 ghost use Prim.Native.Nat.{_+_, _<_, _≤_};
 ghost use lib.ListN.{length};
 ghost use Rattle.machine.specs.Call.{wantsSecond};
-ghost use Rattle.call_words.specs.Words.{fieldsAt, fieldsOf, withinBits, firstWord, fieldWords, fits, wordsOf, pasted, putAt};
+ghost use Rattle.written_calls.specs.Words.{fieldsAt, fieldsOf, withinBits, firstWord, fieldWords, fits, wordsOf};
+ghost use Rattle.call_words.specs.Put.{pasted, putAt};
 
-// A call's fields by their places in its words: bits 31–28, 27–22, 21–16, 15–8 and 7–0 of the first word, and bits 27–0 of the
-// second. Kind 0, which begins no call, stands for a refused one.
-pub struct Fields {
-    pub kind: u32,
-    pub caller: u32,
-    pub a: u32,
-    pub b: u32,
-    pub c: u32,
-    pub second: u32,
-}
-
-impl Fields {
-    // The six in the order of their bits.
-    fn at(kind: u32, caller: u32, a: u32, b: u32, c: u32, second: u32) -> Self
-        ensures { λ r. ⌜ r ≡ fieldsAt kind caller a b c second ⌝ }
-    {
-        Fields {
-            kind,
-            caller,
-            a,
-            b,
-            c,
-            second,
-        }
+// The six fields in the order of their bits.
+fn fields_at(kind: u32, caller: u32, a: u32, b: u32, c: u32, second: u32) -> Fields
+    ensures { λ r. ⌜ r ≡ fieldsAt kind caller a b c second ⌝ }
+{
+    Fields {
+        kind,
+        caller,
+        a,
+        b,
+        c,
+        second,
     }
 }
 
@@ -40,33 +29,33 @@ pub fn fields_of(call: Call) -> Fields
     ensures { λ r. ⌜ r ≡ fieldsOf call ⌝ }
 {
     match call {
-        Call::LookUp { caller, name } => Fields::at(1, caller, 0, 0, 0, name),
+        Call::LookUp { caller, name } => fields_at(1, caller, 0, 0, 0, name),
         Call::Send {
             caller,
             endpoint,
             message,
-        } => Fields::at(2, caller, 0, endpoint, 0, message),
-        Call::Receive { caller, endpoint } => Fields::at(3, caller, 0, endpoint, 0, 0),
-        Call::MyEndpoints { caller } => Fields::at(4, caller, 0, 0, 0, 0),
-        Call::MyRights { caller } => Fields::at(5, caller, 0, 0, 0, 0),
+        } => fields_at(2, caller, 0, endpoint, 0, message),
+        Call::Receive { caller, endpoint } => fields_at(3, caller, 0, endpoint, 0, 0),
+        Call::MyEndpoints { caller } => fields_at(4, caller, 0, 0, 0, 0),
+        Call::MyRights { caller } => fields_at(5, caller, 0, 0, 0, 0),
         Call::Grant {
             caller,
             target,
             recipient,
             rights,
-        } => Fields::at(6, caller, target, recipient, rights, 0),
+        } => fields_at(6, caller, target, recipient, rights, 0),
         Call::Remove {
             caller,
             target,
             rights,
-        } => Fields::at(7, caller, target, 0, rights, 0),
+        } => fields_at(7, caller, target, 0, rights, 0),
         Call::Revoke {
             caller,
             target,
             holder,
             rights,
-        } => Fields::at(8, caller, target, holder, rights, 0),
-        Call::Refused { caller, refusal: _ } => Fields::at(0, caller, 0, 0, 0, 0),
+        } => fields_at(8, caller, target, holder, rights, 0),
+        Call::Refused { caller, refusal: _ } => fields_at(0, caller, 0, 0, 0, 0),
     }
 }
 

@@ -1,5 +1,3 @@
--- What is proved of the writer.
+-- What the proofs of several functions cite, and callers.
 pub mod Passes
 pub mod Outcomes
-pub mod Claims
-pub mod Examples

@@ -1,19 +1,20 @@
 -- The two passes over the calls: what each keeps. Assumes nothing.
 use Prim.Native.Nat.{ℕ, _+_, _*_, _<_, _≤_}
 use mathlib.Core.Path.{_≡_, refl, sym, ap, ap₂, _∙_}
-use mathlib.Core.Bool.{Bool, true, false, cond, _&&_}
+use mathlib.Core.Bool.{true, false, _&&_}
 use mathlib.Core.List.{List, [], _∷_, _++_, append-assoc, append-nil}
-use mathlib.Core.Option.{Option, none, some}
+use mathlib.Core.Option.{Option, some}
 use native.Mathlib.Numerals.{add-one}
 use native.Mathlib.Omega.{arith}
 use lib.ListN.{length, getD, take, drop, length-append, drop-of-length-le}
 use lib.Seq.{drop-cons, getD-take, length-take-le, take-at, drop-at, drop-drop}
 use Rattle.machine.proofs.Bools.{and-left, and-right}
 use Rattle.calls.specs.declared.Call.{Call}
-use Rattle.call_words.specs.Words.{fits, wordsOf, allFit, written, putAt}
+use Rattle.written_calls.specs.Words.{fits, wordsOf, allFit, written}
+use Rattle.call_words.specs.Put.{putAt}
 use Rattle.call_words.proofs.Putting.{put-there}
 use Rattle.writer.specs.declared.Measured.the-variants.{Words, Unfit}
-use Rattle.writer.specs.Write.{unfitFrom, firstUnfit}
+use Rattle.written_lists.specs.Write.{unfitFrom, firstUnfit}
 use Rattle.writer.specs.FirstPass.{found, measured}
 
 -- the call at place i of the first n of some calls, and those behind it
@@ -147,15 +148,3 @@ module _ {cs : List Call} {list₀ list : List ℕ} {at i : ℕ} (p : Putting cs
       let nothing : written (drop i cs) ≡ [] = ap written (drop-of-length-le cs past) in
       let all : p .done ≡ written cs = sym (append-nil (p .done)) ∙ ap (λ (x : List ℕ). p .done ++ x) (sym nothing) ∙ p .whole in
       p .filled ∙ ap₂ (λ (x : List ℕ) (k : ℕ). x ++ drop k list₀) all (sym (p .long) ∙ ap length all)
-
--- ---- between the two
-
--- where no call is found unfit, all fit
-pub none-unfit : (i : ℕ) (cs : List Call) → unfitFrom i cs ≡ none → allFit cs ≡ true
-unfolding unfitFrom allFit
-none-unfit i [] h = refl
-none-unfit i (c ∷ cs) h = go (fits c) h (none-unfit (i + 1) cs)
-  where
-    go : (b : Bool) → cond b (unfitFrom (i + 1) cs) (some i) ≡ none → (unfitFrom (i + 1) cs ≡ none → allFit cs ≡ true) → (b && allFit cs) ≡ true
-    go true e later = later e
-    go false e later = let z : _≡_ {A = ℕ} 0 1 = cc in absurd (omega arith)

@@ -1,5 +1,3 @@
--- What the contracts of the writer cite, what is claimed of it, and rows that pin it.
-pub mod Write
+-- The answers of the code, and what the first pass finds.
+pub mod Answer
 pub mod FirstPass
-pub mod Claims
-pub mod Examples

@@ -10,8 +10,9 @@ ghost use mathlib.Core.Bool.{true};
 ghost use mathlib.Core.List.{_++_};
 ghost use Prim.Native.Nat.{_≤_, min};
 ghost use lib.ListN.{length, take, drop};
-ghost use Rattle.call_words.specs.Words.{allFit, written};
-ghost use Rattle.writer.specs.Write.{tooLong, writtenCode, writtenNumber, WritePromise};
+ghost use Rattle.written_calls.specs.Words.{allFit, written};
+ghost use Rattle.written_lists.specs.Write.{tooLong, WritePromise};
+ghost use Rattle.writer.specs.Answer.{writtenCode, writtenNumber};
 ghost use Rattle.writer.specs.FirstPass.{measured};
 
 // What writing came to.

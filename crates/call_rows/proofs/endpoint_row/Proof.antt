@@ -2,7 +2,7 @@
 use mathlib.Core.Path.{_≡_, _∙_}
 use native.Mathlib.Omega.{arith}
 use Rattle.machine.specs.Call.{kindOf}
-use Rattle.call_rows.specs.Rows.{ofColumns}
+use Rattle.written_lists.specs.Rows.{ofColumns}
 use Rattle.call_rows.proofs.ByKind.{of-kind}
 use Rattle.call_rows.proofs.endpoint_row.Statement.{statement}
 use Rattle.call_rows.proofs.endpoint_row.Tie as tie

@@ -6,8 +6,8 @@ use borrow.Author.Tests.{not-true, not-false}
 use denote.Ref.{now}
 use lib.ListN.{length}
 use Rattle.calls.specs.declared.Call.{Call}
-use Rattle.call_words.specs.Words.{fits, wordsOf}
-use Rattle.call_rows.specs.Rows.{callAt}
+use Rattle.written_calls.specs.Words.{fits, wordsOf}
+use Rattle.written_lists.specs.Rows.{callAt}
 use Rattle.call_rows.proofs.Rounds.{Measures, measures-start, measures-unfit, measures-next, measures-all}
 use Rattle.call_rows.proofs.measure.Statement.{statement}
 use Rattle.call_rows.proofs.measure.Tie as tie

@@ -4,7 +4,8 @@ use mathlib.Core.Path.{ap, _∙_}
 use native.Mathlib.Omega.{arith}
 use lib.ListN.{length}
 use Rattle.calls.specs.declared.Call.{Call}
-use Rattle.call_words.specs.Words.{wordsOf, putAt}
+use Rattle.written_calls.specs.Words.{wordsOf}
+use Rattle.call_words.specs.Put.{putAt}
 use Rattle.writer.proofs.Passes.{place-within}
 use Rattle.call_rows.proofs.Rounds.{Puts, puts-start, puts-next, puts-done}
 use Rattle.call_rows.proofs.put_all.Statement.{statement}

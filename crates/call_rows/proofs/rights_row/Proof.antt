@@ -3,7 +3,7 @@ use mathlib.Core.Path.{_∙_}
 use native.Mathlib.Omega.{arith}
 use Prim.Native.Nat.{_≤_}
 use Rattle.machine.specs.Call.{kindOf}
-use Rattle.call_rows.specs.Rows.{ofColumns}
+use Rattle.written_lists.specs.Rows.{ofColumns}
 use Rattle.call_rows.proofs.ByKind.{of-kind, above}
 use Rattle.call_rows.proofs.rights_row.Statement.{statement}
 use Rattle.call_rows.proofs.rights_row.Tie as tie

@@ -1,5 +1,5 @@
 -- `where_zero` meets its contract: the columns are zero or they aren't. Assumes nothing.
-use Rattle.call_rows.specs.Rows.{whereZero}
+use Rattle.written_lists.specs.Rows.{whereZero}
 use Rattle.call_rows.proofs.where_zero.Statement.{statement}
 use Rattle.call_rows.proofs.where_zero.Tie as tie
 

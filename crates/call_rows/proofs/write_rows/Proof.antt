@@ -5,10 +5,10 @@ use borrow.Author.Needs.{needs}
 use denote.Ref.{now}
 use lib.ListN.{length}
 use Rattle.writer.specs.declared.Measured.the-variants.{Words}
-use Rattle.writer.specs.Write.{tooLong}
+use Rattle.written_lists.specs.Write.{tooLong}
 use Rattle.writer.specs.FirstPass.{measured}
 use Rattle.writer.proofs.Outcomes.{unfit, all-fit, words-counted, too-long, room, done}
-use Rattle.call_rows.specs.Rows.{handedIn}
+use Rattle.written_lists.specs.Rows.{handedIn}
 use Rattle.call_rows.proofs.Rounds.{count-left-out}
 use Rattle.call_rows.proofs.write_rows.Statement.{statement}
 use Rattle.call_rows.proofs.write_rows.Tie as tie

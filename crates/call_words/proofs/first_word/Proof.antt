@@ -1,8 +1,8 @@
 -- `first_word` meets its contract: fields within their bits make a word of 32 bits. Assumes nothing.
 use mathlib.Core.Path.{refl}
 use native.Mathlib.Omega.{arith}
-use Rattle.call_words.specs.Words.{firstWord}
-use Rattle.call_words.proofs.FieldWords.{Bounds, bounds}
+use Rattle.written_calls.specs.Words.{firstWord}
+use Rattle.written_calls.proofs.FieldWords.{Bounds, bounds}
 use Rattle.call_words.proofs.first_word.Statement.{statement}
 use Rattle.call_words.proofs.first_word.Tie as tie
 

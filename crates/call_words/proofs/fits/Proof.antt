@@ -1,7 +1,7 @@
 -- `fits` meets its contract: its fields are within their bits. Assumes nothing.
 use mathlib.Core.Path.{_∙_, ap}
 use borrow.Author.Needs.{needs}
-use Rattle.call_words.specs.Words.{fits, withinBits}
+use Rattle.written_calls.specs.Words.{fits, withinBits}
 use Rattle.call_words.proofs.fits.Statement.{statement}
 use Rattle.call_words.proofs.fits.Tie as tie
 

@@ -7,8 +7,9 @@ use borrow.Author.Needs.{needs}
 use borrow.Author.Tests.{not-true, not-false}
 use denote.Ref.{now}
 use lib.ListN.{length}
-use Rattle.call_words.specs.declared.Fields.{Fields}
-use Rattle.call_words.specs.Words.{fits, wordsOf, withinBits, fieldWords, pasted}
+use Rattle.written_calls.specs.declared.Fields.{Fields}
+use Rattle.written_calls.specs.Words.{fits, wordsOf, withinBits, fieldWords}
+use Rattle.call_words.specs.Put.{pasted}
 use Rattle.call_words.proofs.Putting.{kind-small, put-unfit, put-past, put-there}
 use Rattle.call_words.proofs.put.Statement.{statement}
 use Rattle.call_words.proofs.put.Tie as tie

@@ -8,8 +8,10 @@ use lib.ListN.{length, length-set}
 use denote.Ref.{now}
 use Rattle.machine.specs.Word.{word}
 use Rattle.machine.specs.Call.{wantsSecond}
-use Rattle.call_words.specs.Words.{firstWord, fieldWords, pasted}
-use Rattle.call_words.proofs.FieldWords.{bounds, width-of, one-set, two-sets}
+use Rattle.written_calls.specs.Words.{firstWord, fieldWords}
+use Rattle.call_words.specs.Put.{pasted}
+use Rattle.written_calls.proofs.FieldWords.{bounds, width-of}
+use Rattle.call_words.proofs.Putting.{one-set, two-sets}
 use Rattle.call_words.proofs.put_fields.Statement.{statement}
 use Rattle.call_words.proofs.put_fields.Tie as tie
 

@@ -2,9 +2,9 @@
 use mathlib.Core.Path.{_≡_, _∙_, sym, ap}
 use mathlib.Core.Bool.{Bool, cond}
 use lib.ListN.{length}
-use Rattle.call_words.specs.Words.{wordsOf, fieldWords}
-use Rattle.call_words.specs.declared.Fields.{Fields}
-use Rattle.call_words.proofs.FieldWords.{width-of}
+use Rattle.written_calls.specs.Words.{wordsOf, fieldWords}
+use Rattle.written_calls.specs.declared.Fields.{Fields}
+use Rattle.written_calls.proofs.FieldWords.{width-of}
 use Rattle.call_words.proofs.width.Statement.{statement}
 use Rattle.call_words.proofs.width.Tie as tie
 

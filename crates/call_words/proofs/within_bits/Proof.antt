@@ -1,6 +1,6 @@
 -- `within_bits` is the definition of the same name. Assumes nothing.
 use mathlib.Core.Path.{refl}
-use Rattle.call_words.specs.Words.{withinBits}
+use Rattle.written_calls.specs.Words.{withinBits}
 use Rattle.call_words.proofs.within_bits.Statement.{statement}
 use Rattle.call_words.proofs.within_bits.Tie as tie
 

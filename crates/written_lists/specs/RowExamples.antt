@@ -4,8 +4,8 @@ use mathlib.Core.Path.{_≡_}
 use mathlib.Core.List.{List, [], _∷_, _++_}
 use lib.ListN.{replicate}
 use Rattle.calls.specs.declared.Call.the-variants.{LookUp, Send, Receive, MyEndpoints, MyRights, Grant, Remove, Revoke}
-use Rattle.writer.specs.Write.{Outcome, refusal}
-use Rattle.call_rows.specs.Rows.{noCall, handedIn, writingRows}
+use Rattle.written_lists.specs.Write.{Outcome, refusal}
+use Rattle.written_lists.specs.Rows.{noCall, handedIn, writingRows}
 
 -- one call of each kind, with a field of every column that it uses; a number is handed in as it is, whether it fits or not
 abbrev pub EachKindHandedIn : Type 0

@@ -7,7 +7,7 @@ use lib.ListN.{replicate}
 use Rattle.calls.specs.declared.Call.{Call}
 use Rattle.calls.specs.declared.Call.the-variants.{LookUp, Send, Receive, MyEndpoints, MyRights, Grant, Remove, Revoke, Refused}
 use Rattle.calls.specs.declared.Refusal.the-variants.{Stray, NoSecondWord}
-use Rattle.writer.specs.Write.{Outcome, refusal, writing}
+use Rattle.written_lists.specs.Write.{Outcome, refusal, writing}
 
 -- a row: what the writing of so many calls into these words comes to
 pub record Row : Type 0 where

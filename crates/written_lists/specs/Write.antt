@@ -9,9 +9,7 @@ use lib.Dec.{ltb}
 use lib.ListN.{length, drop}
 use Rattle.machine.specs.Entry.{longestList}
 use Rattle.calls.specs.declared.Call.{Call}
-use Rattle.call_words.specs.Words.{fits, written}
-use Rattle.writer.specs.declared.Written.{Written}
-use Rattle.writer.specs.declared.Written.the-variants.{Done, BadCall, TooLong}
+use Rattle.written_calls.specs.Words.{fits, written}
 
 -- the number of the first call that can't be written, where the first of them is number i
 unfoldable pub unfitFrom : ℕ → List Call → Option ℕ
@@ -58,15 +56,3 @@ pub record WritePromise (cs : List Call) (count : ℕ) (list : List ℕ) (code n
   pub sameCode : code ≡ writing cs count list .code
   pub sameNumber : number ≡ writing cs count list .number
   pub sameWords : end ≡ writing cs count list .list
-
--- a writer's answer as document 02's number
-abbrev pub writtenCode : Written → ℕ
-writtenCode (Done words) = 0
-writtenCode (BadCall i) = 30
-writtenCode TooLong = 31
-
--- and the number that goes with it
-abbrev pub writtenNumber : Written → ℕ
-writtenNumber (Done words) = words
-writtenNumber (BadCall i) = i
-writtenNumber TooLong = 0

@@ -1,9 +1,9 @@
 -- The rows hold, each by computation. Assumes nothing.
 use mathlib.Core.Path.{refl}
 use Rattle.machine.specs.Call.{wantsSecond}
-use Rattle.call_words.specs.Words.{fieldsOf, withinBits, firstWord, fieldWords, fits, wordsOf, written}
-use Rattle.writer.specs.Write.{unfitFrom, firstUnfit, tooLong, wordsPut, writing}
-use Rattle.writer.specs.Examples.{EveryRow, EveryBadCall, rows}
+use Rattle.written_calls.specs.Words.{fieldsOf, withinBits, firstWord, fieldWords, fits, wordsOf, written}
+use Rattle.written_lists.specs.Write.{unfitFrom, firstUnfit, tooLong, wordsPut, writing}
+use Rattle.written_lists.specs.Examples.{EveryRow, EveryBadCall, rows}
 
 pub every-row : EveryRow rows
 unfolding wantsSecond fieldsOf withinBits firstWord fieldWords fits wordsOf written unfitFrom firstUnfit tooLong wordsPut writing

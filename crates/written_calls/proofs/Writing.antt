@@ -23,10 +23,10 @@ use Rattle.calls.specs.declared.Call.{Call}
 use Rattle.calls.specs.declared.Call.the-variants.{Refused}
 use Rattle.calls.specs.declared.Refusal.the-variants.{UnusedField, NoSecondWord}
 use Rattle.calls.proofs.Apart.{first-of}
-use Rattle.call_words.specs.declared.Fields.{Fields}
-use Rattle.call_words.specs.Words.{fieldsAt, fieldsOf, withinBits, firstWord, fieldWords, fits, wordsOf, allFit, written}
-use Rattle.call_words.specs.Claims.{readFrom, past, allPast, ofTheFour, WritesBack}
-use Rattle.call_words.proofs.Reading.{taken-of}
+use Rattle.written_calls.specs.declared.Fields.{Fields}
+use Rattle.written_calls.specs.Words.{fieldsAt, fieldsOf, withinBits, firstWord, fieldWords, fits, wordsOf, allFit, written}
+use Rattle.written_calls.specs.Claims.{readFrom, past, allPast, ofTheFour, WritesBack}
+use Rattle.written_calls.proofs.Reading.{taken-of}
 
 -- the fields that a first word and what comes second hold
 abbrev fieldsIn : ℕ → Second → Fields

@@ -15,10 +15,10 @@ use Rattle.cutting.specs.declared.Second.the-variants.{Nothing, Word}
 use Rattle.calls.specs.Apart.{whole, ofKind, apart}
 use Rattle.calls.specs.declared.Call.{Call}
 use Rattle.calls.specs.declared.Call.the-variants.{LookUp, Send, Receive, MyEndpoints, MyRights, Grant, Remove, Revoke, Refused}
-use Rattle.call_words.specs.declared.Fields.{Fields}
-use Rattle.call_words.specs.Words.{fieldsOf, withinBits, firstWord, fieldWords, fits, wordsOf, allFit, written}
-use Rattle.call_words.specs.Claims.{takenApart, readFrom, past, allPast, ReadsBack, DifferentWords, TakenByReader}
-use Rattle.call_words.proofs.FieldWords.{Holds, bounds, held, second-kind, second-holds}
+use Rattle.written_calls.specs.declared.Fields.{Fields}
+use Rattle.written_calls.specs.Words.{fieldsOf, withinBits, firstWord, fieldWords, fits, wordsOf, allFit, written}
+use Rattle.written_calls.specs.Claims.{takenApart, readFrom, past, allPast, ReadsBack, DifferentWords, TakenByReader}
+use Rattle.written_calls.proofs.FieldWords.{Holds, bounds, held, second-kind, second-holds}
 
 -- the second word of a call with these fields
 abbrev pub secondOf : Fields → Second

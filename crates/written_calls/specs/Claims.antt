@@ -11,7 +11,7 @@ use Rattle.calls.specs.Number.{numberOf}
 use Rattle.calls.specs.Apart.{apart}
 use Rattle.calls.specs.declared.Call.{Call}
 use Rattle.calls.specs.declared.Call.the-variants.{LookUp, Send, Receive, MyEndpoints, MyRights, Grant, Remove, Revoke, Refused}
-use Rattle.call_words.specs.Words.{allFit, written}
+use Rattle.written_calls.specs.Words.{allFit, written}
 
 -- a call of one or two words taken apart
 unfoldable pub takenApart : machine.Call → Call

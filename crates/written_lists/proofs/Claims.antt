@@ -1,9 +1,10 @@
 -- The claims hold of whoever keeps the promise (specs/Claims). Assumes nothing.
 use Prim.Native.Nat.{ℕ, _+_, _≤_}
 use mathlib.Core.Path.{_≡_, refl, sym, ap, ap₂, _∙_}
-use mathlib.Core.Bool.{true}
+use mathlib.Core.Bool.{Bool, true, false, cond, _&&_}
 use mathlib.Core.List.{List, [], _∷_}
 use mathlib.Core.Option.{Option, none, some}
+use native.Mathlib.Nat.{min-eq-left}
 use native.Mathlib.Omega.{arith}
 use borrow.Author.Tests.{le-ltb, ltb-false, eqb-false}
 use lib.Dec.{ltb}
@@ -14,14 +15,24 @@ use Rattle.machine.specs.Entry.{longestList}
 use Rattle.machine.proofs.Bools.{and-left, and-right, or-none-left, or-none-right, cond-elim}
 use Rattle.machine.proofs.Cut.{cut-few}
 use Rattle.calls.specs.declared.Call.{Call}
-use Rattle.call_words.specs.Words.{fits, wordsOf, allFit, written}
-use Rattle.call_words.specs.Claims.{takenApart, readFrom}
-use Rattle.call_words.proofs.FieldWords.{one-or-two}
-use Rattle.call_words.proofs.Reading.{reads-back}
-use Rattle.call_words.proofs.Writing.{writes-back}
-use Rattle.writer.specs.Write.{unfitFrom, firstUnfit, tooLong, Outcome, wordsPut, afterUnfit, writing}
-use Rattle.writer.specs.Claims.{WrittenReadsBack, WrittenAsItCame, EachWantsAWord}
-use Rattle.writer.proofs.Passes.{none-unfit}
+use Rattle.written_calls.specs.Words.{fits, wordsOf, allFit, written}
+use Rattle.written_calls.specs.Claims.{takenApart, readFrom}
+use Rattle.written_calls.proofs.FieldWords.{one-or-two}
+use Rattle.written_calls.proofs.Reading.{reads-back}
+use Rattle.written_calls.proofs.Writing.{writes-back}
+use Rattle.written_lists.specs.Write.{unfitFrom, firstUnfit, tooLong, Outcome, wordsPut, afterUnfit, writing}
+use Rattle.written_lists.specs.Rows.{handedIn, writingRows}
+use Rattle.written_lists.specs.Claims.{WrittenReadsBack, WrittenAsItCame, EachWantsAWord, RowsReadBack}
+
+-- where no call is found unfit, all fit
+pub none-unfit : (i : ℕ) (cs : List Call) → unfitFrom i cs ≡ none → allFit cs ≡ true
+unfolding unfitFrom allFit
+none-unfit i [] h = refl
+none-unfit i (c ∷ cs) h = go (fits c) h (none-unfit (i + 1) cs)
+  where
+    go : (b : Bool) → cond b (unfitFrom (i + 1) cs) (some i) ≡ none → (unfitFrom (i + 1) cs ≡ none → allFit cs ≡ true) → (b && allFit cs) ≡ true
+    go true e later = later e
+    go false e later = let z : _≡_ {A = ℕ} 0 1 = cc in absurd (omega arith)
 
 -- where the code is 0 the words are in front
 in-front : (count : ℕ) (ws list : List ℕ) → wordsPut count ws list .code ≡ 0 → take (wordsPut count ws list .number) (wordsPut count ws list .list) ≡ ws
@@ -87,3 +98,14 @@ written-as-it-came ws list h short room =
       le-ltb longestList (length ws) short,
       le-ltb (length list) (length ws) room,
     )
+
+-- ---- rows
+
+-- as many words as a list may have are told as they are
+pub rows-read-back : RowsReadBack
+rows-read-back rows list code number end p zero =
+    let few = words-few (handedIn rows) (length (handedIn rows)) list (sym (p .sameCode) ∙ zero) in
+    let told : writingRows rows list .number ≤ 65535 = omega (arith, few) in
+    written-reads-back (handedIn rows) (length (handedIn rows)) list code number end
+    (record { sameCode = p .sameCode; sameNumber = p .sameNumber ∙ min-eq-left told; sameWords = p .sameWords })
+    zero

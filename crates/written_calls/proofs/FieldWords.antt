@@ -1,20 +1,18 @@
 -- The words that fields are written in: how many they are, and that each field is read back as it went in.
 -- Assumes nothing.
 use Prim.Native.Nat.{ℕ, _+_, _*_, _/_, _%_, _<_, _≤_}
-use mathlib.Core.Path.{_≡_, refl, _∙_}
+use mathlib.Core.Path.{_≡_, refl}
 use mathlib.Core.Bool.{Bool, true, false, cond, not, _&&_, false≢true}
-use mathlib.Core.List.{List, [], _∷_, append-assoc}
-use native.Mathlib.Numerals.{add-one}
+use mathlib.Core.List.{[], _∷_}
 use native.Mathlib.Omega.{arith}
 use borrow.Author.Tests.{ltb-true, eqb-false, not-true}
 use lib.Dec.{eqb, ltb}
-use lib.ListN.{length, take, set}
-use lib.Seq.{sets-eq}
+use lib.ListN.{length}
 use Rattle.machine.specs.Word.{kind, payload, caller, fieldA, fieldB, fieldC, word}
 use Rattle.machine.specs.Call.{wantsSecond}
 use Rattle.calls.specs.declared.Call.{Call}
-use Rattle.call_words.specs.declared.Fields.{Fields}
-use Rattle.call_words.specs.Words.{fieldsOf, withinBits, firstWord, fieldWords, wordsOf, pasted}
+use Rattle.written_calls.specs.declared.Fields.{Fields}
+use Rattle.written_calls.specs.Words.{fieldsOf, withinBits, firstWord, fieldWords, wordsOf}
 
 -- the fields are within their bits
 pub record Bounds (f : Fields) : Type 0 where
@@ -92,10 +90,3 @@ one-or-two c = rw (width-of (fieldsOf c)) (go (wantsSecond (fieldsOf c .kind)))
     go : (b : Bool) → (1 ≤ cond b 2 1) × (cond b 2 1 ≤ 2)
     go true = (omega arith, omega arith)
     go false = (omega arith, omega arith)
-
--- ---- words written one after the other
-pub one-set : (xs : List ℕ) (at a : ℕ) → at + 1 ≤ length xs → set xs at a ≡ pasted xs at (a ∷ [])
-one-set xs at a h = sets-eq (a ∷ []) xs at h ∙ append-assoc (take at xs) _ _
-
-pub two-sets : (xs : List ℕ) (at a b : ℕ) → at + 2 ≤ length xs → set (set xs at a) (at + 1) b ≡ pasted xs at (a ∷ b ∷ [])
-two-sets xs at a b h = rw (add-one at) (sets-eq (a ∷ b ∷ []) xs at h ∙ append-assoc (take at xs) _ _)

@@ -3,13 +3,12 @@
 use Prim.Native.Nat.{ℕ, _+_, _*_}
 use mathlib.Core.Bool.{Bool, true, cond, not, _&&_}
 use mathlib.Core.List.{List, [], _∷_, _++_}
-use lib.Dec.{eqb, leb, ltb}
-use lib.ListN.{length, take, drop}
+use lib.Dec.{eqb, ltb}
 use Rattle.machine.specs.Word.{word}
 use Rattle.machine.specs.Call.{wantsSecond}
 use Rattle.calls.specs.declared.Call.{Call}
 use Rattle.calls.specs.declared.Call.the-variants.{LookUp, Send, Receive, MyEndpoints, MyRights, Grant, Remove, Revoke, Refused}
-use Rattle.call_words.specs.declared.Fields.{Fields}
+use Rattle.written_calls.specs.declared.Fields.{Fields}
 
 -- kind, caller, A, B and C of the first word, and what the second holds
 abbrev pub fieldsAt : ℕ → ℕ → ℕ → ℕ → ℕ → ℕ → Fields
@@ -58,11 +57,3 @@ allFit (c ∷ cs) = fits c && allFit cs
 unfoldable pub written : List Call → List ℕ
 written [] = []
 written (c ∷ cs) = wordsOf c ++ written cs
-
--- a list with other words in the place of its own, from a place on
-abbrev pub pasted : List ℕ → ℕ → List ℕ → List ℕ
-pasted ws at vs = take at ws ++ (vs ++ drop (at + length vs) ws)
-
--- a list with the words of a call from a place on; as it was where the call can't be written, or the words would pass the end
-unfoldable pub putAt : List ℕ → ℕ → Call → List ℕ
-putAt ws at c = cond (fits c && leb (at + length (wordsOf c)) (length ws)) (pasted ws at (wordsOf c)) ws

@@ -1,4 +1,4 @@
--- What the claims about the words of calls (crate call_words) come to for whoever keeps the writer's promise.
+-- What the claims about the words of calls (crate written_calls) come to for whoever keeps the promise of writing, or of rows.
 use Prim.Native.Nat.{ℕ, _≤_}
 use mathlib.Core.Path.{_≡_}
 use mathlib.Core.Bool.{true}
@@ -6,9 +6,10 @@ use mathlib.Core.List.{List, _++_}
 use lib.ListN.{length, take, drop}
 use Rattle.machine.specs.Entry.{longestList}
 use Rattle.calls.specs.declared.Call.{Call}
-use Rattle.call_words.specs.Words.{written}
-use Rattle.call_words.specs.Claims.{readFrom, allPast}
-use Rattle.writer.specs.Write.{writing, WritePromise}
+use Rattle.written_calls.specs.Words.{written}
+use Rattle.written_calls.specs.Claims.{readFrom, allPast}
+use Rattle.written_lists.specs.Write.{writing, WritePromise}
+use Rattle.written_lists.specs.Rows.{handedIn, RowsPromise}
 
 -- Where the answer is 0, taking apart as many words as it says gives the calls that were handed in.
 abbrev pub WrittenReadsBack : Type 0
@@ -30,3 +31,11 @@ WrittenAsItCame =
 -- A call wants a word at least: so where all calls are there, more than 4,096 of them are more than 4,096 words.
 abbrev pub EachWantsAWord : Type 0
 EachWantsAWord = (cs : List Call) → length cs ≤ length (written cs)
+
+-- Of rows: where the answer is 0, taking apart as many words as it says gives the calls of the rows.
+abbrev pub RowsReadBack : Type 0
+RowsReadBack =
+    (rows list : List ℕ) (code number : ℕ) (end : List ℕ)
+    → RowsPromise rows list code number end
+    → code ≡ 0
+    → readFrom (take number end) ≡ handedIn rows

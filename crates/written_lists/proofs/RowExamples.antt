@@ -1,10 +1,10 @@
 -- The rows hold, each by computation. Assumes nothing.
 use mathlib.Core.Path.{refl}
 use Rattle.machine.specs.Call.{kindOf, wantsSecond}
-use Rattle.call_words.specs.Words.{fieldsOf, withinBits, firstWord, fieldWords, fits, wordsOf, written}
-use Rattle.writer.specs.Write.{unfitFrom, firstUnfit, tooLong, wordsPut, writing}
-use Rattle.call_rows.specs.Rows.{whereZero, ofColumns, rowCall, handedIn}
-use Rattle.call_rows.specs.Examples.{EachKindHandedIn, NoCallsHandedIn, EveryRow, myRights, writtenRows}
+use Rattle.written_calls.specs.Words.{fieldsOf, withinBits, firstWord, fieldWords, fits, wordsOf, written}
+use Rattle.written_lists.specs.Write.{unfitFrom, firstUnfit, tooLong, wordsPut, writing}
+use Rattle.written_lists.specs.Rows.{whereZero, ofColumns, rowCall, handedIn}
+use Rattle.written_lists.specs.RowExamples.{EachKindHandedIn, NoCallsHandedIn, EveryRow, myRights, writtenRows}
 
 pub each-kind : EachKindHandedIn
 unfolding kindOf whereZero ofColumns rowCall handedIn

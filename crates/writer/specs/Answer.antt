@@ -1,0 +1,16 @@
+-- The answers of the code as document 02's numbers.
+use Prim.Native.Nat.{ℕ}
+use Rattle.writer.specs.declared.Written.{Written}
+use Rattle.writer.specs.declared.Written.the-variants.{Done, BadCall, TooLong}
+
+-- a writer's answer as document 02's number
+abbrev pub writtenCode : Written → ℕ
+writtenCode (Done words) = 0
+writtenCode (BadCall i) = 30
+writtenCode TooLong = 31
+
+-- and the number that goes with it
+abbrev pub writtenNumber : Written → ℕ
+writtenNumber (Done words) = words
+writtenNumber (BadCall i) = i
+writtenNumber TooLong = 0
