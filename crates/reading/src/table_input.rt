@@ -41,11 +41,11 @@ pub fn table_wanted(bytes: &[u8]) -> usize
     if have < 4 {
         return 4 - have;
     }
-    let length = word_at(bytes, 0) as usize;
-    if LONGEST_TABLE < length {
+    let words = word_at(bytes, 0) as usize;
+    if LONGEST_TABLE < words {
         return 0;
     }
-    let end = 4 + 4 * length;
+    let end = 4 + 4 * words;
     if have < end { end - have } else { 0 }
 }
 

@@ -16,8 +16,8 @@ returns c = simp (lt-ltb _ _ (c .if1 .taken))
 word-at-requires : tie.Need-word-at-requires
 word-at-requires c κs = search needs
 
-cast-length : tie.Need-cast-length
-cast-length c = search needs
+cast-words : tie.Need-cast-words
+cast-words c = search needs
 
 returns-2 : tie.Need-returns-2
 unfolding tableWanted
@@ -50,7 +50,7 @@ table-wanted-spec =
     sub-result
     returns
     word-at-requires
-    cast-length
+    cast-words
     returns-2
     mul-end
     add-end
