@@ -1,5 +1,3 @@
 -- Laws of rings that the proofs of several functions, and other crates, cite.
 pub mod Words
-pub mod Filled
 pub mod Along
-pub mod Examples

@@ -7,7 +7,7 @@ use borrow.Author.Tests.{eq-eqb, ne-eqb, lt-ltb, le-ltb}
 use Rattle.machine.specs.Queue.{mostLost}
 use Rattle.machine.specs.Word.{payload, word}
 use Rattle.machine.specs.Queue.{emptySlot}
-use Rattle.rings.specs.Ring.{firstPlace, count, lostCount, ringCapacity, placeFrom, messageAt, putLast, ringSent, ringTake, slotOut, ofTwelve}
+use Rattle.queue_rings.specs.Ring.{firstPlace, count, lostCount, ringCapacity, placeFrom, messageAt, putLast, ringSent, ringTake, slotOut, ofTwelve}
 
 -- other than twelve words are left, and twelve are not
 pub not-twelve : {A : Type 0} (ws : List ℕ) (done left : A) → (length ws ≡ 12 → ⊥) → left ≡ ofTwelve ws done left

@@ -1,5 +1,4 @@
--- What the contracts of the rings cite, and what is claimed of them.
+-- What a receive shows and leaves, and for callers the rings and what they stand for.
 pub mod Ring
 pub mod Taken
 pub mod Claims
-pub mod Examples

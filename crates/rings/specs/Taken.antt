@@ -2,7 +2,7 @@
 use mathlib.Core.Path.{_≡_}
 use mathlib.Core.List.{List}
 use Prim.Native.Nat.{ℕ}
-use Rattle.rings.specs.Ring.{messageAt, lostCount, ringTake, ofTwelve}
+use Rattle.queue_rings.specs.Ring.{messageAt, lostCount, ringTake, ofTwelve}
 use Rattle.rings.specs.declared.Received.{Received}
 
 -- from the ring r was received this, and the ring r′ was left

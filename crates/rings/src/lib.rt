@@ -5,7 +5,7 @@ use words::KIND;
 ghost use mathlib.Core.Path.{_≡_};
 ghost use Prim.Native.Nat.{_+_, _-_, _%_};
 ghost use lib.ListN.{length};
-ghost use Rattle.rings.specs.Ring.{firstPlace, count, placeFrom, ringSent, ringOf, slotOut, putOutQueue, ofTwelve};
+ghost use Rattle.queue_rings.specs.Ring.{firstPlace, count, placeFrom, ringSent, ringOf, slotOut, putOutQueue, ofTwelve};
 ghost use Rattle.rings.specs.Taken.{Taken};
 
 // The word of the i-th place from a first place on, going round.

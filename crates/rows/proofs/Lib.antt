@@ -5,4 +5,3 @@ pub mod RowWords
 pub mod TakingIn
 pub mod PuttingOut
 pub mod Rights
-pub mod Examples

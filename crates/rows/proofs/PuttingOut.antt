@@ -15,7 +15,7 @@ use Rattle.machine.specs.Below.{wordsBelow}
 use Rattle.machine.specs.Word.{word}
 use Rattle.machine.specs.Table.{rightsAt}
 use Rattle.machine.proofs.Below.{words-length, words-at}
-use Rattle.rows.specs.Rows.{heldIn, isRights, rowsOut, hasRights}
+use Rattle.rights_rows.specs.Rows.{heldIn, isRights, rowsOut, hasRights}
 use Rattle.rows.proofs.Parts.{part-length, putPart, put-length, put-before, put-in, put-behind}
 use Rattle.rows.proofs.TakingIn.{HasRights, row-within, row-part}
 

@@ -15,7 +15,7 @@ use borrow.Author.Tests.{lt-leb, le-leb}
 use Rattle.machine.specs.Below.{wordsBelow}
 use Rattle.machine.specs.Word.{word}
 use Rattle.machine.proofs.Below.{words-length, words-at}
-use Rattle.rows.specs.Rows.{heldIn, rowOf, hasRights}
+use Rattle.rights_rows.specs.Rows.{heldIn, rowOf, hasRights}
 use Rattle.rows.proofs.Filling.{Filling}
 
 -- at most sixteen domains have at most 256 rights words

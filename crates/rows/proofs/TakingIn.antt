@@ -1,37 +1,21 @@
 -- The rows of a table as they are taken in, one after the other. Assumes nothing.
-use mathlib.Core.Path.{_≡_, refl, sym, ap, ap₂, _∙_}
-use mathlib.Core.Logic.{⊎-elim}
+use mathlib.Core.Path.{_≡_, refl, sym, ap₂, _∙_}
 use mathlib.Core.Bool.{true, false, cond}
-use mathlib.Core.List.{List, [], _∷_}
-use Prim.Native.Nat.{ℕ, zero, suc, _+_, _-_, _*_, _<_, _≤_}
-use native.Mathlib.Nat.{not-suc-le-zero, mul-le-mul-right, add-sub-cancel-left}
+use mathlib.Core.List.{List, []}
+use Prim.Native.Nat.{ℕ, _+_, _-_, _*_, _<_, _≤_}
+use native.Mathlib.Nat.{mul-le-mul-right, add-sub-cancel-left}
 use native.Mathlib.Decide.{decLt}
 use native.Mathlib.Omega.{arith}
 use lib.Dec.{leb, ltb}
-use lib.ListN.{length, getD, take, drop, replicate, getD-replicate, length-append, length-take, List·getD-append}
-use lib.Seq.{ext-getD, getD-at}
+use lib.ListN.{length, getD, take, drop, replicate, getD-replicate, length-take}
+use lib.Seq.{ext-getD}
 use borrow.Author.Tests.{lt-ltb, le-ltb, leb-true, ltb-true}
 use Rattle.machine.specs.Below.{wordsBelow}
 use Rattle.machine.specs.Table.{rightsAt}
-use Rattle.machine.proofs.Below.{below-or-last}
 use Rattle.machine.proofs.Bools.{and-left, and-right}
-use Rattle.rows.specs.Rows.{rowsBelow, rowOf, rowsOf, hasRights}
+use Rattle.rights_rows.specs.Rows.{rowsBelow, rowOf, rowsOf, hasRights}
+use Rattle.rights_rows.proofs.Rights.{rows-length, rows-at}
 use Rattle.rows.proofs.Filling.{Filling}
-
--- ---- the list of f below k
-pub rows-length : (k : ℕ) (f : ℕ → List ℕ) → length (rowsBelow k f) ≡ k
-unfolding rowsBelow
-rows-length zero f = refl
-rows-length (suc k) f = length-append (rowsBelow k f) (f k ∷ []) ∙ rw (rows-length k f) (omega arith)
-
-pub rows-at : (k : ℕ) (f : ℕ → List ℕ) (i : ℕ) → i < k → getD (rowsBelow k f) i [] ≡ f i
-unfolding rowsBelow
-rows-at zero f i l = absurd (not-suc-le-zero l)
-rows-at (suc k) f i l =
-    ⊎-elim
-    (λ b. List·getD-append (rowsBelow k f) (f k ∷ []) [] i (omega (arith, rows-length k f)) ∙ rows-at k f i b)
-    (λ e. getD-at (rowsBelow k f) (f k) [] [] i (rows-length k f ∙ sym e) ∙ ap f (sym e))
-    (below-or-last k i l)
 
 -- ---- what the test of the table says
 pub record HasRights (n size : ℕ) : Type 0 where

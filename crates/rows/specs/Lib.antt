@@ -1,4 +1,3 @@
--- What the contracts of the rows cite, and what is claimed of them.
+-- For callers: the rows, and what they stand for.
 pub mod Rows
 pub mod Claims
-pub mod Examples

@@ -8,7 +8,7 @@ ghost use Prim.Native.Nat.{_%_, _≤_, _<_};
 ghost use lib.ListN.{length};
 ghost use Rattle.machine.specs.Below.{wordsBelow};
 ghost use Rattle.machine.specs.Word.{word};
-ghost use Rattle.rows.specs.Rows.{heldIn, withHeld, rowOf, rowsOf, rowsOut, hasRights};
+ghost use Rattle.rights_rows.specs.Rows.{heldIn, withHeld, rowOf, rowsOf, rowsOut, hasRights};
 
 fn wide(small: u8) -> u32
     ensures { λ r. ⌜ r ≡ small ⌝ }

@@ -4,9 +4,9 @@ use Prim.Native.Nat.{_-_}
 use native.Mathlib.Omega.{arith}
 use lib.ListN.{take, length-set}
 use borrow.Author.Needs.{needs}
-use Rattle.rings.specs.Ring.{firstPlace, count, lostCount, slotOut, putOutQueue}
+use Rattle.queue_rings.specs.Ring.{firstPlace, count, lostCount, slotOut, putOutQueue}
 use Rattle.rings.proofs.Words.{not-twelve, of-twelve}
-use Rattle.rings.proofs.Filled.{Filled, fill-start, fill-next, behind-two}
+use Rattle.queue_rings.proofs.Filled.{Filled, fill-start, fill-next, behind-two}
 use Rattle.rings.proofs.put_out.Statement.{statement}
 use Rattle.rings.proofs.put_out.Tie as tie
 

@@ -2,7 +2,7 @@
 use mathlib.Core.Path.{refl, ap}
 use Prim.Native.Nat.{ℕ}
 use lib.ListN.{getD}
-use Rattle.rings.specs.Ring.{firstPlace, count, lostCount, messageAt}
+use Rattle.queue_rings.specs.Ring.{firstPlace, count, lostCount, messageAt}
 use Rattle.rings.proofs.Words.{not-twelve, of-twelve, taken}
 use borrow.Author.Needs.{needs}
 use Rattle.rings.proofs.receive.Statement.{statement}

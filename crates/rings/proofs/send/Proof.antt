@@ -1,5 +1,5 @@
 -- `send` meets its contract: with space and to a full ring. Assumes nothing.
-use Rattle.rings.specs.Ring.{firstPlace, count, lostCount, info, ringCapacity}
+use Rattle.queue_rings.specs.Ring.{firstPlace, count, lostCount, info, ringCapacity}
 use Rattle.rings.proofs.Words.{not-twelve, of-twelve, sent-with-space, sent-to-full}
 use borrow.Author.Needs.{needs}
 use Rattle.rings.proofs.send.Statement.{statement}

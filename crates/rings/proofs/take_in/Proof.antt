@@ -6,9 +6,9 @@ use lib.ListN.{getD, take, length-set}
 use borrow.Author.Needs.{needs}
 use Rattle.machine.specs.Word.{payload}
 use Rattle.machine.specs.Queue.{waiting, lost}
-use Rattle.rings.specs.Ring.{ringOf}
+use Rattle.queue_rings.specs.Ring.{ringOf}
 use Rattle.rings.proofs.Words.{not-twelve, of-twelve}
-use Rattle.rings.proofs.Filled.{Filled, fill-start, fill-next, behind-four}
+use Rattle.queue_rings.proofs.Filled.{Filled, fill-start, fill-next, behind-four}
 use Rattle.rings.proofs.take_in.Statement.{statement}
 use Rattle.rings.proofs.take_in.Tie as tie
 

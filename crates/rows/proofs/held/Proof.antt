@@ -1,5 +1,5 @@
 -- `held` meets its contract. Assumes nothing.
-use Rattle.rows.specs.Rows.{heldIn}
+use Rattle.rights_rows.specs.Rows.{heldIn}
 use borrow.Author.Needs.{needs}
 use Rattle.rows.proofs.held.Statement.{statement}
 use Rattle.rows.proofs.held.Tie as tie

@@ -1,6 +1,6 @@
 -- `put` meets its contract. Assumes nothing.
 use mathlib.Core.Path.{refl}
-use Rattle.rows.specs.Rows.{withHeld}
+use Rattle.rights_rows.specs.Rows.{withHeld}
 use borrow.Author.Needs.{needs}
 use Rattle.rows.proofs.put.Statement.{statement}
 use Rattle.rows.proofs.put.Tie as tie

@@ -3,7 +3,7 @@ use Prim.Native.Nat.{_-_, _<_}
 use native.Mathlib.Omega.{arith}
 use lib.ListN.{length}
 use Rattle.machine.specs.Word.{word}
-use Rattle.rows.specs.Rows.{heldIn}
+use Rattle.rights_rows.specs.Rows.{heldIn}
 use Rattle.rows.proofs.Filling.{Filling, filling-start, filling-next, words-filled}
 use Rattle.rows.proofs.RowWords.{row-place}
 use borrow.Author.Needs.{needs}

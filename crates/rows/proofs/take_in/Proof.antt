@@ -6,7 +6,7 @@ use native.Mathlib.Omega.{arith}
 use borrow.Author.Tests.{not-true, not-false}
 use lib.ListN.{length}
 use Rattle.machine.specs.Table.{rightsAt}
-use Rattle.rows.specs.Rows.{rowOf}
+use Rattle.rights_rows.specs.Rows.{rowOf}
 use Rattle.rows.proofs.Filling.{Filling, filling-start, filling-next}
 use Rattle.rows.proofs.TakingIn.{HasRights, has-rights, row-within, row-part, row-short, rowAt, rows-filled, taken-none, taken-all}
 use borrow.Author.Needs.{needs}

@@ -2,7 +2,7 @@
 use Prim.Native.Nat.{ℕ}
 use mathlib.Core.Path.{_≡_}
 use mathlib.Core.List.{List, [], _∷_}
-use Rattle.rows.specs.Rows.{heldIn, withHeld, rowsOf, rowsOut}
+use Rattle.rights_rows.specs.Rows.{heldIn, withHeld, rowsOf, rowsOut}
 
 -- a table's header and its rights words, and a word behind them
 abbrev pub two : List ℕ

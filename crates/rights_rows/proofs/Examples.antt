@@ -1,8 +1,8 @@
 -- The rows of literals hold, each by computation. Assumes nothing.
 use mathlib.Core.Path.{refl}
 use Rattle.machine.specs.Below.{wordsBelow}
-use Rattle.rows.specs.Rows.{heldIn, withHeld, rowsBelow, rowOf, rowsOf, isRights, rowsOut}
-use Rattle.rows.specs.Examples.{TakenIn, PutOut}
+use Rattle.rights_rows.specs.Rows.{heldIn, withHeld, rowsBelow, rowOf, rowsOf, isRights, rowsOut}
+use Rattle.rights_rows.specs.Examples.{TakenIn, PutOut}
 
 pub taken-in : TakenIn
 unfolding heldIn rowsOf rowsBelow rowOf wordsBelow

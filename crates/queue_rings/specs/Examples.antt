@@ -2,7 +2,7 @@
 use Prim.Native.Nat.{ℕ}
 use mathlib.Core.Path.{_≡_}
 use mathlib.Core.List.{List, [], _∷_}
-use Rattle.rings.specs.Ring.{ringSent, ringTake, ringOf, putOutQueue}
+use Rattle.queue_rings.specs.Ring.{ringSent, ringTake, ringOf, putOutQueue}
 
 -- A row: what a send and a receive leave of a ring, the ring that is taken in, and the words that one is put out to.
 pub data RingRow : Type 0 where

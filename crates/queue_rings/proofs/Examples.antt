@@ -1,9 +1,9 @@
 -- The rows of the rings hold: each is computed. Assumes nothing.
 use mathlib.Core.Path.{refl}
-use Rattle.rings.specs.Ring.{firstPlace, count, lostCount, info, ringCapacity, messageAt, putLast, ringSent, ringTake, ringOf, slotOut, putOutQueue}
+use Rattle.queue_rings.specs.Ring.{firstPlace, count, lostCount, info, ringCapacity, messageAt, putLast, ringSent, ringTake, ringOf, slotOut, putOutQueue}
 use Rattle.machine.specs.Below.{wordsBelow}
 use Rattle.machine.specs.Queue.{waiting, lost}
-use Rattle.rings.specs.Examples.{EveryRing, ringRows}
+use Rattle.queue_rings.specs.Examples.{EveryRing, ringRows}
 
 pub every-ring : EveryRing ringRows
 unfolding firstPlace count lostCount info ringCapacity messageAt putLast ringSent ringTake ringOf slotOut putOutQueue wordsBelow waiting lost

@@ -1,0 +1,44 @@
+-- The rights of up to sixteen domains as sixteen rows of sixteen small numbers (document 02 (l)): row h has what the domain h holds,
+-- and place g of it the rights on g. How they are read and altered, taken in from a table and put out to it. Any words will do.
+use Prim.Native.Nat.{ℕ, zero, suc, _-_, _*_, _/_, _%_}
+use mathlib.Core.Bool.{Bool, cond, _&&_}
+use mathlib.Core.List.{List, [], _∷_, _++_}
+use lib.Dec.{leb, ltb}
+use lib.ListN.{length, getD, take, drop, set}
+use Rattle.machine.specs.Below.{wordsBelow}
+use Rattle.machine.specs.Word.{word}
+use Rattle.machine.specs.Table.{rightsAt}
+
+-- the rights of h on g: of both count four bits
+unfoldable pub heldIn : List (List ℕ) → ℕ → ℕ → ℕ
+heldIn rows h g = getD (getD rows (h % 16) []) (g % 16) 0
+
+-- the rows with s as h's rights on g
+unfoldable pub withHeld : List (List ℕ) → ℕ → ℕ → ℕ → List (List ℕ)
+withHeld rows h g s = set rows (h % 16) (set (getD rows (h % 16) []) (g % 16) s)
+
+-- the rows f 0, f 1, .., f (k - 1)
+unfoldable pub rowsBelow : ℕ → (ℕ → List ℕ) → List (List ℕ)
+rowsBelow zero f = []
+rowsBelow (suc k) f = rowsBelow k f ++ (f k ∷ [])
+
+-- the row of one holder's rights words, of which eight bits count; nothing is held on a target that isn't a domain
+unfoldable pub rowOf : List ℕ → List ℕ
+rowOf ws = wordsBelow 16 (λ g. getD ws g 0 % 256)
+
+-- the rows of a table of n domains; one that isn't a domain holds nothing
+unfoldable pub rowsOf : ℕ → List ℕ → List (List ℕ)
+rowsOf n t = rowsBelow 16 (λ h. rowOf (cond (ltb h n) (take n (drop (rightsAt n h 0) t)) []))
+
+-- word i of a table of n domains is one of its rights words
+unfoldable pub isRights : ℕ → ℕ → Bool
+isRights n i = leb 1 i && leb i (n * n)
+
+-- the rows put out to a table of n domains: its other words stay
+unfoldable pub rowsOut : ℕ → List (List ℕ) → List ℕ → List ℕ
+rowsOut n rows t =
+    wordsBelow (length t) (λ i. cond (isRights n i) (word 2 (heldIn rows ((i - 1) / n) ((i - 1) % n))) (getD t i 0))
+
+-- at most sixteen domains, and words enough for their rights
+unfoldable pub hasRights : ℕ → ℕ → Bool
+hasRights n size = leb n 16 && ltb (n * n) size
