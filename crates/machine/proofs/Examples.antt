@@ -5,7 +5,7 @@ use mathlib.Core.Path.{refl}
 use Rattle.machine.specs.Everything.{everything}
 use Rattle.machine.specs.Examples.{EveryRow, rows}
 use Rattle.machine.specs.CodeExamples.{codeRows}
-use Rattle.machine.specs.TableExamples.{EveryTable, tableRows, altered, namedCodes, foundCodes, endpointsNamed}
+use Rattle.machine.specs.TableExamples.{EveryTable, tableRows, altered, namedCodes, foundCodes}
 use Rattle.machine.specs.FieldExamples.{fieldRows, each, removedOfAll}
 use Rattle.machine.specs.AnyWordsExamples.{AnyWordsHold, ofAnyWords}
 use Rattle.machine.specs.CountExamples.{CountRowHolds, counted}
@@ -26,12 +26,12 @@ unfolding everything
 every-code-row = (refl, (refl, (refl, (refl, (refl, (refl, (refl, (refl, (refl, (refl, tt))))))))))
 
 pub every-table : EveryTable tableRows
-unfolding everything altered namedCodes foundCodes endpointsNamed
-every-table = (refl, (refl, (refl, (refl, (refl, (refl, (refl, (refl, (refl, tt)))))))))
+unfolding everything altered namedCodes foundCodes
+every-table = (refl, (refl, (refl, (refl, (refl, (refl, (refl, (refl, tt))))))))
 
 pub every-field-row : EveryRow fieldRows
-unfolding everything each removedOfAll endpointsNamed
-every-field-row = (refl, (refl, (refl, (refl, (refl, (refl, (refl, (refl, (refl, tt)))))))))
+unfolding everything each removedOfAll
+every-field-row = (refl, (refl, (refl, (refl, (refl, (refl, tt))))))
 
 pub any-words-row : AnyWordsHold
 unfolding everything ofAnyWords

@@ -1,12 +1,12 @@
 -- Rows that pin the fields of a call and what each call reads and writes by them: every bit of a spare field and of the caller,
 -- every unknown kind, which words make one call, which right each call asks for, the sets that a grant, a remove and a revoke
--- take, a queue through all its slots, and both ends of the largest table. Worked out by hand from documents 01 and 02.
+-- take, and a queue through all its slots. Both ends of the largest table are in crate bounds. Worked out by hand from documents 01
+-- and 02.
 use Prim.Native.Nat.{ℕ, _+_, _*_}
 use mathlib.Core.List.{List, [], _∷_, _++_}
-use lib.ListN.{set, replicate}
-use Rattle.machine.specs.Examples.{Row, Row.leaves, spaceOf, unchanged, T}
+use lib.ListN.{set}
+use Rattle.machine.specs.Examples.{Row, Row.leaves, spaceOf}
 use Rattle.machine.specs.CodeExamples.{Answered, Answered.answered, callWords, callAnswers, fourDomains}
-use Rattle.machine.specs.TableExamples.{largest}
 
 -- calls of one word each that are all answered alike, with no data
 unfoldable pub each : List ℕ → ℕ → List Answered
@@ -216,27 +216,6 @@ wholeQueue =
     ∷ answered (0x3000_0200 ∷ []) (0x3000_0000 ∷ 0x0000_0100 ∷ 0x0FFF_FFFF ∷ [])
     ∷ []
 
--- calls at both ends of the largest table
-abbrev pub bothEnds : List Answered
-bothEnds =
-    -- my rights on targets 0 to 7 and 8 to 15; domain 15 has none
-    answered (0x5000_0000 ∷ []) (0x5000_0000 ∷ 0xF765_4321 ∷ 0xF123_4567 ∷ [])
-    ∷ answered (0x53C0_0000 ∷ []) (0x53C0_0000 ∷ 0 ∷ 0 ∷ [])
-    -- my endpoints: all thirty-two
-    ∷ answered (0x43C0_0000 ∷ []) (0x43C0_0000 ∷ 0xFFFF_FFFF ∷ 0 ∷ [])
-    -- the name of the last endpoint, and a message to it by domain 0, which has SEND on domain 15
-    ∷ answered (0x13C0_0000 ∷ 0xF800_0008 ∷ []) (0x13C0_0000 ∷ 31 ∷ 0 ∷ [])
-    ∷ answered (0x2000_1F00 ∷ 0xF000_0005 ∷ []) (0x2000_0000 ∷ 0 ∷ 0 ∷ [])
-    -- 16, and 12
-    ∷ answered (0x33C0_2000 ∷ []) (0x33C0_0010 ∷ 0 ∷ 0 ∷ [])
-    ∷ answered (0x4400_0000 ∷ []) (0x4400_000C ∷ 0 ∷ 0 ∷ [])
-    -- 20, for the target and for the recipient; then a grant of SEND and GRANT on 15 to 15
-    ∷ answered (0x6010_0F01 ∷ []) (0x6000_0014 ∷ 0 ∷ 0 ∷ [])
-    ∷ answered (0x600F_1001 ∷ []) (0x6000_0014 ∷ 0 ∷ 0 ∷ [])
-    ∷ answered (0x600F_0F03 ∷ []) (0x6000_0000 ∷ 0 ∷ 0 ∷ [])
-    ∷ answered (0x53C0_0000 ∷ []) (0x53C0_0000 ∷ 0 ∷ 0x3000_0000 ∷ [])
-    ∷ []
-
 abbrev pub fieldRows : List Row
 fieldRows =
     leaves fourDomains (callWords spareFields) (spaceOf 132) (spaceOf 4)
@@ -282,14 +261,6 @@ fieldRows =
       answers = callAnswers wholeQueue;
       holders = 3 ∷ 7 ∷ 5 ∷ 0 ∷ [];
     })
-    ∷ leaves largest (callWords bothEnds) (spaceOf 33) (spaceOf 16)
-    (record {
-      code = 0;
-      calls = 11;
-      table = set (set (set largest 256 0x2000_0003) 631 0x5000_0001) 633 0xF000_0005;
-      answers = callAnswers bothEnds;
-      holders = replicate 15 1 ++ (0x8001 ∷ []);
-    })
     -- what was taken back: SEND of 1 on itself, all of 2 on 1, REVOKE of 3 on itself
     ∷ leaves revokers (callWords revokes) (spaceOf 87) (spaceOf 4)
     (record {
@@ -299,15 +270,4 @@ fieldRows =
       answers = callAnswers revokes;
       holders = 2 ∷ 9 ∷ 5 ∷ 0 ∷ [];
     })
-    -- every right on sixteen targets fills both data words, and each of sixteen holders has its bit
-    ∷ leaves (0x1000_1000 ∷ replicate 256 0x2000_000F) (0x53C0_0000 ∷ []) (spaceOf 3) (spaceOf 16)
-    (record {
-      code = 0;
-      calls = 1;
-      table = 0x1000_1000 ∷ replicate 256 0x2000_000F;
-      answers = 0x53C0_0000 ∷ 0xFFFF_FFFF ∷ 0xFFFF_FFFF ∷ [];
-      holders = replicate 16 0xFFFF;
-    })
-    -- 4,097 words are no list though they make 4,096 calls, and nothing is changed
-    ∷ leaves T (0x1000_0000 ∷ 0xF000_0011 ∷ replicate 4095 0x4080_0000) (spaceOf 3) (spaceOf 3) (unchanged 1 T (spaceOf 3) (spaceOf 3))
     ∷ []

@@ -1,10 +1,11 @@
 -- Rows that pin the check of a table, word by word and bit by bit: a table and its code, 0 or 2 to 5. Most alter one word of
--- an accepted table of four domains and three endpoints (specs/CodeExamples); then the order of the places, the lengths, and
--- the smallest and the largest table. Worked out by hand from document 01, 'The table' and 'Where each number is checked'.
+-- an accepted table of four domains and three endpoints (specs/CodeExamples); then the order of the places and the lengths. The
+-- smallest and the largest table are in crate bounds. Worked out by hand from document 01, 'The table' and 'Where each number is
+-- checked'.
 use Prim.Native.Nat.{ℕ}
 use mathlib.Core.Path.{_≡_}
 use mathlib.Core.List.{List, [], _∷_, _++_}
-use lib.ListN.{take, set, replicate}
+use lib.ListN.{take, set}
 use Rattle.machine.specs.Check.{tableCode}
 use Rattle.machine.specs.Examples.{emptySlots}
 use Rattle.machine.specs.CodeExamples.{fourDomains}
@@ -118,41 +119,6 @@ orderRows =
     ∷ coded (set (set fourDomains 16 0x2000_0010) 17 0x3000_0000) 4
     ∷ []
 
--- endpoints of domain 15, of capacity 8, with nothing waiting, by their names
-unfoldable pub endpointsNamed : List ℕ → List ℕ
-endpointsNamed [] = []
-endpointsNamed (x ∷ xs) = x ∷ 0x4000_0F08 ∷ 0x5000_0000 ∷ 0x6000_0000 ∷ (emptySlots ++ endpointsNamed xs)
-
--- thirty-two names
-abbrev pub names32 : List ℕ
-names32 =
-    0x3000_0001 ∷ 0x3000_0002 ∷ 0x3000_0003 ∷ 0x3000_0004 ∷ 0x3000_0005 ∷ 0x3000_0006 ∷ 0x3000_0007 ∷ 0x3000_0008
-    ∷ 0x3000_0101 ∷ 0x3000_0102 ∷ 0x3000_0103 ∷ 0x3000_0104 ∷ 0x3000_0105 ∷ 0x3000_0106 ∷ 0x3000_0107 ∷ 0x3000_0108
-    ∷ 0x3001_0001 ∷ 0x3001_0002 ∷ 0x3001_0003 ∷ 0x3001_0004 ∷ 0x3001_0005 ∷ 0x3001_0006 ∷ 0x3001_0007 ∷ 0x3001_0008
-    ∷ 0x3800_0001 ∷ 0x3800_0002 ∷ 0x3800_0003 ∷ 0x3800_0004 ∷ 0x3800_0005 ∷ 0x3800_0006 ∷ 0x3800_0007 ∷ 0x3800_0008 ∷ []
-
--- sixteen domains, of which 0 has rights on every one and nobody else has any, and thirty-two endpoints: 641 words
-abbrev pub largest : List ℕ
-largest =
-    0x1000_1020
-    ∷ 0x2000_0001 ∷ 0x2000_0002 ∷ 0x2000_0003 ∷ 0x2000_0004 ∷ 0x2000_0005 ∷ 0x2000_0006 ∷ 0x2000_0007 ∷ 0x2000_000F
-    ∷ 0x2000_0007 ∷ 0x2000_0006 ∷ 0x2000_0005 ∷ 0x2000_0004 ∷ 0x2000_0003 ∷ 0x2000_0002 ∷ 0x2000_0001 ∷ 0x2000_000F
-    ∷ (replicate 240 0x2000_0000 ++ endpointsNamed names32)
-
--- the smallest table, one with no endpoint, the largest; then the largest with its last rights word or its last slot wrong,
--- with the name of its last endpoint repeated, and with one domain or one endpoint more
-abbrev pub sizeRows : List Coded
-sizeRows =
-    coded (0x1000_0100 ∷ 0x2000_0000 ∷ []) 0
-    ∷ coded (0x1000_0400 ∷ replicate 16 0x2000_000F) 0
-    ∷ coded largest 0
-    ∷ coded (set largest 256 0x2000_0010) 4
-    ∷ coded (set largest 640 0xF000_0001) 5
-    ∷ coded (set largest 629 0x3800_0007) 5
-    ∷ coded (0x1000_1100 ∷ replicate 289 0x2000_0000) 2
-    ∷ coded (0x1000_0121 ∷ 0x2000_0000 ∷ endpointsNamed (0x3000_0009 ∷ names32)) 2
-    ∷ []
-
 abbrev pub tableRows : List (List Coded)
 tableRows =
-    headerRows ∷ rightsRows ∷ nameRows ∷ infoRows ∷ waitingRows ∷ lostRows ∷ slotRows ∷ orderRows ∷ sizeRows ∷ []
+    headerRows ∷ rightsRows ∷ nameRows ∷ infoRows ∷ waitingRows ∷ lostRows ∷ slotRows ∷ orderRows ∷ []

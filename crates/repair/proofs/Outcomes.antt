@@ -1,4 +1,4 @@
--- What a repair comes to, by what the code finds: each of its answers is the one that is due (specs/Repair), and small.
+-- What a repair comes to, by what the code finds: each of its answers is the one that is due (repaired: specs/Repair), and small.
 -- Assumes nothing.
 use Prim.Native.Nat.{ℕ, _+_, _*_, _<_, _≤_}
 use mathlib.Core.Path.{_≡_, ap, _∙_}

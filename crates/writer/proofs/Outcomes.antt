@@ -1,4 +1,4 @@
--- What the writing comes to, by what the code finds: each of its answers is the one that is due (specs/Write).
+-- What the writing comes to, by what the code finds: each of its answers is the one that is due (written_lists: specs/Write).
 -- Assumes nothing.
 use Prim.Native.Nat.{ℕ, min, _<_, _≤_}
 use mathlib.Core.Path.{_≡_, refl, sym, ap, _∙_}

@@ -1,4 +1,4 @@
--- What the writer's first pass finds, by what the writing is defined from (specs/Write).
+-- What the writer's first pass finds, by what the writing is defined from (written_lists: specs/Write).
 use Prim.Native.Nat.{ℕ}
 use mathlib.Core.List.{List}
 use mathlib.Core.Option.{Option, none, some}

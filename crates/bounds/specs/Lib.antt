@@ -1,0 +1,2 @@
+-- Rows at the bounds of tables and lists.
+pub mod Rows
