@@ -19,7 +19,7 @@ use std::path::{Path, PathBuf};
 use std::process::Command;
 
 const ARCHIVE: &str = "target/staticlib/libbalkwizu.a";
-const EXPORTS: [&str; 7] = [
+const EXPORTS: [&str; 10] = [
     "balkwizu_table_check",
     "balkwizu_run",
     "balkwizu_component",
@@ -27,6 +27,9 @@ const EXPORTS: [&str; 7] = [
     "balkwizu_potential",
     "balkwizu_write",
     "balkwizu_who_reaches",
+    "balkwizu_turns_begin",
+    "balkwizu_hand_in",
+    "balkwizu_turn",
 ];
 
 /// An archive for tests alone: the crate, the variable that names another archive,

@@ -1,6 +1,6 @@
 #!/usr/bin/env python3
-"""Shows that `bench fuzz`, `bench step`, `bench queue` and `bench tables` report a
-difference when there is one.
+"""Shows that `bench fuzz`, `bench step`, `bench queue`, `bench tables` and `bench
+histories` report a difference when there is one.
 
 The faults are those of the separate implementation's own mutants, by edits as
 reference/edits.py has them. The bench is built against a copy of the separate
@@ -8,8 +8,8 @@ implementation with the faults in it, and with each of them switched on the same
 seeded fuzz must end with a reported difference between that and the kernel, and so
 must the same seeded steps where the fault is one of a single call. A fault that shows
 only on words that no check accepts must be reported by the same seeded queues, one of
-a repair or of potential rights by the same seeded tables, and one of the writer by the
-fuzz's lists alone. With none switched on all must pass. A panic, a run that doesn't end
+a repair or of potential rights by the same seeded tables, one of turns by the same
+seeded histories, and one of the writer by the fuzz's lists alone. With none switched on all must pass. A panic, a run that doesn't end
 and a code never met are no reported difference.
 
     python3 bench/planted_faults.py            all faults
@@ -39,6 +39,7 @@ LISTS = "fuzz --seed 20 --cases 0 --table-checks 0 --lists 600".split()
 TABLES = "tables --seed 20 --cases 10000".split()
 STEP = ["step", "--seed", "20", "--cases", "5000"]
 QUEUE = ["queue", "--seed", "20", "--cases", "10000"]
+HISTORIES = ["histories", "--seed", "20", "--cases", "1000"]
 LEAST = 20
 
 # Faults that no comparison with the kernel can show, by name, each with why. They
@@ -54,7 +55,6 @@ UNSEEN = {
     "sources_without_refused_calls": "a refused call alters nothing that a member "
     "of the set sees",
     "totals_*": "sheets, which a program of its own prints",
-    "turns_*": "turns, which no command of the bench takes yet",
     "view_*": "the same view is taken of both runs",
     "send_past_the_slots_fills_the_last": "words that can't be served, where the "
     "papers leave the answer free",
@@ -73,6 +73,7 @@ BY_ANOTHER = {
     "receive_up_to_the_capacity": QUEUE,
     "read_tests_the_caller": LISTS,
     "repair_*": TABLES,
+    "turns_*": HISTORIES,
     "writer_*": LISTS,
 }
 
@@ -114,7 +115,7 @@ def make(copy):
 
 def check_unedited(bench):
     """Against the separate implementation as it stands all must pass."""
-    for command in FUZZ, LISTS, STEP, QUEUE, TABLES:
+    for command in FUZZ, LISTS, STEP, QUEUE, TABLES, HISTORIES:
         ran = run([bench, *command], 0)
         if ran.returncode != 0:
             raise Wrong(f"{command[0]} fails:\n{ran.stdout}{ran.stderr}")

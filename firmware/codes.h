@@ -43,6 +43,11 @@ static inline const char *code_meaning(uint32_t code)
             "a call is none, or has a field that exceeds its bits",
         [BALKWIZU_WRITTEN_TOO_LONG] = "the words would pass 4,096 or the space",
         [BALKWIZU_NOT_A_DOMAIN] = "the number is no domain of the table",
+        [BALKWIZU_UNKNOWN_DOMAIN] = "the number is no domain of the table",
+        [BALKWIZU_NOT_ONE_CALL] =
+            "the words are not exactly one call, no stray, of that domain",
+        [BALKWIZU_NO_ROOM] = "the domain's pending words would pass 16",
+        [BALKWIZU_BAD_TURNS] = "the state's length is not the one for the table's domains",
     };
     if (code < sizeof meanings / sizeof *meanings && meanings[code] != NULL)
         return meanings[code];

@@ -501,6 +501,105 @@ static void calls_written(void)
     IS(list[0], 0x8FFFFFFF); /* as the last that was written left it */
 }
 
+/* Turns on T, which has three domains: a state of 52 words. */
+static uint32_t state[BALKWIZU_TURNS_WORDS_MAX + 1];
+
+static uint32_t hand_in(size_t words, uint32_t domain, const uint32_t *call, size_t len)
+{
+    return balkwizu_hand_in(table, EXAMPLE_TABLE_WORDS, state, words, domain, call, len);
+}
+
+static uint32_t turn(size_t words, size_t holder_words, size_t answer_words)
+{
+    return balkwizu_turn(table, EXAMPLE_TABLE_WORDS, state, words, holders, holder_words,
+                         answers, answer_words);
+}
+
+static void begin_on_t(void)
+{
+    put_table_t();
+    memset(state, 0x77, sizeof state);
+    memset(holders, 0x77, sizeof holders);
+    memset(answers, 0x77, sizeof answers);
+    balkwizu_turns_begin(state, BALKWIZU_TURNS_WORDS(3));
+}
+
+static void words_of_turns(void)
+{
+    IS(BALKWIZU_PENDING_WORDS, 16);
+    IS(BALKWIZU_TURNS_WORDS(3), 52);
+    IS(BALKWIZU_TURNS_WORDS_MAX, 273);
+    IS(BALKWIZU_TURNS_WORDS(BALKWIZU_DOMAINS_MAX), 273);
+    IS(BALKWIZU_TURNS_COUNT_AT(0), 1);
+    IS(BALKWIZU_TURNS_COUNT_AT(2), 35);
+    begin_on_t();
+    for (size_t i = 0; i < 52; i++)
+        IS(state[i], 0);
+    IS(state[52], 0x77777777);
+}
+
+/* Domain 1 hands in a grant to domain 0, and domain 0 a send and a look up alone. */
+static void turns_of_t(void)
+{
+    static const uint32_t grant[] = { BALKWIZU_GRANT(1, 2, 0, BALKWIZU_RIGHT_SEND) };
+    static const uint32_t send[] = { BALKWIZU_SEND(0, 1), BALKWIZU_SECOND(5) };
+    static const uint32_t alone[] = { BALKWIZU_LOOK_UP(0) };
+    begin_on_t();
+    IS(turn(52, 3, 3), 0); /* idle: nothing is written */
+    IS(answers[0], 0x77777777);
+    IS(holders[0], 0x77777777);
+    IS(hand_in(52, 1, grant, 1), BALKWIZU_OK);
+    IS(hand_in(52, 0, send, 2), BALKWIZU_OK);
+    IS(hand_in(52, 0, alone, 1), BALKWIZU_OK);
+    IS(state[BALKWIZU_TURNS_COUNT_AT(0)], 3);
+    IS(state[BALKWIZU_TURNS_COUNT_AT(1) + 1], 0x60420001);
+    uint32_t result = turn(52, 3, 4);
+    IS(BALKWIZU_TURN_CODE(result), BALKWIZU_OK);
+    IS(BALKWIZU_TURN_SERVED(result), 1);
+    IS(answers[0], 0x20000011); /* before the grant: 17 */
+    IS(answers[3], 0x77777777);
+    IS(holders[2], 2);
+    IS(state[0], 1);
+    IS(turn(52, 3, 3), 0x00010000); /* the grant */
+    IS(answers[0], 0x60400000);
+    IS(holders[2], 3);
+    IS(turn(52, 3, 3), 0x00010000); /* the look up, without its second word: 14 */
+    IS(answers[0], 0x1000000E);
+    IS(state[BALKWIZU_TURNS_COUNT_AT(0)], 0);
+    IS(turn(52, 3, 3), 0);
+    IS(BALKWIZU_TURN_CODE(0xFFFFFFFF), 65535);
+    IS(BALKWIZU_TURN_SERVED(0xFFFFFFFF), 65535);
+}
+
+static void turns_refused(void)
+{
+    static const uint32_t call[] = { BALKWIZU_MY_RIGHTS(1), BALKWIZU_SECOND(0) };
+    begin_on_t();
+    IS(hand_in(52, 3, call, 1), BALKWIZU_UNKNOWN_DOMAIN);
+    IS(hand_in(51, 3, call, 2), BALKWIZU_UNKNOWN_DOMAIN);
+    IS(hand_in(51, 2, call, 1), BALKWIZU_NOT_ONE_CALL);
+    IS(hand_in(52, 1, call, 2), BALKWIZU_NOT_ONE_CALL);
+    IS(hand_in(52, 1, call + 1, 1), BALKWIZU_NOT_ONE_CALL);
+    IS(hand_in(52, 1, call, 0), BALKWIZU_NOT_ONE_CALL);
+    IS(hand_in(51, 1, call, 1), BALKWIZU_BAD_TURNS);
+    for (int i = 0; i < 16; i++)
+        IS(hand_in(52, 1, call, 1), BALKWIZU_OK);
+    IS(hand_in(52, 1, call, 1), BALKWIZU_NO_ROOM);
+    IS(hand_in(53, 1, call, 1), BALKWIZU_BAD_TURNS);
+    IS(turn(51, 2, 3), BALKWIZU_WRONG_SPACE);
+    IS(turn(51, 3, 2), BALKWIZU_WRONG_SPACE);
+    IS(turn(51, 3, 3), BALKWIZU_BAD_TURNS);
+    table[9] = 0x20000010; /* P6 */
+    IS(hand_in(51, 3, call, 2), BALKWIZU_TABLE_BAD_RIGHTS);
+    IS(turn(51, 2, 2), BALKWIZU_TABLE_BAD_RIGHTS);
+    IS(answers[0], 0x77777777);
+    IS(state[0], 0);
+    IS(BALKWIZU_UNKNOWN_DOMAIN, 35);
+    IS(BALKWIZU_NOT_ONE_CALL, 36);
+    IS(BALKWIZU_NO_ROOM, 37);
+    IS(BALKWIZU_BAD_TURNS, 99);
+}
+
 /* Every field with all its bits set, which no table and no answer has. */
 static void whole_fields(void)
 {
@@ -547,6 +646,9 @@ int main(void)
     list_l_written();
     calls_written();
     holders_of_t();
+    words_of_turns();
+    turns_of_t();
+    turns_refused();
     whole_fields();
     printf("%u compared, %u differ\n", compared, differ);
     return differ != 0;

@@ -31,6 +31,8 @@ static uint32_t changes[BALKWIZU_CHANGES_WORDS_MAX];
 static uint32_t rights[DOMAINS * DOMAINS];
 static uint32_t calls[BALKWIZU_LIST_WORDS_MAX][BALKWIZU_CALL_COLUMNS];
 static uint32_t holders[DOMAINS];
+static uint32_t state[BALKWIZU_TURNS_WORDS(DOMAINS)];
+static uint32_t pending[2]; /* the words of the call that a turn serves */
 
 /* One of the kernel's functions, and up to eight pointers and lengths for it. */
 struct call {
@@ -124,6 +126,20 @@ static size_t make_calls(void)
     return count * BALKWIZU_CALL_COLUMNS;
 }
 
+/* A state in which the last domain alone has calls pending, as many as there can be. */
+static void make_state(void)
+{
+    uint32_t *own = state + BALKWIZU_TURNS_COUNT_AT(DOMAINS - 1);
+    size_t words = pending[1] ? 2 : 1;
+    for (size_t i = 0; i < BALKWIZU_TURNS_WORDS(DOMAINS); i++)
+        state[i] = 0;
+    if (pending[0] == 0)
+        return;
+    own[0] = BALKWIZU_PENDING_WORDS;
+    for (size_t i = 0; i < BALKWIZU_PENDING_WORDS; i++)
+        own[1 + i] = pending[i % words];
+}
+
 /* The bytes of stack below top that one call takes; result is what it returns. */
 static size_t bytes_taken(const struct call *call, uint32_t *result)
 {
@@ -131,10 +147,20 @@ static size_t bytes_taken(const struct call *call, uint32_t *result)
     for (size_t i = 0; i < STACK_WORDS; i++)
         stack[i] = untouched;
     make_table();
+    make_state();
     *result = call_on_stack(call, stack + STACK_WORDS + 2);
     while (lowest < STACK_WORDS && stack[lowest] == untouched)
         lowest++;
     return sizeof *stack * (STACK_WORDS - lowest);
+}
+
+/* Prints what a call took: 0 where all is well. */
+static int say(const char *name, size_t bytes, size_t most, uint32_t result)
+{
+    uint32_t code = BALKWIZU_RUN_CODE(result); /* the check's is in the same bits */
+    printf("%s: %zu bytes of stack, %zu allowed, code %u\n", name, bytes, most,
+           (unsigned)code);
+    return code != BALKWIZU_OK || bytes > most;
 }
 
 /* Measures a call and prints what it took: 0 where all is well. */
@@ -143,10 +169,57 @@ static int tell(const char *name, const struct call *call, size_t most)
     uint32_t result;
     bytes_taken(call, &result);
     size_t bytes = bytes_taken(call, &result);
-    uint32_t code = BALKWIZU_RUN_CODE(result); /* the check's is in the same bits */
-    printf("%s: %zu bytes of stack, %zu allowed, code %u\n", name, bytes, most,
-           (unsigned)code);
-    return code != BALKWIZU_OK || bytes > most;
+    return say(name, bytes, most, result);
+}
+
+/* The same of a function that answers nothing. */
+static int tell_begin(const struct call *begin)
+{
+    uint32_t nothing;
+    bytes_taken(begin, &nothing);
+    size_t bytes = bytes_taken(begin, &nothing);
+    return say("balkwizu_turns_begin", bytes, BALKWIZU_TURNS_BEGIN_STACK_BYTES,
+               BALKWIZU_OK);
+}
+
+/* The most that a turn takes: idle, or serving the last domain's calls of the list, of
+ * which each kind is there. */
+static int tell_turn(const struct call *turn)
+{
+    const uint32_t *calls_of_last = list + 17 * (DOMAINS - 1);
+    size_t most = 0;
+    uint32_t refused = BALKWIZU_OK, result;
+    for (size_t i = 0; i <= 17; i++) {
+        const uint32_t *words = calls_of_last + i;
+        int two = i < 16 && words[1] >> 28 == BALKWIZU_KIND_SECOND;
+        pending[0] = i < 17 ? words[0] : 0;
+        pending[1] = two ? words[1] : 0;
+        bytes_taken(turn, &result);
+        size_t bytes = bytes_taken(turn, &result);
+        most = bytes > most ? bytes : most;
+        refused |= BALKWIZU_TURN_CODE(result);
+    }
+    pending[0] = pending[1] = 0;
+    return say("balkwizu_turn", most, BALKWIZU_TURN_STACK_BYTES, refused);
+}
+
+/* The functions of the turns; the first call of the list is domain 0's. */
+static int tell_turns(void)
+{
+    const struct call begin = { (void (*)(void))balkwizu_turns_begin,
+                                { (uintptr_t)state, BALKWIZU_TURNS_WORDS(DOMAINS) } };
+    const struct call hand_in = { (void (*)(void))balkwizu_hand_in,
+                                  { (uintptr_t)table, BALKWIZU_TABLE_WORDS_MAX,
+                                    (uintptr_t)state, BALKWIZU_TURNS_WORDS(DOMAINS),
+                                    0, (uintptr_t)list, 2 } };
+    const struct call turn = { (void (*)(void))balkwizu_turn,
+                               { (uintptr_t)table, BALKWIZU_TABLE_WORDS_MAX,
+                                 (uintptr_t)state, BALKWIZU_TURNS_WORDS(DOMAINS),
+                                 (uintptr_t)holders, DOMAINS, (uintptr_t)answers,
+                                 BALKWIZU_ANSWER_WORDS } };
+    int failed = tell_begin(&begin);
+    failed |= tell("balkwizu_hand_in", &hand_in, BALKWIZU_HAND_IN_STACK_BYTES);
+    return failed | tell_turn(&turn);
 }
 
 int main(void)
@@ -181,6 +254,7 @@ int main(void)
     failed |= tell("balkwizu_potential", &potential, BALKWIZU_POTENTIAL_STACK_BYTES);
     failed |= tell("balkwizu_repair", &repair, BALKWIZU_REPAIR_STACK_BYTES);
     failed |= tell("balkwizu_write", &write, BALKWIZU_WRITE_STACK_BYTES);
+    failed |= tell_turns();
     failed |= tell("balkwizu_run", &run, BALKWIZU_RUN_STACK_BYTES);
     /* The run has left the holders: everybody has every right, so that none is added. */
     return failed

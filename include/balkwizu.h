@@ -57,10 +57,13 @@ extern "C" {
  * What each function uses of this, as the gate reads it out of the archive:
  *
  *   balkwizu_component: general and xmm registers, aligned stack
+ *   balkwizu_hand_in: general and xmm registers, aligned stack
  *   balkwizu_potential: general and xmm registers, aligned stack
  *   balkwizu_repair: general and xmm registers, aligned stack
  *   balkwizu_run: general and xmm registers, aligned stack, unmarked jumps
  *   balkwizu_table_check: general and xmm registers, aligned stack, red zone
+ *   balkwizu_turn: general and xmm registers, aligned stack, unmarked jumps
+ *   balkwizu_turns_begin: general registers
  *   balkwizu_who_reaches: general registers
  *   balkwizu_write: general registers, unmarked jumps
  */
@@ -71,6 +74,9 @@ extern "C" {
 #define BALKWIZU_POTENTIAL_STACK_BYTES 512
 #define BALKWIZU_WRITE_STACK_BYTES 256
 #define BALKWIZU_WHO_REACHES_STACK_BYTES 256
+#define BALKWIZU_TURNS_BEGIN_STACK_BYTES 256
+#define BALKWIZU_HAND_IN_STACK_BYTES 512
+#define BALKWIZU_TURN_STACK_BYTES 512
 
 /* The most that a table, a list and its answers can have, in words. */
 #define BALKWIZU_DOMAINS_MAX 16
@@ -145,7 +151,16 @@ enum balkwizu_code {
     /* Of a repair, the first that fails: nothing was changed. */
     BALKWIZU_NOT_REPAIRABLE = 33,  /* word 0, the length, a name or an info is
                                       wrong, or a name repeats */
-    BALKWIZU_CHANGES_TOO_SHORT = 34 /* the list of changes is too short */
+    BALKWIZU_CHANGES_TOO_SHORT = 34, /* the list of changes is too short */
+
+    /* Of a call that is handed in, the first that fails: nothing was changed. 99 is
+       of a turn too, and comes before 37. */
+    BALKWIZU_UNKNOWN_DOMAIN = 35,  /* domain not below n */
+    BALKWIZU_NOT_ONE_CALL = 36,    /* the words aren't exactly one call, no stray,
+                                      with the domain as its caller */
+    BALKWIZU_NO_ROOM = 37,         /* the domain's pending words would pass 16 */
+    BALKWIZU_BAD_TURNS = 99        /* the state isn't BALKWIZU_TURNS_WORDS(n) words;
+                                      no paper has this number */
 };
 
 /* The kinds of calls, bits 31-28 of a call's first word. */
@@ -629,6 +644,125 @@ uint32_t balkwizu_repair(uint32_t *table, size_t table_len,
  */
 uint32_t balkwizu_write(const uint32_t *calls, size_t calls_len,
                         uint32_t *list, size_t list_len);
+
+/*
+ * Turns: a layer above the kernel for a line on which each domain hands in its calls
+ * one by one. What it keeps is in words that the firmware lends, here called the
+ * state: BALKWIZU_TURNS_WORDS(n) of them for a table of n domains.
+ *
+ *   word 0     the place: one more than the domain served last, 0 at first
+ *   then 17 words for each domain, lowest number first:
+ *     count    how many of its words are pending, at BALKWIZU_TURNS_COUNT_AT
+ *     16 words its pending calls, oldest first; words from the count on are old ones
+ *              and are never looked at
+ *
+ *     static uint32_t state[BALKWIZU_TURNS_WORDS(4)], holders[4];
+ *     const uint32_t call[] = { BALKWIZU_SEND(2, 1), BALKWIZU_SECOND(5) };
+ *     uint32_t answer[BALKWIZU_ANSWER_WORDS];
+ *
+ *     balkwizu_turns_begin(state, BALKWIZU_TURNS_WORDS(4));
+ *     uint32_t code = balkwizu_hand_in(table, table_len,
+ *                                      state, BALKWIZU_TURNS_WORDS(4), 2, call, 2);
+ *     uint32_t result = balkwizu_turn(table, table_len,
+ *                                     state, BALKWIZU_TURNS_WORDS(4), holders, 4,
+ *                                     answer, BALKWIZU_ANSWER_WORDS);
+ *     if (BALKWIZU_TURN_CODE(result) == BALKWIZU_OK &&
+ *         BALKWIZU_TURN_SERVED(result))
+ *         ... answer has the call's kind, caller, code and data
+ *
+ * While nothing but turns alters the table, and nothing but handing in and turns the
+ * state, two things are proved: the oldest pending call of a domain is served within
+ * n turns that aren't refused, whatever others hand in; and the calls served get, in
+ * order, the answers that a run of them as one list gives, however many they are.
+ *
+ * The layer isn't reentrant. A turn and a call that is handed in both read and write
+ * the state, so an interrupt must not hand in during a turn, nor while another hands
+ * in: it waits, or its calls are held until the turn is over. firmware/turns.c shows
+ * how. An interrupt that hands in is a caller of this code like any other: what is
+ * said above of stack, alignment and xmm registers holds for it too.
+ *
+ * Any words will do as a state, and none of them can make a function fault: a count
+ * above 16 is read as 16, and from a place that isn't below n a turn starts at 0.
+ */
+#define BALKWIZU_PENDING_WORDS 16
+#define BALKWIZU_TURNS_WORDS(n) (1 + (1 + BALKWIZU_PENDING_WORDS) * (n))
+#define BALKWIZU_TURNS_WORDS_MAX 273
+
+/* Where the count of a domain's pending words stands; they stand behind it. */
+#define BALKWIZU_TURNS_COUNT_AT(domain) BALKWIZU_TURNS_WORDS(domain)
+
+/*
+ * Begins: nothing is pending, and the first turn of all starts at 0. Every word of the
+ * state is 0 then, whatever it was and however many they are.
+ *
+ * The caller's duties:
+ *   - state points to state_len words that may be read and written, aligned to four
+ *     bytes; it isn't a null pointer, also where state_len is 0;
+ *   - nobody else reads or writes them during the call: no other core, interrupt or
+ *     transfer.
+ */
+void balkwizu_turns_begin(uint32_t *state, size_t state_len);
+
+/*
+ * Hands in the words of one call for a domain: they go behind those that are pending.
+ * Words are as in a list. A call that will be refused can be handed in too, and is
+ * answered when it is served.
+ *
+ * Returns one code:
+ *   0       BALKWIZU_OK: the call is pending
+ *   2 to 5  as balkwizu_table_check answers, for the table's words
+ *   35      BALKWIZU_UNKNOWN_DOMAIN
+ *   36      BALKWIZU_NOT_ONE_CALL
+ *   99      BALKWIZU_BAD_TURNS
+ *   37      BALKWIZU_NO_ROOM: it can be handed in once the domain was served
+ * With another code than 0 no word was written. Table and words are never written.
+ *
+ * The caller's duties:
+ *   - table, state and words each point to as many words as their length says: state
+ *     may be read and written, the others may be read;
+ *   - all three are aligned to four bytes, and none is a null pointer, also where its
+ *     length is 0;
+ *   - the state overlaps neither of the others, in no word;
+ *   - nobody else reads or writes the state, and nobody writes table or words, during
+ *     the call: no other core, interrupt or transfer.
+ */
+uint32_t balkwizu_hand_in(const uint32_t *table, size_t table_len,
+                          uint32_t *state, size_t state_len, uint32_t domain,
+                          const uint32_t *words, size_t words_len);
+
+/* What balkwizu_turn returns, taken apart. */
+#define BALKWIZU_TURN_CODE(result) (BALKWIZU_WORD(result) & 0xFFFFu)
+#define BALKWIZU_TURN_SERVED(result) (BALKWIZU_WORD(result) >> 16)
+
+/*
+ * A turn: starts after the domain served last, goes up and round to 0, and serves the
+ * oldest call of the first domain that has one pending. With none pending it is idle.
+ *
+ * Returns two numbers in one word: the code in bits 15-0 (BALKWIZU_TURN_CODE), and the
+ * calls served in bits 31-16 (BALKWIZU_TURN_SERVED), 1 or 0.
+ *   0       BALKWIZU_OK. Where a call was served, its three answer words are the first
+ *           of answer, as in a run, with whose call it was (BALKWIZU_ANSWER_CALLER);
+ *           table and holders are as a run of that call leaves them. Answer words
+ *           beyond the third are untouched. Where the turn was idle nothing was
+ *           written, holders neither.
+ *   2 to 5  as balkwizu_table_check answers, for the table's words
+ *   6       BALKWIZU_WRONG_SPACE: answer_len is under 3, or holders_len isn't n
+ *   99      BALKWIZU_BAD_TURNS
+ * With another code than 0 nothing is served and no word was written. The table is
+ * checked at every turn; with many endpoints that is most of what a turn costs.
+ *
+ * The caller's duties:
+ *   - table, state, holders and answer each point to as many words as their length
+ *     says, which may be read and written, aligned to four bytes; none is a null
+ *     pointer, also where its length is 0;
+ *   - the four do not overlap, in no word;
+ *   - nobody else reads or writes them during the call: no other core, interrupt or
+ *     transfer. An interrupt must not hand in during a turn.
+ */
+uint32_t balkwizu_turn(uint32_t *table, size_t table_len,
+                       uint32_t *state, size_t state_len,
+                       uint32_t *holders, size_t holders_len,
+                       uint32_t *answer, size_t answer_len);
 
 #ifdef __cplusplus
 }

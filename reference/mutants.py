@@ -23,7 +23,7 @@ SHOWN = {
 
 # The tests that draw little are tried first: they take no time, and catch most.
 FIRST = ("codes", "example", "rows", "queue", "influence", "linerun", "writer")
-FIRST += ("repair", "holders", "potential", "totals", "turns")
+FIRST += ("repair", "holders", "potential", "totals", "turns", "turn_words")
 FIXED = [f"{module}::" for module in FIRST]
 DRAWN = [word for module in FIXED for word in ("--skip", module)]
 

@@ -15,7 +15,8 @@ mod progress;
 use std::process::ExitCode;
 
 use commands::{
-    commission, fuzz, linerun, queue, read, repair, show, speed, step, tables, totals, words, write,
+    commission, fuzz, histories, linerun, queue, read, repair, show, speed, step, tables, totals,
+    turns, words, write,
 };
 
 /// The help before the list of commands, and after it.
@@ -25,8 +26,8 @@ bench: commissioning, differential runs and benchmarks of the proved kernel
 ";
 const FOOT: &str = "
 FILE is an input of linerun: little-endian words, the table's length in words,
-the table, then the list to the end; for `words` and `write` it is a text. `-` is
-standard input.
+the table, then the list to the end; for `words`, `write` and `turns` it is a text.
+`-` is standard input.
 
 Exit status: 0 all is well; 1 something failed, was refused or differs; 2 bad
 usage, a file that can't be read or written, or a closed pipe: nobody reads what
@@ -44,7 +45,7 @@ struct Command {
     act: fn(&[String]) -> Result<bool, String>,
 }
 
-const COMMANDS: [Command; 13] = [
+const COMMANDS: [Command; 15] = [
     Command {
         name: "commission",
         given: "FILE",
@@ -81,6 +82,13 @@ const COMMANDS: [Command; 13] = [
         act: tables::command,
     },
     Command {
+        name: "histories",
+        given: "",
+        purpose: "random turns beside the separate ones",
+        help: histories::HELP,
+        act: histories::command,
+    },
+    Command {
         name: "linerun",
         given: "PROGRAM",
         purpose: "the program linerun beside the separate one",
@@ -114,6 +122,13 @@ const COMMANDS: [Command; 13] = [
         purpose: "a damaged table made fit again",
         help: repair::HELP,
         act: repair::command,
+    },
+    Command {
+        name: "turns",
+        given: "FILE",
+        purpose: "handing in and turns as text, played and told",
+        help: turns::HELP,
+        act: turns::command,
     },
     Command {
         name: "words",

@@ -55,8 +55,8 @@ fn help_is_given_for_every_command() {
     assert_eq!(status(&["--help"]), 0);
     assert!(printed(&["--help"]).contains("or a closed pipe"));
     let commands =
-        "commission fuzz step queue tables linerun totals speed show repair words write \
-                    read";
+        "commission fuzz step queue tables histories linerun totals speed show repair turns \
+         words write read";
     for command in commands.split(' ') {
         let help = printed(&[command, "--help"]);
         assert!(help.starts_with(&format!("bench {command}")), "{help}");
@@ -555,6 +555,15 @@ fn speed_prints_a_table() {
     }
 }
 
+#[test]
+fn speed_of_turns_has_a_row_for_each_size() {
+    let table = printed(&["speed", "--turns", "--rounds", "1"]);
+    let rows = table.lines().filter(|line| line.starts_with("| ")).count();
+    assert_eq!(rows, 10, "{table}");
+    assert!(table.contains("| 16 | 32 | 641 | "), "{table}");
+    assert_eq!(status(&["speed", "--turns", "--by-kind"]), 2);
+}
+
 /// A path for a file that a command writes.
 fn path(name: &str) -> String {
     let path = PathBuf::from(env!("CARGO_TARGET_TMPDIR")).join(name);
@@ -619,4 +628,63 @@ fn a_sheet_becomes_a_page() {
         status(&["totals", "--html", &file("no.txt", b"calls 0 code 7\n")]),
         1
     );
+}
+
+/// Each refusal and the two kinds of turn are met in the example, on its own table.
+#[test]
+fn the_example_of_turns_is_played_and_told() {
+    let folder = env!("CARGO_MANIFEST_DIR");
+    let line = ["turns", &format!("{folder}/examples/turns.txt")];
+    let told = printed(&line);
+    for part in [
+        "turn 1 is idle: nothing is pending",
+        "domain 0 is refused with 37 (",
+        "domain 2 is refused with 36 (",
+        "domain 4 is refused with 35 (",
+        "turn 2 serves domain 0 after 1 turn (pending calls: 8 of domain 0, 1 of domain 1",
+        "    domain 0 sends 65 to endpoint 3: refused with 17: ",
+        "turn 5 serves domain 3 after 4 turns",
+        "    domain 3 receives from endpoint 3: message 49; 0 lost so far",
+        "    domain 0 sends 66 to endpoint 3: done",
+        "  the next turn starts at domain 1\n",
+        "  the longest waits, where 4 turns is the most that can be:\n    domain 0: 4 turns\n",
+    ] {
+        assert!(told.contains(part), "{part}: {told}");
+    }
+    assert!(told.ends_with("they get the same answers and leave the same words.\n"));
+    assert_eq!(status(&line), 0);
+}
+
+#[test]
+fn what_is_wrong_with_turns_is_told_by_its_line() {
+    let wrong = file("turns.txt", b"table 10000100 20000000\nturn\nserve 0\n");
+    assert_eq!(status(&["turns", &wrong]), 2);
+    let line = "line 3: there is no `serve` here";
+    assert!(told(&["turns", &wrong]).contains(line));
+    let large = b"table 10000100 20000000\nhand in 0 my-rights caller 64\n";
+    let large = file("large.txt", large);
+    assert_eq!(status(&["turns", &large]), 2);
+    assert!(told(&["turns", &large]).contains("line 2: caller 64 exceeds its 6 bits"));
+    let refused = file("refused.txt", b"table 10000100 20000010\nturn\n");
+    assert_eq!(status(&["turns", &refused]), 1);
+    assert!(printed(&["turns", &refused]).starts_with("table refused with 4 ("));
+    let missing = file("missing.txt", b"table no-such-table\nturn\n");
+    assert_eq!(status(&["turns", &missing]), 2);
+    assert!(told(&["turns", &missing]).contains("cannot read "));
+}
+
+#[test]
+fn histories_show_the_longest_waits_beside_the_bound() {
+    let told = printed(&["histories", "--cases", "1,000"]);
+    let lines: Vec<Vec<&str>> = told
+        .lines()
+        .map(|line| line.split_whitespace().collect())
+        .collect();
+    let [.., bound, waits, _] = &lines[..] else {
+        panic!("{told}");
+    };
+    let numbers: Vec<String> = (1..=16).map(|n| n.to_string()).collect();
+    assert_eq!(bound[4..], numbers, "{told}");
+    assert_eq!(waits[4..], numbers, "{told}");
+    assert!(told.ends_with("1000 cases with seed 1: passed\n"), "{told}");
 }

@@ -23,6 +23,7 @@
 //! | [`potential`] | of no paper: the rights that some domains' calls could ever give |
 //! | [`totals`](mod@totals) | document 02, request (e): the end-of-shift sheet, codes 7, 2 to 5 and 1 |
 //! | [`turns`] | document 02, request (m): calls handed in one by one, codes 35 to 37 |
+//! | [`turn_words`] | what is kept between turns as words, which no paper lays out: code 99 |
 //! | [`bytes`] | the table's check over little-endian bytes |
 //! | `linerun` | the program: its reading and printing, codes 7 and 1 |
 //! | [`example`] | table T, list L and what is printed for it |
@@ -44,6 +45,7 @@ pub mod queue;
 pub mod repair;
 pub mod table;
 pub mod totals;
+pub mod turn_words;
 pub mod turns;
 pub mod words;
 pub mod writer;

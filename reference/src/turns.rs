@@ -1,9 +1,10 @@
 //! Turns for the spring model (document 02, request (m)): each domain hands in its calls
 //! one by one, and a turn serves one of them. It is a layer above the machine.
 //!
-//! What is kept can only be made by beginning, handing in and turns. It has pending words
-//! for the most domains there can be; where a table of fewer is lent, the pending words
-//! of the others stay and aren't served.
+//! What is kept can only be made by beginning, handing in and turns, or read out of words
+//! that a caller lends ([`turn_words`](crate::turn_words)). It has pending words for the
+//! most domains there can be; where a table of fewer is lent, the pending words of the
+//! others stay and aren't served.
 
 use crate::calls::{cut, Call};
 use crate::holders::holders;
@@ -38,6 +39,12 @@ impl Turns {
             pending: Default::default(),
             place: 0,
         }
+    }
+
+    /// What is kept as words say it, whether or not handing in and turns could have come to
+    /// it.
+    pub(crate) fn kept(pending: [Vec<u32>; DOMAINS_MAX], place: usize) -> Turns {
+        Turns { pending, place }
     }
 
     /// The words of a domain's pending calls, oldest first.
@@ -100,8 +107,8 @@ impl Turns {
             .find(|&d| !self.pending[d].is_empty())
     }
 
-    /// Takes out the oldest pending call of a domain. No stray is ever handed in, so the
-    /// pending words are cut into the calls that they came in.
+    /// Takes out the oldest pending call of a domain. No stray is ever handed in, so words
+    /// that were handed in are cut into the calls that they came in.
     fn take_oldest(&mut self, domain: usize) -> Call {
         let oldest = cut(&self.pending[domain])[0];
         self.pending[domain].drain(..oldest.words().len());

@@ -1,6 +1,7 @@
-//! What is drawn to be tried: random runs and table images, random inputs of `linerun`,
-//! and the lists that the speed is measured on.
+//! What is drawn to be tried: random runs and table images, random histories of turns,
+//! random inputs of `linerun`, and the lists that the speed is measured on.
 
+pub mod histories;
 pub mod inputs;
 pub mod random;
 pub mod sheets;

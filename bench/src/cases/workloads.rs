@@ -79,11 +79,20 @@ const KINDS: [(&str, Calls); 7] = [
     ("unknown kind", |it| vec![call_word(9, it.caller, 0, 0, 0)]),
 ];
 
-/// Every domain has every right on every domain, and the endpoints' owners go
-/// round.
+fn owners_in_turn(n: usize, m: usize) -> Vec<usize> {
+    (0..m).map(|endpoint| endpoint % n).collect()
+}
+
+/// A table of which every domain has every right on every domain, and the endpoints'
+/// owners go round.
+pub fn table_of_all_rights(n: usize, m: usize) -> Vec<u32> {
+    table_with(&vec![15; n * n], n, &owners_in_turn(n, m))
+}
+
+/// Lists of each kind of call on such a table.
 fn of_each_kind(n: usize, m: usize) -> Vec<Workload> {
-    let owners: Vec<usize> = (0..m).map(|e| e % n).collect();
-    let table = table_with(&vec![15; n * n], n, &owners);
+    let owners = owners_in_turn(n, m);
+    let table = table_of_all_rights(n, m);
     let mut rng = Rng::new(6);
     let mut workload = |(name, calls): &(&str, Calls)| Workload {
         name: format!("{name}, n {n}, m {m}"),

@@ -4,6 +4,7 @@
 pub mod commission;
 mod drawn;
 pub mod fuzz;
+pub mod histories;
 pub mod linerun;
 pub mod queue;
 pub mod read;
@@ -13,5 +14,6 @@ pub mod speed;
 pub mod step;
 pub mod tables;
 pub mod totals;
+pub mod turns;
 pub mod words;
 pub mod write;

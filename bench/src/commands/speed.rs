@@ -8,13 +8,14 @@ use crate::cases::workloads::{by_kind, workloads, Workload};
 use crate::cases::Case;
 use crate::judging::compare::{difference, separate_run};
 use crate::judging::timing::{row, runs, subjects};
+use crate::judging::turn_times;
 use crate::kernels::boundary::KERNELS;
 use crate::kernels::child;
 use crate::line::explain::counted;
 use crate::output::{self, say};
 
 pub const HELP: &str = "\
-bench speed [--by-kind] [--rounds N]
+bench speed [--by-kind | --turns] [--rounds N]
 
 Measures the proved kernel beside the plain C kernel of bench/c as gcc -O3 and,
 where there is one, clang -O3 make it, and prints a Markdown table: table checks,
@@ -25,17 +26,27 @@ median of the rounds, a ratio the median of the rounds' ratios, the proved kerne
 time over the other's: above 1 the proved kernel is slower. Every kernel's run is
 first compared with the separate machine.
 
-Exit status: 0 measured; 1 a kernel's run differs; 2 bad usage.
+With --turns the proved layer of turns is measured by itself: what a turn costs, idle
+and serving, by the table's size, and how much of it is the check of the table, in
+one run and as the median of the rounds' ratios. Its turns are first compared with
+the separate layer's.
+
+Exit status: 0 measured; 1 a kernel's run or a turn differs; 2 bad usage.
 ";
 
 const ROUNDS_MAX: u64 = 100_000;
 
 /// The command: whether every kernel's runs are right, so that its speed counts.
 pub fn command(line: &[String]) -> Result<bool, String> {
-    let options = Options::parse(line, &["--rounds"], &["--by-kind"])?;
+    let options = Options::parse(line, &["--rounds"], &["--by-kind", "--turns"])?;
     options.no_file()?;
     let rounds = rounds(options.number("--rounds")?)?;
     let apart = options.has("--by-kind");
+    match options.has("--turns") {
+        true if apart => return Err("--by-kind is for lists, and turns have none".to_string()),
+        true => return Ok(turns(rounds)),
+        false => {}
+    }
     let workloads = if apart { by_kind() } else { workloads() };
     if let Some(told) = workloads.iter().find_map(first_wrong) {
         say!("{told}");
@@ -52,6 +63,27 @@ pub fn command(line: &[String]) -> Result<bool, String> {
     }
     output::write(foot(&workloads, apart).as_bytes());
     Ok(true)
+}
+
+/// Measures turns; whether they are right, so that their speed counts.
+fn turns(rounds: usize) -> bool {
+    let sizes = turn_times::sizes();
+    if let Some(told) = sizes.iter().find_map(turn_times::first_wrong) {
+        say!("{told}");
+        return false;
+    }
+    say!(
+        "Processor: {}. {}. Medians of {}.\n\n{}",
+        processor(),
+        env!("ARCHIVE_TITLE"),
+        counted(rounds, "interleaved round"),
+        turn_times::HEAD
+    );
+    for size in &sizes {
+        say!("{}", turn_times::row(size, rounds));
+    }
+    say!("\n{}", turn_times::FOOT);
+    true
 }
 
 /// The number of rounds that is asked for, where it is one that can be run.

@@ -1,15 +1,16 @@
 //! What a kernel did, beside what it should have done: the comparison with the
 //! separate machine, the counts of the queues, the exercise made from a table and the
 //! variants of a line that are tried, the checklist, the random runs, table images,
-//! lists to be written, single calls, single queues, pairs of lines and components, what
-//! `linerun` prints, what was met in all, what is wrong cut down and told, and how long
-//! it takes.
+//! lists to be written, single calls, single queues, pairs of lines and components, turns
+//! and their histories, what `linerun` prints, what was met in all, what is wrong cut down
+//! and told, and how long it takes.
 
 pub mod checklist;
 pub mod compare;
 pub mod counts;
 pub mod exercise;
 pub mod groups;
+pub mod histories;
 pub mod holders;
 pub mod images;
 pub mod lists;
@@ -26,4 +27,6 @@ pub mod steps;
 pub mod tally;
 pub mod timing;
 pub mod trying;
+pub mod turn_times;
+pub mod turning;
 pub mod variants;

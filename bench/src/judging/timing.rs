@@ -11,7 +11,7 @@ use crate::cases::workloads::{largest_table, Workload};
 use crate::kernels::boundary::{Kernel, KERNELS};
 
 /// How long one kernel is timed in one round, about.
-const TURN: Duration = Duration::from_micros(300);
+pub const TURN: Duration = Duration::from_micros(300);
 
 /// Does something with a kernel so many times; gives how long that took.
 type Act<'a> = dyn Fn(&Kernel, usize) -> Duration + 'a;
@@ -128,7 +128,7 @@ fn measured(subject: &Subject, rounds: usize) -> Vec<Vec<f64>> {
     seconds
 }
 
-fn median(figures: impl Iterator<Item = f64>) -> f64 {
+pub fn median(figures: impl Iterator<Item = f64>) -> f64 {
     let mut figures: Vec<f64> = figures.collect();
     figures.sort_by(f64::total_cmp);
     figures[figures.len() / 2]

@@ -41,10 +41,13 @@ pub enum Stopped {
 #[derive(Debug, Clone, Copy, PartialEq, Eq)]
 pub enum Forbidden {
     List,
+    Table,
+    HandedIn,
     AroundList,
     AroundTable,
     AroundAnswers,
     AroundHolders,
+    AroundState,
     AroundWords,
 }
 
@@ -78,10 +81,13 @@ impl Display for Forbidden {
     fn fmt(&self, to: &mut fmt::Formatter) -> fmt::Result {
         let what = match self {
             Forbidden::List => return write!(to, "the kernel wrote the list"),
+            Forbidden::Table => return write!(to, "the kernel wrote a table that it only reads"),
+            Forbidden::HandedIn => return write!(to, "the kernel wrote the words handed in"),
             Forbidden::AroundList => "list",
             Forbidden::AroundTable => "table",
             Forbidden::AroundAnswers => "answer space",
             Forbidden::AroundHolders => "holders' words",
+            Forbidden::AroundState => "state of the turns",
             Forbidden::AroundWords => "words",
         };
         write!(to, "the kernel wrote outside the {what} it was lent")
@@ -96,7 +102,7 @@ impl From<Failure> for String {
 
 /// Words lent from the middle of a larger space, with words around them that
 /// nobody was lent.
-struct Fenced {
+pub struct Fenced {
     words: Vec<u32>,
     end: usize,
 }
@@ -108,19 +114,33 @@ const BEHIND: [u32; 4] = [OUTSIDE; 4];
 const BEFORE: [u32; 4] = [0x25A5_5A5A; 4];
 
 impl Fenced {
-    fn new(lent: &[u32]) -> Fenced {
+    pub fn new(lent: &[u32]) -> Fenced {
         Fenced {
             words: [&BEFORE, lent, &BEHIND].concat(),
             end: BEFORE.len() + lent.len(),
         }
     }
 
-    fn lent(&mut self) -> &mut [u32] {
+    pub fn lent(&mut self) -> &mut [u32] {
         &mut self.words[BEFORE.len()..self.end]
     }
 
+    /// Nothing, where words that are lent to be read are still the same, and the words
+    /// around them too.
+    pub fn unwritten(
+        self,
+        lent: &[u32],
+        what: Forbidden,
+        around: Forbidden,
+    ) -> Result<(), Failure> {
+        match self.words(around)? == lent {
+            true => Ok(()),
+            false => Err(Failure::Wrote(what)),
+        }
+    }
+
     /// The lent words as they were left, unless a word around them was written.
-    fn words(mut self, around: Forbidden) -> Result<Vec<u32>, Failure> {
+    pub fn words(mut self, around: Forbidden) -> Result<Vec<u32>, Failure> {
         if self.words[..BEFORE.len()] != BEFORE || self.words[self.end..] != BEHIND {
             return Err(Failure::Wrote(around));
         }
@@ -147,9 +167,7 @@ pub fn run_here(kernel: &Kernel, case: &Case) -> Result<Ran, Failure> {
     let mut answers = Fenced::new(&case.answers);
     let mut holders = Fenced::new(&case.holders);
     let outcome = kernel.run(table.lent(), list.lent(), answers.lent(), holders.lent());
-    if list.words(Forbidden::AroundList)? != case.list {
-        return Err(Failure::Wrote(Forbidden::List));
-    }
+    list.unwritten(&case.list, Forbidden::List, Forbidden::AroundList)?;
     Ok(Ran {
         outcome,
         table: table.words(Forbidden::AroundTable)?,

@@ -84,22 +84,14 @@ pub fn read(text: &str) -> Result<Vec<Typed>, String> {
     let text = text.strip_prefix('\u{FEFF}').unwrap_or(text);
     let mut calls = Vec::new();
     for (before, line) in text.lines().enumerate() {
-        let line_number = before + 1;
-        let call = read_line(line).map_err(|why| format!("line {line_number}: {why}"))?;
-        calls.extend(call.map(|(columns, fields)| Typed {
-            line: line_number,
-            columns,
-            fields,
-        }));
+        let call = read_line(line, before + 1);
+        calls.extend(call.map_err(|why| format!("line {}: {why}", before + 1))?);
     }
     Ok(calls)
 }
 
-/// A call's five words, and its fields as they are written.
-type Parts = ([u32; COLUMNS], Vec<(Field, String)>);
-
-/// The call of a line, where there is one.
-fn read_line(line: &str) -> Result<Option<Parts>, String> {
+/// The call of a line, where there is one, or what is wrong with it.
+pub fn read_line(line: &str, at: usize) -> Result<Option<Typed>, String> {
     let mut words = line.split('#').next().unwrap_or("").split_whitespace();
     let Some(name) = words.next() else {
         return Ok(None);
@@ -128,7 +120,11 @@ fn read_line(line: &str) -> Result<Option<Parts>, String> {
         .iter()
         .find(|wanted| fields.iter().all(|(given, _)| given != *wanted));
     match missing {
-        None => Ok(Some((columns, fields))),
+        None => Ok(Some(Typed {
+            line: at,
+            columns,
+            fields,
+        })),
         Some(field) => Err(format!("{name} needs {}", field.name)),
     }
 }
@@ -150,7 +146,7 @@ impl Kind {
 
 /// A decimal number, or a hexadecimal one behind 0x; as the largest word where it is
 /// above that.
-fn number(typed: &str) -> Option<u32> {
+pub fn number(typed: &str) -> Option<u32> {
     let prefixed = typed.strip_prefix("0x").or(typed.strip_prefix("0X"));
     let (digits, radix) = prefixed.map_or((typed, 10), |digits| (digits, 16));
     let digits_only = digits.chars().all(|digit| digit.is_digit(radix));

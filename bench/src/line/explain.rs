@@ -50,6 +50,10 @@ pub fn meaning(code: u32) -> &'static str {
         32 => "the number is no domain, or words are lent that no table's holders are",
         33 => "word 0, the length, a name, an owner or a capacity is wrong, or a name repeats",
         34 => "the list of changes is too short",
+        35 => "the number is no domain of the table",
+        36 => "the words are not exactly one call, no stray, of that domain",
+        37 => "the domain's pending words would pass 16",
+        99 => "words are lent that are not as many as they must be",
         _ => "not a number of the kernel",
     }
 }

@@ -1,7 +1,8 @@
 //! A line's table and its list of calls: as the bytes that `linerun` reads, as text
-//! that is typed in, words or calls, and in plain words.
+//! that is typed in, words, calls or turns, and in plain words.
 
 pub mod calls;
 pub mod explain;
 pub mod input;
 pub mod text;
+pub mod turns;

@@ -218,7 +218,7 @@ fn byte_of(item: &str) -> Option<u8> {
 }
 
 /// One word, or the same one several times.
-fn words_of(item: &str) -> Result<Vec<u32>, String> {
+pub fn words_of(item: &str) -> Result<Vec<u32>, String> {
     let (digits, times) = item.split_once('*').unwrap_or((item, "1"));
     let prefixed = digits.strip_prefix("0x").or(digits.strip_prefix("0X"));
     let Some(word) = hexadecimal(prefixed.unwrap_or(digits), 8) else {

@@ -6,7 +6,7 @@ use mathlib.Core.Logic.{_⊎_, ⊎-elim, _⊎_.inl, _⊎_.inr}
 use mathlib.Core.List.{List, [], _∷_, _++_, append-assoc, append-nil}
 use Prim.Native.Nat.{ℕ, zero, suc, _+_, _<_, _≤_}
 use native.Mathlib.Omega.{arith}
-use borrow.Author.Tests.{eqb-true, ltb-true, ltb-false, lt-ltb}
+use borrow.Author.Tests.{eqb-true, ne-eqb, ltb-true, ltb-false, lt-ltb}
 use lib.Dec.{eqb, ltb}
 use lib.ListN.{length, drop, length-append, length-drop}
 use Rattle.machine.specs.Table.{domains}
@@ -22,12 +22,37 @@ use Rattle.machine.proofs.Noninterference.{noninterference}
 use Rattle.turn_order.specs.Turns.{Turns, Turn, begun, replaced, isOneOf, handInCode, handedIn, turnOf, width, afterTurn, tableAfter, answerOf, Turn.idle, Turn.serves}
 use Rattle.turn_order.specs.Turns as turns
 use Rattle.turn_order.specs.History.{Layer, Event, eventCode, nextTurn, done, afterEvent, after, alongWith, turnAt, turnsOf, answerAt, answersOf, holdersOfTurn, holdersAt, holdersAlong, callsAt, handedInBy, served, servedOf, holdersEach, Event.handIn, Event.turn}
-use Rattle.turn_order.specs.Claims.{OneList, AsOneList, EveryHistoryNoninterference, InOrder, RefusedChangesNothing, allOf, Proper, BeginsProper, StaysProper, servesOwn, ServesOwn}
-use Rattle.turn_order.proofs.Pending.{cut-rest, cut-append, one-of, one-opens, Serving, Turning, turn-cases, replaced-all, replaced-else}
+use Rattle.turn_order.specs.Claims.{OneList, AsOneList, EveryHistoryNoninterference, InOrder, IdleExactly, RefusedChangesNothing, allOf, Proper, BeginsProper, StaysProper, servesOwn, ServesOwn}
+use Rattle.turn_order.proofs.Pending.{no-cons, cut-rest, cut-append, one-of, one-opens, Serving, Turning, turn-cases, replaced-all, replaced-else}
 
 pub refused-changes-nothing : RefusedChangesNothing
 unfolding afterEvent
 refused-changes-nothing l e h = rw h
+
+-- a turn that is idle serves nobody
+not-idle : {d : ℕ} {c : Call} → serves d c ≡ idle → ⊥
+not-idle p = true≢false (ap servesOne p)
+  where
+    servesOne : Turn → Bool
+    servesOne idle = false
+    servesOne (serves d c) = true
+
+no-words : (s : Turns) (d : ℕ) → turns.waits s d ≡ false → s .pending d ≡ []
+unfolding turns.waits
+no-words s d h = go (s .pending d) h
+  where
+    go : (ws : List ℕ) → not (eqb (length ws) 0) ≡ false → ws ≡ []
+    go [] h = refl
+    go (w ∷ ws) h = absurd (true≢false (sym (ap not (ne-eqb (suc (length ws)) 0 (λ z. omega arith))) ∙ h))
+
+pub idle-exactly : IdleExactly
+unfolding cut
+idle-exactly n s =
+    ⊎-elim (λ none. let (is, all) = none in (λ e d l. no-words s d (all d l), λ e. is))
+    (λ some.
+    let (d, c, is, it) = some in
+    (λ e. absurd (not-idle (sym is ∙ e)), λ all. absurd (no-cons (ap cut (sym (all d (it .below))) ∙ it .front))))
+    (turn-cases n s)
 
 -- ---- as one list
 

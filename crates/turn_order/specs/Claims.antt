@@ -11,7 +11,7 @@ use Rattle.machine.specs.Call.{Call, callerOf, cut}
 use Rattle.machine.specs.Run as machine
 use Rattle.machine.specs.DomainSet.{calledBy}
 use Rattle.machine.specs.RunClaims.{Noninterference}
-use Rattle.turn_order.specs.Turns.{Turns, Turn, begun, mostPending, Turn.idle, Turn.serves}
+use Rattle.turn_order.specs.Turns.{Turns, Turn, begun, mostPending, turnOf, Turn.idle, Turn.serves}
 use Rattle.turn_order.specs.History.{Layer, Event, eventCode, afterEvent, after, turnsOf, answersOf, holdersAlong, handedInBy, served, servedOf, holdersEach}
 
 -- Among the turns ts, one of the first m serves the call c of the domain d, and none before it serves d.
@@ -56,6 +56,12 @@ abbrev pub InOrder : Type 0
 InOrder =
     (l : Layer) (es : List Event) (d : ℕ)
     → servedOf d (turnsOf l es) ++ cut (after l es .turns .pending d) ≡ cut (l .turns .pending d) ++ handedInBy d l es
+
+-- A turn is idle exactly where none of the n domains has a call pending.
+abbrev pub IdleExactly : Type 0
+IdleExactly =
+    (n : ℕ) (s : Turns)
+    → (turnOf n s ≡ idle → (d : ℕ) → d < n → s .pending d ≡ []) × (((d : ℕ) → d < n → s .pending d ≡ []) → turnOf n s ≡ idle)
 
 -- A refused event changes nothing.
 abbrev pub RefusedChangesNothing : Type 0

@@ -1,26 +1,24 @@
 -- Laws of the codes and promises (specs/Promise): each place that refuses, and where none does. Assumes nothing.
-use mathlib.Core.Path.{_≡_, refl, sym, ap, ap₂, subst, _∙_}
+use mathlib.Core.Path.{_≡_, refl, sym, ap, _∙_}
 use mathlib.Core.Bool.{Bool, true, false, cond, not, _&&_, _||_, false≢true}
-use mathlib.Core.Logic.{_⊎_, ⊎-elim}
-use mathlib.Core.List.{List, [], _∷_, _++_}
-use mathlib.Core.Option.{Option, none, some}
-use Prim.Native.Nat.{ℕ, zero, suc, _+_, _*_, _<_, _≤_}
+use mathlib.Core.List.{List}
+use Prim.Native.Nat.{ℕ, zero, suc, _+_, _<_, _≤_}
 use native.Mathlib.Omega.{arith}
-use borrow.Author.Tests.{eqb-true, eqb-false, eq-eqb, ne-eqb, lt-ltb, le-ltb, leb-false, ltb-false}
+use borrow.Author.Tests.{eqb-true, eq-eqb, ne-eqb, lt-ltb, le-ltb, leb-false, ltb-false}
 use lib.Dec.{eqb, leb, ltb}
-use lib.ListN.{length, getD, drop}
+use lib.ListN.{length}
 use Rattle.machine.specs.Table.{domains}
 use Rattle.machine.specs.Check.{tableCode, Accepted}
 use Rattle.machine.specs.Call.{cut}
 use Rattle.machine.specs.Entry.{holdersCode}
 use Rattle.kernel.specs.Step.{stepEntryCode}
 use Rattle.turn_order.specs.Turns.{mostPending, isOneOf, turnCode}
-use Rattle.pending.specs.Pending.{blockLength, count, pendingIn, enqueuable, enqueued, leftByEnqueue}
-use Rattle.pending.proofs.Laws.{may-enqueue, pending-length, enqueued-there, not-enqueued}
-use Rattle.turns.specs.State.{stateLength, block, setBlock, addedTo, stateHandedIn}
+use Rattle.pending.specs.Pending.{blockLength, count, pendingIn, enqueuable}
+use Rattle.pending.proofs.Laws.{may-enqueue, pending-length}
+use Rattle.turn_state.specs.State.{stateLength, block, stateHandedIn}
 use Rattle.turns.specs.Told.{badTurns}
 use Rattle.turns.specs.Promise.{handsInCode, HandInPromise, turnsCode}
-use Rattle.turns.proofs.Blocks.{block-length, block-same}
+use Rattle.turn_state.proofs.Blocks.{block-length}
 
 -- ---- handing in
 
@@ -80,15 +78,6 @@ module _ (t ws : List ℕ) (d : ℕ) (vs : List ℕ) where
 
   pub hand-in-done : 0 ≡ handsInCode t ws d vs → (ws′ : List ℕ) → ws′ ≡ stateHandedIn ws d vs → HandInPromise t ws d vs 0 ws′
   hand-in-done is ws′ same = record { sameCode = is; state = rw (eq-eqb (handsInCode t ws d vs) 0 (sym is)) same }
-
--- what adding leaves
-pub added-same : (ws : List ℕ) (d : ℕ) (vs : List ℕ) → enqueuable (block ws d) (length vs) ≡ false → addedTo ws d vs ≡ ws
-unfolding addedTo
-added-same ws d vs h = ap (setBlock ws d) (sym (not-enqueued (block ws d) vs h)) ∙ block-same ws d
-
-pub added-there : (ws : List ℕ) (d : ℕ) (vs : List ℕ) → enqueuable (block ws d) (length vs) ≡ true → addedTo ws d vs ≡ stateHandedIn ws d vs
-unfolding addedTo stateHandedIn
-added-there ws d vs h = ap (setBlock ws d) (sym (enqueued-there (block ws d) vs h))
 
 -- ---- a turn
 

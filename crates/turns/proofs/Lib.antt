@@ -1,7 +1,5 @@
--- What is proved of the state's words, and of handing in and turns on them.
-pub mod Blocks
-pub mod Words
+-- What is proved of handing in and turns.
 pub mod Codes
-pub mod Next
 pub mod Serves
-pub mod Claims
+pub mod Outcomes
+pub mod Examples

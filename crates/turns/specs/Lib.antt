@@ -1,5 +1,4 @@
 -- What the contracts of handing in and turns cite.
-pub mod State
 pub mod Told
 pub mod Promise
-pub mod Claims
+pub mod Examples

@@ -1,17 +1,18 @@
 -- What handing in and a turn promise of any words at all: the number, and every lent word at the end (document 02 (m)).
-use Prim.Native.Nat.{ℕ, _+_, _<_, _≤_}
+use Prim.Native.Nat.{ℕ, _+_, _≤_}
 use mathlib.Core.Path.{_≡_}
 use mathlib.Core.Bool.{cond, not}
-use mathlib.Core.List.{List}
+use mathlib.Core.List.{List, _++_}
 use mathlib.Core.Option.{some}
 use lib.Dec.{eqb, ltb}
-use lib.ListN.{length}
+use lib.ListN.{length, drop}
 use Rattle.machine.specs.Table.{domains}
 use Rattle.machine.specs.Check.{tableCode}
 use Rattle.machine.specs.Call.{cut}
+use Rattle.machine.specs.Machine.{answer}
 use Rattle.turn_order.specs.Turns.{Turn, mostPending, isOneOf, firstWaiting, turnCode, tableAfter, holdersAfter, Turn.idle, Turn.serves}
 use Rattle.pending.specs.Pending.{pendingIn}
-use Rattle.turns.specs.State.{stateLength, block, turnsIn, turnIn, stateHandedIn, stateAfter, spaceAfter}
+use Rattle.turn_state.specs.State.{stateLength, block, turnsIn, turnIn, stateHandedIn, stateAfter}
 use Rattle.turns.specs.Told.{badTurns}
 
 -- ---- handing in
@@ -44,6 +45,11 @@ unfoldable pub servedBy : Turn → ℕ
 servedBy idle = 0
 servedBy (serves d c) = 1
 
+-- the answer space after a turn: three words of a call that was served, in front of what was there
+unfoldable pub spaceAfter : List ℕ → Turn → List ℕ → List ℕ
+spaceAfter t idle space = space
+spaceAfter t (serves d c) space = answer t c ++ drop 3 space
+
 -- where the code is 0, the call of the domain that is next is served, if any is pending; else nothing changes
 pub record TurnPromise (t ws holders space : List ℕ) (code served : ℕ) (t′ ws′ kept space′ : List ℕ) : Type 0 where
   pub sameCode : code ≡ turnsCode t (length ws) (length space) (length holders)
@@ -53,10 +59,8 @@ pub record TurnPromise (t ws holders space : List ℕ) (code served : ℕ) (t′
   pub sameHolders : kept ≡ cond (eqb (turnsCode t (length ws) (length space) (length holders)) 0) (holdersAfter t (turnIn t ws) holders) holders
   pub answer : space′ ≡ cond (eqb (turnsCode t (length ws) (length space) (length holders)) 0) (spaceAfter t (turnIn t ws) space) space
 
--- what `serve` asks: the domain d of n is the next, and there is space for its answer
-pub record MayServe (t ws space : List ℕ) (n d : ℕ) : Type 0 where
-  pub number : n ≡ domains t
-  pub few : n < 256
-  pub size : length ws ≡ stateLength n
-  pub next : firstWaiting n (turnsIn ws) ≡ some d
+-- what `serve` asks: the domain d is the next, and there is space for its answer
+pub record MayServe (t ws space : List ℕ) (d : ℕ) : Type 0 where
+  pub size : length ws ≡ stateLength (domains t)
+  pub next : firstWaiting (domains t) (turnsIn ws) ≡ some d
   pub room : 3 ≤ length space

@@ -1,9 +1,6 @@
 -- The numbers of the answers (document 02 (m)): 35, 36 and 37, document 01's 2 to 6, and 99, which no paper uses, for a state of another
 -- length than n domains ask for.
 use Prim.Native.Nat.{ℕ}
-use mathlib.Core.Bool.{Bool, not, _&&_}
-use lib.Dec.{eqb}
-use Rattle.machine.specs.Word.{kind, caller}
 use Rattle.table.specs.Checked.{refusalCode}
 use Rattle.entry.specs.Entry.{entryRefusalCode}
 use Rattle.turns.specs.declared.HandInRefusal.{HandInRefusal}
@@ -44,7 +41,3 @@ abbrev pub turnedServed : Turned → ℕ
 turnedServed (turned.Refused r) = 0
 turnedServed turned.Idle = 0
 turnedServed turned.Served = 1
-
--- a call's first word is no stray, and its caller is d
-unfoldable pub isCallOf : ℕ → ℕ → Bool
-isCallOf w d = not (eqb (kind w) 15) && eqb (caller w) d

@@ -1,21 +1,19 @@
 // Turns for calls that domains hand in one by one (document 02 (m)), a layer above the kernel: it stands on what `kernel::check` and
-// `kernel::step` say of themselves. What is pending and the place of the turn stand in 1 + 17 n words that the caller lends: the place
-// first, then seventeen words for each domain, lowest number first (crate pending).
-mod domain;
-mod order;
+// `kernel::step` say of themselves. What is pending and the place of the turn stand in 1 + 17 n words that the caller lends (crate
+// turn_state).
 mod serving;
 
-use domain::add;
-use domain::fits;
-use domain::is_one_call;
-use domain::number;
 use entry::EntryRefusal;
 use kernel::check;
-use order::next_to_serve;
 use serving::nobody;
 use serving::serve;
 use table::Checked;
 use table::TableRefusal;
+use turn_state::add;
+use turn_state::domain::fits;
+use turn_state::domain::is_one_call;
+use turn_state::domain::number;
+use turn_state::order::next_to_serve;
 ghost use mathlib.Core.Path.{_≡_};
 ghost use lib.ListN.{length, replicate};
 ghost use Rattle.turns.specs.Told.{handInRefusalCode, handedInCode, turnRefusalCode, turnedCode, turnedServed};
@@ -128,16 +126,16 @@ pub fn hand_in(table: &[u32], state: &mut [u32], domain: u32, words: &[u32]) -> 
         return HandedIn::Refused(HandInRefusal::BadTable(refusal));
     }
     let n = number(table);
-    if n <= domain as usize {
+    if n as u32 <= domain {
         return HandedIn::Refused(HandInRefusal::UnknownDomain);
     }
     if !is_one_call(words, domain) {
         return HandedIn::Refused(HandInRefusal::NotOneCall);
     }
-    if !fits(state.len(), n) {
+    if !fits(table, state.len()) {
         return HandedIn::Refused(HandInRefusal::BadTurns);
     }
-    if !add(state, n, domain as usize, words) {
+    if !add(state, domain as u8, words) {
         return HandedIn::Refused(HandInRefusal::NoRoom);
     }
     HandedIn::Pending
@@ -149,9 +147,9 @@ pub fn turn(table: &mut [u32], state: &mut [u32], holders: &mut [u32], answer: &
     ensures { λ r. ⌜ TurnPromise (now (table .entry)) (now (state .entry)) (now (holders .entry)) (now (answer .entry)) (turnedCode r) (turnedServed r) (now (table .exit)) (now (state .exit)) (now (holders .exit)) (now (answer .exit)) ⌝ }
 {
     let n = number(table);
-    let next = next_to_serve(state, n, answer.len());
+    let next = next_to_serve(table, state, answer.len());
     if next == n {
-        return nobody(table, n, state.len(), holders.len(), answer.len());
+        return nobody(table, state.len(), holders.len(), answer.len());
     }
-    serve(table, state, holders, answer, n, next)
+    serve(table, state, holders, answer, next)
 }

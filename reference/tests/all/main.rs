@@ -9,7 +9,8 @@
 //! panel's words and for chains of rights, and then drawn ones; `potential` has rows for
 //! what grants could ever give, and then both ways; `totals` has rows for the sheet and
 //! its codes, and then drawn inputs; `turns` has rows for their order and for handing in,
-//! and then drawn events. The others are property tests over seeded random tables and
+//! and `turn_words` for the words that they are kept in, each with drawn events behind
+//! them. The others are property tests over seeded random tables and
 //! lists; on failure they show the seed and the words.
 
 mod codes;
@@ -29,5 +30,6 @@ mod rows;
 mod steps;
 mod support;
 mod totals;
+mod turn_words;
 mod turns;
 mod writer;

@@ -1,14 +1,21 @@
 -- `begin` meets its contract. The loop's invariant: the words passed are 0, and the rest are as they came. Assumes nothing.
 use mathlib.Core.Path.{_≡_, refl, sym, ap, ap₂, _∙_}
-use mathlib.Core.List.{List}
+use mathlib.Core.List.{List, _++_, append-nil}
 use Prim.Native.Nat.{ℕ, _+_, _-_, _≤_}
+use native.Mathlib.Nat.{zero-add}
 use native.Mathlib.Numerals.{add-one}
 use native.Mathlib.Omega.{arith}
-use lib.ListN.{length, set, replicate, length-set, length-replicate, getD-replicate}
-use lib.Seq.{paste, paste-zero, paste-suc}
-use Rattle.turns.proofs.Blocks.{cleared}
+use lib.ListN.{length, drop, set, replicate, length-set, length-replicate, getD-replicate}
+use lib.Seq.{take-all, drop-length, paste, paste-suc}
 use Rattle.turns.proofs.begin.Statement.{statement}
 use Rattle.turns.proofs.begin.Tie as tie
+
+-- all words are 0
+cleared : (s : List ℕ) → paste s 0 (replicate (length s) 0) (length s) ≡ replicate (length s) 0
+cleared s =
+    ap₂ (λ (xs ys : List ℕ). xs ++ ys) (take-all (length s) (replicate (length s) 0) (omega (arith, length-replicate {A = ℕ} (length s) 0)))
+    (ap (λ (k : ℕ). drop k s) (zero-add (length s)) ∙ drop-length s)
+    ∙ append-nil _
 
 abbrev Inv-loop : tie.InvT-loop
 Inv-loop state₀ i₀ state i =

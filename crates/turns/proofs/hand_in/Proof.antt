@@ -1,11 +1,10 @@
 -- `hand_in` meets its contract: each place that refuses, in its order, and then the words are added. Assumes nothing.
 use mathlib.Core.Path.{_≡_, refl, sym, ap, _∙_}
 use mathlib.Core.Bool.{true}
-use Prim.Native.Nat.{ℕ, _<_}
+use Prim.Native.Nat.{_<_}
 use native.Mathlib.Omega.{arith}
 use borrow.Author.Needs.{needs}
 use borrow.Author.Tests.{eqb-true, not-true, not-false}
-use lib.Dec.{eqb}
 use lib.ListN.{length}
 use Rattle.machine.specs.Table.{domains}
 use Rattle.machine.specs.Check.{Accepted}
@@ -13,9 +12,9 @@ use Rattle.machine.specs.Call.{cut}
 use Rattle.table.specs.Checked.{checkedCode}
 use Rattle.table.proofs.Refusals.{refusal-code}
 use Rattle.turn_order.specs.Turns.{isOneOf}
-use Rattle.turns.specs.State.{stateLength}
-use Rattle.turns.proofs.Blocks.{domains-few}
-use Rattle.turns.proofs.Codes.{hands-table, hands-domain, hands-call, hands-size, hands-room, hands-fine, hand-in-refused, hand-in-done, added-same, added-there}
+use Rattle.turn_state.specs.State.{stateLength}
+use Rattle.turn_state.proofs.Blocks.{added-none, added-there}
+use Rattle.turns.proofs.Codes.{hands-table, hands-domain, hands-call, hands-size, hands-room, hands-fine, hand-in-refused, hand-in-done}
 use Rattle.turns.proofs.hand_in.Statement.{statement}
 use Rattle.turns.proofs.hand_in.Tie as tie
 
@@ -51,35 +50,16 @@ returns-3 c =
 one : (c : tie.Else2) → (let a = c .before .before .before .before .before .before .before .before .before .before .args in isOneOf (a .domain) (cut (a .words .now)) ≡ true)
 one c = sym (c .before .is-one-call .ensures) ∙ not-false _ (c .if2 .left)
 
-fits-requires : tie.Need-fits-requires
-fits-requires c κs =
-    let number = c .before .before .before in
-    omega (arith, number .number .ensures, domains-few (number .before .before .before .before .before .before .before .args .table .now))
-
 returns-4 : tie.Need-returns-4
 returns-4 c =
     let test = c .before .before in
-    let number = test .before .before .before in
     hand-in-refused _ _ _ _ _
-    (hands-size _ _ _ _ (accepted (number .before)) (below (test .before .before)) (one test)
-    (ap (λ (n : ℕ). eqb (length (number .before .before .before .before .before .before .before .args .state .now)) (stateLength n)) (sym (number .number .ensures))
-    ∙ sym (c .before .fits2 .ensures)
-    ∙ not-true _ (c .if3 .taken)))
+    (hands-size _ _ _ _ (accepted (test .before .before .before .before)) (below (test .before .before)) (one test) (sym (c .before .fits2 .ensures) ∙ not-true _ (c .if3 .taken)))
     (λ z. omega arith) _ refl
 
 -- the state has the length that n domains ask for
 size : (c : tie.Else3) → (let a = c .before .before .before .before .before .before .before .before .before .before .before .before .args in length (a .state .now) ≡ stateLength (domains (a .table .now)))
-size c =
-    eqb-true _ _ (sym (c .before .fits2 .ensures) ∙ not-false _ (c .if3 .left)) ∙ ap stateLength (c .before .before .before .before .before .number .ensures)
-
-add-requires : tie.Need-add-requires
-add-requires c κs =
-    let test = c .before in
-    let number = test .before .before .before .before .before in
-    let t = number .before .before .before .before .before .before .before .args .table .now in (
-      size test ∙ ap stateLength (sym (number .number .ensures)),
-      (omega (arith, number .number .ensures, below (test .before .before .before .before)), omega (arith, number .number .ensures, domains-few t)),
-    )
+size c = eqb-true _ _ (sym (c .before .fits2 .ensures) ∙ not-false _ (c .if3 .left))
 
 returns-5 : tie.Need-returns-5
 returns-5 c =
@@ -90,7 +70,7 @@ returns-5 c =
     hand-in-refused _ _ _ _ _
     (hands-room _ _ _ _ (accepted told) (below (test .before .before .before .before)) (one (test .before .before)) (size test) full)
     (λ z. omega arith) _
-    (add .add .ensures .1 ∙ added-same _ _ _ full)
+    (add .add .ensures .1 ∙ added-none _ _ _ full)
 
 returns-6 : tie.Need-returns-6
 returns-6 c =
@@ -112,12 +92,14 @@ hand-in-spec =
     returns
     (λ c. search needs)
     (λ c κs. search needs)
+    (λ c. search needs)
     returns-2
     (λ c κs. search needs)
     returns-3
-    fits-requires
+    (λ c κs. search needs)
     returns-4
-    add-requires
+    (λ c. search needs)
+    (λ c κs. search needs)
     (λ c. search needs)
     returns-5
     (λ c. search needs)

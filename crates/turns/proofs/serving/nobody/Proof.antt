@@ -1,12 +1,12 @@
 -- `serving::nobody` meets its contract: each place that refuses a turn, in its order. Assumes nothing.
 use mathlib.Core.Path.{_≡_, refl, sym, ap, _∙_}
-use Prim.Native.Nat.{ℕ, _+_, _*_}
 use native.Mathlib.Omega.{arith}
 use borrow.Author.Needs.{needs}
+use borrow.Author.Tests.{eqb-true, eqb-false, not-true, not-false}
 use Rattle.machine.specs.Check.{Accepted}
 use Rattle.table.specs.Checked.{checkedCode}
 use Rattle.table.proofs.Refusals.{refusal-code}
-use Rattle.turns.proofs.Blocks.{domains-few}
+use Rattle.turn_order.specs.Turns.{turnCode}
 use Rattle.turns.proofs.Codes.{turn-table, turn-space, turn-holders, turn-fine, turns-refused, turns-size, turns-turn}
 use Rattle.turns.proofs.serving.nobody.Statement.{statement}
 use Rattle.turns.proofs.serving.nobody.Tie as tie
@@ -26,25 +26,19 @@ returns-2 c = (turns-refused _ _ _ _ _ (turn-space _ _ _ (accepted (c .before)) 
 
 returns-3 : tie.Need-returns-3
 returns-3 c =
-    let told = c .before .before in
-    let n = told .before .before .before .before .pre in
-    (turns-refused _ _ _ _ _ (turn-holders _ _ _ (accepted told) (omega (arith, c .before .if1 .left)) (λ same. c .if2 .taken (same ∙ sym n))) (λ z. omega arith), refl)
+    let told = c .before .before .before in
+    (turns-refused _ _ _ _ _ (turn-holders _ _ _ (accepted told) (omega (arith, c .before .before .if1 .left)) (λ same. c .if2 .taken (same ∙ sym (c .before .number .ensures)))) (λ z. omega arith), refl)
+
+-- nothing but the state can refuse
+fine : (c : tie.Else2) → (let a = c .before .before .before .before .before .before .before .args in 0 ≡ turnCode (a .table .now) (a .space) (a .lent))
+fine c =
+    turn-fine _ _ _ (accepted (c .before .before .before)) (omega (arith, c .before .before .if1 .left)) (c .if2 .left ∙ c .before .number .ensures)
 
 returns-4 : tie.Need-returns-4
-returns-4 c =
-    let told = c .before .before .before in
-    let n = told .before .before .before .before .pre in
-    let a = told .before .before .before .before .args in
-    let fine = turn-fine (a .table .now) (a .space) (a .lent) (accepted told) (omega (arith, c .before .before .if1 .left)) (c .before .if2 .left ∙ n) in
-    (turns-size _ _ _ _ fine (λ same. c .if3 .taken (same ∙ ap (λ (k : ℕ). 1 + 17 * k) (sym n))), refl)
+returns-4 c = (turns-size _ _ _ _ (fine (c .before .before)) (eqb-false _ _ (sym (c .before .fits2 .ensures) ∙ not-true _ (c .if3 .taken))), refl)
 
 returns-5 : tie.Need-returns-5
-returns-5 c =
-    let told = c .before .before .before in
-    let n = told .before .before .before .before .pre in
-    let a = told .before .before .before .before .args in
-    let fine = turn-fine (a .table .now) (a .space) (a .lent) (accepted told) (omega (arith, c .before .before .if1 .left)) (c .before .if2 .left ∙ n) in
-    (fine ∙ sym (turns-turn _ _ _ _ (c .if3 .left ∙ ap (λ (k : ℕ). 1 + 17 * k) n)), refl)
+returns-5 c = (fine (c .before .before) ∙ sym (turns-turn _ _ _ _ (eqb-true _ _ (sym (c .before .fits2 .ensures) ∙ not-false _ (c .if3 .left)))), refl)
 
 pub nobody-spec : {M : Type 1} → statement M
 nobody-spec =
@@ -55,8 +49,9 @@ nobody-spec =
     returns
     (λ c. search needs)
     returns-2
+    (λ c κs. search needs)
+    (λ c. search needs)
     returns-3
-    (λ c. omega (arith, c .before .before .before .before .before .before .pre, domains-few (c .before .before .before .before .before .before .args .table .now)))
-    (λ c. omega (arith, c .before .before .before .before .before .before .pre, domains-few (c .before .before .before .before .before .before .args .table .now)))
+    (λ c κs. search needs)
     returns-4
     returns-5)

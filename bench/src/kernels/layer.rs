@@ -1,0 +1,179 @@
+//! The layer of turns above the kernel (document 02, request (m)) behind the C boundary:
+//! its exported functions as include/balkwizu.h declares them, and what they are lent.
+
+use reference::words::bits;
+
+use crate::kernels::lent::{Failure, Fenced, Forbidden};
+
+/// Handing in, of words that are valid for reads, the state's for writes too, and that
+/// don't overlap. It may turn out to write the others: no reference says that it doesn't.
+type HandIn = unsafe fn(*const [u32], state: *mut [u32], domain: u32, words: *const [u32]) -> u32;
+
+/// A turn, on the table, the state, the holders and the answer.
+type Turn = fn(&mut [u32], &mut [u32], &mut [u32], &mut [u32]) -> u32;
+
+/// The functions of a layer of turns.
+#[derive(Clone, Copy)]
+pub struct Layer {
+    pub begin: fn(state: &mut [u32]),
+    /// A code.
+    pub hand_in: HandIn,
+    /// A code in bits 15–0 and the calls served in bits 31–16.
+    pub turn: Turn,
+}
+
+impl Layer {
+    /// Hands in the words of a call for a domain: a code.
+    pub fn hand_in(&self, table: &[u32], state: &mut [u32], domain: u32, words: &[u32]) -> u32 {
+        // SAFETY: three slices, each valid for its length and aligned; the one that is
+        // written is borrowed alone.
+        unsafe { (self.hand_in)(table, state, domain, words) }
+    }
+}
+
+/// The layer of the proved archive. As in [`boundary`](crate::kernels::boundary) the
+/// caller's duties are what references say of themselves.
+pub const PROVED_LAYER: Layer = Layer {
+    begin: |state| {
+        extern "C" {
+            fn balkwizu_turns_begin(state: *mut u32, state_len: usize);
+        }
+        // SAFETY: a slice, valid for its length, aligned and borrowed alone.
+        unsafe { balkwizu_turns_begin(state.as_mut_ptr(), state.len()) }
+    },
+    hand_in: |table, state, domain, words| {
+        extern "C" {
+            fn balkwizu_hand_in(
+                table: *const u32,
+                table_len: usize,
+                state: *mut u32,
+                state_len: usize,
+                domain: u32,
+                words: *const u32,
+                words_len: usize,
+            ) -> u32;
+        }
+        // SAFETY: the caller's duties are those of the C function.
+        unsafe {
+            balkwizu_hand_in(
+                table.cast(),
+                table.len(),
+                state.cast(),
+                state.len(),
+                domain,
+                words.cast(),
+                words.len(),
+            )
+        }
+    },
+    turn: |table, state, holders, answer| {
+        extern "C" {
+            fn balkwizu_turn(
+                table: *mut u32,
+                table_len: usize,
+                state: *mut u32,
+                state_len: usize,
+                holders: *mut u32,
+                holders_len: usize,
+                answer: *mut u32,
+                answer_len: usize,
+            ) -> u32;
+        }
+        // SAFETY: four slices, each valid for its length, aligned and borrowed alone.
+        unsafe {
+            balkwizu_turn(
+                table.as_mut_ptr(),
+                table.len(),
+                state.as_mut_ptr(),
+                state.len(),
+                holders.as_mut_ptr(),
+                holders.len(),
+                answer.as_mut_ptr(),
+                answer.len(),
+            )
+        }
+    },
+};
+
+/// Something that happens to a layer.
+#[derive(Debug, Clone, PartialEq, Eq)]
+pub enum Event {
+    Begin,
+    HandIn { domain: u32, words: Vec<u32> },
+    Turn,
+}
+
+/// The words that an event is lent, or that it left of them. Handing in is lent the table
+/// and the state, and the beginning the state alone.
+#[derive(Debug, Clone, PartialEq, Eq)]
+pub struct Lent {
+    pub table: Vec<u32>,
+    pub state: Vec<u32>,
+    pub holders: Vec<u32>,
+    pub answer: Vec<u32>,
+}
+
+/// What an event came to: its code, how many calls it served, and the words that it left.
+#[derive(Debug, Clone, PartialEq, Eq)]
+pub struct Left {
+    pub code: u32,
+    pub served: u32,
+    pub words: Lent,
+}
+
+/// What a layer makes of an event in this process.
+pub fn event_here(layer: &Layer, lent: &Lent, event: &Event) -> Result<Left, Failure> {
+    match event {
+        Event::Begin => begin_here(layer, lent),
+        Event::HandIn { domain, words } => hand_in_here(layer, lent, *domain, words),
+        Event::Turn => turn_here(layer, lent),
+    }
+}
+
+fn begin_here(layer: &Layer, lent: &Lent) -> Result<Left, Failure> {
+    let mut state = Fenced::new(&lent.state);
+    (layer.begin)(state.lent());
+    with_state(lent, 0, state)
+}
+
+fn hand_in_here(layer: &Layer, lent: &Lent, domain: u32, words: &[u32]) -> Result<Left, Failure> {
+    let mut table = Fenced::new(&lent.table);
+    let mut state = Fenced::new(&lent.state);
+    let mut call = Fenced::new(words);
+    // SAFETY: three parts of spaces of their own, which may all be written.
+    let code = unsafe { (layer.hand_in)(table.lent(), state.lent(), domain, call.lent()) };
+    table.unwritten(&lent.table, Forbidden::Table, Forbidden::AroundTable)?;
+    call.unwritten(words, Forbidden::HandedIn, Forbidden::AroundWords)?;
+    with_state(lent, code, state)
+}
+
+/// What is left where the state alone may be written.
+fn with_state(lent: &Lent, code: u32, state: Fenced) -> Result<Left, Failure> {
+    let words = Lent {
+        state: state.words(Forbidden::AroundState)?,
+        ..lent.clone()
+    };
+    Ok(Left {
+        code,
+        served: 0,
+        words,
+    })
+}
+
+fn turn_here(layer: &Layer, lent: &Lent) -> Result<Left, Failure> {
+    let mut table = Fenced::new(&lent.table);
+    let mut state = Fenced::new(&lent.state);
+    let mut holders = Fenced::new(&lent.holders);
+    let mut answer = Fenced::new(&lent.answer);
+    let told = (layer.turn)(table.lent(), state.lent(), holders.lent(), answer.lent());
+    Ok(Left {
+        code: bits(told, 15, 0),
+        served: bits(told, 31, 16),
+        words: Lent {
+            table: table.words(Forbidden::AroundTable)?,
+            state: state.words(Forbidden::AroundState)?,
+            holders: holders.words(Forbidden::AroundHolders)?,
+            answer: answer.words(Forbidden::AroundAnswers)?,
+        },
+    })
+}

@@ -1,0 +1,232 @@
+//! Turns as text, the way they are written by hand: a table, then what happens, one event
+//! a line.
+//!
+//! The help of `bench turns` says what a text looks like.
+
+use crate::line::calls::{self, number, Typed};
+use crate::line::text::{self, words_of};
+
+/// The most turns that one line can ask for.
+const TURNS_MAX: u32 = 10_000;
+
+/// A text taken apart.
+#[derive(Debug, PartialEq, Eq)]
+pub struct Script {
+    pub table: Table,
+    /// What happens, with the lines, counted from 1.
+    pub events: Vec<(usize, Happens)>,
+}
+
+/// Where the table is.
+#[derive(Debug, PartialEq, Eq)]
+pub enum Table {
+    /// In the text: the bytes that `linerun` would read of it.
+    Here(Vec<u8>),
+    /// In a file of this name.
+    File(String),
+}
+
+/// What one line says.
+#[derive(Debug, PartialEq, Eq)]
+pub enum Happens {
+    HandIn { domain: u32, call: Given },
+    Turns(u32),
+}
+
+/// What a domain hands in.
+#[derive(Debug, PartialEq, Eq)]
+pub enum Given {
+    Call(Typed),
+    Words(Vec<u32>),
+}
+
+/// Takes a text apart; or what is wrong with it and in which line.
+pub fn read(text: &str) -> Result<Script, String> {
+    // Some editors put a byte-order mark before a text.
+    let text = text.strip_prefix('\u{FEFF}').unwrap_or(text);
+    let lines: Vec<&str> = text.lines().collect();
+    let first = lines.iter().position(|line| is_event(line));
+    let (head, rest) = lines.split_at(first.unwrap_or(lines.len()));
+    let mut events = Vec::new();
+    for (at, line) in rest.iter().enumerate() {
+        let number = head.len() + at + 1;
+        let event = read_event(line, number).map_err(|why| format!("line {number}: {why}"))?;
+        events.extend(event.map(|event| (number, event)));
+    }
+    Ok(Script {
+        table: read_table(head)?,
+        events,
+    })
+}
+
+/// The words of a line that are no comment.
+fn items(line: &str) -> impl Iterator<Item = &str> {
+    let told = line.split('#').next().unwrap_or("");
+    told.split_whitespace()
+}
+
+fn is_event(line: &str) -> bool {
+    matches!(items(line).next(), Some("hand" | "turn" | "turns"))
+}
+
+/// The table that the lines before the first event give.
+fn read_table(head: &[&str]) -> Result<Table, String> {
+    let wrong = |at: usize, why: &str| Err(format!("line {}: {why}", at + 1));
+    let Some(first) = head.iter().position(|line| items(line).next().is_some()) else {
+        return Err("there is no table in it".to_string());
+    };
+    if !items(head[first])
+        .next()
+        .is_some_and(|item| item.starts_with("table"))
+    {
+        return wrong(
+            first,
+            "a table comes first: `table`, and its words or a file",
+        );
+    }
+    if let Some(at) = head
+        .iter()
+        .position(|line| items(line).any(|item| item.starts_with("list")))
+    {
+        return wrong(at, "a list has no place here: calls are handed in");
+    }
+    let named: Vec<&str> = items(head[first]).collect();
+    let alone = head[first + 1..]
+        .iter()
+        .all(|line| items(line).count() == 0);
+    match named[..] {
+        ["table", file] if alone && words_of(file).is_err() => Ok(Table::File(file.to_string())),
+        _ => Ok(Table::Here(text::read(&head.join("\n"))?)),
+    }
+}
+
+/// The event of a line, where there is one.
+fn read_event(line: &str, at: usize) -> Result<Option<Happens>, String> {
+    let mut words = items(line);
+    match words.next() {
+        None => Ok(None),
+        Some("hand") => {
+            if words.next() != Some("in") {
+                return Err("`hand` stands without `in`".to_string());
+            }
+            let domain = words.next().ok_or("who hands in is missing")?;
+            let no_number = || format!("`{domain}` is no number of a domain");
+            let domain = number(domain).ok_or_else(no_number)?;
+            let call = read_given(&words.collect::<Vec<&str>>(), at)?;
+            Ok(Some(Happens::HandIn { domain, call }))
+        }
+        Some("turn") => match words.next() {
+            None => Ok(Some(Happens::Turns(1))),
+            Some(more) => Err(format!(
+                "`{more}` stands behind a turn: `turns 3` are three"
+            )),
+        },
+        Some("turns") => {
+            let count = words.next().and_then(number);
+            match (count, words.next()) {
+                (Some(count @ 1..=TURNS_MAX), None) => Ok(Some(Happens::Turns(count))),
+                _ => Err("`turns` needs one number, 1 to 10,000".to_string()),
+            }
+        }
+        Some(other) => Err(format!(
+            "there is no `{other}` here, only `hand in`, `turn` and `turns`"
+        )),
+    }
+}
+
+/// The call that is handed in, or any words.
+fn read_given(words: &[&str], at: usize) -> Result<Given, String> {
+    if let Some((&"words", given)) = words.split_first() {
+        let given: Result<Vec<Vec<u32>>, String> =
+            given.iter().map(|item| words_of(item)).collect();
+        return Ok(Given::Words(given?.concat()));
+    }
+    let call = calls::read_line(&words.join(" "), at)?;
+    call.map(Given::Call)
+        .ok_or_else(|| "what is handed in is missing".to_string())
+}
+
+#[cfg(test)]
+mod tests {
+    use super::*;
+
+    const TEXT: &str = "
+table                 # one domain
+10000100 20000000
+hand in 0 my-rights caller 0
+hand in 0x1 words F0000005   # a stray
+turn
+
+turns 3
+";
+
+    fn wrong(text: &str) -> String {
+        read(text).unwrap_err()
+    }
+
+    fn events(text: &str) -> Vec<(usize, Happens)> {
+        read(&format!("table T\n{text}")).unwrap().events
+    }
+
+    #[test]
+    fn a_text_is_a_table_and_events_with_their_lines() {
+        let script = read(TEXT).unwrap();
+        let bytes = [2, 0, 0, 0, 0, 1, 0, 0x10, 0, 0, 0, 0x20];
+        assert_eq!(script.table, Table::Here(bytes.to_vec()));
+        let lines: Vec<usize> = script.events.iter().map(|(line, _)| *line).collect();
+        assert_eq!(lines, [4, 5, 6, 8]);
+        let Happens::HandIn { domain, call } = &script.events[0].1 else {
+            panic!("{script:?}");
+        };
+        assert!(*domain == 0 && matches!(call, Given::Call(call) if call.columns[0] == 5));
+        let stray = Given::Words(vec![0xF000_0005]);
+        assert_eq!(
+            script.events[1].1,
+            Happens::HandIn {
+                domain: 1,
+                call: stray
+            }
+        );
+        assert_eq!(script.events[3].1, Happens::Turns(3));
+    }
+
+    #[test]
+    fn a_table_may_be_in_a_file() {
+        let script = read("# a file\ntable four.txt # there\nturn").unwrap();
+        assert_eq!(script.table, Table::File("four.txt".to_string()));
+        assert_eq!(script.events, [(3, Happens::Turns(1))]);
+        assert_eq!(read("table T").unwrap().events, []);
+    }
+
+    #[test]
+    fn no_words_and_large_numbers_can_be_handed_in() {
+        let [(2, Happens::HandIn { domain, call })] = &events("hand in 99999999999 words")[..]
+        else {
+            panic!("one event");
+        };
+        assert_eq!((*domain, call), (u32::MAX, &Given::Words(Vec::new())));
+    }
+
+    #[test]
+    fn what_is_wrong_is_told_by_its_line() {
+        assert_eq!(wrong("# nothing\n"), "there is no table in it");
+        assert_eq!(wrong("turn"), "there is no table in it");
+        assert!(wrong("\n10000100").starts_with("line 2: a table comes first"));
+        assert!(wrong("table\n1000010\nturn").starts_with("line 2: `1000010` is no word"));
+        assert!(wrong("table T\nlist\nturn").starts_with("line 2: a list has no place here"));
+        assert!(wrong("table 10000100\nhnad in 0\nturn").starts_with("line 2: `hnad` is no word"));
+        let event = |line: &str| wrong(&format!("table T\nturn\n{line}"));
+        assert!(event("trun").starts_with("line 3: there is no `trun` here"));
+        assert_eq!(event("hand 0"), "line 3: `hand` stands without `in`");
+        assert_eq!(event("hand in"), "line 3: who hands in is missing");
+        assert_eq!(event("hand in x"), "line 3: `x` is no number of a domain");
+        assert_eq!(event("hand in 0"), "line 3: what is handed in is missing");
+        assert!(event("hand in 0 sned caller 0").starts_with("line 3: there is no call `sned`"));
+        assert!(event("hand in 0 words F00").starts_with("line 3: `F00` is no word"));
+        assert!(event("turn 3").starts_with("line 3: `3` stands behind a turn"));
+        for count in ["", "0", "10001", "x", "3 4"] {
+            let told = event(&format!("turns {count}"));
+            assert_eq!(told, "line 3: `turns` needs one number, 1 to 10,000");
+        }
+    }
+}

@@ -1,0 +1,3 @@
+-- What is claimed of histories of words.
+pub mod Claims
+pub mod Happened

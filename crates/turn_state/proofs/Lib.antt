@@ -1,0 +1,5 @@
+-- What is proved of a state's words.
+pub mod Blocks
+pub mod Words
+pub mod Next
+pub mod Oldest

@@ -1,0 +1,2 @@
+-- What the contracts about a state cite.
+pub mod State

@@ -1,0 +1,36 @@
+-- What is so of everything that a turn comes to: its code and how many calls it served are small. Assumes nothing.
+use Prim.Native.Nat.{_≤_}
+use native.Mathlib.Omega.{arith}
+use Rattle.table.specs.Checked.{refusalCode}
+use Rattle.table.specs.declared.TableRefusal.{TableRefusal}
+use Rattle.table.specs.declared.TableRefusal.the-variants.{BadHeader, BadLength, BadRights, BadEndpoint}
+use Rattle.entry.specs.Entry.{entryRefusalCode}
+use Rattle.entry.specs.declared.EntryRefusal.{EntryRefusal}
+use Rattle.entry.specs.declared.EntryRefusal.the-variants.{ListTooLong, BadTable, SpaceTooSmall, BadHolders}
+use Rattle.turns.specs.declared.Turned.{Turned}
+use Rattle.turns.specs.declared.Turned.the-variants.{Refused, Idle, Served}
+use Rattle.turns.specs.declared.TurnRefusal.the-variants.{Entry, BadTurns}
+use Rattle.turns.specs.Told.{turnedCode, turnedServed}
+
+table-code : (r : TableRefusal) → refusalCode r ≤ 99
+table-code BadHeader = omega arith
+table-code BadLength = omega arith
+table-code BadRights = omega arith
+table-code BadEndpoint = omega arith
+
+entry-code : (r : EntryRefusal) → entryRefusalCode r ≤ 99
+entry-code ListTooLong = omega arith
+entry-code (BadTable r) = table-code r
+entry-code SpaceTooSmall = omega arith
+entry-code BadHolders = omega arith
+
+pub code-small : (r : Turned) → turnedCode r ≤ 99
+code-small (Refused (Entry r)) = entry-code r
+code-small (Refused BadTurns) = omega arith
+code-small Idle = omega arith
+code-small Served = omega arith
+
+pub served-small : (r : Turned) → turnedServed r ≤ 1
+served-small (Refused r) = omega arith
+served-small Idle = omega arith
+served-small Served = omega arith
