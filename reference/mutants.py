@@ -21,11 +21,17 @@ SHOWN = {
     "groups": ("the views of domain", "a wall is open"),
 }
 
-# The tests that draw little are tried first: they take no time, and catch most.
-FIRST = ("codes", "example", "rows", "queue", "influence", "linerun", "writer")
-FIRST += ("repair", "holders", "potential", "totals", "turns", "turn_words")
-FIXED = [f"{module}::" for module in FIRST]
-DRAWN = [word for module in FIXED for word in ("--skip", module)]
+# The tests of the fault's own part are tried first, then those that draw little, which
+# take no time and catch most of the rest, then those of the other parts, then all.
+LITTLE = ["codes", "example", "rows", "queue", "influence", "linerun"]
+PARTS = ["writer", "repair", "holders", "potential", "totals", "turns", "turn_words"]
+
+
+def of(modules):
+    return [f"{module}::" for module in modules]
+
+
+DRAWN = [word for module in of(LITTLE + PARTS) for word in ("--skip", module)]
 
 PROFILE = """
 [profile.dev]
@@ -67,11 +73,18 @@ def check_unedited(tests):
         raise Wrong(f"the tests fail: {', '.join(names)}")
 
 
+def order(edit):
+    """The tests that may catch a fault, in parts, each tried where those before it don't."""
+    own = [part for part in PARTS if edit["file"] == f"src/{part}.rs"]
+    others = [part for part in PARTS if part not in own]
+    return [of(part) for part in (own, LITTLE, others) if part] + [DRAWN]
+
+
 def catch(tests, fault, name, edit):
     """The tests that catch the mutant."""
     catcher = edit["caught-by"]
     by_property = catcher in PROPERTIES
-    for only in [[f"{catcher}::"]] if by_property else [FIXED, DRAWN]:
+    for only in [of([catcher])] if by_property else order(edit):
         passed, names, printed = run_tests(tests, fault, only)
         if not passed:
             break
