@@ -1,13 +1,18 @@
 //! Random inputs of `linetotals`, and how it is given them: at once or in parts, with the
-//! pipe held open where the answer is due before the end.
+//! pipe held open where the answer is due before the end. And long ones, to measure its
+//! speed by.
 
 use std::io::Read;
 use std::time::Duration;
 
+use reference::calls::LIST_WORDS_MAX;
 use reference::generate::{totals_input, Limits};
+use reference::totals::LISTS_MAX;
+use reference::words::to_bytes;
 
 use crate::cases::inputs::Given;
 use crate::cases::random::rng_for;
+use crate::cases::workloads::{workloads, Workload};
 use crate::kernels::program::Feed;
 
 /// The most domains, endpoints, lists and words of a list, in turn.
@@ -49,6 +54,28 @@ pub fn given(seed: u64, number: u64, time: Duration) -> Given {
     }
 }
 
+/// As many lists as there can be, each with a send and a receive: to the end of the input,
+/// and with the first byte of one length word more, behind which the pipe is held open.
+pub fn most_lists(time: Duration) -> [Given; 2] {
+    let input = &long_inputs()[0];
+    let list = &input.lists[0][..GROUPS[0]];
+    let mut words = vec![input.table.len() as u32];
+    words.extend(&input.table);
+    for _ in 0..LISTS_MAX {
+        words.push(list.len() as u32);
+        words.extend(list);
+    }
+    let all = to_bytes(&words);
+    [(all.clone(), false), ([all, vec![0]].concat(), true)].map(|(input, held)| Given {
+        input,
+        feed: Feed {
+            parts: None,
+            held,
+            time,
+        },
+    })
+}
+
 /// How many bytes of an input decide what is printed, where that is before the end is
 /// seen: as many as the separate program asks for.
 pub fn due(input: &[u8]) -> Option<usize> {
@@ -59,6 +86,49 @@ pub fn due(input: &[u8]) -> Option<usize> {
     };
     reference::totals_of(&mut counted);
     (!counted.ended).then_some(counted.read)
+}
+
+/// A table, and lists of 4,096 words that leave it as it was, to be run in rotation: one
+/// list over and over is learnt by the processor.
+pub struct LongInput {
+    pub name: String,
+    pub table: Vec<u32>,
+    pub lists: Vec<Vec<u32>>,
+}
+
+impl LongInput {
+    /// The words of each list.
+    pub const WORDS: usize = LIST_WORDS_MAX;
+}
+
+/// How many lists there are in rotation, and of how many words the few calls are that
+/// leave the table as it was, by the workload.
+const ROTATION: u64 = 60;
+const GROUPS: [usize; 2] = [3, 11];
+
+/// Sends and receives, and calls of all kinds: the workloads' groups of calls, in an order
+/// of its own for each list.
+pub fn long_inputs() -> Vec<LongInput> {
+    let of_groups = workloads().into_iter().zip(GROUPS);
+    let input = |(workload, words): (Workload, usize)| LongInput {
+        name: workload.name,
+        table: workload.table,
+        lists: (0..ROTATION)
+            .map(|number| reordered(&workload.list, words, number))
+            .collect(),
+    };
+    of_groups.map(input).collect()
+}
+
+/// The groups of a list in another order; what is left over stays at the end.
+fn reordered(list: &[u32], words: usize, number: u64) -> Vec<u32> {
+    let groups = list.chunks_exact(words);
+    let rest = groups.remainder().to_vec();
+    let groups: Vec<&[u32]> = groups.collect();
+    let order = rng_for(1, number).order(groups.len());
+    let mut all: Vec<u32> = order.iter().flat_map(|&at| groups[at]).copied().collect();
+    all.extend(rest);
+    all
 }
 
 /// Bytes that tell how many of them were read, and whether their end was seen.
@@ -80,7 +150,31 @@ impl Read for Counted<'_> {
 #[cfg(test)]
 mod tests {
     use super::*;
-    use reference::words::to_bytes;
+
+    #[test]
+    fn a_long_input_has_different_lists_that_leave_its_table() {
+        for input in long_inputs() {
+            assert_eq!(input.lists.len(), 60);
+            assert_ne!(input.lists[0], input.lists[1], "{}", input.name);
+            for list in &input.lists {
+                assert_eq!(list.len(), LongInput::WORDS);
+                let (mut table, mut answers) = (input.table.clone(), vec![0; 3 * list.len()]);
+                assert_eq!(reference::run(&mut table, list, &mut answers).0, 0);
+                assert_eq!(table, input.table, "{}", input.name);
+            }
+        }
+    }
+
+    #[test]
+    fn the_most_lists_are_told_and_one_more_is_refused() {
+        let printed = most_lists(Duration::from_secs(1)).map(|given| {
+            assert_eq!(due(&given.input).is_some(), given.feed.held);
+            String::from_utf8(reference::totals(&given.input)).unwrap()
+        });
+        let line = "endpoint 0 sent 65536 received 65536 lost 0 start 0 end 0\n";
+        assert_eq!(printed[0], format!("{line}lists 65536 code 0\n"));
+        assert_eq!(printed[1], format!("{line}lists 65536 code 1\n"));
+    }
 
     #[test]
     fn an_answer_is_due_where_no_further_byte_is_wanted() {

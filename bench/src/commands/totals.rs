@@ -1,19 +1,25 @@
-//! `bench totals`: the program `linetotals` beside the separate one, on random inputs; and
-//! its sheet as a page for the shift leader.
+//! `bench totals`: the program `linetotals` beside the separate one, on random inputs; its
+//! speed; and its sheet as a page for the shift leader.
+
+mod speed;
+
+use reference::words::to_bytes;
 
 use crate::args::Options;
 use crate::cases::inputs::Given;
-use crate::cases::sheets::given;
+use crate::cases::sheets::{given, most_lists};
 use crate::judging::printed::difference;
 use crate::kernels::program::{run, Feed};
 use crate::line::explain::counted;
-use crate::line::input::read_at_most;
+use crate::line::input::{read_at_most, read_input, shown, Input};
 use crate::output::{self, say};
 use crate::pictures::sheet;
 use crate::progress::Progress;
 
 pub const HELP: &str = "\
 bench totals PROGRAM [--cases N] [--seed S] [--from K] [--time T]
+bench totals PROGRAM --speed [--lists N] [--rounds N]
+bench totals --join LINE.. > INPUT
 bench totals --html SHEET > PAGE
 
 Runs PROGRAM, as target/bin/linetotals, on random inputs and compares every byte
@@ -21,7 +27,8 @@ that it prints with what the separate implementation prints: lists that run one
 after another, tables and lists that are refused, inputs that are cut short. Some
 are given byte by byte or in odd parts. Where what is printed is due before the end
 (a refused table, a length word above 4,096, a byte behind the 65,536th list) the
-pipe is held open there: the sheet must come all the same.
+pipe is held open there: the sheet must come all the same. The first two inputs have
+65,536 lists with a send and a receive each, one of them a length word more.
 
   --cases N  inputs to try (default 1,000)
   --seed S   the seed that they are drawn from (default 1)
@@ -31,11 +38,24 @@ pipe is held open there: the sheet must come all the same.
 From 500 inputs on, a code that no input met is a failure too, and so is a way to
 give an input that was never used.
 
+With --speed, measures PROGRAM on long lists beside `cat` on the same bytes and beside
+the same job in plain C, bench/c/plain_totals.c as gcc -O3 makes it. The three take
+turns on an input of a gibibyte, which is made for it and removed; times are
+processor seconds.
+
+  --lists N   lists of 4,096 words, 1 to 65,536 (default 65,536)
+  --rounds N  rounds, 1 to 100 (default 5)
+
+With --join, makes an input of linetotals out of inputs of linerun: the table of the
+first, then the list of each with its length in words before it. The tables of the
+others aren't looked at, since each list runs from what the one before leaves.
+
 With --html, makes a page to read and to print out of what linetotals printed, which
 stands in the file SHEET. `-` is standard input.
 
 Exit status: 0 nothing differs, and every code was met where that is asked, or the
-page was made; 1 otherwise; 2 bad usage, or a program that can't be started.
+page or the input was made, or the speed was measured; 1 otherwise; 2 bad usage, or a
+program that can't be started.
 ";
 
 /// The codes of the last line that must be met, and from how many inputs on.
@@ -50,13 +70,29 @@ const SHEET_BYTES_MAX: usize = 100_000;
 
 /// The command: whether nothing differs, or the page was made.
 pub fn command(line: &[String]) -> Result<bool, String> {
-    let valued = ["--cases", "--seed", "--from", "--time", "--html"];
-    let options = Options::parse(line, &valued, &[])?;
+    let valued = [
+        "--cases", "--seed", "--from", "--time", "--html", "--lists", "--rounds",
+    ];
+    let options = Options::parse(line, &valued, &["--speed", "--join"])?;
+    if options.has("--join") {
+        return join(&options.files);
+    }
     if let Some(file) = options.text("--html") {
         options.no_file()?;
         return page(file);
     }
     let program = options.file().map_err(|why| format!("PROGRAM: {why}"))?;
+    if options.has("--speed") {
+        let lists = within(&options, "--lists", 65_536, 65_536)?;
+        let rounds = within(&options, "--rounds", 5, 100)?;
+        return speed::measure(program, lists, rounds);
+    }
+    compare(program, &options)
+}
+
+/// Holds a program to the separate one: on random inputs, and first on as many lists as
+/// there can be where the numbers start at 0.
+fn compare(program: &str, options: &Options) -> Result<bool, String> {
     let cases = options.number("--cases")?.unwrap_or(1000);
     let seed = options.number("--seed")?.unwrap_or(1);
     let time = options.time(10)?;
@@ -65,23 +101,68 @@ pub fn command(line: &[String]) -> Result<bool, String> {
     }
     let numbers = options.numbers("--cases", cases)?;
     let mut met = Met::default();
+    if numbers.start == 0 {
+        for input in most_lists(time) {
+            if let Some(told) = met.differs(program, &input)? {
+                say!("DIFFERENCE in an input of 65,536 lists:\n  {told}");
+                return Ok(false);
+            }
+        }
+    }
     let mut progress = Progress::new("inputs", &numbers);
     for number in numbers {
-        let Given { input, feed } = given(seed, number, time);
-        let expected = reference::totals(&input);
-        let ran = run(program, &input, feed)?;
-        if let Some(told) = difference(&ran, &expected) {
+        let input = given(seed, number, time);
+        if let Some(told) = met.differs(program, &input)? {
             progress.clear();
-            let bytes = counted(input.len(), "byte");
+            let bytes = counted(input.input.len(), "byte");
             say!("DIFFERENCE in input {number} of seed {seed}, {bytes}:\n  {told}");
             say!("To see it again: bench totals {program} --seed {seed} --from {number} --cases 1");
             return Ok(false);
         }
-        met.add(feed, &expected);
         progress.step();
     }
     progress.clear();
     Ok(ended(program, cases, &met))
+}
+
+/// A number from 1 on that an option gives, or else the usual one.
+fn within(options: &Options, name: &str, usual: u64, most: u64) -> Result<usize, String> {
+    match options.number(name)?.unwrap_or(usual) {
+        number if (1..=most).contains(&number) => Ok(number as usize),
+        other => Err(format!("{name} takes 1 to {most}, not {other}")),
+    }
+}
+
+/// Makes an input out of inputs of linerun.
+fn join(files: &[String]) -> Result<bool, String> {
+    if files.is_empty() {
+        return Err("--join needs an input of linerun".to_string());
+    }
+    let mut inputs = Vec::new();
+    for file in files {
+        match Input::parse(&read_input(file)?) {
+            Ok(input) => inputs.push(input),
+            Err((code, why)) => {
+                eprintln!(
+                    "bench totals: {} is refused with {code}: {why}",
+                    shown(file)
+                );
+                return Ok(false);
+            }
+        }
+    }
+    output::write(&joined(&inputs));
+    Ok(true)
+}
+
+/// The first one's table, then the list of each; their lengths in words before them.
+fn joined(inputs: &[Input]) -> Vec<u8> {
+    let lists = inputs.iter().map(|input| &input.list);
+    let parts = inputs.iter().take(1).map(|input| &input.table).chain(lists);
+    let words: Vec<u32> = parts
+        .flat_map(|part| [&[part.len() as u32], part.as_slice()].concat())
+        .collect();
+    to_bytes(&words)
 }
 
 /// Makes the page of a sheet.
@@ -107,6 +188,14 @@ struct Met {
 }
 
 impl Met {
+    /// What a program prints otherwise than the separate one for an input, if anything.
+    fn differs(&mut self, program: &str, given: &Given) -> Result<Option<String>, String> {
+        let expected = reference::totals(&given.input);
+        let ran = run(program, &given.input, given.feed)?;
+        self.add(given.feed, &expected);
+        Ok(difference(&ran, &expected))
+    }
+
     fn add(&mut self, feed: Feed, expected: &[u8]) {
         let text = String::from_utf8_lossy(expected);
         let last = text.lines().last().and_then(sheet::last_line);
@@ -148,6 +237,15 @@ fn ended(program: &str, cases: u64, met: &Met) -> bool {
 mod tests {
     use super::*;
     use std::time::Duration;
+
+    #[test]
+    fn inputs_of_linerun_are_joined() {
+        let input = Input::example();
+        let printed = reference::totals(&joined(&[input.clone(), input]));
+        let printed = String::from_utf8(printed).unwrap();
+        let last = "endpoint 1 sent 5 received 2 lost 3 start 0 end 0\nlists 2 code 0\n";
+        assert!(printed.ends_with(last), "{printed}");
+    }
 
     #[test]
     fn inputs_meet_every_code_and_every_way() {

@@ -18,7 +18,7 @@ use Rattle.machine.specs.RunClaims.{CountsBorneOut}
 use Rattle.machine.proofs.Cut.{cut-few}
 use Rattle.machine.proofs.Counts.{counts-borne-out, run-append, answers-append, count-append, full-append}
 use Rattle.totals.specs.Totals.{Totals, nothing, together, listTotals, tableAfter, totals, callsOf}
-use Rattle.totals.specs.Claims.{SheetHolds, OneRun, ListByList}
+use Rattle.totals.specs.Claims.{SheetHolds, OneRun, ListByList, Few}
 
 -- ---- all the calls as one list
 
@@ -110,11 +110,6 @@ full-few e t [] = omega arith
 full-few e t (c ∷ cs) = omega (arith, cond-one (pushesOut e t c), full-few e (step t c) cs)
 
 -- A list counts no more at an endpoint than it has words.
-pub record Few (counted : Totals) (most : ℕ) : Type 0 where
-  pub sent : counted .sent ≤ most
-  pub received : counted .received ≤ most
-  pub lost : counted .lost ≤ most
-
 pub list-few : (e : ℕ) (t ws : List ℕ) → Few (listTotals e t ws) (length ws)
 unfolding listTotals
 list-few e t ws =

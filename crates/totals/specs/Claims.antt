@@ -1,6 +1,6 @@
 -- What is claimed of the totals (document 02 (e)): they are those of all calls run as one list, sends plus waiting at the start
 -- are received plus lost plus waiting at the end, and they can be made up list by list.
-use Prim.Native.Nat.{ℕ, _+_, _<_}
+use Prim.Native.Nat.{ℕ, _+_, _<_, _≤_}
 use mathlib.Core.Path.{_≡_}
 use mathlib.Core.List.{List, [], _∷_, _++_}
 use Rattle.machine.specs.Table.{endpoints, endpoint}
@@ -9,7 +9,7 @@ use Rattle.machine.specs.Check.{Accepted}
 use Rattle.machine.specs.Call.{cut}
 use Rattle.machine.specs.Run.{run, answers}
 use Rattle.machine.specs.Counts.{sentTo, receivedFrom, fullSends}
-use Rattle.totals.specs.Totals.{together, listTotals, tableAfter, totals, callsOf}
+use Rattle.totals.specs.Totals.{Totals, together, listTotals, tableAfter, totals, callsOf}
 
 -- The totals of the endpoint e over lists that were run from the table t and left the table end: each is the count of all their
 -- calls as one list, and sends plus waiting at the start are received plus lost plus waiting at the end.
@@ -39,3 +39,9 @@ pub record OneMore (e : ℕ) (t : List ℕ) (lists : List (List ℕ)) (ws : List
 -- The totals can be made up list by list.
 abbrev pub ListByList : Type 0
 ListByList = (e : ℕ) (t : List ℕ) (lists : List (List ℕ)) (ws : List ℕ) → OneMore e t lists ws
+
+-- No count is above so many.
+pub record Few (counted : Totals) (most : ℕ) : Type 0 where
+  pub sent : counted .sent ≤ most
+  pub received : counted .received ≤ most
+  pub lost : counted .lost ≤ most

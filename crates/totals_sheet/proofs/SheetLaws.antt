@@ -2,7 +2,7 @@
 -- bytes read is the whole input's sheet. Assumes nothing.
 use Prim.Native.Nat.{ℕ, _<_}
 use mathlib.Core.Path.{_≡_, refl, sym, ap, _∙_}
-use mathlib.Core.Bool.{Bool, true, false, cond}
+use mathlib.Core.Bool.{Bool, true, false}
 use mathlib.Core.List.{List, [], _++_, append-nil}
 use native.Mathlib.Decide.{decLt}
 use native.Mathlib.Omega.{arith}
@@ -10,8 +10,8 @@ use lib.Dec.{eqb}
 use Rattle.machine.specs.Check.{tableCode}
 use Rattle.reading.specs.TableInput.{noTable, tableOf, afterTable}
 use Rattle.reading.proofs.TableLaws.{Whole, whole, whole-table, no-more, no-table-more, whole-more, tableOf-more, afterTable-more}
-use Rattle.totals_text.specs.Lines.{lastLine}
-use Rattle.totals_input.specs.Input.{mostLists, listsFrom, wanted, Needed}
+use Rattle.totals.proofs.TotalsLaws.{sheet-holds}
+use Rattle.totals_input.specs.Input.{mostLists, listsFrom, listsOf, wanted, Needed}
 use Rattle.totals_input.proofs.ListLaws as lists
 use Rattle.totals_sheet.specs.Sheet.{tableSheet, sheet, NothingFollows, Printed}
 
@@ -35,7 +35,14 @@ nothing-follows bytes more done = go (noTable bytes) refl
 
 -- so what is printed for the bytes read is the whole input's sheet
 pub printed : (bytes : List ℕ) {lines : List ℕ} → Needed bytes → lines ≡ sheet bytes → Printed lines
-printed bytes {lines} needed is = record { bytes = bytes; needed = needed; read = is; whole = λ more follows. is ∙ whole more follows (decLt 0 (wanted bytes)) }
+printed bytes {lines} needed is =
+    record {
+      bytes = bytes;
+      needed = needed;
+      read = is;
+      whole = λ more follows. is ∙ whole more follows (decLt 0 (wanted bytes));
+      borneOut = λ a e l. sheet-holds (tableOf bytes) (listsOf bytes .lists) e a l;
+    }
   where
     whole : (more : List ℕ) → (0 < wanted bytes → more ≡ []) → Dec (0 < wanted bytes) → sheet bytes ≡ sheet (bytes ++ more)
     whole more follows (yes h) = rw (follows h, append-nil)

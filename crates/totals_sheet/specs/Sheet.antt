@@ -7,9 +7,10 @@ use lib.Dec.{eqb}
 use lib.ListN.{length}
 use Rattle.machine.specs.Table.{endpoints, endpoint}
 use Rattle.machine.specs.Queue.{waiting}
-use Rattle.machine.specs.Check.{tableCode}
+use Rattle.machine.specs.Check.{tableCode, Accepted}
 use Rattle.reading.specs.TableInput.{noTable, tableOf}
 use Rattle.totals.specs.Totals.{totals, tableAfter}
+use Rattle.totals.specs.Claims.{SheetBorneOut}
 use Rattle.totals_text.specs.Lines.{endpointLine, lastLine}
 use Rattle.totals_input.specs.Input.{Lists, listsOf, wanted, Needed}
 
@@ -45,10 +46,12 @@ abbrev pub NothingFollows : Type 0
 NothingFollows = (bytes more : List ℕ) → wanted bytes ≡ 0 → sheet (bytes ++ more) ≡ sheet bytes
 
 -- What is printed after a reading: there are bytes, each of which was needed, of which it is the sheet, and so that of the whole
--- input, whatever else is in it; where more is wanted behind them, nothing else is. That they are the bytes of standard input, in
--- their order, is believed of the world.
+-- input, whatever else is in it; where more is wanted behind them, nothing else is. The totals of an accepted table are those of
+-- all calls as one list, and balance. That they are the bytes of standard input, in their order, is believed of the world.
 pub record Printed (lines : List ℕ) : Type 0 where
   pub bytes : List ℕ
   pub needed : Needed bytes
   pub read : lines ≡ sheet bytes
   pub whole : (more : List ℕ) → (0 < wanted bytes → more ≡ []) → lines ≡ sheet (bytes ++ more)
+  pub borneOut : Accepted (tableOf bytes) → (e : ℕ) → e < endpoints (tableOf bytes)
+      → SheetBorneOut e (tableOf bytes) (listsOf bytes .lists) (tableAfter (tableOf bytes) (listsOf bytes .lists))

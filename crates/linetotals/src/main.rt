@@ -1,0 +1,35 @@
+// The program `linetotals`: a table and lists of calls from standard input, the totals of its endpoints over all of them as lines on
+// standard output (document 02 (e), end-of-shift totals). What is read is crate totals_input's, what is printed for it crate
+// totals_report's; here the lines are written.
+use libc::STDERR_FILENO;
+use libc::STDOUT_FILENO;
+use totals_report::report;
+ghost use Prim.Native.Nat.{_≤_};
+ghost use lib.ListN.{length};
+ghost use Rattle.totals_sheet.specs.Sheet.{Printed};
+ghost use Rattle.totals_report.specs.Report.{mostBytes};
+
+// At most 146 bytes in the line of each of 32 endpoints and 43 in the last.
+const MOST_BYTES: usize = 4715;
+
+// The lines for standard input, as the part of the lent buffer that they fill.
+fn lines_for_input<'a>(out: &'a mut [u8]) -> &'a [u8]
+    requires { ⌜ mostBytes ≤ length (now out) ⌝ }
+    ensures { λ r. ⌜ Printed (now r) ⌝ }
+{
+    let printed = report(out);
+    let lines = &out[..];
+    &lines[0..printed]
+}
+
+fn main() {
+    let mut out = [0u8; MOST_BYTES];
+    let lines = lines_for_input(&mut out);
+    // a program has no exit status to give, so lines that can't be written are told of on standard error
+    if !io::write_all(STDOUT_FILENO, lines) {
+        io::write_all(
+            STDERR_FILENO,
+            b"linetotals: not all lines could be written\n",
+        );
+    }
+}
