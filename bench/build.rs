@@ -19,9 +19,10 @@ use std::path::{Path, PathBuf};
 use std::process::Command;
 
 const ARCHIVE: &str = "target/staticlib/libbalkwizu.a";
-const EXPORTS: [&str; 10] = [
+const EXPORTS: &[&str] = &[
     "balkwizu_table_check",
     "balkwizu_run",
+    "balkwizu_run_working",
     "balkwizu_component",
     "balkwizu_repair",
     "balkwizu_potential",
@@ -134,7 +135,7 @@ fn link_kernel(out: &Path) -> Result<(), Box<dyn Error>> {
             format!("{shown} is for the firmware and has {name}, which is for tests").into(),
         );
     }
-    link_archive(out, &archive, "balkwizu", &bytes, &EXPORTS)
+    link_archive(out, &archive, "balkwizu", &bytes, EXPORTS)
 }
 
 /// Whether a name stands in an archive.

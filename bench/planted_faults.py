@@ -5,12 +5,14 @@ histories` report a difference when there is one.
 The faults are those of the separate implementation's own mutants, by edits as
 reference/edits.py has them. The bench is built against a copy of the separate
 implementation with the faults in it, and with each of them switched on the same
-seeded fuzz must end with a reported difference between that and the kernel, and so
-must the same seeded steps where the fault is one of a single call. A fault that shows
-only on words that no check accepts must be reported by the same seeded queues, one of
-a repair or of potential rights by the same seeded tables, one of turns by the same
-seeded histories, and one of the writer by the fuzz's lists alone. With none switched on all must pass. A panic, a run that doesn't end
-and a code never met are no reported difference.
+seeded fuzz must end with a reported difference between that and the kernel. What it
+says to see it again must show it with the kernel's working run too, and the same seeded
+steps must report the fault where it is one of a single call. A fault that shows only on
+words that no check accepts must be reported by the same seeded queues, one of a repair
+or of potential rights by the same seeded tables, one of turns by the same seeded
+histories, and one of the writer by the fuzz's lists alone. With none switched on all
+must pass. A panic, a run that doesn't end and a code never met are no reported
+difference.
 
     python3 bench/planted_faults.py            all faults
     python3 bench/planted_faults.py NAME...    some of them
@@ -35,12 +37,14 @@ ARCHIVES = {
     "BALKWIZU_QUEUE_ARCHIVE": "libqueue_export.a",
 }
 FUZZ = "fuzz --seed 20 --cases 10000 --table-checks 10000 --lists 0".split()
+WORKING = "fuzz --seed 20 --cases 500 --table-checks 0 --kernel balkwizu-working".split()
 LISTS = "fuzz --seed 20 --cases 0 --table-checks 0 --lists 600".split()
 TABLES = "tables --seed 20 --cases 10000".split()
 STEP = ["step", "--seed", "20", "--cases", "5000"]
 QUEUE = ["queue", "--seed", "20", "--cases", "10000"]
 HISTORIES = ["histories", "--seed", "20", "--cases", "1000"]
 LEAST = 20
+AGAIN = "To see it again: bench "
 
 # Faults that no comparison with the kernel can show, by name, each with why. They
 # are caught by the tests of the separate implementation itself.
@@ -115,21 +119,39 @@ def make(copy):
 
 def check_unedited(bench):
     """Against the separate implementation as it stands all must pass."""
-    for command in FUZZ, LISTS, STEP, QUEUE, TABLES, HISTORIES:
+    for command in FUZZ, WORKING, LISTS, STEP, QUEUE, TABLES, HISTORIES:
         ran = run([bench, *command], 0)
         if ran.returncode != 0:
             raise Wrong(f"{command[0]} fails:\n{ran.stdout}{ran.stderr}")
 
 
-def difference(bench, command, fault):
-    """What a command reports with the fault switched on."""
+def reports(bench, command, fault):
+    """The lines that a command prints with the fault switched on, from the difference
+    on."""
     ran = run([bench, *command], fault)
     lines = ran.stdout.splitlines()
     found = [i for i, line in enumerate(lines) if line.startswith("DIFFERENCE")]
     if ran.returncode != 1 or not found:
         status = f"exit status {ran.returncode}"
-        raise Wrong(f"{command[0]} reports no difference ({status})")
-    return lines[found[0] + 1].strip()
+        raise Wrong(f"{' '.join(command)} reports no difference ({status})")
+    return lines[found[0] :]
+
+
+def difference(bench, command, fault):
+    """What a command reports with the fault switched on."""
+    return reports(bench, command, fault)[1].strip()
+
+
+def difference_by_both(bench, fault):
+    """What the fuzz reports with the kernel's own run; the same must be seen again with
+    its working run."""
+    lines = reports(bench, FUZZ, fault)
+    again = [line for line in lines if line.startswith(AGAIN)]
+    if not again:
+        raise Wrong("the fuzz doesn't say how to see it again")
+    command = again[0].removeprefix(AGAIN).split()
+    difference(bench, [*command, "--kernel", "balkwizu-working"], fault)
+    return lines[1].strip()
 
 
 def reported(bench, fault, name, edit):
@@ -138,7 +160,7 @@ def reported(bench, fault, name, edit):
     for pattern, command in BY_ANOTHER.items():
         if fnmatch(name, pattern):
             return f"by {command[0]}: {difference(bench, command, fault)}"
-    told = difference(bench, FUZZ, fault)
+    told = difference_by_both(bench, fault)
     if not any(fnmatch(name, pattern) for pattern in UNSEEN_BY_STEPS):
         told += f"; by steps: {difference(bench, STEP, fault)}"
     return told

@@ -20,13 +20,27 @@ static uint32_t answers[BALKWIZU_ANSWER_WORDS * BALKWIZU_LIST_WORDS_MAX];
 static uint32_t holders[BALKWIZU_DOMAINS_MAX + 1];
 static unsigned compared, differ;
 
+/* The two runs, which do the same: what a run does is compared with either. */
+static const struct {
+    const char *name;
+    uint32_t (*run)(uint32_t *table, size_t table_len,
+                    const uint32_t *list, size_t list_len,
+                    uint32_t *answers, size_t answers_len,
+                    uint32_t *holders, size_t holders_len);
+} runs[] = {
+    { "balkwizu_run", balkwizu_run },
+    { "balkwizu_run_working", balkwizu_run_working },
+};
+static size_t in_use; /* the one of the two that runs are made by */
+
 static void is(const char *what, uint32_t found, uint32_t wanted)
 {
     compared++;
     if (found == wanted)
         return;
     differ++;
-    printf("%s: %lX, not %lX\n", what, (unsigned long)found, (unsigned long)wanted);
+    printf("%s: %lX, not %lX (runs by %s)\n", what, (unsigned long)found,
+           (unsigned long)wanted, runs[in_use].name);
 }
 
 /* Compares and names a value by the text of its expression. */
@@ -39,15 +53,16 @@ static void put_table_t(void)
 
 static uint32_t run(size_t table_words, const uint32_t *calls, size_t words)
 {
-    return balkwizu_run(table, table_words, calls, words, answers, WORDS(answers),
-                        holders, balkwizu_table_domains(table));
+    return runs[in_use].run(table, table_words, calls, words, answers, WORDS(answers),
+                            holders, balkwizu_table_domains(table));
 }
 
 /* L on T, with so many words for answers and holders. */
 static uint32_t run_l(size_t answer_words, size_t holder_words)
 {
-    return balkwizu_run(table, EXAMPLE_TABLE_WORDS, example_list, EXAMPLE_LIST_WORDS,
-                        answers, answer_words, holders, holder_words);
+    return runs[in_use].run(table, EXAMPLE_TABLE_WORDS,
+                            example_list, EXAMPLE_LIST_WORDS,
+                            answers, answer_words, holders, holder_words);
 }
 
 static uint32_t check(size_t words)
@@ -629,23 +644,31 @@ static void whole_fields(void)
     IS(balkwizu_table_message(words, 0, 0), 0x0FFFFFFF);
 }
 
-int main(void)
+/* All that a run does, by the one in use. */
+static void with_run(void)
 {
-    limits();
-    words_of_t();
-    words_of_l();
     answers_to_l();
     table_after_l();
     messages_that_wait();
     codes_of_calls();
     edges();
     largest_table();
+    holders_of_t();
+}
+
+int main(void)
+{
+    limits();
+    words_of_t();
+    words_of_l();
+    for (in_use = 0; in_use < WORDS(runs); in_use++)
+        with_run();
+    in_use = 0;
     components_of_t();
     potential_of_t();
     repair_of_t();
     list_l_written();
     calls_written();
-    holders_of_t();
     words_of_turns();
     turns_of_t();
     turns_refused();

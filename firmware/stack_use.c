@@ -232,6 +232,8 @@ int main(void)
                                 (uintptr_t)answers,
                                 sizeof answers / sizeof *answers,
                                 (uintptr_t)holders, DOMAINS } };
+    struct call run_working = run;
+    run_working.function = (void (*)(void))balkwizu_run_working;
     const struct call who_reaches = { (void (*)(void))balkwizu_who_reaches,
                                       { (uintptr_t)holders, DOMAINS, 0 } };
     const struct call component = { (void (*)(void))balkwizu_component,
@@ -255,6 +257,8 @@ int main(void)
     failed |= tell("balkwizu_repair", &repair, BALKWIZU_REPAIR_STACK_BYTES);
     failed |= tell("balkwizu_write", &write, BALKWIZU_WRITE_STACK_BYTES);
     failed |= tell_turns();
+    failed |= tell("balkwizu_run_working", &run_working,
+                   BALKWIZU_RUN_WORKING_STACK_BYTES);
     failed |= tell("balkwizu_run", &run, BALKWIZU_RUN_STACK_BYTES);
     /* The run has left the holders: everybody has every right, so that none is added. */
     return failed

@@ -61,6 +61,7 @@ extern "C" {
  *   balkwizu_potential: general and xmm registers, aligned stack
  *   balkwizu_repair: general and xmm registers, aligned stack
  *   balkwizu_run: general and xmm registers, aligned stack, unmarked jumps
+ *   balkwizu_run_working: general and xmm registers, aligned stack
  *   balkwizu_table_check: general and xmm registers, aligned stack, red zone
  *   balkwizu_turn: general and xmm registers, aligned stack, unmarked jumps
  *   balkwizu_turns_begin: general registers
@@ -68,6 +69,7 @@ extern "C" {
  *   balkwizu_write: general registers, unmarked jumps
  */
 #define BALKWIZU_RUN_STACK_BYTES 512
+#define BALKWIZU_RUN_WORKING_STACK_BYTES 5120
 #define BALKWIZU_TABLE_CHECK_STACK_BYTES 256
 #define BALKWIZU_COMPONENT_STACK_BYTES 512
 #define BALKWIZU_REPAIR_STACK_BYTES 4096
@@ -468,6 +470,30 @@ uint32_t balkwizu_run(uint32_t *table, size_t table_len,
                       const uint32_t *list, size_t list_len,
                       uint32_t *answers, size_t answers_len,
                       uint32_t *holders, size_t holders_len);
+
+/*
+ * The same run in a working layout, for long lists. All that is said of balkwizu_run
+ * above holds of it, the caller's duties too: for every table and every list both
+ * return the same number and leave the same answers, holders and table words. (It
+ * came with request (l) of document 02.)
+ *
+ * After the checks of the entry it takes the table in, the rights as rows of small
+ * numbers and each queue as eight places that go round, serves all calls on that, and
+ * puts the table out once, at the end. Its layout is on the stack: it takes
+ * BALKWIZU_RUN_WORKING_STACK_BYTES where balkwizu_run takes
+ * BALKWIZU_RUN_STACK_BYTES.
+ *
+ * Which to take: each call is cheaper here, taking in and putting out come on top.
+ * Lists of 64 words and more are for this one, shorter lists for balkwizu_run. Where
+ * exactly the two cross depends on the table, the calls and the processor: about 40
+ * words for a small table, 70 for the largest, and 110 for the largest where nearly
+ * all calls are sends and receives. docs/BENCHMARKS.md has what was measured, and
+ * `bench speed --lengths` measures it.
+ */
+uint32_t balkwizu_run_working(uint32_t *table, size_t table_len,
+                              const uint32_t *list, size_t list_len,
+                              uint32_t *answers, size_t answers_len,
+                              uint32_t *holders, size_t holders_len);
 
 /* What balkwizu_who_reaches returns, taken apart. */
 #define BALKWIZU_REACHES_CODE(result) (BALKWIZU_WORD(result) & 0xFFFFu)

@@ -545,7 +545,7 @@ fn a_call_that_the_reader_refuses_is_told_by_number_and_code() {
 
 #[test]
 fn speed_prints_a_table() {
-    for (flag, wanted) in [(None, 11), (Some("--by-kind"), 17)] {
+    for (flag, wanted) in [(None, 15), (Some("--by-kind"), 19), (Some("--all"), 85)] {
         let line = ["speed", "--rounds", "1"].into_iter().chain(flag);
         let table = printed(&line.collect::<Vec<_>>());
         let rows = table.lines().filter(|line| line.starts_with("| ")).count();
@@ -561,7 +561,16 @@ fn speed_of_turns_has_a_row_for_each_size() {
     let rows = table.lines().filter(|line| line.starts_with("| ")).count();
     assert_eq!(rows, 10, "{table}");
     assert!(table.contains("| 16 | 32 | 641 | "), "{table}");
-    assert_eq!(status(&["speed", "--turns", "--by-kind"]), 2);
+}
+
+#[test]
+fn speed_tells_by_the_length_of_a_list_where_the_runs_cross() {
+    let table = printed(&["speed", "--lengths", "--rounds", "1", "--seed", "2"]);
+    let rows = table.lines().filter(|line| line.starts_with("| ")).count();
+    assert_eq!(rows, 41, "{table}");
+    let crossings = table.matches("balkwizu-working is the faster of the two");
+    assert_eq!(crossings.count(), 8, "{table}");
+    assert!(table.contains("Lists drawn from seed 2."), "{table}");
 }
 
 /// A path for a file that a command writes.

@@ -1,8 +1,10 @@
 //! What is drawn to be tried: random runs and table images, random histories of turns,
-//! random inputs of `linerun`, and the lists that the speed is measured on.
+//! random inputs of `linerun`, and the lists that the speed is measured on, of one length
+//! or of any.
 
 pub mod histories;
 pub mod inputs;
+pub mod mixes;
 pub mod random;
 pub mod sheets;
 pub mod workloads;

@@ -5,7 +5,6 @@
 use std::io::Read;
 use std::time::Duration;
 
-use reference::calls::LIST_WORDS_MAX;
 use reference::generate::{totals_input, Limits};
 use reference::totals::LISTS_MAX;
 use reference::words::to_bytes;
@@ -58,7 +57,7 @@ pub fn given(seed: u64, number: u64, time: Duration) -> Given {
 /// and with the first byte of one length word more, behind which the pipe is held open.
 pub fn most_lists(time: Duration) -> [Given; 2] {
     let input = &long_inputs()[0];
-    let list = &input.lists[0][..GROUPS[0]];
+    let list = &input.lists[0][..SEND_AND_RECEIVE];
     let mut words = vec![input.table.len() as u32];
     words.extend(&input.table);
     for _ in 0..LISTS_MAX {
@@ -88,47 +87,13 @@ pub fn due(input: &[u8]) -> Option<usize> {
     (!counted.ended).then_some(counted.read)
 }
 
-/// A table, and lists of 4,096 words that leave it as it was, to be run in rotation: one
-/// list over and over is learnt by the processor.
-pub struct LongInput {
-    pub name: String,
-    pub table: Vec<u32>,
-    pub lists: Vec<Vec<u32>>,
-}
+/// The words of a send and a receive, with which the first of the long inputs begins.
+const SEND_AND_RECEIVE: usize = 3;
 
-impl LongInput {
-    /// The words of each list.
-    pub const WORDS: usize = LIST_WORDS_MAX;
-}
-
-/// How many lists there are in rotation, and of how many words the few calls are that
-/// leave the table as it was, by the workload.
-const ROTATION: u64 = 60;
-const GROUPS: [usize; 2] = [3, 11];
-
-/// Sends and receives, and calls of all kinds: the workloads' groups of calls, in an order
-/// of its own for each list.
-pub fn long_inputs() -> Vec<LongInput> {
-    let of_groups = workloads().into_iter().zip(GROUPS);
-    let input = |(workload, words): (Workload, usize)| LongInput {
-        name: workload.name,
-        table: workload.table,
-        lists: (0..ROTATION)
-            .map(|number| reordered(&workload.list, words, number))
-            .collect(),
-    };
-    of_groups.map(input).collect()
-}
-
-/// The groups of a list in another order; what is left over stays at the end.
-fn reordered(list: &[u32], words: usize, number: u64) -> Vec<u32> {
-    let groups = list.chunks_exact(words);
-    let rest = groups.remainder().to_vec();
-    let groups: Vec<&[u32]> = groups.collect();
-    let order = rng_for(1, number).order(groups.len());
-    let mut all: Vec<u32> = order.iter().flat_map(|&at| groups[at]).copied().collect();
-    all.extend(rest);
-    all
+/// Sends and receives, and calls of all kinds: tables, each with lists of 4,096 words that
+/// leave it as it was, to be run in rotation.
+pub fn long_inputs() -> Vec<Workload> {
+    workloads(1).into_iter().take(2).collect()
 }
 
 /// Bytes that tell how many of them were read, and whether their end was seen.
@@ -149,6 +114,8 @@ impl Read for Counted<'_> {
 
 #[cfg(test)]
 mod tests {
+    use reference::calls::LIST_WORDS_MAX;
+
     use super::*;
 
     #[test]
@@ -157,7 +124,7 @@ mod tests {
             assert_eq!(input.lists.len(), 60);
             assert_ne!(input.lists[0], input.lists[1], "{}", input.name);
             for list in &input.lists {
-                assert_eq!(list.len(), LongInput::WORDS);
+                assert_eq!(list.len(), LIST_WORDS_MAX);
                 let (mut table, mut answers) = (input.table.clone(), vec![0; 3 * list.len()]);
                 assert_eq!(reference::run(&mut table, list, &mut answers).0, 0);
                 assert_eq!(table, input.table, "{}", input.name);

@@ -43,8 +43,8 @@ whoever planned the table.
 
   --struck D     list the calls that are struck for domain D
   --seed S       the seed that the variants are drawn from (default 1)
-  --kernel NAME  balkwizu (default), plain-gcc, plain-clang, or wrong-NAME, which
-                 has the fault of bench/c/wrong/NAME.edit
+  --kernel NAME  balkwizu (default), balkwizu-working, plain-gcc, plain-clang, or
+                 wrong-NAME, which has the fault of bench/c/wrong/NAME.edit
 
 Exit status: 0 no line failed; 1 a line failed, or the input is refused; 2 bad
 usage, or a file that can't be read.

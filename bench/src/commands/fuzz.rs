@@ -30,8 +30,8 @@ large enough, just so and too short, every word of them.
   --lists N         lists to write (default 1 for 16 runs)
   --seed S          the seed that everything is drawn from (default 1)
   --from K          the number of the first run, image and list (default 0)
-  --kernel NAME     balkwizu (default), plain-gcc or plain-clang; or a wrong one of
-                    bench/c/wrong, as wrong-faults
+  --kernel NAME     balkwizu (default), balkwizu-working, plain-gcc or plain-clang; or
+                    a wrong one of bench/c/wrong, as wrong-faults
   --time T          the seconds that one run, image or list may take (default 10)
 
 The first difference ends it, with the words that show it as `bench words` takes

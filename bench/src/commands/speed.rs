@@ -1,72 +1,73 @@
 //! `bench speed`: the proved kernel's speed beside the plain C kernel's, in one
 //! run, as ratios.
 
-use reference::table::domains;
-
 use crate::args::Options;
+use crate::cases::mixes::{mixes, Mix};
 use crate::cases::workloads::{by_kind, workloads, Workload};
-use crate::cases::Case;
-use crate::judging::compare::{difference, separate_run};
-use crate::judging::timing::{row, runs, subjects};
+use crate::judging::lengths::{at, measured_crossing, working_is_slower, LENGTHS};
+use crate::judging::one_after_another::first_wrong;
+use crate::judging::timing::{rotating, subjects, Measured, Subject};
 use crate::judging::turn_times;
-use crate::kernels::boundary::KERNELS;
-use crate::kernels::child;
 use crate::line::explain::counted;
 use crate::output::{self, say};
+use crate::pictures::speeds;
 
 pub const HELP: &str = "\
-bench speed [--by-kind | --turns] [--rounds N]
+bench speed [--by-kind] [--lengths] [--turns] [--all] [--rounds N] [--seed S]
 
-Measures the proved kernel beside the plain C kernel of bench/c as gcc -O3 and,
-where there is one, clang -O3 make it, and prints a Markdown table: table checks,
-and calls on four lists of 4,096 words. With --by-kind the lists have one kind of
-call each, or two that undo each other, on a small table and on the largest. All
-kernels take turns in each of N rounds (1 to 100,000, default 301); a figure is the
-median of the rounds, a ratio the median of the rounds' ratios, the proved kernel's
-time over the other's: above 1 the proved kernel is slower. Every kernel's run is
-first compared with the separate machine.
+Measures the proved kernel, by either of its runs, beside the plain C kernel of
+bench/c as gcc -O3 and, where there is one, clang -O3 make it, and prints a Markdown
+table: table checks, and calls on lists of 4,096 words of four mixes, sixty different
+lists of each in rotation and one list repeated, which the processor learns by heart.
 
-With --turns the proved layer of turns is measured by itself: what a turn costs, idle
-and serving, by the table's size, and how much of it is the check of the table, in
-one run and as the median of the rounds' ratios. Its turns are first compared with
-the separate layer's.
+  --by-kind   lists in rotation with one kind of call each, or two that undo each
+              other, on a small table and on the largest
+  --lengths   the time of one run by the length of its list, from one word to 4,096,
+              on these two tables, and from which length on the run in the working
+              layout is faster than the other
+  --turns     what a turn of the proved layer costs, idle and serving, by the table's
+              size, and how much of it is the check of the table
+  --all       all four tables
+  --rounds N  1 to 100,000 (default 301)
+  --seed S    the seed that the lists are drawn from (default 1)
+
+All kernels take turns in each of N rounds. A figure is the median of the rounds. A
+ratio is the median of the rounds' ratios, the proved kernel's time over that of the
+faster plain C kernel of the row: above 1 the proved kernel is slower. In brackets
+stand the ratios that a tenth of the rounds stay below and exceed. A goal is for the
+ratio of the check, or of the faster of the two runs. Every kernel's runs are first
+compared with the separate machine's.
 
 Exit status: 0 measured; 1 a kernel's run or a turn differs; 2 bad usage.
 ";
 
 const ROUNDS_MAX: u64 = 100_000;
 
+/// The tables on which lengths are measured, by their domains and endpoints.
+const SIZES: [(usize, usize); 2] = [(4, 4), (16, 32)];
+
+/// So many lists of each length are compared beforehand.
+const COMPARED: usize = 60;
+
 /// The command: whether every kernel's runs are right, so that its speed counts.
 pub fn command(line: &[String]) -> Result<bool, String> {
-    let options = Options::parse(line, &["--rounds"], &["--by-kind", "--turns"])?;
+    let flags = ["--by-kind", "--lengths", "--turns", "--all"];
+    let options = Options::parse(line, &["--rounds", "--seed"], &flags)?;
     options.no_file()?;
     let rounds = rounds(options.number("--rounds")?)?;
-    let apart = options.has("--by-kind");
-    match options.has("--turns") {
-        true if apart => return Err("--by-kind is for lists, and turns have none".to_string()),
-        true => return Ok(turns(rounds)),
-        false => {}
-    }
-    let workloads = if apart { by_kind() } else { workloads() };
-    if let Some(told) = workloads.iter().find_map(first_wrong) {
-        say!("{told}");
-        return Ok(false);
-    }
-    output::write(head(rounds).as_bytes());
-    let subjects = if apart {
-        workloads.iter().map(runs).collect()
-    } else {
-        subjects(&workloads)
-    };
-    for subject in subjects {
-        say!("{}", row(&subject, rounds));
-    }
-    output::write(foot(&workloads, apart).as_bytes());
-    Ok(true)
+    let seed = options.number("--seed")?.unwrap_or(1);
+    let all = options.has("--all");
+    let asked = |flag| all || options.has(flag);
+    let [kinds, lengths, turns] = ["--by-kind", "--lengths", "--turns"].map(asked);
+    let main = all || !(kinds || lengths || turns);
+    Ok((!main || tell_workloads(seed, rounds))
+        && (!kinds || tell_kinds(seed, rounds))
+        && (!lengths || tell_lengths(seed, rounds))
+        && (!turns || tell_turns(rounds)))
 }
 
 /// Measures turns; whether they are right, so that their speed counts.
-fn turns(rounds: usize) -> bool {
+fn tell_turns(rounds: usize) -> bool {
     let sizes = turn_times::sizes();
     if let Some(told) = sizes.iter().find_map(turn_times::first_wrong) {
         say!("{told}");
@@ -74,7 +75,7 @@ fn turns(rounds: usize) -> bool {
     }
     say!(
         "Processor: {}. {}. Medians of {}.\n\n{}",
-        processor(),
+        speeds::processor(),
         env!("ARCHIVE_TITLE"),
         counted(rounds, "interleaved round"),
         turn_times::HEAD
@@ -94,73 +95,71 @@ fn rounds(asked: Option<u64>) -> Result<usize, String> {
     }
 }
 
-/// What differs between a kernel's run of a workload and the separate machine's.
-fn first_wrong(workload: &Workload) -> Option<String> {
-    let case = Case {
-        table: workload.table.clone(),
-        list: workload.list.clone(),
-        answers: vec![0; 3 * workload.list.len()],
-        holders: vec![0; domains(&workload.table)],
-    };
-    KERNELS.iter().find_map(|kernel| {
-        let ran = child::run(kernel, &case, child::LIMIT).map_err(String::from);
-        let compared = ran.and_then(|ran| {
-            let separate = separate_run(&case)?;
-            difference(&case, &ran, &separate).map_or(Ok(()), Err)
-        });
-        let told = compared.err()?;
-        Some(format!("{} on {}: {told}", kernel.name, workload.name))
-    })
+/// The table of checks and of the four mixes; whether every kernel's runs are right.
+fn tell_workloads(seed: u64, rounds: usize) -> bool {
+    let workloads = workloads(seed);
+    let foot = speeds::foot_of_workloads(&workloads);
+    tell(&workloads, subjects(&workloads), &foot, seed, rounds)
 }
 
-fn head(rounds: usize) -> String {
-    let mut titles = vec!["What".to_string()];
-    titles.extend(KERNELS.iter().map(|kernel| kernel.title.to_string()));
-    // Its title's first word: proved, where it is.
-    let first = KERNELS[0].title.split(' ').next().unwrap_or_default();
-    let others = KERNELS[1..].iter();
-    titles.extend(others.map(|other| format!("time, {first} over {}", other.name)));
-    format!(
-        "Processor: {}. Plain C by {}. Medians of {}.\n\n| {} |\n|---|{}\n",
-        processor(),
-        env!("PLAIN_COMPILERS"),
-        counted(rounds, "interleaved round"),
-        titles.join(" | "),
-        "---:|".repeat(titles.len() - 1)
-    )
+/// The table of single kinds.
+fn tell_kinds(seed: u64, rounds: usize) -> bool {
+    let workloads = by_kind(seed);
+    let subjects = workloads.iter().map(rotating).collect();
+    tell(&workloads, subjects, &speeds::foot_of_kinds(), seed, rounds)
 }
 
-/// The processor's name, where the system tells it.
-fn processor() -> String {
-    let info = std::fs::read_to_string("/proc/cpuinfo").unwrap_or_default();
-    let line = info.lines().find(|line| line.starts_with("model name"));
-    let name = line.and_then(|line| line.split_once(": "));
-    name.map_or("unknown".to_string(), |(_, name)| name.to_string())
-}
-
-/// How many calls each list has.
-fn sizes(workloads: &[Workload]) -> String {
-    let sizes: Vec<String> = workloads
-        .iter()
-        .map(|workload| {
-            let calls = reference::cut(&workload.list).len();
-            format!("{} ({calls} calls)", workload.name)
-        })
-        .collect();
-    sizes.join("; ")
-}
-
-fn foot(workloads: &[Workload], apart: bool) -> String {
-    let reset =
-        "Before each run of a list the table and the answers are reset outside the timed part";
-    if apart {
-        return format!("\nLists of 4,096 words. {reset}.\n");
+/// Prints a table with a row for each subject, where every kernel's runs are right.
+fn tell(
+    workloads: &[Workload],
+    subjects: Vec<Subject>,
+    foot: &str,
+    seed: u64,
+    rounds: usize,
+) -> bool {
+    let wrong = |one: &Workload| first_wrong(&one.name, &one.table, &one.lists);
+    if let Some(told) = workloads.iter().find_map(wrong) {
+        say!("{told}");
+        return false;
     }
-    format!(
-        "\nLists of 4,096 words: {}. {reset}; checks and entries write nothing and are not reset. \
-         An entry alone is a run of the empty list.\n",
-        sizes(workloads)
-    )
+    output::write(speeds::head(seed, rounds).as_bytes());
+    for subject in subjects {
+        let measured = Measured::of(&subject, rounds);
+        say!("{}", speeds::row(&subject, &measured));
+    }
+    say!("\n{foot}\n");
+    true
+}
+
+/// The table of lengths, and where the two proved runs cross.
+fn tell_lengths(seed: u64, rounds: usize) -> bool {
+    let mixes: Vec<Mix> = SIZES.iter().flat_map(|&(n, m)| mixes(seed, n, m)).collect();
+    let wrong = |mix: &Mix| LENGTHS.iter().find_map(|&words| first_wrong_of(mix, words));
+    if let Some(told) = mixes.iter().find_map(wrong) {
+        say!("{told}");
+        return false;
+    }
+    output::write(speeds::head_of_lengths(seed, rounds).as_bytes());
+    let crossings: Vec<String> = mixes.iter().map(|mix| tell_mix(mix, rounds)).collect();
+    say!("\n{}\n", speeds::foot_of_lengths(&crossings));
+    true
+}
+
+/// What is wrong with the first lists of a length.
+fn first_wrong_of(mix: &Mix, words: usize) -> Option<String> {
+    let lists = mix.lists(words);
+    let few = lists.len().min(COMPARED);
+    first_wrong(&mix.name, &mix.table, &lists[..few])
+}
+
+/// Prints the rows of a mix; gives where the two runs cross, in words.
+fn tell_mix(mix: &Mix, rounds: usize) -> String {
+    let slower = LENGTHS.map(|words| {
+        let measured = at(mix, words, rounds);
+        say!("{}", speeds::row_of_lengths(mix, words, &measured));
+        working_is_slower(&measured)
+    });
+    speeds::crossing_in_words(mix, measured_crossing(mix, slower, rounds))
 }
 
 #[cfg(test)]
@@ -176,21 +175,16 @@ mod tests {
     }
 
     #[test]
-    fn every_kernel_is_right_on_every_workload() {
-        let all = workloads().into_iter().chain(by_kind());
-        assert_eq!(all.into_iter().find_map(|one| first_wrong(&one)), None);
-    }
-
-    #[test]
-    fn the_table_has_a_row_for_each_subject_and_a_cell_for_each_title() {
-        let workloads = workloads();
-        let subjects = subjects(&workloads);
-        assert_eq!(subjects.len(), 10);
-        let columns = head(1).lines().nth(2).unwrap().matches('|').count();
-        assert_eq!(row(&subjects[0], 1).matches('|').count(), columns);
-        assert_eq!(
-            head(1).lines().nth(3).unwrap().matches('|').count(),
-            columns
-        );
+    fn every_kernel_is_right_on_every_workload_and_mix() {
+        let mut all = workloads(1).into_iter().chain(by_kind(1));
+        let wrong = all.find_map(|one| first_wrong(&one.name, &one.table, &one.lists));
+        assert_eq!(wrong, None);
+        let mut mixes = SIZES.iter().flat_map(|&(n, m)| mixes(2, n, m));
+        let wrong = |mix: Mix| {
+            LENGTHS
+                .iter()
+                .find_map(|&words| first_wrong_of(&mix, words))
+        };
+        assert_eq!(mixes.find_map(wrong), None);
     }
 }

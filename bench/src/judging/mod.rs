@@ -3,7 +3,7 @@
 //! variants of a line that are tried, the checklist, the random runs, table images,
 //! lists to be written, single calls, single queues, pairs of lines and components, turns
 //! and their histories, what `linerun` prints, what was met in all, what is wrong cut down
-//! and told, and how long it takes.
+//! and told, and how long it takes, by the length of a list too.
 
 pub mod checklist;
 pub mod compare;
@@ -13,7 +13,9 @@ pub mod groups;
 pub mod histories;
 pub mod holders;
 pub mod images;
+pub mod lengths;
 pub mod lists;
+pub mod one_after_another;
 pub mod pairs;
 pub mod panics;
 pub mod potentials;

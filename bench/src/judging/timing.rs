@@ -1,5 +1,5 @@
-//! How long kernels take for the same thing: each in its turn, in many rounds, and the
-//! median of them.
+//! How long kernels take for the same thing: each in its turn, in many rounds, and of
+//! these the median and the spread.
 
 use std::time::{Duration, Instant};
 
@@ -8,45 +8,68 @@ use reference::table::domains;
 use reference::words::to_bytes;
 
 use crate::cases::workloads::{largest_table, Workload};
-use crate::kernels::boundary::{Kernel, KERNELS};
+use crate::kernels::boundary::{Kernel, KERNELS, WORKING};
+use crate::line::explain::counted;
 
-/// How long one kernel is timed in one round, about.
+/// How long one kernel is timed in one round, about: so short that it is seldom
+/// interrupted, and so long that what came before it is soon forgotten.
 pub const TURN: Duration = Duration::from_micros(300);
 
-/// Does something with a kernel so many times; gives how long that took.
-type Act<'a> = dyn Fn(&Kernel, usize) -> Duration + 'a;
+/// Does things with a kernel, those of a part; gives how long that took.
+type Act<'a> = dyn Fn(&Kernel, Part) -> Duration + 'a;
 
-/// Something to measure: how it is called, what is done, and how many of its units
-/// one time has.
+/// Things that are gone through in turn, from the first again behind the last: so many of
+/// them, from one on.
+#[derive(Debug, Clone, Copy)]
+pub struct Part {
+    from: usize,
+    count: usize,
+}
+
+impl Part {
+    pub fn of<'a, T>(&self, all: &'a [T]) -> impl Iterator<Item = &'a T> {
+        all.iter().cycle().skip(self.from).take(self.count)
+    }
+}
+
+/// Something to measure: how it is called, what ratio is aimed at, by whom it is done,
+/// what is done, and how many units each of the things has that are gone through in turn.
 pub struct Subject<'a> {
-    name: String,
-    unit: &'static str,
-    units: usize,
-    act: Box<Act<'a>>,
+    pub name: String,
+    pub goal: Option<f64>,
+    pub unit: &'static str,
+    pub units: Vec<usize>,
+    pub kernels: Vec<Kernel>,
+    pub act: Box<Act<'a>>,
 }
 
 /// All that is measured on the workloads, and the check of two tables.
 pub fn subjects(workloads: &[Workload]) -> Vec<Subject<'_>> {
     let mut subjects = vec![
-        checks("table check, table T", to_bytes(&TABLE_T)),
-        checks("table check, n 16, m 32", to_bytes(&largest_table())),
+        checks("table check, table T", to_bytes(&TABLE_T), 0.95),
+        checks("table check, n 16, m 32", to_bytes(&largest_table()), 1.05),
     ];
     for workload in workloads {
-        subjects.push(runs(workload));
+        subjects.push(rotating(workload));
+        subjects.push(repeated(workload));
         subjects.push(entries(workload));
     }
     subjects
 }
 
-/// The check of a table image. Nothing is written, so nothing is reset.
-fn checks(name: &str, bytes: Vec<u8>) -> Subject<'static> {
+/// The check of a table image. Nothing is written, so nothing is reset. The working run
+/// has no check of its own.
+fn checks(name: &str, bytes: Vec<u8>, goal: f64) -> Subject<'static> {
+    let own = |kernel: &&Kernel| kernel.name != WORKING.name;
     Subject {
         name: format!("{name} ({} bytes)", bytes.len()),
+        goal: Some(goal),
         unit: "checks",
-        units: 1,
-        act: Box::new(move |kernel, times| {
+        units: vec![1],
+        kernels: KERNELS.iter().filter(own).copied().collect(),
+        act: Box::new(move |kernel, part| {
             let start = Instant::now();
-            for _ in 0..times {
+            for _ in 0..part.count {
                 assert_eq!(kernel.table_check(std::hint::black_box(&bytes)), 0);
             }
             start.elapsed()
@@ -54,23 +77,41 @@ fn checks(name: &str, bytes: Vec<u8>) -> Subject<'static> {
     }
 }
 
-/// Whole runs of a workload. The table and the answers are reset before each run,
-/// outside the timed part.
-pub fn runs(workload: &Workload) -> Subject<'_> {
+/// Whole runs of all lists of a workload, one after another.
+pub fn rotating(workload: &Workload) -> Subject<'_> {
+    let how = format!("{} in rotation", counted(workload.lists.len(), "list"));
     Subject {
-        name: format!("{}, entry included", workload.name),
+        goal: Some(workload.goal),
+        ..runs(workload, &workload.lists, &how)
+    }
+}
+
+/// Whole runs of its first list, again and again.
+fn repeated(workload: &Workload) -> Subject<'_> {
+    runs(workload, &workload.lists[..1], "one list repeated")
+}
+
+/// Whole runs of lists. The table and the answers are reset before each run, outside the
+/// timed part.
+fn runs<'a>(workload: &'a Workload, lists: &'a [Vec<u32>], how: &str) -> Subject<'a> {
+    Subject {
+        name: format!("{}, {how}", workload.name),
+        goal: None,
         unit: "calls",
-        units: reference::cut(&workload.list).len(),
-        act: Box::new(move |kernel, times| {
+        units: lists
+            .iter()
+            .map(|list| reference::cut(list).len())
+            .collect(),
+        kernels: KERNELS.to_vec(),
+        act: Box::new(move |kernel, part| {
             let mut table = workload.table.clone();
-            let mut answers = vec![0; 3 * workload.list.len()];
+            let mut answers = vec![0; 3 * lists[0].len()];
             let mut holders = vec![0; domains(&workload.table)];
             let mut timed = Duration::ZERO;
-            for _ in 0..times {
+            for list in part.of(lists) {
                 table.copy_from_slice(&workload.table);
                 answers.fill(0);
                 let start = Instant::now();
-                let list = &workload.list;
                 let outcome = kernel.run(&mut table, list, &mut answers, &mut holders);
                 timed += start.elapsed();
                 assert_eq!(outcome.code, 0);
@@ -81,18 +122,20 @@ pub fn runs(workload: &Workload) -> Subject<'_> {
 }
 
 /// The entry alone: runs of an empty list on the workload's table. Nothing is
-/// written, so nothing is reset.
+/// altered, so nothing is reset.
 fn entries(workload: &Workload) -> Subject<'_> {
     Subject {
         name: format!("its entry alone ({} table words)", workload.table.len()),
+        goal: None,
         unit: "entries",
-        units: 1,
-        act: Box::new(move |kernel, times| {
+        units: vec![1],
+        kernels: KERNELS.to_vec(),
+        act: Box::new(move |kernel, part| {
             let mut table = workload.table.clone();
             let mut answers = [0; 3];
             let mut holders = vec![0; domains(&workload.table)];
             let start = Instant::now();
-            for _ in 0..times {
+            for _ in 0..part.count {
                 let outcome = kernel.run(&mut table, &[], &mut answers, &mut holders);
                 assert_eq!(outcome.code, 0);
             }
@@ -101,70 +144,184 @@ fn entries(workload: &Workload) -> Subject<'_> {
     }
 }
 
-/// How often a turn repeats the subject, so that it lasts about as long as it
-/// should with the slowest kernel.
-fn times_for(subject: &Subject) -> usize {
-    let one = |kernel: &Kernel| {
-        (subject.act)(kernel, 20);
-        (subject.act)(kernel, 20)
-    };
-    let slowest = KERNELS.iter().map(one).max().unwrap_or(TURN);
-    let each = slowest.as_nanos().max(20) / 20;
-    (TURN.as_nanos() / each).max(1) as usize
-}
-
-/// Seconds for one unit, for each kernel in each round.
-fn measured(subject: &Subject, rounds: usize) -> Vec<Vec<f64>> {
-    let times = times_for(subject);
-    let mut seconds = vec![Vec::with_capacity(rounds); KERNELS.len()];
-    for round in 0..rounds {
-        for turn in 0..KERNELS.len() {
-            // Who begins goes round, so that nobody always follows the same one.
-            let which = (turn + round) % KERNELS.len();
-            let timed = (subject.act)(&KERNELS[which], times).as_secs_f64();
-            seconds[which].push(timed / (times * subject.units) as f64);
+/// How many things a turn has, so that it lasts about as long as it should with the
+/// slowest kernel. The least of a few turns counts, since any may be interrupted.
+fn count_for(subject: &Subject) -> usize {
+    let mut count = 1;
+    loop {
+        let part = Part { from: 0, count };
+        let least = |kernel: &Kernel| (0..5).map(|_| (subject.act)(kernel, part)).min();
+        let slowest = subject.kernels.iter().filter_map(least).max();
+        let slowest = slowest.unwrap_or(TURN);
+        if 4 * slowest >= TURN {
+            let wanted = count as u128 * TURN.as_nanos() / slowest.as_nanos();
+            return wanted.max(1) as usize;
         }
+        count *= 4;
     }
-    seconds
 }
 
-pub fn median(figures: impl Iterator<Item = f64>) -> f64 {
-    let mut figures: Vec<f64> = figures.collect();
+/// Seconds for one unit of a subject, in each round, by each kernel.
+pub struct Measured(Vec<(Kernel, Vec<f64>)>);
+
+/// A figure in the middle of the rounds, and those that a tenth of the rounds stay below
+/// and exceed.
+#[derive(Debug, Clone, Copy, PartialEq)]
+pub struct Spread {
+    pub median: f64,
+    pub low: f64,
+    pub high: f64,
+}
+
+impl Measured {
+    /// All kernels take turns in each of so many rounds, on the same things. The next
+    /// round goes on with the things behind these.
+    pub fn of(subject: &Subject, rounds: usize) -> Measured {
+        let kernels = &subject.kernels;
+        let count = count_for(subject);
+        let mut seconds = vec![Vec::with_capacity(rounds); kernels.len()];
+        for round in 0..rounds {
+            let from = round * count % subject.units.len();
+            let part = Part { from, count };
+            let units: usize = part.of(&subject.units).sum();
+            for turn in 0..kernels.len() {
+                // Who begins goes round, so that nobody always follows the same one.
+                let which = (turn + round) % kernels.len();
+                let timed = (subject.act)(&kernels[which], part).as_secs_f64();
+                seconds[which].push(timed / units as f64);
+            }
+        }
+        Measured(kernels.iter().copied().zip(seconds).collect())
+    }
+
+    fn rounds(&self, name: &str) -> Option<&[f64]> {
+        let own = self.0.iter().find(|(kernel, _)| kernel.name == name);
+        own.map(|(_, seconds)| &seconds[..])
+    }
+
+    /// The seconds that a kernel takes, where it was measured.
+    pub fn seconds(&self, name: &str) -> Option<Spread> {
+        Some(spread(self.rounds(name)?.to_vec()))
+    }
+
+    /// The time of one kernel over another's, round by round.
+    pub fn ratio(&self, name: &str, other: &str) -> Option<Spread> {
+        let pairs = self.rounds(name)?.iter().zip(self.rounds(other)?);
+        Some(spread(pairs.map(|(own, other)| own / other).collect()))
+    }
+
+    /// The name of the plain C kernel that was faster.
+    pub fn faster_plain(&self) -> &'static str {
+        let plain = self.0.iter().filter(|(kernel, _)| kernel.is_plain());
+        let medians = plain.map(|(kernel, seconds)| (kernel, spread(seconds.clone()).median));
+        let faster = medians.min_by(|(_, one), (_, other)| one.total_cmp(other));
+        faster.expect("there is a plain C kernel").0.name
+    }
+}
+
+pub fn spread(mut figures: Vec<f64>) -> Spread {
     figures.sort_by(f64::total_cmp);
-    figures[figures.len() / 2]
-}
-
-/// One line of the table.
-pub fn row(subject: &Subject, rounds: usize) -> String {
-    let seconds = measured(subject, rounds);
-    let mut cells = vec![subject.name.clone()];
-    for figures in &seconds {
-        cells.push(rate(median(figures.iter().copied()), subject.unit));
+    let last = figures.len() - 1;
+    Spread {
+        median: figures[figures.len() / 2],
+        low: figures[last / 10],
+        high: figures[last - last / 10],
     }
-    for other in &seconds[1..] {
-        let ratios = seconds[0]
-            .iter()
-            .zip(other)
-            .map(|(proved, other)| proved / other);
-        cells.push(format!("{:.2}", median(ratios)));
-    }
-    format!("| {} |", cells.join(" | "))
-}
-
-/// A rate with its unit, and the time for one.
-fn rate(seconds: f64, unit: &str) -> String {
-    let nanoseconds = seconds * 1e9;
-    let millions = 1e-6 / seconds;
-    format!("{millions:.2} M {unit}/s ({nanoseconds:.1} ns)")
 }
 
 #[cfg(test)]
 mod tests {
     use super::*;
+    use std::cell::{Cell, RefCell};
+
+    use crate::kernels::boundary::{PLAIN_GCC, PROVED};
 
     #[test]
-    fn the_median_is_the_one_in_the_middle() {
-        assert_eq!(median([5.0, 1.0, 3.0].into_iter()), 3.0);
-        assert_eq!(median([2.0].into_iter()), 2.0);
+    fn the_median_is_the_one_in_the_middle_and_a_tenth_is_left_out_on_either_side() {
+        let one = spread(vec![2.0]);
+        assert_eq!((one.median, one.low, one.high), (2.0, 2.0, 2.0));
+        let few = spread(vec![5.0, 1.0, 3.0]);
+        assert_eq!((few.median, few.low, few.high), (3.0, 1.0, 5.0));
+        let many = spread((0..=20).rev().map(f64::from).collect());
+        assert_eq!((many.median, many.low, many.high), (10.0, 2.0, 18.0));
+    }
+
+    #[test]
+    fn ratios_are_taken_round_by_round() {
+        let slow = PLAIN_GCC.with_run("plain-slow", |_, _, _, _| 0);
+        let measured = Measured(vec![
+            (PROVED, vec![3.0, 30.0, 300.0]),
+            (PLAIN_GCC, vec![1.0, 10.0, 100.0]),
+            (slow, vec![2.0, 20.0, 99.0]),
+        ]);
+        let ratio = measured.ratio("balkwizu", "plain-gcc").unwrap();
+        assert_eq!((ratio.median, ratio.low, ratio.high), (3.0, 3.0, 3.0));
+        assert_eq!(measured.faster_plain(), "plain-gcc");
+        assert_eq!(measured.ratio("balkwizu", "plain-clang"), None);
+        assert_eq!(measured.seconds("plain-slow").unwrap().median, 20.0);
+    }
+
+    #[test]
+    fn every_kernel_does_the_same_so_often_that_it_can_be_timed() {
+        let subject = Subject {
+            name: "a wait".to_string(),
+            goal: None,
+            unit: "waits",
+            units: vec![2; 7],
+            kernels: vec![PROVED, PLAIN_GCC],
+            act: Box::new(|kernel, part| {
+                let each = if kernel.is_plain() { 10 } else { 20 };
+                Duration::from_micros(each) * part.count as u32
+            }),
+        };
+        assert_eq!(count_for(&subject), 15);
+        let measured = Measured::of(&subject, 3);
+        assert!((measured.seconds("balkwizu").unwrap().median - 10e-6).abs() < 1e-9);
+        assert!((measured.ratio("balkwizu", "plain-gcc").unwrap().high - 2.0).abs() < 1e-9);
+    }
+
+    #[test]
+    fn a_turn_that_is_interrupted_makes_the_others_no_shorter() {
+        let turns = Cell::new(0);
+        let subject = Subject {
+            name: "an interrupted turn".to_string(),
+            goal: None,
+            unit: "units",
+            units: vec![1],
+            kernels: vec![PROVED],
+            act: Box::new(|_, part| {
+                turns.set(turns.get() + 1);
+                let interrupted = Duration::from_millis(if turns.get() % 3 == 0 { 4 } else { 0 });
+                interrupted + Duration::from_nanos(100) * part.count as u32
+            }),
+        };
+        assert_eq!(count_for(&subject), 3000);
+    }
+
+    #[test]
+    fn every_kernel_goes_through_the_same_things_one_after_another() {
+        let gone_through = RefCell::new(Vec::new());
+        let all = [10, 20, 30, 40, 50];
+        let subject = Subject {
+            name: "things".to_string(),
+            goal: None,
+            unit: "units",
+            units: all.to_vec(),
+            kernels: vec![PROVED, PLAIN_GCC],
+            act: Box::new(|kernel, part| {
+                let things = part.of(&all).copied().collect::<Vec<_>>();
+                gone_through.borrow_mut().push((kernel.name, things));
+                Duration::from_micros(100) * part.count as u32
+            }),
+        };
+        Measured::of(&subject, 2);
+        let gone_through = gone_through.borrow();
+        let [.., one, two, three, four] = &gone_through[..] else {
+            panic!("{gone_through:?}");
+        };
+        assert_eq!(*one, ("balkwizu", vec![10, 20, 30]));
+        assert_eq!(*two, ("plain-gcc", vec![10, 20, 30]));
+        assert_eq!(*three, ("plain-gcc", vec![40, 50, 10]));
+        assert_eq!(*four, ("balkwizu", vec![40, 50, 10]));
     }
 }

@@ -14,8 +14,8 @@ use reference::table::{domains, endpoints};
 use reference::turn_words::length;
 use reference::words::{to_bytes, word};
 
-use crate::cases::workloads::table_of_all_rights;
-use crate::judging::timing::{median, TURN};
+use crate::cases::workloads::open_table;
+use crate::judging::timing::{spread, TURN};
 use crate::judging::turning::{difference, separate_event};
 use crate::kernels::boundary::PROVED;
 use crate::kernels::layer::{event_here, Event, Lent, PROVED_LAYER};
@@ -43,7 +43,7 @@ pub struct Size {
 pub fn sizes() -> Vec<Size> {
     let each = DOMAINS.iter().flat_map(|&n| ENDPOINTS.map(|m| (n, m)));
     each.map(|(n, m)| Size {
-        table: table_of_all_rights(n, m),
+        table: open_table(n, m).0,
     })
     .collect()
 }
@@ -220,12 +220,15 @@ pub fn row(size: &Size, rounds: usize) -> String {
     }
     let figures = measured(&mut acts, rounds);
     let nanoseconds = |act: usize| match figures.get(act) {
-        Some(figures) => format!("{:.1}", 1e9 * median(figures.iter().copied())),
+        Some(figures) => format!("{:.1}", 1e9 * spread(figures.to_vec()).median),
         None => "—".to_string(),
     };
     let over = |act: usize| {
         let ratios = figures[CHECK].iter().zip(&figures[act]);
-        format!("{:.2}", median(ratios.map(|(check, turn)| check / turn)))
+        format!(
+            "{:.2}",
+            spread(ratios.map(|(check, turn)| check / turn).collect()).median
+        )
     };
     let cells = [
         domains(&size.table).to_string(),

@@ -65,6 +65,12 @@ impl Kernel {
         }
     }
 
+    /// Whether it is one of the plain C kernels, which the proved ones are measured
+    /// against.
+    pub fn is_plain(&self) -> bool {
+        self.name.starts_with("plain-")
+    }
+
     /// The kernel with another check, for tests of the bench itself.
     #[cfg(test)]
     pub const fn with_check(self, name: &'static str, table_check: TableCheck) -> Kernel {
@@ -132,6 +138,15 @@ pub const PROVED: Kernel = kernel!(
     env!("ARCHIVE_TITLE"),
     balkwizu_table_check,
     balkwizu_run
+);
+
+/// The same with the run that works in a layout of its own. The check is that of the
+/// other.
+pub const WORKING: Kernel = kernel!(
+    "balkwizu-working",
+    concat!(env!("ARCHIVE_TITLE"), ", working layout"),
+    balkwizu_table_check,
+    balkwizu_run_working
 );
 
 /// The plain C kernel as gcc -O3 makes it.
@@ -326,9 +341,10 @@ pub const PROVED_QUEUE: Option<Queue> = Some(Queue {
     },
 });
 
-/// Every kernel of this program, the proved one first.
+/// Every kernel of this program, the proved ones first.
 pub const KERNELS: &[Kernel] = &[
     PROVED,
+    WORKING,
     PLAIN_GCC,
     #[cfg(clang)]
     PLAIN_CLANG,
@@ -384,6 +400,9 @@ mod tests {
     fn a_kernel_is_found_by_its_name() {
         assert_eq!(kernel("plain-gcc").unwrap().title, "plain C, gcc -O3");
         let wrong = kernel("fast").err().unwrap();
-        assert!(wrong.contains("balkwizu, plain-gcc"), "{wrong}");
+        assert!(
+            wrong.contains("balkwizu, balkwizu-working, plain-gcc"),
+            "{wrong}"
+        );
     }
 }

@@ -1,5 +1,5 @@
 //! A line to look at: in words with a small diagram, and as a picture with the shapes
-//! that it is drawn with.
+//! that it is drawn with. And measured speeds as tables.
 
 pub mod diagram;
 mod groups;
@@ -7,4 +7,5 @@ pub mod picture;
 pub mod potential;
 pub mod reach;
 pub mod sheet;
+pub mod speeds;
 pub mod svg;

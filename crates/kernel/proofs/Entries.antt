@@ -2,19 +2,28 @@
 use mathlib.Core.Path.{_≡_, refl, sym, ap, _∙_}
 use mathlib.Core.Bool.{Bool, true, false, not}
 use mathlib.Core.List.{List}
-use Prim.Native.Nat.{ℕ}
+use Prim.Native.Nat.{ℕ, _*_, _<_, _≤_}
+use native.Mathlib.Decide.{decLt, ℕ-discrete}
+use native.Mathlib.Omega.{arith}
 use lib.Dec.{leb, ltb}
 use lib.ListN.{length}
 use borrow.Author.Tests.{lt-ltb, le-ltb, leb-true, leb-false, eq-eqb, ne-eqb}
 use Rattle.machine.specs.Check.{tableCode, Accepted}
-use Rattle.machine.specs.Call.{Call}
-use Rattle.machine.specs.Entry.{holdersCode}
+use Rattle.machine.specs.Table.{domains}
+use Rattle.machine.specs.Call.{Call, cut}
+use Rattle.machine.specs.Entry.{longestList, holdersCode, entryCode, Runs}
+use Rattle.machine.specs.Promise.{RunPromise}
+use Rattle.machine.proofs.Promise.{runs-accepted, runs-short, code-space, code-holders, holders-unfit, promise-refused, promise-ran}
 use Rattle.entry.specs.Entry.{entryRefusalCode}
 use Rattle.entry.specs.declared.EntryRefusal.{EntryRefusal}
 use Rattle.entry.proofs.Refusals.{entry-refusal-code}
 use Rattle.answers.specs.Answer.{answerWords}
 use Rattle.answers.specs.declared.Answer.{Answer}
 use Rattle.kernel.specs.Step.{Served, stepEntryCode, StepPromise}
+use Rattle.kernel.specs.Run.{AllRun}
+use Rattle.kernel.specs.Entered.{enteredCode}
+use Rattle.kernel.specs.declared.Entered.{Entered}
+use Rattle.kernel.specs.declared.Entered.the-variants as entered
 use Rattle.kernel.specs.declared.Stepped.the-variants.{Refused, Answered}
 
 -- the test of the code and that of the definition
@@ -56,3 +65,46 @@ step-served t c holders a t′ kept e served =
       table = rw fine (served .table);
       sameHolders = rw fine (served .holders);
     }
+
+-- ---- a run, by what it comes to at its entry
+module _ (t ws : List ℕ) (size lent : ℕ) (x : Entered) (told : enteredCode x ≡ entryCode t ws size lent) (is : x ≡ entered.Runs) where
+  runs : Runs t ws size lent
+  runs = sym (sym (ap enteredCode is) ∙ told)
+
+  -- what the calls of a list need
+  pub may-run : Accepted t × (length ws ≤ longestList × (3 * length (cut ws) ≤ size × (lent ≡ domains t)))
+  may-run = (a, (short, (enough (decLt size (3 * length (cut ws))), fit (ℕ-discrete lent (domains t)))))
+    where
+      a : Accepted t
+      a = runs-accepted t ws size lent runs
+
+      short : length ws ≤ longestList
+      short = runs-short t ws size lent runs
+
+      enough : Dec (size < 3 * length (cut ws)) → 3 * length (cut ws) ≤ size
+      enough (yes few) = absurd (omega (arith, runs, code-space t ws size lent short a few))
+      enough (no n) = omega arith
+
+      fit : Dec (lent ≡ domains t) → lent ≡ domains t
+      fit (yes e) = e
+      fit (no n) =
+          absurd
+          (omega (arith, runs, code-holders t ws size lent short a (enough (decLt size (3 * length (cut ws)))) ∙ holders-unfit t lent n))
+
+-- Whoever stops where the entry refuses keeps the run's promise,
+pub promise-entered : (t ws space holders : List ℕ) (x : Entered) (r : EntryRefusal)
+    → enteredCode x ≡ entryCode t ws (length space) (length holders)
+    → x ≡ entered.Refused r
+    → RunPromise t ws space holders (entryRefusalCode r) 0 space t holders
+promise-entered t ws space holders x r told is =
+    promise-refused t ws space holders (entryRefusalCode r) (sym (ap enteredCode is) ∙ told) (entry-refusal-code r)
+
+-- and so does whoever runs the calls where it doesn't.
+pub promise-all-run : (t ws space holders : List ℕ) (x : Entered)
+    → enteredCode x ≡ entryCode t ws (length space) (length holders)
+    → x ≡ entered.Runs
+    → (k : ℕ) (answers end kept : List ℕ)
+    → AllRun t ws space k answers end kept
+    → RunPromise t ws space holders 0 k answers end kept
+promise-all-run t ws space holders x told is k answers end kept all =
+    promise-ran t ws space holders k answers end kept (runs t ws (length space) (length holders) x told is) (all .count) (all .answers) (all .table) (all .holders)

@@ -1,3 +1,4 @@
 -- What the kernel's contracts cite.
 pub mod Step
 pub mod Run
+pub mod Entered

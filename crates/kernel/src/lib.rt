@@ -16,10 +16,12 @@ use space::one_a_domain;
 use table::Checked;
 ghost use mathlib.Core.Path.{_≡_};
 ghost use Rattle.machine.specs.Check.{tableCode};
+ghost use Rattle.machine.specs.Entry.{entryCode};
 ghost use Rattle.machine.specs.Promise.{RunPromise};
 ghost use Rattle.table.specs.Checked.{checkedCode};
 ghost use Rattle.cutting.specs.Cutting.{callOf};
 ghost use Rattle.kernel.specs.Step.{StepPromise};
+ghost use Rattle.kernel.specs.Entered.{enteredCode};
 ghost use Rattle.entry.specs.Entry.{ranCode, ranCalls};
 
 // What one call by itself comes to: it is refused at the entry, or answered.
@@ -51,22 +53,39 @@ pub fn step(table: &mut [u32], first: u32, second: Second, holders: &mut [u32]) 
     Stepped::Answered(words)
 }
 
+// What a run comes to at its entry: it is refused, or its calls may run.
+pub enum Entered {
+    Refused(EntryRefusal),
+    Runs,
+}
+
+// The entry of a run, place by place, with so many words lent for the answers and for the holders.
+pub fn enter(table: &[u32], list: &[u32], space: usize, lent: usize) -> Entered
+    ensures { λ r. ⌜ enteredCode r ≡ entryCode (now (table .entry)) (now (list .entry)) space lent ⌝ }
+{
+    if 4096 < list.len() {
+        return Entered::Refused(EntryRefusal::ListTooLong);
+    }
+    let checked = check(table);
+    if let Checked::Refused(refusal) = checked {
+        return Entered::Refused(EntryRefusal::BadTable(refusal));
+    }
+    if !has_space(list, space) {
+        return Entered::Refused(EntryRefusal::SpaceTooSmall);
+    }
+    if !one_a_domain(table, lent) {
+        return Entered::Refused(EntryRefusal::BadHolders);
+    }
+    Entered::Runs
+}
+
 // A list of calls on any table, with any answer space and any words for the holders.
 pub fn run(table: &mut [u32], list: &[u32], answers: &mut [u32], holders: &mut [u32]) -> Ran
     ensures { λ r. ⌜ RunPromise (now (table .entry)) (now (list .entry)) (now (answers .entry)) (now (holders .entry)) (ranCode r) (ranCalls r) (now (answers .exit)) (now (table .exit)) (now (holders .exit)) ⌝ }
 {
-    if 4096 < list.len() {
-        return Ran::Refused(EntryRefusal::ListTooLong);
-    }
-    let checked = check(table);
-    if let Checked::Refused(refusal) = checked {
-        return Ran::Refused(EntryRefusal::BadTable(refusal));
-    }
-    if !has_space(list, answers.len()) {
-        return Ran::Refused(EntryRefusal::SpaceTooSmall);
-    }
-    if !one_a_domain(table, holders.len()) {
-        return Ran::Refused(EntryRefusal::BadHolders);
+    let entered = enter(table, list, answers.len(), holders.len());
+    if let Entered::Refused(refusal) = entered {
+        return Ran::Refused(refusal);
     }
     let calls = run_calls(table, list, answers, holders);
     Ran::Done(calls)

@@ -20,7 +20,7 @@ use Rattle.effects.specs.Effect.{effectBy}
 use Rattle.holders.specs.Noted.{notedBy}
 use Rattle.rows.specs.Rows.{heldIn}
 use Rattle.working_calls.specs.Served.{Served}
-use Rattle.working_state.specs.State.{readingFrom, firstFrom, secondFrom, answerFrom, rowsAfter, ringsAfter}
+use Rattle.working_state.specs.State.{Rights, rightsOf, noRights, nobody, readingFrom, firstFrom, secondFrom, answerFrom, rowsAfter, ringsAfter}
 
 -- the row of a call's kind
 abbrev Row : (Decision → Type 0) → Call → Type 0
@@ -73,56 +73,56 @@ module _ (P : Decision → Type 0) (refuses : (k : ℕ) → P (machine.refused k
       at-grant n u g h s (place-elim P _ 22 (refuses 22) (λ _. place-elim P _ 23 (refuses 23) (λ _. row)))
 
 -- ---- the state as a whole
-module _ (n m w : ℕ) (rows : List (List ℕ)) (rings names owned holders : List ℕ) where
+module _ (n m w : ℕ) (rows : Rights) (rings : List ℕ) (named : ℕ → Option ℕ) (owned holders : List ℕ) where
   reading : Reading
-  reading = readingFrom m rows rings names
+  reading = readingFrom (rows .rows) rings named
 
   -- a call that alters nothing, answered from the rows rows₁, the rings rings₁ and the owned endpoints owned₁
-  record Quiet (rows₁ : List (List ℕ)) (rings₁ owned₁ : List ℕ) (x : Decision) : Type 0 where
+  record Quiet (rows₁ : Rights) (rings₁ owned₁ : List ℕ) (x : Decision) : Type 0 where
     pub same : answerFrom w rows₁ rings₁ owned₁ x ≡ answerFrom w rows rings owned x
-    pub rowsStay : rows ≡ rowsAfter rows (effectBy (heldIn rows) x)
-    pub ringsStay : rings ≡ ringsAfter rings (effectBy (heldIn rows) x)
-    pub holdersStay : holders ≡ notedBy holders (effectBy (heldIn rows) x)
+    pub rowsStay : rows ≡ rowsAfter rows (effectBy (heldIn (rows .rows)) x)
+    pub ringsStay : rings ≡ ringsAfter rings (effectBy (heldIn (rows .rows)) x)
+    pub holdersStay : holders ≡ notedBy holders (effectBy (heldIn (rows .rows)) x)
 
-  quiet-refused : (rows₁ : List (List ℕ)) (rings₁ owned₁ : List ℕ) (k : ℕ) → Quiet rows₁ rings₁ owned₁ (machine.refused k)
+  quiet-refused : (rows₁ : Rights) (rings₁ owned₁ : List ℕ) (k : ℕ) → Quiet rows₁ rings₁ owned₁ (machine.refused k)
   unfolding answerFrom firstFrom secondFrom code rowsAfter ringsAfter notedBy
   quiet-refused rows₁ rings₁ owned₁ k = record { same = refl; rowsStay = refl; ringsStay = refl; holdersStay = refl }
 
-  quiet-served : (rows₁ : List (List ℕ)) (rings₁ owned₁ words : List ℕ) (call : Call)
+  quiet-served : (rows₁ : Rights) (rings₁ owned₁ words : List ℕ) (call : Call)
       → Row (Quiet rows₁ rings₁ owned₁) call
       → words ≡ answerFrom w rows₁ rings₁ owned₁ (decidedBy n m reading call)
-      → Served n m rows rings names owned holders w call words rows rings holders
+      → Served n m rows rings named owned holders w call words rows rings holders
   unfolding reading
   quiet-served rows₁ rings₁ owned₁ words call row told =
       let q = decided-elim (Quiet rows₁ rings₁ owned₁) (quiet-refused rows₁ rings₁ owned₁) n m reading call row in
       record { answer = told ∙ q .same; rowsLeft = q .rowsStay; ringsLeft = q .ringsStay; noted = q .holdersStay }
 
   module _ (words : List ℕ) (u : ℕ) where
-    pub served-refused : (k : _) → words ≡ answerFrom w [] [] [] (decidedBy n 0 (readingFrom 0 [] [] []) (Refused u k)) → Served n m rows rings names owned holders w (Refused u k) words rows rings holders
+    pub served-refused : (k : _) → words ≡ answerFrom w noRights [] [] (decidedBy n 0 (readingFrom [] [] nobody) (Refused u k)) → Served n m rows rings named owned holders w (Refused u k) words rows rings holders
     unfolding callNumbers accessBy reading
-    served-refused k told = quiet-served [] [] [] words (Refused u k) tt told
+    served-refused k told = quiet-served noRights [] [] words (Refused u k) tt told
 
-    pub served-look-up : (x : ℕ) → words ≡ answerFrom w [] [] [] (decidedBy n m (readingFrom m [] [] names) (LookUp u x)) → Served n m rows rings names owned holders w (LookUp u x) words rows rings holders
+    pub served-look-up : (x : ℕ) → words ≡ answerFrom w noRights [] [] (decidedBy n m (readingFrom [] [] named) (LookUp u x)) → Served n m rows rings named owned holders w (LookUp u x) words rows rings holders
     unfolding callNumbers accessBy reading answerFrom firstFrom secondFrom code rowsAfter ringsAfter notedBy
     served-look-up x told =
-        quiet-served [] [] [] words (LookUp u x) (λ e. record { same = refl; rowsStay = refl; ringsStay = refl; holdersStay = refl }) told
+        quiet-served noRights [] [] words (LookUp u x) (λ e. record { same = refl; rowsStay = refl; ringsStay = refl; holdersStay = refl }) told
 
-    pub served-endpoints : words ≡ answerFrom w [] [] owned (decidedBy n 0 (readingFrom 0 [] [] []) (MyEndpoints u)) → Served n m rows rings names owned holders w (MyEndpoints u) words rows rings holders
+    pub served-endpoints : words ≡ answerFrom w noRights [] owned (decidedBy n 0 (readingFrom [] [] nobody) (MyEndpoints u)) → Served n m rows rings named owned holders w (MyEndpoints u) words rows rings holders
     unfolding callNumbers accessBy reading answerFrom firstFrom secondFrom code rowsAfter ringsAfter notedBy
     served-endpoints told =
-        quiet-served [] [] owned words (MyEndpoints u) (record { same = refl; rowsStay = refl; ringsStay = refl; holdersStay = refl }) told
+        quiet-served noRights [] owned words (MyEndpoints u) (record { same = refl; rowsStay = refl; ringsStay = refl; holdersStay = refl }) told
 
-    pub served-rights : words ≡ answerFrom w rows [] [] (decidedBy n 0 (readingFrom 0 [] [] []) (MyRights u)) → Served n m rows rings names owned holders w (MyRights u) words rows rings holders
+    pub served-rights : words ≡ answerFrom w (rightsOf [] (rows .packed)) [] [] (decidedBy n 0 (readingFrom [] [] nobody) (MyRights u)) → Served n m rows rings named owned holders w (MyRights u) words rows rings holders
     unfolding callNumbers accessBy reading answerFrom firstFrom secondFrom code rowsAfter ringsAfter notedBy
     served-rights told =
-        quiet-served rows [] [] words (MyRights u) (record { same = refl; rowsStay = refl; ringsStay = refl; holdersStay = refl }) told
+        quiet-served (rightsOf [] (rows .packed)) [] [] words (MyRights u) (record { same = refl; rowsStay = refl; ringsStay = refl; holdersStay = refl }) told
 
   -- a call on a queue
   record OnQueue (x : Decision) : Type 0 where
-    pub same : answerFrom w [] rings [] x ≡ answerFrom w rows rings owned x
-    pub rowsStay : rows ≡ rowsAfter rows (effectBy (heldIn rows) x)
-    pub ringsSame : ringsAfter rings (effectBy (heldIn []) x) ≡ ringsAfter rings (effectBy (heldIn rows) x)
-    pub holdersStay : holders ≡ notedBy holders (effectBy (heldIn rows) x)
+    pub same : answerFrom w noRights rings [] x ≡ answerFrom w rows rings owned x
+    pub rowsStay : rows ≡ rowsAfter rows (effectBy (heldIn (rows .rows)) x)
+    pub ringsSame : ringsAfter rings (effectBy (heldIn []) x) ≡ ringsAfter rings (effectBy (heldIn (rows .rows)) x)
+    pub holdersStay : holders ≡ notedBy holders (effectBy (heldIn (rows .rows)) x)
 
   queue-refused : (k : ℕ) → OnQueue (machine.refused k)
   unfolding answerFrom firstFrom secondFrom code rowsAfter ringsAfter notedBy
@@ -131,19 +131,19 @@ module _ (n m w : ℕ) (rows : List (List ℕ)) (rings names owned holders : Lis
   queue-served : (words rings′ : List ℕ) (call : Call)
       → Row OnQueue call
       → QueueServed (decidedBy n m reading call) w rings words rings′
-      → Served n m rows rings names owned holders w call words rows rings′ holders
+      → Served n m rows rings named owned holders w call words rows rings′ holders
   unfolding reading
   queue-served words rings′ call row s =
       let q = decided-elim OnQueue queue-refused n m reading call row in
       record { answer = s .answer ∙ q .same; rowsLeft = q .rowsStay; ringsLeft = s .left ∙ q .ringsSame; noted = q .holdersStay }
 
   module _ (words rings′ : List ℕ) (u e : ℕ) where
-    pub served-send : (message : ℕ) → QueueServed (decidedBy n m (readingFrom m rows rings []) (Send u e message)) w rings words rings′ → Served n m rows rings names owned holders w (Send u e message) words rows rings′ holders
+    pub served-send : (message : ℕ) → QueueServed (decidedBy n m (readingFrom (rows .rows) rings nobody) (Send u e message)) w rings words rings′ → Served n m rows rings named owned holders w (Send u e message) words rows rings′ holders
     unfolding callNumbers accessBy reading answerFrom firstFrom secondFrom code rowsAfter ringsAfter notedBy
     served-send message s =
         queue-served words rings′ (Send u e message) (record { same = refl; rowsStay = refl; ringsSame = refl; holdersStay = refl }) s
 
-    pub served-receive : QueueServed (decidedBy n m (readingFrom m [] rings []) (Receive u e)) w rings words rings′ → Served n m rows rings names owned holders w (Receive u e) words rows rings′ holders
+    pub served-receive : QueueServed (decidedBy n m (readingFrom [] rings nobody) (Receive u e)) w rings words rings′ → Served n m rows rings named owned holders w (Receive u e) words rows rings′ holders
     unfolding callNumbers accessBy reading answerFrom firstFrom secondFrom code rowsAfter ringsAfter notedBy
     served-receive s =
         queue-served words rings′ (Receive u e) (record { same = refl; rowsStay = refl; ringsSame = refl; holdersStay = refl }) s
@@ -151,30 +151,30 @@ module _ (n m w : ℕ) (rows : List (List ℕ)) (rings names owned holders : Lis
   -- a call that moves rights
   record OnRights (x : Decision) : Type 0 where
     pub same : answerFrom w rows [] [] x ≡ answerFrom w rows rings owned x
-    pub ringsStay : rings ≡ ringsAfter rings (effectBy (heldIn rows) x)
+    pub ringsStay : rings ≡ ringsAfter rings (effectBy (heldIn (rows .rows)) x)
 
   rights-refused : (k : ℕ) → OnRights (machine.refused k)
   unfolding answerFrom firstFrom secondFrom code ringsAfter
   rights-refused k = record { same = refl; ringsStay = refl }
 
-  rights-served : (words : List ℕ) (rows′ : List (List ℕ)) (holders′ : List ℕ) (call : Call)
+  rights-served : (words : List ℕ) (rows′ : Rights) (holders′ : List ℕ) (call : Call)
       → Row OnRights call
       → RightsServed (decidedBy n m reading call) w rows holders words rows′ holders′
-      → Served n m rows rings names owned holders w call words rows′ rings holders′
+      → Served n m rows rings named owned holders w call words rows′ rings holders′
   unfolding reading
   rights-served words rows′ holders′ call row s =
       let q = decided-elim OnRights rights-refused n m reading call row in
       record { answer = s .answer ∙ q .same; rowsLeft = s .left; ringsLeft = q .ringsStay; noted = s .noted }
 
-  module _ (words : List ℕ) (rows′ : List (List ℕ)) (holders′ : List ℕ) (u g : ℕ) where
-    pub served-grant : (h r : ℕ) → RightsServed (decidedBy n 0 (readingFrom 0 rows [] []) (Grant u g h r)) w rows holders words rows′ holders′ → Served n m rows rings names owned holders w (Grant u g h r) words rows′ rings holders′
+  module _ (words : List ℕ) (rows′ : Rights) (holders′ : List ℕ) (u g : ℕ) where
+    pub served-grant : (h r : ℕ) → RightsServed (decidedBy n 0 (readingFrom (rows .rows) [] nobody) (Grant u g h r)) w rows holders words rows′ holders′ → Served n m rows rings named owned holders w (Grant u g h r) words rows′ rings holders′
     unfolding callNumbers accessBy reading answerFrom firstFrom secondFrom code ringsAfter
     served-grant h r s = rights-served words rows′ holders′ (Grant u g h r) (record { same = refl; ringsStay = refl }) s
 
-    pub served-remove : (r : ℕ) → RightsServed (decidedBy n 0 (readingFrom 0 rows [] []) (Remove u g r)) w rows holders words rows′ holders′ → Served n m rows rings names owned holders w (Remove u g r) words rows′ rings holders′
+    pub served-remove : (r : ℕ) → RightsServed (decidedBy n 0 (readingFrom (rows .rows) [] nobody) (Remove u g r)) w rows holders words rows′ holders′ → Served n m rows rings named owned holders w (Remove u g r) words rows′ rings holders′
     unfolding callNumbers accessBy reading answerFrom firstFrom secondFrom code ringsAfter
     served-remove r s = rights-served words rows′ holders′ (Remove u g r) (record { same = refl; ringsStay = refl }) s
 
-    pub served-revoke : (h r : ℕ) → RightsServed (decidedBy n 0 (readingFrom 0 rows [] []) (Revoke u g h r)) w rows holders words rows′ holders′ → Served n m rows rings names owned holders w (Revoke u g h r) words rows′ rings holders′
+    pub served-revoke : (h r : ℕ) → RightsServed (decidedBy n 0 (readingFrom (rows .rows) [] nobody) (Revoke u g h r)) w rows holders words rows′ holders′ → Served n m rows rings named owned holders w (Revoke u g h r) words rows′ rings holders′
     unfolding callNumbers accessBy reading answerFrom firstFrom secondFrom code ringsAfter
     served-revoke h r s = rights-served words rows′ holders′ (Revoke u g h r) (record { same = refl; ringsStay = refl }) s

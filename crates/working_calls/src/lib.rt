@@ -1,63 +1,101 @@
-// One call on a working state: it is taken apart, and each kind of call is decided, answered and done by itself. Any numbers and
-// words will do.
+// One call on a working state, of one word or of two: its kind is found by the size of its first word, and each kind of call is
+// decided, answered and done by itself. Any numbers and words will do.
+mod kinds;
+
 use answers::Answer;
-use calls::Call;
-use calls::take_apart;
-use cutting::Second;
+use calls::Refusal;
 use working_queues::look_up;
-use working_queues::my_endpoints;
-use working_queues::receive;
 use working_queues::refuse;
 use working_queues::send;
-use working_rights::grant;
-use working_rights::my_rights;
-use working_rights::remove;
-use working_rights::revoke;
+ghost use mathlib.Core.List.{List};
+ghost use mathlib.Core.Option.{Option};
+ghost use Prim.Native.Nat.{ℕ};
+ghost use Rattle.machine.specs.Call.{Kind.lookUp, Kind.send};
+ghost use Rattle.cutting.specs.declared.Second.the-variants as second;
 ghost use Rattle.answers.specs.Answer.{answerWords};
-ghost use Rattle.calls.specs.Apart.{apart};
-ghost use Rattle.working_calls.specs.Served.{Served};
+ghost use Rattle.calls.specs.Apart.{ofKind, apart};
+ghost use Rattle.working_state.specs.State.{Rights, rightsOf, namedIn};
+ghost use Rattle.working_calls.specs.Served.{Served, pairKind};
 
-pub fn serve(
+// A look up, by its two words.
+fn look_up_call(
+    n: u32,
+    m: u32,
+    names: &[u32; 32],
+    hints: &[u8; 1024],
+    first: u32,
+    next: u32,
+) -> Answer
+    ensures { λ a. ⌜ ((rows : Rights) (rings owned holders : List ℕ) → Served n m rows rings (namedIn m (now (names .entry)) (now (hints .entry))) owned holders first (ofKind first (second.Word next) lookUp) (answerWords a) rows rings holders) ⌝ }
+{
+    let caller = first / 4194304 % 64;
+    if first % 4194304 != 0 {
+        return refuse(n, first, caller, Refusal::UnusedField);
+    }
+    look_up(n, m, names, hints, first, caller, next % 0x1000_0000)
+}
+
+// A send, by its two words.
+fn send_call(
+    n: u32,
+    m: u32,
+    rows: &[[u8; 16]; 16],
+    rings: &mut [u32],
+    first: u32,
+    next: u32,
+) -> Answer
+    ensures { λ a. ⌜ ((packed : List ℕ) (named : ℕ → Option ℕ) (owned holders : List ℕ) → Served n m (rightsOf (now (rows .entry)) packed) (now (rings .entry)) named owned holders first (ofKind first (second.Word next) send) (answerWords a) (rightsOf (now (rows .entry)) packed) (now (rings .exit)) holders) ⌝ }
+{
+    let caller = first / 4194304 % 64;
+    let a = first / 65536 % 64;
+    let e = first / 256 % 256;
+    let c = first % 256;
+    if a + c != 0 {
+        return refuse(n, first, caller, Refusal::UnusedField);
+    }
+    send(n, m, rows, rings, first, caller, e, next % 0x1000_0000)
+}
+
+// A call of two words: a look up, or a send.
+pub fn serve_two(
+    n: u32,
+    m: u32,
+    rows: &[[u8; 16]; 16],
+    rings: &mut [u32],
+    names: &[u32; 32],
+    hints: &[u8; 1024],
+    first: u32,
+    next: u32,
+) -> Answer
+    ensures { λ a. ⌜ ((packed owned holders : List ℕ) → Served n m (rightsOf (now (rows .entry)) packed) (now (rings .entry)) (namedIn m (now (names .entry)) (now (hints .entry))) owned holders first (ofKind first (second.Word next) (pairKind first)) (answerWords a) (rightsOf (now (rows .entry)) packed) (now (rings .exit)) holders) ⌝ }
+{
+    if first < 0x2000_0000 {
+        return look_up_call(n, m, names, hints, first, next);
+    }
+    send_call(n, m, rows, rings, first, next)
+}
+
+// A call of one word.
+pub fn serve_one(
     n: u32,
     m: u32,
     rows: &mut [[u8; 16]; 16],
+    packed: &mut [u64; 16],
     rings: &mut [u32],
-    names: &[u32; 32],
     owned: &[u32; 16],
     holders: &mut [u32],
     first: u32,
-    second: Second,
 ) -> Answer
-    ensures { λ a. ⌜ Served n m (now (rows .entry)) (now (rings .entry)) (now (names .entry)) (now (owned .entry)) (now (holders .entry)) first (apart first second) (answerWords a) (now (rows .exit)) (now (rings .exit)) (now (holders .exit)) ⌝ }
+    ensures { λ a. ⌜ ((named : ℕ → Option ℕ) → Served n m (rightsOf (now (rows .entry)) (now (packed .entry))) (now (rings .entry)) named (now (owned .entry)) (now (holders .entry)) first (apart first second.Nothing) (answerWords a) (rightsOf (now (rows .exit)) (now (packed .exit))) (now (rings .exit)) (now (holders .exit))) ⌝ }
 {
-    let call = take_apart(first, second);
-    match call {
-        Call::Refused { caller, refusal } => refuse(n, first, caller, refusal),
-        Call::LookUp { caller, name } => look_up(n, m, names, first, caller, name),
-        Call::Send {
-            caller,
-            endpoint,
-            message,
-        } => send(n, m, rows, rings, first, caller, endpoint, message),
-        Call::Receive { caller, endpoint } => receive(n, m, rings, first, caller, endpoint),
-        Call::MyEndpoints { caller } => my_endpoints(n, owned, first, caller),
-        Call::MyRights { caller } => my_rights(n, rows, first, caller),
-        Call::Grant {
-            caller,
-            target,
-            recipient,
-            rights,
-        } => grant(n, rows, holders, first, caller, target, recipient, rights),
-        Call::Remove {
-            caller,
-            target,
-            rights,
-        } => remove(n, rows, holders, first, caller, target, rights),
-        Call::Revoke {
-            caller,
-            target,
-            holder,
-            rights,
-        } => revoke(n, rows, holders, first, caller, target, holder, rights),
+    if first < 0x3000_0000 {
+        return kinds::alone(n, first);
     }
+    if first < 0x5000_0000 {
+        return kinds::on_queues(n, m, rings, owned, first);
+    }
+    if first < 0x9000_0000 {
+        return kinds::on_rights(n, rows, packed, holders, first);
+    }
+    kinds::no_kind(n, first)
 }

@@ -1,13 +1,15 @@
 // A table's endpoints taken in from it and put out to it: the queues as rings, the names side by side, and for each domain the
-// endpoints that it owns as bits. Any words will do as a table.
+// endpoints that it owns as bits; and the rows of the rights packed. Any words will do as a table.
 use layout::endpoint_at;
 use layout::endpoint_word;
+use rows::held;
 use words::KIND;
 ghost use mathlib.Core.Path.{_≡_};
 ghost use mathlib.Core.Bool.{cond};
 ghost use Prim.Native.Nat.{_%_, _^_, _<_, min};
 ghost use lib.ListN.{length};
-ghost use Rattle.working_layout.specs.Layout.{hasQueues, ringsOf, queuesOut, namesOf, ownedOf};
+ghost use Rattle.working_state.specs.State.{rowBits};
+ghost use Rattle.working_layout.specs.Layout.{hasQueues, ringsOf, queuesOut, namesOf, ownedOf, packedOf};
 
 // At most 32 endpoints, words enough for them in the table, and twelve lent for each.
 fn has_queues(n: u32, m: u32, size: usize, lent: usize) -> bool
@@ -105,4 +107,35 @@ pub fn owned_in(table: &[u32], n: u32, m: u32) -> [u32; 16]
         e += 1;
     }
     owned
+}
+
+// The rights of a holder on the eight targets from one on, four bits each. It goes from the last to the first, so each step moves
+// up what is there; what goes past 32 bits is cut off.
+fn bits(rows: &[[u8; 16]; 16], holder: u32, from: u32) -> u32
+    ensures { λ r. ⌜ r ≡ rowBits (now (rows .entry)) holder from ⌝ }
+{
+    let mut bits: u32 = 0;
+    let mut i: u32 = 8;
+    while 0 < i {
+        i -= 1;
+        let one = held(rows, holder, from % 16 + i);
+        bits = ((bits as u64 * 16 + one.bits as u64) % 0x1_0000_0000) as u32;
+    }
+    bits
+}
+
+// The rows packed.
+pub fn packed_in(rows: &[[u8; 16]; 16]) -> [u64; 16]
+    ensures { λ r. ⌜ r ≡ packedOf (now (rows .entry)) ⌝ }
+{
+    let mut packed = [0u64; 16];
+    let mut u: u32 = 0;
+    while u < 16 {
+        let at = u as usize;
+        let low = bits(rows, u, 0);
+        let high = bits(rows, u, 8);
+        packed[at] = low as u64 + high as u64 * 0x1_0000_0000;
+        u += 1;
+    }
+    packed
 }

@@ -1,14 +1,14 @@
 -- The ring of an endpoint as a part of the rings: what is read of it, and what is put back. Assumes nothing.
 use mathlib.Core.Path.{_≡_, sym, ap, _∙_}
 use mathlib.Core.List.{List, _++_}
-use Prim.Native.Nat.{ℕ, _+_, _-_, _*_, _<_}
+use Prim.Native.Nat.{ℕ, _+_, _-_, _*_, _<_, _≤_}
 use native.Mathlib.Nat.{add-sub-cancel-left}
 use native.Mathlib.Omega.{arith}
 use lib.ListN.{length, getD, take, drop, length-take, length-drop, take-append-drop}
 use Rattle.machine.specs.Word.{fieldB}
 use Rattle.effects.specs.declared.Effect.the-variants.{Send, Receive}
 use Rattle.rows.proofs.Parts.{part-at}
-use Rattle.rings.specs.Ring.{count, info, ringOwner, ringSent, ringTake, ofTwelve}
+use Rattle.rings.specs.Ring.{count, info, ringOwner, ofTwelve}
 use Rattle.rings.proofs.Words.{not-twelve}
 use Rattle.working_state.specs.State.{ringAt, withRing, ringsAfter}
 
@@ -22,39 +22,26 @@ unfolding count
 count-read rings e w is = is ∙ sym (part-at rings (12 * e) 12 1 (omega arith))
 
 module _ (rings : List ℕ) (e : ℕ) where
-  at : ℕ
-  at = 12 * e
-
   pub lent : take (12 * e + 12 - 12 * e) (drop (12 * e) rings) ≡ ringAt rings e
   lent = ap (λ (k : ℕ). take k (drop (12 * e) rings)) (add-sub-cancel-left (12 * e) 12)
 
-  back : (r : List ℕ) → take (12 * e) rings ++ (r ++ drop (12 * e + 12 - 12 * e) (drop (12 * e) rings)) ≡ withRing rings e r
+  pub twelve-lent : 12 * e + 12 ≤ length rings → length (take (12 * e + 12 - 12 * e) (drop (12 * e) rings)) ≡ 12
+  twelve-lent there = ap length lent ∙ omega (arith, length-take 12 (drop (12 * e) rings), length-drop (12 * e) rings)
+
+  pub back : (r : List ℕ) → take (12 * e) rings ++ (r ++ drop (12 * e + 12 - 12 * e) (drop (12 * e) rings)) ≡ withRing rings e r
   back r = ap (λ (k : ℕ). take (12 * e) rings ++ (r ++ drop k (drop (12 * e) rings))) (add-sub-cancel-left (12 * e) 12)
 
   -- a ring put back as it was lent changes nothing
-  same-back : withRing rings e (ringAt rings e) ≡ rings
+  pub same-back : withRing rings e (ringAt rings e) ≡ rings
   same-back = ap (λ (rest : List ℕ). take (12 * e) rings ++ rest) (take-append-drop 12 (drop (12 * e) rings)) ∙ take-append-drop (12 * e) rings
 
   -- a ring of which words are missing is none
   not-there : length rings < 12 * e + 12 → length (ringAt rings e) ≡ 12 → ⊥
   not-there past twelve = omega (arith, length-take 12 (drop (12 * e) rings), length-drop (12 * e) rings)
 
-  module _ (message : ℕ) where
-    pub sent-back : (r : List ℕ)
-        → r ≡ ofTwelve (take (12 * e + 12 - 12 * e) (drop (12 * e) rings)) (ringSent (take (12 * e + 12 - 12 * e) (drop (12 * e) rings)) message) (take (12 * e + 12 - 12 * e) (drop (12 * e) rings))
-        → take (12 * e) rings ++ (r ++ drop (12 * e + 12 - 12 * e) (drop (12 * e) rings)) ≡ ringsAfter rings (Send e message)
-    unfolding ringsAfter
-    sent-back r is = back r ∙ ap (withRing rings e) (is ∙ ap (λ (x : List ℕ). ofTwelve x (ringSent x message) x) lent)
-
-    pub not-sent : length rings < 12 * e + 12 → rings ≡ ringsAfter rings (Send e message)
-    unfolding ringsAfter
-    not-sent past = sym same-back ∙ ap (withRing rings e) (not-twelve (ringAt rings e) _ (ringAt rings e) (not-there past))
-
-  pub taken-back : (r : List ℕ)
-      → r ≡ ofTwelve (take (12 * e + 12 - 12 * e) (drop (12 * e) rings)) (ringTake (take (12 * e + 12 - 12 * e) (drop (12 * e) rings))) (take (12 * e + 12 - 12 * e) (drop (12 * e) rings))
-      → take (12 * e) rings ++ (r ++ drop (12 * e + 12 - 12 * e) (drop (12 * e) rings)) ≡ ringsAfter rings (Receive e)
+  pub not-sent : (message : ℕ) → length rings < 12 * e + 12 → rings ≡ ringsAfter rings (Send e message)
   unfolding ringsAfter
-  taken-back r is = back r ∙ ap (withRing rings e) (is ∙ ap (λ (x : List ℕ). ofTwelve x (ringTake x) x) lent)
+  not-sent message past = sym same-back ∙ ap (withRing rings e) (not-twelve (ringAt rings e) _ (ringAt rings e) (not-there past))
 
   pub not-taken : length rings < 12 * e + 12 → rings ≡ ringsAfter rings (Receive e)
   unfolding ringsAfter

@@ -5,7 +5,6 @@ use answers::given::done;
 use answers::given::refusal;
 use calls::Refusal;
 use layout::word;
-use rings::Received;
 use rows::held;
 use rules::Decision;
 use rules::access;
@@ -15,27 +14,36 @@ use rules::range::of_caller;
 use rules::range::of_endpoint;
 use rules::range::of_refused;
 ghost use mathlib.Core.Path.{_≡_};
+ghost use mathlib.Core.Bool.{_&&_};
 ghost use mathlib.Core.List.{[]};
-ghost use Prim.Native.Nat.{_%_};
-ghost use lib.Dec.{eqb};
-ghost use lib.ListN.{getD};
+ghost use Prim.Native.Nat.{_+_, _*_, _%_, _<_};
+ghost use lib.Dec.{eqb, ltb};
+ghost use lib.ListN.{length, getD};
 ghost use Rattle.machine.specs.Below.{firstBelow};
 ghost use Rattle.answers.specs.Answer.{answerWords};
 ghost use Rattle.calls.specs.declared.Call.the-variants as calls;
-ghost use Rattle.rules.specs.Access.{foundOf, decidedBy};
-ghost use Rattle.effects.specs.declared.Effect.the-variants as effects;
-ghost use Rattle.working_state.specs.State.{readingFrom, answerFrom, ringsAfter};
-ghost use Rattle.working_queues.specs.Served.{numberIn, Taken, QueueServed};
+ghost use Rattle.rules.specs.Access.{foundOf, sendAccess, receiveAccess, decidedBy};
+ghost use Rattle.rows.specs.Rows.{heldIn};
+ghost use Rattle.rings.specs.Ring.{count, ringOwner};
+ghost use Rattle.working_state.specs.State.{noRights, hintPlace, namedIn, nobody, readingFrom, answerFrom, ringAt};
+ghost use Rattle.working_queues.specs.Served.{numberIn, RingServed, QueueServed};
 
 // A call that is refused without a table: 12 may come before its own number.
 pub fn refuse(n: u32, first: u32, caller: u32, number: Refusal) -> Answer
-    ensures { λ a. ⌜ answerWords a ≡ answerFrom first [] [] [] (decidedBy n 0 (readingFrom 0 [] [] []) (calls.Refused caller number)) ⌝ }
+    ensures { λ a. ⌜ answerWords a ≡ answerFrom first noRights [] [] (decidedBy n 0 (readingFrom [] [] nobody) (calls.Refused caller number)) ⌝ }
 {
     let range = of_refused(n, caller, number);
     if let Range::Outside(refused) = range {
         return refusal(first, refused);
     }
     refusal(first, number)
+}
+
+// Where the hint for a name stands.
+pub fn hint_place(name: u32) -> usize
+    ensures { λ r. ⌜ r ≡ hintPlace name ⌝ }
+{
+    (name as u64 * 0x9E37_79B1 / 0x40_0000 % 1024) as usize
 }
 
 // The first endpoint that has the name.
@@ -53,6 +61,35 @@ fn find(names: &[u32; 32], m: u32, name: u32) -> Found
     Found::Nothing
 }
 
+// The endpoint is one of m and has the name.
+fn has_name(names: &[u32; 32], m: u32, e: u32, name: u32) -> bool
+    ensures { λ b. ⌜ b ≡ (ltb e m && eqb (getD (now (names .entry)) (e % 32) 0) name) ⌝ }
+{
+    if e < m {
+        let at = (e % 32) as usize;
+        return names[at] == name;
+    }
+    false
+}
+
+fn wide(small: u8) -> u32
+    ensures { λ r. ⌜ r ≡ small ⌝ }
+{
+    small as u32
+}
+
+// The endpoint that has the name: the one that the hint says, where it has the name, else the first that is found to have it.
+fn find_by(names: &[u32; 32], hints: &[u8; 1024], m: u32, name: u32) -> Found
+    ensures { λ r. ⌜ foundOf r ≡ namedIn m (now (names .entry)) (now (hints .entry)) name ⌝ }
+{
+    let place = hint_place(name);
+    let e = wide(hints[place]);
+    if has_name(names, m, e, name) {
+        return Found::At(e);
+    }
+    find(names, m, name)
+}
+
 // The endpoint's number, 0 where none was found.
 fn number(found: Found) -> u32
     ensures { λ r. ⌜ r ≡ numberIn (foundOf found) ⌝ }
@@ -64,14 +101,22 @@ fn number(found: Found) -> u32
 }
 
 // A name is looked up.
-pub fn look_up(n: u32, m: u32, names: &[u32; 32], first: u32, caller: u32, name: u32) -> Answer
-    ensures { λ a. ⌜ answerWords a ≡ answerFrom first [] [] [] (decidedBy n m (readingFrom m [] [] (now (names .entry))) (calls.LookUp caller name)) ⌝ }
+pub fn look_up(
+    n: u32,
+    m: u32,
+    names: &[u32; 32],
+    hints: &[u8; 1024],
+    first: u32,
+    caller: u32,
+    name: u32,
+) -> Answer
+    ensures { λ a. ⌜ answerWords a ≡ answerFrom first noRights [] [] (decidedBy n m (readingFrom [] [] (namedIn m (now (names .entry)) (now (hints .entry)))) (calls.LookUp caller name)) ⌝ }
 {
     let range = of_caller(n, caller);
     if let Range::Outside(refused) = range {
         return refusal(first, refused);
     }
-    let found = find(names, m, name);
+    let found = find_by(names, hints, m, name);
     let decision = access::look_up(found);
     if let Decision::Refused(refused) = decision {
         return refusal(first, refused);
@@ -82,7 +127,7 @@ pub fn look_up(n: u32, m: u32, names: &[u32; 32], first: u32, caller: u32, name:
 
 // A domain asks for the endpoints that it owns.
 pub fn my_endpoints(n: u32, owned: &[u32; 16], first: u32, caller: u32) -> Answer
-    ensures { λ a. ⌜ answerWords a ≡ answerFrom first [] [] (now (owned .entry)) (decidedBy n 0 (readingFrom 0 [] [] []) (calls.MyEndpoints caller)) ⌝ }
+    ensures { λ a. ⌜ answerWords a ≡ answerFrom first noRights [] (now (owned .entry)) (decidedBy n 0 (readingFrom [] [] nobody) (calls.MyEndpoints caller)) ⌝ }
 {
     let range = of_caller(n, caller);
     if let Range::Outside(refused) = range {
@@ -92,18 +137,50 @@ pub fn my_endpoints(n: u32, owned: &[u32; 16], first: u32, caller: u32) -> Answe
     done(first, owned[at], 0)
 }
 
-// The message goes into the endpoint's ring, where all of its words are there.
-fn put(rings: &mut [u32], e: u32, message: u32)
-    ensures { λ _. ⌜ now (rings .exit) ≡ ringsAfter (now (rings .entry)) (effects.Send e message) ⌝ }
+// A message is sent to the endpoint of a ring, by the ring's own words.
+fn send_on(
+    ring: &mut [u32],
+    rows: &[[u8; 16]; 16],
+    first: u32,
+    caller: u32,
+    e: u32,
+    message: u32,
+) -> Answer
+    requires { ⌜ length (now ring) ≡ 12 ⌝ }
+    ensures { λ a. ⌜ RingServed (sendAccess (heldIn (now (rows .entry)) caller (ringOwner (now (ring .entry)))) e message) e first (now (ring .entry)) (answerWords a) (now (ring .exit)) ⌝ }
 {
-    let start = 12 * e as usize;
-    let end = start + 12;
-    if end <= rings.len() {
-        rings::send(&mut rings[start..end], message);
+    let info = ring[3];
+    let held = held(rows, caller, info / 256 % 256);
+    let decision = access::send(held, e, message);
+    if let Decision::Refused(refused) = decision {
+        return refusal(first, refused);
+    }
+    rings::send(ring, message);
+    done(first, 0, 0)
+}
+
+// A message is sent where words of the endpoint's ring are missing: it goes nowhere.
+fn send_beyond(
+    rings: &[u32],
+    rows: &[[u8; 16]; 16],
+    first: u32,
+    caller: u32,
+    e: u32,
+    message: u32,
+) -> Answer
+    requires { ⌜ length (now rings) < 12 * e + 12 ⌝ }
+    ensures { λ a. ⌜ QueueServed (sendAccess (heldIn (now (rows .entry)) caller (ringOwner (ringAt (now (rings .entry)) e))) e message) first (now (rings .entry)) (answerWords a) (now (rings .entry)) ⌝ }
+{
+    let read = word(rings, 12 * e as usize + 3);
+    let held = held(rows, caller, read / 256 % 256);
+    let decision = access::send(held, e, message);
+    match decision {
+        Decision::Refused(refused) => refusal(first, refused),
+        _ => done(first, 0, 0),
     }
 }
 
-// A message is sent to an endpoint.
+// A message is sent to an endpoint. Its ring is lent once, for all that is read and done.
 pub fn send(
     n: u32,
     m: u32,
@@ -114,52 +191,62 @@ pub fn send(
     e: u32,
     message: u32,
 ) -> Answer
-    ensures { λ a. ⌜ QueueServed (decidedBy n m (readingFrom m (now (rows .entry)) (now (rings .entry)) []) (calls.Send caller e message)) first (now (rings .entry)) (answerWords a) (now (rings .exit)) ⌝ }
+    ensures { λ a. ⌜ QueueServed (decidedBy n m (readingFrom (now (rows .entry)) (now (rings .entry)) nobody) (calls.Send caller e message)) first (now (rings .entry)) (answerWords a) (now (rings .exit)) ⌝ }
 {
     let range = of_endpoint(n, m, caller, e);
     if let Range::Outside(refused) = range {
         return refusal(first, refused);
     }
-    let info = word(rings, 12 * e as usize + 3);
-    let held = held(rows, caller, info / 256 % 256);
-    let decision = access::send(held, e, message);
-    if let Decision::Refused(refused) = decision {
-        return refusal(first, refused);
-    }
-    put(rings, e, message);
-    done(first, 0, 0)
-}
-
-// The oldest message goes out of the endpoint's ring, where all of its words are there.
-fn take(rings: &mut [u32], e: u32) -> Received
-    ensures { λ r. ⌜ Taken (now (rings .entry)) e r (now (rings .exit)) ⌝ }
-{
     let start = 12 * e as usize;
     let end = start + 12;
-    if end <= rings.len() {
-        return rings::receive(&mut rings[start..end]);
+    if rings.len() < end {
+        return send_beyond(rings, rows, first, caller, e, message);
     }
-    Received {
-        message: 0,
-        lost: 0,
-    }
+    send_on(&mut rings[start..end], rows, first, caller, e, message)
 }
 
-// A message is received from an endpoint.
-pub fn receive(n: u32, m: u32, rings: &mut [u32], first: u32, caller: u32, e: u32) -> Answer
-    ensures { λ a. ⌜ QueueServed (decidedBy n m (readingFrom m [] (now (rings .entry)) []) (calls.Receive caller e)) first (now (rings .entry)) (answerWords a) (now (rings .exit)) ⌝ }
+// A message is received from the endpoint of a ring, by the ring's own words.
+fn receive_on(ring: &mut [u32], first: u32, caller: u32, e: u32) -> Answer
+    requires { ⌜ length (now ring) ≡ 12 ⌝ }
+    ensures { λ a. ⌜ RingServed (receiveAccess caller (ringOwner (now (ring .entry))) (count (now (ring .entry))) e) e first (now (ring .entry)) (answerWords a) (now (ring .exit)) ⌝ }
 {
-    let range = of_endpoint(n, m, caller, e);
-    if let Range::Outside(refused) = range {
-        return refusal(first, refused);
-    }
-    let start = 12 * e as usize;
-    let count = word(rings, start + 1);
-    let info = word(rings, start + 3);
+    let count = ring[1];
+    let info = ring[3];
     let decision = access::receive(caller, info / 256 % 256, count, e);
     if let Decision::Refused(refused) = decision {
         return refusal(first, refused);
     }
-    let taken = take(rings, e);
+    let taken = rings::receive(ring);
     done(first, taken.message, taken.lost)
+}
+
+// A message is received where words of the endpoint's ring are missing: none is shown.
+fn receive_beyond(rings: &[u32], first: u32, caller: u32, e: u32) -> Answer
+    requires { ⌜ length (now rings) < 12 * e + 12 ⌝ }
+    ensures { λ a. ⌜ QueueServed (receiveAccess caller (ringOwner (ringAt (now (rings .entry)) e)) (count (ringAt (now (rings .entry)) e)) e) first (now (rings .entry)) (answerWords a) (now (rings .entry)) ⌝ }
+{
+    let start = 12 * e as usize;
+    let count = word(rings, start + 1);
+    let read = word(rings, start + 3);
+    let decision = access::receive(caller, read / 256 % 256, count, e);
+    match decision {
+        Decision::Refused(refused) => refusal(first, refused),
+        _ => done(first, 0, 0),
+    }
+}
+
+// A message is received from an endpoint. Its ring is lent once, for all that is read and done.
+pub fn receive(n: u32, m: u32, rings: &mut [u32], first: u32, caller: u32, e: u32) -> Answer
+    ensures { λ a. ⌜ QueueServed (decidedBy n m (readingFrom [] (now (rings .entry)) nobody) (calls.Receive caller e)) first (now (rings .entry)) (answerWords a) (now (rings .exit)) ⌝ }
+{
+    let range = of_endpoint(n, m, caller, e);
+    if let Range::Outside(refused) = range {
+        return refusal(first, refused);
+    }
+    let start = 12 * e as usize;
+    let end = start + 12;
+    if rings.len() < end {
+        return receive_beyond(rings, first, caller, e);
+    }
+    receive_on(&mut rings[start..end], first, caller, e)
 }

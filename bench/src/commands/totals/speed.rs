@@ -7,9 +7,11 @@ use std::io::{self, BufWriter, Write};
 use std::path::{Path, PathBuf};
 use std::process::{Command, Stdio};
 
+use reference::calls::LIST_WORDS_MAX;
 use reference::words::to_bytes;
 
-use crate::cases::sheets::{long_inputs, LongInput};
+use crate::cases::sheets::long_inputs;
+use crate::cases::workloads::Workload;
 use crate::line::explain::counted;
 use crate::output::say;
 
@@ -28,11 +30,11 @@ const FLAGS: [&str; 6] = [
 pub fn measure(program: &str, lists: usize, rounds: usize) -> Result<bool, String> {
     let folder = Folder::make()?;
     let plain = compiled(&folder.0)?;
-    let bytes = lists * 4 * (1 + LongInput::WORDS);
+    let bytes = lists * 4 * (1 + LIST_WORDS_MAX);
     say!(
         "{} of {} words ({:.3} GB), {}, processor seconds. Plain C by gcc {}.\n",
         counted(lists, "list"),
-        LongInput::WORDS,
+        LIST_WORDS_MAX,
         bytes as f64 / 1e9,
         counted(rounds, "round"),
         FLAGS[1]
@@ -121,7 +123,7 @@ fn median(mut values: Vec<f64>) -> f64 {
 }
 
 /// Writes a table and so many lists, the input's own in rotation.
-fn written(input: &LongInput, lists: usize, file: &Path) -> Result<(), String> {
+fn written(input: &Workload, lists: usize, file: &Path) -> Result<(), String> {
     let all: Vec<Vec<u8>> = input.lists.iter().map(|list| with_length(list)).collect();
     let write = || {
         let mut out = BufWriter::new(File::create(file)?);
@@ -192,7 +194,7 @@ mod tests {
             File::open(&file).unwrap().read_to_end(&mut bytes).unwrap();
             assert_eq!(
                 bytes.len(),
-                4 * (1 + input.table.len()) + 70 * 4 * (1 + LongInput::WORDS)
+                4 * (1 + input.table.len()) + 70 * 4 * (1 + LIST_WORDS_MAX)
             );
             let (_, printed) = timed(&plain, &file, true).unwrap();
             assert_eq!(printed, reference::totals(&bytes), "{}", input.name);

@@ -7,7 +7,7 @@ use Rattle.rules.specs.Range.{callNumbers}
 use Rattle.rules.specs.Access.{accessBy, decidedBy}
 use Rattle.rules.specs.Decision.{decisionOf}
 use Rattle.rules.proofs.Guards.{outside, within}
-use Rattle.working_state.specs.State.{readingFrom}
+use Rattle.working_state.specs.State.{namedIn, readingFrom}
 use Rattle.working_state.proofs.Answered.{refused-answer}
 use Rattle.working_queues.proofs.Outcomes.{looked-up}
 use borrow.Author.Needs.{needs}
@@ -17,11 +17,11 @@ use Rattle.working_queues.proofs.look_up.Tie as tie
 -- what was found, behind the numbers, is what the call comes to
 reached : (c : tie.After-look-up)
     → let a = c .before .before .before .before .before .args in
-    decisionOf (c .look-up .result) ≡ decidedBy (a .n) (a .m) (readingFrom (a .m) [] [] (a .names .now)) (LookUp (a .caller) (a .name))
+    decisionOf (c .look-up .result) ≡ decidedBy (a .n) (a .m) (readingFrom [] [] (namedIn (a .m) (a .names .now) (a .hints .now))) (LookUp (a .caller) (a .name))
 unfolding callNumbers accessBy
 reached c =
     c .look-up .ensures
-    ∙ ap lookUpPlaces (c .before .find .ensures)
+    ∙ ap lookUpPlaces (c .before .find-by .ensures)
     ∙ within _ (c .before .before .enum-told .given .1) (c .before .before .before .before .of-caller .ensures _)
 
 of-caller-requires : tie.Need-of-caller-requires
@@ -40,8 +40,8 @@ returns c = refused-answer _ _ _ _ _ _ _ (outside _ (c .before .before .range .g
 enum-told : tie.Need-enum-told
 enum-told c = search needs
 
-find-requires : tie.Need-find-requires
-find-requires c κs = search needs
+find-by-requires : tie.Need-find-by-requires
+find-by-requires c κs = search needs
 
 look-up-requires : tie.Need-look-up-requires
 look-up-requires c κs = search needs
@@ -76,7 +76,7 @@ look-up-spec =
     refusal-requires
     returns
     enum-told
-    find-requires
+    find-by-requires
     look-up-requires
     enum-known-decision
     refusal-requires-2

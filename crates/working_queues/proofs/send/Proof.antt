@@ -1,31 +1,18 @@
--- `send` meets its contract: refused by a number, refused by what was read, or done. Assumes nothing.
-use mathlib.Core.Path.{_≡_, sym, ap, _∙_}
+-- `send` meets its contract: refused by a number, or served beyond the rings or on a ring lent as a part of them. Assumes nothing.
+use mathlib.Core.Path.{ap, _∙_}
+use mathlib.Core.List.{List}
 use Prim.Native.Nat.{ℕ}
 use Rattle.rules.specs.Range.{callNumbers}
-use mathlib.Core.List.{[]}
-use Rattle.calls.specs.declared.Call.the-variants.{Send}
-use Rattle.working_state.specs.State.{readingFrom}
-use Rattle.rules.specs.Access.{sendAccess, accessBy, decidedBy}
-use Rattle.rules.specs.Decision.{decisionOf}
+use Rattle.rules.specs.Access.{sendAccess, accessBy}
 use Rattle.rules.proofs.Guards.{outside, within}
 use Rattle.rows.specs.Rows.{heldIn}
-use Rattle.working_state.proofs.Passed.{passed}
-use Rattle.working_queues.proofs.Parts.{owner-read}
-use Rattle.working_queues.proofs.Outcomes.{queue-refused, queue-sent}
+use Rattle.rings.specs.Ring.{ringOwner}
+use Rattle.working_state.specs.State.{ringAt}
+use Rattle.working_queues.proofs.Parts.{lent, twelve-lent}
+use Rattle.working_queues.proofs.Outcomes.{queue-refused, so-decided, ring-back}
 use borrow.Author.Needs.{needs}
 use Rattle.working_queues.proofs.send.Statement.{statement}
 use Rattle.working_queues.proofs.send.Tie as tie
-
--- what was read, behind the numbers, is what the call comes to
-reached : (c : tie.After-send)
-    → let a = c .before .before .before .before .before .before .before .before .args in
-    decisionOf (c .send .result) ≡ decidedBy (a .n) (a .m) (readingFrom (a .m) (a .rows .now) (a .rings .now) []) (Send (a .caller) (a .e) (a .message))
-unfolding callNumbers accessBy
-reached c =
-    let a = c .before .before .before .before .before .before .before .before .args in
-    c .send .ensures
-    ∙ ap (λ (s : ℕ). sendAccess s (a .e) (a .message)) (c .before .held .ensures ∙ ap (heldIn (a .rows .now) (a .caller)) (owner-read (a .rings .now) (a .e) _ (c .before .before .word .ensures)))
-    ∙ within _ (c .before .before .before .before .enum-told .given .1) (c .before .before .before .before .before .before .of-endpoint .ensures _)
 
 of-endpoint-requires : tie.Need-of-endpoint-requires
 of-endpoint-requires c κs = search needs
@@ -43,50 +30,52 @@ returns c = queue-refused _ _ _ _ _ (outside _ (c .before .before .range .given 
 enum-told : tie.Need-enum-told
 enum-told c = search needs
 
-mul-word : tie.Need-mul-word
-mul-word c = search needs
+mul-start : tie.Need-mul-start
+mul-start c = search needs
 
-add-word : tie.Need-add-word
-add-word c = search needs
+add-end : tie.Need-add-end
+add-end c = search needs
 
-word-requires : tie.Need-word-requires
-word-requires c κs = search needs
-
-held-requires : tie.Need-held-requires
-held-requires c κs = search needs
-
-send-requires : tie.Need-send-requires
-send-requires c κs = search needs
-
-enum-known-decision : tie.Need-enum-known-decision
-enum-known-decision c = search needs
-
-refusal-requires-2 : tie.Need-refusal-requires-2
-refusal-requires-2 c κs = search needs
+send-beyond-requires : tie.Need-send-beyond-requires
+send-beyond-requires c κs = c .before .if1 .taken
 
 same-length : tie.Need-same-length
 same-length c = search needs
 
 returns-2 : tie.Need-returns-2
-unfolding decisionOf
+unfolding callNumbers accessBy
 returns-2 c =
-    let s = c .before .before .before .before in
-    queue-refused _ _ _ _ _ (sym (ap decisionOf (c .before .before .decision .given .1)) ∙ reached s) (c .refusal2 .ensures)
+    let told = c .before .before .before in
+    let a = told .before .before .before .before .args in
+    so-decided (sendAccess (heldIn (a .rows .now) (a .caller) (ringOwner (ringAt (a .rings .now) (a .e)))) (a .e) (a .message)) _ _ _ _ _ (within _ (told .enum-told .given .1) (told .before .before .of-endpoint .ensures _)) (c .send-beyond .ensures)
 
-put-requires : tie.Need-put-requires
-put-requires c κs = search needs
+mul-send-on : tie.Need-mul-send-on
+mul-send-on c = search needs
 
-done-requires : tie.Need-done-requires
-done-requires c κs = search needs
+sub-send-on : tie.Need-sub-send-on
+sub-send-on c = search needs
+
+part-send-on-start : tie.Need-part-send-on-start
+part-send-on-start c = search needs
+
+part-send-on-end : tie.Need-part-send-on-end
+part-send-on-end c = search needs
+
+send-on-requires : tie.Need-send-on-requires
+send-on-requires c κs = twelve-lent _ _ (c .before .if1 .left)
 
 same-length-2 : tie.Need-same-length-2
 same-length-2 c = search needs
 
 returns-3 : tie.Need-returns-3
-unfolding sendAccess
+unfolding callNumbers accessBy
 returns-3 c =
-    let s = c .before .before .before .before .before .before in
-    queue-sent _ _ _ _ _ _ _ (sym (passed (s .send .result) _ 17 _ (c .before .before .before .before .before .match2 .keys2) (s .send .ensures)) ∙ reached s) (c .done .ensures) (c .before .before .before .put .ensures)
+    let lend = c .before .before in
+    let told = lend .before .before .before in
+    let a = told .before .before .before .before .args in
+    ring-back (a .rings .now) (a .e) _ _ _ _ _
+    (ap (λ (r : List ℕ). sendAccess (heldIn (a .rows .now) (a .caller) (ringOwner r)) (a .e) (a .message)) (lent (a .rings .now) (a .e)) ∙ within _ (told .enum-told .given .1) (told .before .before .of-endpoint .ensures _))
+    (lend .send-on .ensures)
 
 pub send-spec : {M : Type 1} → statement M
 send-spec =
@@ -97,16 +86,15 @@ send-spec =
     refusal-requires
     returns
     enum-told
-    mul-word
-    add-word
-    word-requires
-    held-requires
-    send-requires
-    enum-known-decision
-    refusal-requires-2
+    mul-start
+    add-end
+    send-beyond-requires
     same-length
     returns-2
-    put-requires
-    done-requires
+    mul-send-on
+    sub-send-on
+    part-send-on-start
+    part-send-on-end
+    send-on-requires
     same-length-2
     returns-3)

@@ -8,7 +8,7 @@ use Rattle.rules.specs.Range.{callNumbers}
 use Rattle.rules.specs.Access.{grantAccess, accessBy, decidedBy}
 use Rattle.rules.specs.Decision.{decisionOf}
 use Rattle.rules.proofs.Guards.{outside, within}
-use Rattle.working_state.specs.State.{readingFrom}
+use Rattle.working_state.specs.State.{nobody, readingFrom}
 use Rattle.working_state.proofs.Passed.{passed}
 use Rattle.working_rights.proofs.Outcomes.{rights-refused, granted}
 use borrow.Author.Needs.{needs}
@@ -18,7 +18,7 @@ use Rattle.working_rights.proofs.grant.Tie as tie
 -- what was read, behind the numbers, is what the call comes to
 reached : (c : tie.After-grant)
     → let a = c .before .before .before .before .before .before .before .before .before .args in
-    decisionOf (c .grant .result) ≡ decidedBy (a .n) 0 (readingFrom 0 (a .rows .now) [] []) (Grant (a .caller) (a .target) (a .recipient) (a .given))
+    decisionOf (c .grant .result) ≡ decidedBy (a .n) 0 (readingFrom (a .rows .now) [] nobody) (Grant (a .caller) (a .target) (a .recipient) (a .given))
 unfolding callNumbers accessBy
 reached c =
     let a = c .before .before .before .before .before .before .before .before .before .args in
@@ -79,11 +79,11 @@ same-length c = search needs
 returns-3 : tie.Need-returns-3
 unfolding grantAccess
 returns-3 c =
-    let s = c .before .before .before .before .before .before .before .before .before .before in
+    let s = c .before .before .before .before .before .before .before .before .before .before .before in
     let x = s .grant .result in
-    let told = c .before .before .before .before .before .before .before .before .before .match2 .keys2 in
+    let told = c .before .before .before .before .before .before .before .before .before .before .match2 .keys2 in
     let made = c .before .before .before .alter .ensures in
-    granted _ _ _ _ _ (c .done .ensures) _ _ _ _ _ (made .0) (made .1) _ (sym (passed x _ 23 _ told (passed x _ 22 _ told (s .grant .ensures))) ∙ reached s) (c .before .before .before .before .before .before .adds .ensures ∙ ap (λ (k : ℕ). adds k (c .before .before .before .before .before .before .before .before .before .before .before .before .before .before .before .before .before .before .before .args .given)) (c .before .before .before .before .before .before .before .held3 .ensures))
+    granted _ _ _ _ _ (c .done .ensures) _ _ _ _ _ (made .0) (made .1) _ (sym (passed x _ 23 _ told (passed x _ 22 _ told (s .grant .ensures))) ∙ reached s) (c .before .before .before .before .before .before .before .adds .ensures ∙ ap (λ (k : ℕ). adds k (c .before .before .before .before .before .before .before .before .before .before .before .before .before .before .before .before .before .before .before .before .args .given)) (c .before .before .before .before .before .before .before .before .held3 .ensures))
 
 pub grant-spec : {M : Type 1} → statement M
 grant-spec =

@@ -8,7 +8,7 @@ use Rattle.rules.specs.Range.{callNumbers}
 use Rattle.rules.specs.Access.{removeAccess, accessBy, decidedBy}
 use Rattle.rules.specs.Decision.{decisionOf}
 use Rattle.rules.proofs.Guards.{outside, within}
-use Rattle.working_state.specs.State.{readingFrom}
+use Rattle.working_state.specs.State.{nobody, readingFrom}
 use Rattle.working_state.proofs.Passed.{passed}
 use Rattle.working_rights.proofs.Outcomes.{rights-refused, removed}
 use borrow.Author.Needs.{needs}
@@ -18,7 +18,7 @@ use Rattle.working_rights.proofs.remove.Tie as tie
 -- what was read, behind the numbers, is what the call comes to
 reached : (c : tie.After-remove)
     → let a = c .before .before .before .before .before .before .before .args in
-    decisionOf (c .remove .result) ≡ decidedBy (a .n) 0 (readingFrom 0 (a .rows .now) [] []) (Remove (a .caller) (a .target) (a .given))
+    decisionOf (c .remove .result) ≡ decidedBy (a .n) 0 (readingFrom (a .rows .now) [] nobody) (Remove (a .caller) (a .target) (a .given))
 unfolding callNumbers accessBy
 reached c =
     let a = c .before .before .before .before .before .before .before .args in
@@ -73,11 +73,11 @@ same-length c = search needs
 returns-3 : tie.Need-returns-3
 unfolding removeAccess
 returns-3 c =
-    let s = c .before .before .before .before .before .before .before .before in
+    let s = c .before .before .before .before .before .before .before .before .before in
     let x = s .remove .result in
-    let told = c .before .before .before .before .before .before .before .match2 .keys2 in
+    let told = c .before .before .before .before .before .before .before .before .match2 .keys2 in
     let made = c .before .before .before .alter .ensures in
-    removed _ _ _ _ _ (c .done .ensures) _ _ _ _ _ (made .0) (made .1) _ (sym (passed x _ 22 _ told (s .remove .ensures)) ∙ reached s) (c .before .before .before .before .before .before .without .ensures ∙ ap (λ (k : ℕ). without k (c .before .before .before .before .before .before .before .before .before .before .before .before .before .before .before .args .given)) (c .before .before .before .before .before .before .before .before .before .held .ensures))
+    removed _ _ _ _ _ (c .done .ensures) _ _ _ _ _ (made .0) (made .1) _ (sym (passed x _ 22 _ told (s .remove .ensures)) ∙ reached s) (c .before .before .before .before .before .before .before .without .ensures ∙ ap (λ (k : ℕ). without k (c .before .before .before .before .before .before .before .before .before .before .before .before .before .before .before .before .args .given)) (c .before .before .before .before .before .before .before .before .before .before .held .ensures))
 
 pub remove-spec : {M : Type 1} → statement M
 remove-spec =

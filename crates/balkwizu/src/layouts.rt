@@ -1,0 +1,24 @@
+// The run on a working layout, for a board that runs long lists. A module can't have the name of the crate that it calls.
+ghost use Prim.Native.Nat.{_/_, _%_};
+ghost use Rattle.machine.specs.Promise.{RunPromise};
+
+// The run of a list of calls on a table that is taken in once and put out once: the promise of balkwizu_run, word for word.
+// C: uint32_t balkwizu_run_working(uint32_t *table, size_t table_len, const uint32_t *list, size_t list_len, uint32_t *answers, size_t answers_len,
+//                                  uint32_t *holders, size_t holders_len)
+//
+// The parameters, the answer and every word left are those of balkwizu_run. The table is taken in after the entry's checks, and
+// none of its words is read or written from then until the last call has run.
+#[no_mangle]
+pub extern "C" fn balkwizu_run_working(
+    table: &mut [u32],
+    list: &[u32],
+    answers: &mut [u32],
+    holders: &mut [u32],
+) -> u32
+    ensures { λ r. ⌜ RunPromise (now (table .entry)) (now (list .entry)) (now (answers .entry)) (now (holders .entry)) (r % 65536) (r / 65536) (now (answers .exit)) (now (table .exit)) (now (holders .exit)) ⌝ }
+{
+    let ran = working::run_working(table, list, answers, holders);
+    let code = ran.code();
+    let calls = ran.calls();
+    code + 65536 * calls as u32
+}

@@ -1,0 +1,103 @@
+-- `run_on_rings` meets its contract: what is taken in stands for the table, and what is put out is the table at the end of the
+-- run. Assumes nothing.
+use mathlib.Core.Path.{_∙_}
+use Rattle.holders.proofs.Filled.{filled-accepted}
+use Rattle.working.proofs.Taken.{taken-in, put-out}
+use borrow.Author.Needs.{needs}
+use Rattle.working.proofs.run_on_rings.Statement.{statement}
+use Rattle.working.proofs.run_on_rings.Tie as tie
+
+domains-requires : tie.Need-domains-requires
+domains-requires c κs = tt
+
+endpoints-requires : tie.Need-endpoints-requires
+endpoints-requires c κs = tt
+
+take-in-requires : tie.Need-take-in-requires
+take-in-requires c κs = tt
+
+rings-in-requires : tie.Need-rings-in-requires
+rings-in-requires c κs = tt
+
+names-in-requires : tie.Need-names-in-requires
+names-in-requires c κs = tt
+
+owned-in-requires : tie.Need-owned-in-requires
+owned-in-requires c κs = tt
+
+fill-requires : tie.Need-fill-requires
+fill-requires c κs = tt
+
+hints-in-requires : tie.Need-hints-in-requires
+hints-in-requires c κs = tt
+
+packed-in-requires : tie.Need-packed-in-requires
+packed-in-requires c κs = tt
+
+run-list-requires : tie.Need-run-list-requires
+run-list-requires c κs =
+    let filled = c .before .before .before .before .before .before .before .before .before .before .before .before .before .before in
+    let rings = filled .before .before .before .before .before .before .before .before .before in
+    let start = rings .before .before .before .before .before .before .before .before .before .before .before .before .before .before in
+    let a = start .pre .0 in (
+      record {
+        table = start .args .table .now;
+        stands = taken-in _ a _ _ (rings .before .before .before .before .before .before .before .domains .ensures) (rings .before .before .before .before .before .endpoints .ensures) _ _ (start .args .rings .now) _ _ _ _ (start .pre .1 .0) (rings .before .before .before .take-in .ensures)
+            (rings .rings-in .ensures)
+            (c .before .before .before .before .before .before .before .before .packed-in .ensures)
+            (filled .before .before .before .before .before .names-in .ensures)
+            (filled .before .before .before .owned-in .ensures)
+            (filled .fill .ensures ∙ filled-accepted _ _ a (start .pre .1 .1 .1 .1));
+      },
+      (start .pre .1 .1 .0, start .pre .1 .1 .1 .0),
+    )
+
+put-out-requires : tie.Need-put-out-requires
+put-out-requires c κs = tt
+
+rings-out-requires : tie.Need-rings-out-requires
+rings-out-requires c κs = tt
+
+same-length : tie.Need-same-length
+same-length c = c .before .before .rings-out .kept .1 .1 .1 .0 ∙ c .before .before .before .before .before .before .before .put-out .kept .1 .1 .0
+
+same-length-2 : tie.Need-same-length-2
+same-length-2 c = c .before .before .before .before .before .before .before .before .before .before .before .before .before .before .before .before .run-list .kept .1 .1 .1 .1 .0 ∙ c .before .before .before .before .before .before .before .before .before .before .before .before .before .before .before .before .before .before .before .before .before .before .before .before .before .before .before .before .before .before .before .before .before .before .before .before .before .before .before .before .rings-in .kept .1 .1 .1 .0
+
+same-length-3 : tie.Need-same-length-3
+same-length-3 c = c .before .before .before .before .before .before .before .before .before .before .before .before .before .before .before .before .run-list .kept .1 .1 .1 .1 .1 .1 .1 .1 .1 .0
+
+same-length-4 : tie.Need-same-length-4
+same-length-4 c = c .before .before .before .before .before .before .before .before .before .before .before .before .before .before .before .before .run-list .kept .1 .1 .1 .1 .1 .1 .1 .1 .1 .1 .0 ∙ c .before .before .before .before .before .before .before .before .before .before .before .before .before .before .before .before .before .before .before .before .before .before .before .before .before .before .before .before .before .before .before .fill .kept .1 .0
+
+returns : tie.Need-returns
+unfolding run-list-requires
+returns c =
+    let call = c .before .before .before .before .before .before .before .before .before .before .before .before .before .before .before .before in
+    let start = call .before .before .before .before .before .before .before .before .before .before .before .before .before .before .before .before .before .before .before .before .before .before .before .before .before .before .before .before .before .before .before .before .before .before .before .before .before .before in
+    put-out _ (start .pre .0) _ _ (call .before .before .before .before .before .before .before .before .before .before .before .before .before .before .before .before .before .before .before .before .before .before .before .before .before .before .before .before .before .before .before .domains .ensures) (call .before .before .before .before .before .before .before .before .before .before .before .before .before .before .before .before .before .before .before .before .before .before .before .before .before .before .before .before .before .endpoints .ensures) _ _ _ _ _ _ _ _ _ _ _
+    (call .run-list .ensures _ (run-list-requires (call .before) (call .run-list .lifetimes) .0 .stands))
+    (c .before .before .before .before .before .before .before .put-out .ensures)
+    (c .before .before .rings-out .ensures)
+
+pub run-on-rings-spec : {M : Type 1} → statement M
+run-on-rings-spec =
+    tie.close
+    (tie.spec
+    domains-requires
+    endpoints-requires
+    take-in-requires
+    rings-in-requires
+    names-in-requires
+    owned-in-requires
+    fill-requires
+    hints-in-requires
+    packed-in-requires
+    run-list-requires
+    put-out-requires
+    rings-out-requires
+    same-length
+    same-length-2
+    same-length-3
+    same-length-4
+    returns)

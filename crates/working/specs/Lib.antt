@@ -1,0 +1,2 @@
+-- What the contracts of the run on a working layout cite.
+pub mod Run

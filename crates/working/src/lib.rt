@@ -1,0 +1,108 @@
+// The run of a list on a working layout: the lent table is taken in once, after the entry's checks, and put out once, at the end.
+// In between no word of it is read or written: the calls run on the rights as rows, the queues as rings, the names and the
+// endpoints owned.
+mod list;
+
+use entry::Ran;
+use holders::fill;
+use kernel::Entered;
+use kernel::enter;
+use layout::domains;
+use layout::endpoints;
+use list::run_list;
+use working_layout::names_in;
+use working_layout::owned_in;
+use working_layout::packed_in;
+use working_layout::rings_in;
+use working_layout::rings_out;
+use working_queues::hint_place;
+ghost use mathlib.Core.Path.{_≡_};
+ghost use Prim.Native.Nat.{_*_, _≤_};
+ghost use lib.ListN.{length};
+ghost use Rattle.machine.specs.Check.{Accepted};
+ghost use Rattle.machine.specs.Call.{cut};
+ghost use Rattle.machine.specs.Table as machine;
+ghost use Rattle.machine.specs.Promise.{RunPromise};
+ghost use Rattle.kernel.specs.Run.{AllRun};
+ghost use Rattle.entry.specs.Entry.{ranCode, ranCalls};
+
+// A hint for each name: the endpoint that has it, at the place that the name gives; of two names with one place the later stays.
+// Nothing rests on them, since a hint is believed only where the name is found.
+fn hints_in(names: &[u32; 32], m: u32) -> [u8; 1024] {
+    let mut hints = [0u8; 1024];
+    let mut e: u32 = 0;
+    while e < m {
+        let at = (e % 32) as usize;
+        let place = hint_place(names[at]);
+        hints[place] = (e % 32) as u8;
+        e += 1;
+    }
+    hints
+}
+
+// The calls of a list on a table that is taken in and put out; its queues are taken in to the words lent for the rings.
+fn run_on_rings(
+    table: &mut [u32],
+    rings: &mut [u32],
+    list: &[u32],
+    answers: &mut [u32],
+    holders: &mut [u32],
+) -> usize
+    requires { ⌜ Accepted (now table) ⌝ }
+    requires { ⌜ length (now rings) ≡ 12 * machine.endpoints (now table) ⌝ }
+    requires { ⌜ length (now list) ≤ 4096 ⌝ }
+    requires { ⌜ 3 * length (cut (now list)) ≤ length (now answers) ⌝ }
+    requires { ⌜ length (now holders) ≡ machine.domains (now table) ⌝ }
+    ensures { λ k. ⌜ AllRun (now (table .entry)) (now (list .entry)) (now (answers .entry)) k (now (answers .exit)) (now (table .exit)) (now (holders .exit)) ⌝ }
+{
+    let n = domains(table);
+    let m = endpoints(table);
+    let mut rows = rows::take_in(table, n);
+    rings_in(table, n, m, rings);
+    let names = names_in(table, n, m);
+    let owned = owned_in(table, n, m);
+    fill(table, holders);
+    let hints = hints_in(&names, m);
+    let mut packed = packed_in(&rows);
+    let calls = run_list(
+        n,
+        m,
+        &mut rows,
+        &mut packed,
+        rings,
+        &names,
+        &hints,
+        &owned,
+        list,
+        answers,
+        holders,
+    );
+    rows::put_out(&rows, n, table);
+    rings_out(rings, n, m, table);
+    calls
+}
+
+// The calls of a list, with words for as many rings as the table has endpoints.
+fn run_calls(table: &mut [u32], list: &[u32], answers: &mut [u32], holders: &mut [u32]) -> usize
+    requires { ⌜ Accepted (now table) ⌝ }
+    requires { ⌜ length (now list) ≤ 4096 ⌝ }
+    requires { ⌜ 3 * length (cut (now list)) ≤ length (now answers) ⌝ }
+    requires { ⌜ length (now holders) ≡ machine.domains (now table) ⌝ }
+    ensures { λ k. ⌜ AllRun (now (table .entry)) (now (list .entry)) (now (answers .entry)) k (now (answers .exit)) (now (table .exit)) (now (holders .exit)) ⌝ }
+{
+    let mut words = [0u32; 384];
+    let end = 12 * endpoints(table) as usize;
+    run_on_rings(table, &mut words[0..end], list, answers, holders)
+}
+
+// A list of calls on any table, with any answer space and any words for the holders: what `kernel::run` promises.
+pub fn run_working(table: &mut [u32], list: &[u32], answers: &mut [u32], holders: &mut [u32]) -> Ran
+    ensures { λ r. ⌜ RunPromise (now (table .entry)) (now (list .entry)) (now (answers .entry)) (now (holders .entry)) (ranCode r) (ranCalls r) (now (answers .exit)) (now (table .exit)) (now (holders .exit)) ⌝ }
+{
+    let entered = enter(table, list, answers.len(), holders.len());
+    if let Entered::Refused(refusal) = entered {
+        return Ran::Refused(refusal);
+    }
+    let calls = run_calls(table, list, answers, holders);
+    Ran::Done(calls)
+}
