@@ -1,45 +1,78 @@
 //! The command line: options, their values and what else is given.
 
+use std::ffi::{OsStr, OsString};
 use std::ops::Range;
+use std::os::unix::ffi::OsStrExt;
+use std::path::{Path, PathBuf};
+use std::slice::Iter;
 use std::time::Duration;
 
 /// A command's line taken apart.
-#[derive(Debug, Clone, PartialEq, Eq)]
+#[derive(Debug, Clone, Default, PartialEq, Eq)]
 pub struct Options {
     /// What is no option, in order.
-    pub files: Vec<String>,
-    values: Vec<(String, String)>,
+    pub files: Vec<PathBuf>,
+    values: Vec<Value>,
     flags: Vec<String>,
+}
+
+/// The value of an option: as it was given, for it may name a file, and as text.
+#[derive(Debug, Clone, PartialEq, Eq)]
+struct Value {
+    option: String,
+    given: OsString,
+    text: String,
 }
 
 impl Options {
     /// Takes a line apart. `valued` are the options that take a value, as
-    /// `--seed 7` or `--seed=7`; `flags` those that take none.
-    pub fn parse(line: &[String], valued: &[&str], flags: &[&str]) -> Result<Options, String> {
-        let mut options = Options {
-            files: Vec::new(),
-            values: Vec::new(),
-            flags: Vec::new(),
-        };
+    /// `--seed 7` or `--seed=7`; `flags` those that take none. Behind `--` there are
+    /// no more options.
+    pub fn parse(line: &[OsString], valued: &[&str], flags: &[&str]) -> Result<Options, String> {
+        let mut options = Options::default();
         let mut rest = line.iter();
         while let Some(word) = rest.next() {
-            let (name, joined) = match word.split_once('=') {
-                Some((name, value)) => (name, Some(value.to_string())),
-                None => (word.as_str(), None),
-            };
-            if !word.starts_with("--") {
-                options.files.push(word.clone());
-            } else if flags.contains(&name) && joined.is_none() {
-                options.flags.push(name.to_string());
-            } else if valued.contains(&name) {
-                let value = joined.or_else(|| rest.next().cloned());
-                let value = value.ok_or_else(|| format!("{name} needs a value"))?;
-                options.values.push((name.to_string(), value));
+            if word == "--" {
+                options.files.extend(rest.by_ref().map(PathBuf::from));
+            } else if is_option(word) {
+                options.add(word, &mut rest, valued, flags)?;
             } else {
-                return Err(format!("there is no option {word}"));
+                options.files.push(PathBuf::from(word));
             }
         }
         Ok(options)
+    }
+
+    /// Adds an option, with its value where it takes one: behind `=`, or the next word.
+    fn add(
+        &mut self,
+        word: &OsStr,
+        rest: &mut Iter<OsString>,
+        valued: &[&str],
+        flags: &[&str],
+    ) -> Result<(), String> {
+        let mut parts = word.as_bytes().splitn(2, |&byte| byte == b'=');
+        let name = parts
+            .next()
+            .map(String::from_utf8_lossy)
+            .unwrap_or_default();
+        let joined = parts
+            .next()
+            .map(|value| OsStr::from_bytes(value).to_owned());
+        if flags.contains(&&*name) && joined.is_none() {
+            self.flags.push(name.to_string());
+        } else if valued.contains(&&*name) {
+            let given = joined.or_else(|| rest.next().cloned());
+            let given = given.ok_or_else(|| format!("{name} needs a value"))?;
+            self.values.push(Value {
+                option: name.to_string(),
+                text: given.to_string_lossy().to_string(),
+                given,
+            });
+        } else {
+            return Err(format!("there is no option {}", word.to_string_lossy()));
+        }
+        Ok(())
     }
 
     pub fn has(&self, flag: &str) -> bool {
@@ -48,8 +81,16 @@ impl Options {
 
     /// The value given last for an option.
     pub fn text(&self, name: &str) -> Option<&str> {
-        let given = self.values.iter().rev().find(|(option, _)| option == name);
-        given.map(|(_, value)| value.as_str())
+        self.value(name).map(|value| value.text.as_str())
+    }
+
+    /// The same where it names a file, which can be called anything.
+    pub fn path(&self, name: &str) -> Option<&Path> {
+        self.value(name).map(|value| Path::new(&value.given))
+    }
+
+    fn value(&self, name: &str) -> Option<&Value> {
+        self.values.iter().rev().find(|value| value.option == name)
     }
 
     /// The number given for an option. Commas are left out: 300,000 is 300000.
@@ -85,20 +126,26 @@ impl Options {
     }
 
     /// The one file that a command is about.
-    pub fn file(&self) -> Result<&str, String> {
+    pub fn file(&self) -> Result<&Path, String> {
         match self.files.as_slice() {
             [file] => Ok(file),
             [] => Err("no file is given".to_string()),
-            [_, second, ..] => Err(format!("one file at a time: `{second}` is a second one")),
+            [_, second, ..] => Err(format!(
+                "one file at a time: `{}` is a second one",
+                second.display()
+            )),
         }
     }
 
     /// The file that a command reads and the one that it writes.
-    pub fn two_files(&self) -> Result<(&str, &str), String> {
+    pub fn two_files(&self) -> Result<(&Path, &Path), String> {
         match self.files.as_slice() {
             [from, to] => Ok((from, to)),
             few @ ([] | [_]) => Err(format!("two files are needed, {} given", few.len())),
-            [_, _, third, ..] => Err(format!("two files are enough: `{third}` is a third one")),
+            [_, _, third, ..] => Err(format!(
+                "two files are enough: `{}` is a third one",
+                third.display()
+            )),
         }
     }
 
@@ -106,9 +153,14 @@ impl Options {
     pub fn no_file(&self) -> Result<(), String> {
         match self.files.first() {
             None => Ok(()),
-            Some(file) => Err(format!("`{file}` is not expected here")),
+            Some(file) => Err(format!("`{}` is not expected here", file.display())),
         }
     }
+}
+
+/// Whether a word of the line is meant as an option: `-` alone is standard input.
+fn is_option(word: &OsStr) -> bool {
+    word != "-" && word.as_bytes().starts_with(b"-")
 }
 
 #[cfg(test)]
@@ -116,7 +168,7 @@ mod tests {
     use super::*;
 
     fn parsed(line: &str) -> Result<Options, String> {
-        let words: Vec<String> = line.split_whitespace().map(str::to_string).collect();
+        let words: Vec<OsString> = line.split_whitespace().map(OsString::from).collect();
         Options::parse(
             &words,
             &["--seed", "--cases", "--from", "--time"],
@@ -127,11 +179,37 @@ mod tests {
     #[test]
     fn options_flags_and_files_in_any_order() {
         let options = parsed("a.bin --seed 7 --quiet --cases=300,000").unwrap();
-        assert_eq!(options.file(), Ok("a.bin"));
+        assert_eq!(options.file(), Ok(Path::new("a.bin")));
         assert_eq!(options.number("--seed"), Ok(Some(7)));
         assert_eq!(options.number("--cases"), Ok(Some(300_000)));
         assert!(options.has("--quiet"));
         assert!(!parsed("a.bin").unwrap().has("--quiet"));
+    }
+
+    #[test]
+    fn behind_two_dashes_there_are_no_options() {
+        let options = parsed("--quiet -- --seed").unwrap();
+        assert_eq!(options.file(), Ok(Path::new("--seed")));
+        assert!(options.has("--quiet"));
+        let options = parsed("-- -- -x").unwrap();
+        assert_eq!(options.files, [Path::new("--"), Path::new("-x")]);
+        assert_eq!(parsed("-").unwrap().file(), Ok(Path::new("-")));
+    }
+
+    #[test]
+    fn a_file_can_be_called_anything() {
+        let odd = OsStr::from_bytes(b"a=\xFF");
+        let given = |line: &[&OsStr]| {
+            let line: Vec<OsString> = line.iter().map(OsString::from).collect();
+            Options::parse(&line, &["--svg"], &[])
+        };
+        assert_eq!(given(&[odd]).unwrap().file(), Ok(Path::new(odd)));
+        let valued = given(&[OsStr::new("--svg"), odd]).unwrap();
+        assert_eq!(valued.path("--svg"), Some(Path::new(odd)));
+        let joined = given(&[OsStr::from_bytes(b"--svg=a=\xFF")]).unwrap();
+        assert_eq!(joined, valued);
+        assert_eq!(joined.text("--svg"), Some("a=\u{FFFD}"));
+        assert!(given(&[OsStr::from_bytes(b"--\xFF")]).is_err());
     }
 
     #[test]
@@ -149,6 +227,7 @@ mod tests {
             parsed("--quiet=1"),
             Err("there is no option --quiet=1".into())
         );
+        assert_eq!(parsed("a -x"), Err("there is no option -x".into()));
         let wrong = parsed("--seed x").unwrap().number("--seed");
         assert_eq!(wrong, Err("--seed needs a whole number, not `x`".into()));
     }
@@ -176,7 +255,8 @@ mod tests {
     fn a_command_is_about_one_file_or_none() {
         assert!(parsed("").unwrap().file().is_err());
         assert!(parsed("a b").unwrap().file().unwrap_err().contains("`b`"));
-        assert_eq!(parsed("a b").unwrap().two_files(), Ok(("a", "b")));
+        let two = (Path::new("a"), Path::new("b"));
+        assert_eq!(parsed("a b").unwrap().two_files(), Ok(two));
         assert!(parsed("a").unwrap().two_files().is_err());
         assert!(parsed("a b c").unwrap().two_files().is_err());
         assert!(parsed("").unwrap().no_file().is_ok());

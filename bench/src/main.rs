@@ -4,6 +4,8 @@
 
 mod args;
 mod cases;
+#[cfg(not(test))]
+mod closed;
 mod commands;
 mod judging;
 mod kernels;
@@ -12,8 +14,10 @@ mod output;
 mod pictures;
 mod progress;
 
+use std::ffi::{OsStr, OsString};
 use std::process::ExitCode;
 
+use crate::output::{complain, say};
 use commands::{
     commission, fuzz, histories, linerun, queue, read, repair, show, speed, step, tables, totals,
     turns, words, write,
@@ -26,8 +30,9 @@ bench: commissioning, differential runs and benchmarks of the proved kernel
 ";
 const FOOT: &str = "
 FILE is an input of linerun: little-endian words, the table's length in words,
-the table, then the list to the end; for `words`, `write` and `turns` it is a text.
-`-` is standard input.
+the table, then the list to the end; or a text of hexadecimal words that stands
+for one, as `words` takes it, which may give names. For `write` and `turns` it
+is a text of theirs. `-` is standard input, and behind `--` are no options.
 
 Exit status: 0 all is well; 1 something failed, was refused or differs; 2 bad
 usage, a file that can't be read or written, or a closed pipe: nobody reads what
@@ -42,7 +47,7 @@ struct Command {
     purpose: &'static str,
     help: &'static str,
     /// Whether all is well, or why it couldn't be done.
-    act: fn(&[String]) -> Result<bool, String>,
+    act: fn(&[OsString]) -> Result<bool, String>,
 }
 
 const COMMANDS: [Command; 15] = [
@@ -153,17 +158,22 @@ const COMMANDS: [Command; 15] = [
     },
 ];
 
+/// The release that this program is of.
+fn version() -> &'static str {
+    env!("CARGO_PKG_VERSION")
+}
+
 fn main() -> ExitCode {
-    let line: Vec<String> = std::env::args().skip(1).collect();
+    let line: Vec<OsString> = std::env::args_os().skip(1).collect();
     let Some((command, rest)) = line.split_first() else {
-        eprint!("{}", help());
+        complain!("{}", help().trim_end());
         return ExitCode::from(2);
     };
     match perform(command, rest) {
         Ok(true) => ExitCode::SUCCESS,
         Ok(false) => ExitCode::from(1),
         Err(wrong) => {
-            eprintln!("bench {command}: {wrong}");
+            complain!("bench {}: {wrong}", command.to_string_lossy());
             ExitCode::from(2)
         }
     }
@@ -175,20 +185,45 @@ fn help() -> String {
         let line = format!("{} {}", command.name, command.given);
         row(&line, command.purpose)
     });
-    let more = row("COMMAND --help", "what a command takes and what it answers");
+    let more = row("help COMMAND", "what a command takes and what it answers")
+        + &row("--version", "which release this is");
     format!("{HEAD}{}{more}{FOOT}", listed.collect::<String>())
 }
 
-fn perform(command: &str, rest: &[String]) -> Result<bool, String> {
-    if matches!(command, "help" | "--help" | "-h") {
-        output::write(help().as_bytes());
-        return Ok(true);
+fn perform(command: &OsStr, rest: &[OsString]) -> Result<bool, String> {
+    match command.to_str() {
+        Some("help" | "--help" | "-h") => helped(rest),
+        Some("--version" | "-V") => {
+            say!("bench {}", version());
+            Ok(true)
+        }
+        _ => {
+            let found = found(command)?;
+            match rest.iter().take_while(|word| *word != "--").any(is_help) {
+                true => helped(&[command.to_owned()]),
+                false => (found.act)(rest),
+            }
+        }
     }
-    let found = COMMANDS.iter().find(|known| known.name == command);
-    let found = found.ok_or("there is no such command; `bench --help` lists them")?;
-    if rest.iter().any(|word| word == "--help" || word == "-h") {
-        output::write(found.help.as_bytes());
-        return Ok(true);
+}
+
+fn is_help(word: &OsString) -> bool {
+    word == "--help" || word == "-h"
+}
+
+/// Prints the help of a command, or of all where none is named.
+fn helped(named: &[OsString]) -> Result<bool, String> {
+    match named.first().filter(|word| !is_help(word)) {
+        None => output::write(help().as_bytes()),
+        Some(command) => output::write(found(command)?.help.as_bytes()),
     }
-    (found.act)(rest)
+    Ok(true)
+}
+
+fn found(command: &OsStr) -> Result<&'static Command, String> {
+    let found = COMMANDS.iter().find(|known| command == known.name);
+    found.ok_or_else(|| {
+        let command = command.to_string_lossy();
+        format!("there is no such command as `{command}`; `bench --help` lists them")
+    })
 }

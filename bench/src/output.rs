@@ -1,6 +1,15 @@
 //! What the commands print. Where nobody reads it any more the program just ends,
 //! as a program in a pipe should.
 
+/// Says a line on standard error, put together as by `format!`. Where that can't be
+/// written there is nobody else to tell.
+macro_rules! complain {
+    ($($parts:tt)*) => {{
+        use std::io::Write;
+        let _ = writeln!(std::io::stderr(), $($parts)*);
+    }};
+}
+
 /// In tests, where what is printed is kept back.
 #[cfg(test)]
 pub fn write(bytes: &[u8]) {
@@ -10,13 +19,13 @@ pub fn write(bytes: &[u8]) {
 /// Writes to standard output, or ends the program with 2.
 #[cfg(not(test))]
 pub fn write(bytes: &[u8]) {
-    use std::io::{self, ErrorKind, Write};
+    use std::io::{ErrorKind, Write};
     use std::process::exit;
 
-    let mut out = io::stdout().lock();
-    if let Err(why) = out.write_all(bytes).and_then(|()| out.flush()) {
+    let out = crate::closed::standard_output();
+    if let Err(why) = out.and_then(|mut out| out.write_all(bytes)) {
         if why.kind() != ErrorKind::BrokenPipe {
-            eprintln!("bench: cannot write: {why}");
+            complain!("bench: cannot write: {why}");
         }
         exit(2);
     }
@@ -29,4 +38,5 @@ macro_rules! say {
     };
 }
 
+pub(crate) use complain;
 pub(crate) use say;

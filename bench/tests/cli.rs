@@ -1,6 +1,8 @@
 //! The program as it is used: its commands, what they print and their exit status.
 
+use std::ffi::OsStr;
 use std::fs;
+use std::os::unix::ffi::OsStrExt;
 use std::os::unix::fs::PermissionsExt;
 use std::path::PathBuf;
 use std::process::{Command, Output, Stdio};
@@ -50,6 +52,11 @@ fn archive_title() -> String {
     }
 }
 
+fn longest_line(text: &str) -> usize {
+    let lengths = text.lines().map(|line| line.chars().count());
+    lengths.max().expect("a line")
+}
+
 #[test]
 fn help_is_given_for_every_command() {
     assert_eq!(status(&["--help"]), 0);
@@ -62,6 +69,83 @@ fn help_is_given_for_every_command() {
         assert!(help.starts_with(&format!("bench {command}")), "{help}");
         assert!(help.contains("Exit status:"), "{help}");
         assert!(printed(&["--help"]).contains(&format!("bench {command}")));
+    }
+}
+
+#[test]
+fn help_fits_80_columns() {
+    let all = printed(&["--help"]);
+    assert!(longest_line(&all) <= 80, "{all}");
+    let listed = all.lines().filter_map(|line| line.strip_prefix("  bench "));
+    let named = listed.filter_map(|line| line.split(' ').next());
+    let commands: Vec<&str> = named
+        .filter(|name| !["help", "--version"].contains(name))
+        .collect();
+    assert!(commands.len() >= 15, "{all}");
+    for command in commands {
+        let help = printed(&["help", command]);
+        assert!(longest_line(&help) <= 80, "{help}");
+    }
+}
+
+#[test]
+fn help_and_the_version_are_asked_for_in_any_way() {
+    assert_eq!(printed(&["help", "show"]), printed(&["show", "--help"]));
+    assert_eq!(printed(&["help"]), printed(&["--help"]));
+    assert_eq!(status(&["help", "frobnicate"]), 2);
+    assert!(told(&["help", "frobnicate"]).contains("no such command as `frobnicate`"));
+    let version = concat!("bench ", env!("CARGO_PKG_VERSION"), "\n");
+    assert_eq!(printed(&["--version"]), version);
+    assert_eq!(status(&["--version"]), 0);
+}
+
+#[test]
+fn an_option_that_there_is_not_is_no_file() {
+    let input = file("option.bin", &example());
+    assert_eq!(status(&["show", "-x", &input]), 2);
+    assert_eq!(
+        told(&["show", "-x", &input]),
+        "bench show: there is no option -x\n"
+    );
+    let behind = printed(&["show", "--run", "--", &input]);
+    assert_eq!(behind, printed(&["show", &input, "--run"]));
+    assert!(told(&["show", "--", "--help"]).contains("cannot read --help"));
+}
+
+#[test]
+fn a_file_can_be_called_anything() {
+    let folder = PathBuf::from(env!("CARGO_TARGET_TMPDIR"));
+    let (odd, out) = (
+        OsStr::from_bytes(b"odd-\xFF.bin"),
+        OsStr::from_bytes(b"odd-\xFF.svg"),
+    );
+    let (odd, out) = (folder.join(odd), folder.join(out));
+    fs::write(&odd, example()).expect("a file can be written");
+    let ran = |line: &[&OsStr]| {
+        let mut command = Command::new(env!("CARGO_BIN_EXE_bench"));
+        command.args(line).output().expect("the program starts")
+    };
+    let shown = ran(&[
+        "show".as_ref(),
+        odd.as_ref(),
+        "--svg".as_ref(),
+        out.as_ref(),
+    ]);
+    assert_eq!(shown.status.code(), Some(0), "{shown:?}");
+    assert!(fs::read(&out)
+        .expect("the picture is there")
+        .starts_with(b"<svg "));
+    for line in [
+        &[OsStr::from_bytes(b"\xFF")][..],
+        &["show".as_ref(), OsStr::from_bytes(b"\xFF")],
+    ] {
+        let ended = ran(line);
+        assert_eq!(ended.status.code(), Some(2));
+        let told = String::from_utf8(ended.stderr).expect("text");
+        assert!(
+            told.starts_with("bench ") && told.contains('\u{FFFD}'),
+            "{told}"
+        );
     }
 }
 
@@ -124,6 +208,52 @@ fn the_worked_example_is_typed_in_and_run() {
 }
 
 #[test]
+fn a_table_that_will_be_refused_is_written_with_a_warning() {
+    let typed = file("warned.txt", b"table 10000100 20000010 list 50000000");
+    let written = bench(&["words", &typed]);
+    assert_eq!(written.status.code(), Some(0));
+    assert_eq!(written.stdout.len(), 4 * 4);
+    let warning = String::from_utf8(written.stderr).expect("text");
+    let wanted = "is written, and will be refused with 4 (a rights word breaks its layout): word 1";
+    assert!(warning.contains(wanted), "{warning}");
+    let cut = file("warned-cut.txt", b"00000002 10000100");
+    assert!(told(&["words", &cut]).contains("will be refused with 7 ("));
+    assert_eq!(
+        told(&["words", &file("sound.txt", b"table 10000100 20000000")]),
+        ""
+    );
+}
+
+/// How the program ends where the shell gives it its standard output so.
+fn with_output(line: &str, output: &str) -> (i32, String) {
+    let script = format!("exec '{}' {line} {output}", env!("CARGO_BIN_EXE_bench"));
+    let mut shell = Command::new("/bin/sh");
+    let ended = shell
+        .args(["-c", &script])
+        .output()
+        .expect("a shell starts");
+    let told = String::from_utf8(ended.stderr).expect("text");
+    (ended.status.code().expect("it ends by itself"), told)
+}
+
+#[test]
+fn what_cannot_be_written_ends_with_2() {
+    let typed = file("unwritten.txt", b"table 10000100 20000000");
+    for output in [">&-", ">/dev/full", "1</dev/null"] {
+        let (status, told) = with_output(&format!("words '{typed}'"), output);
+        assert_eq!(status, 2, "{output}");
+        assert!(
+            told.starts_with("bench: cannot write: "),
+            "{output}: {told}"
+        );
+    }
+    let (status, told) = with_output(&format!("words '{typed}'"), ">/dev/null");
+    assert_eq!((status, told.as_str()), (0, ""));
+    let (status, _) = with_output("show /no/such/file", "2>/dev/full");
+    assert_eq!(status, 2);
+}
+
+#[test]
 fn the_worked_example_is_commissioned() {
     let input = file("commission.bin", &example());
     let list = printed(&["commission", &input, "--struck", "1"]);
@@ -158,14 +288,95 @@ fn what_is_refused_is_not_commissioned_nor_shown() {
 }
 
 #[test]
-fn a_text_in_the_place_of_an_input_is_pointed_to_words() {
-    let typed = file("typed-not-made.txt", b"table\n10000100\n");
-    for command in ["commission", "show"] {
-        assert!(printed(&[command, &typed]).contains("is this a text? `bench words FILE`"));
-        assert_eq!(status(&[command, &typed]), 1);
+fn a_text_stands_for_its_input() {
+    let typed = concat!(env!("CARGO_MANIFEST_DIR"), "/example.txt");
+    let input = file("text.bin", &example());
+    for line in [&["show", "--run"][..], &["commission"]] {
+        let of = |path: &str| printed(&[line, &[path]].concat()).replace(path, "FILE");
+        assert_eq!(of(typed), of(&input));
     }
-    assert!(told(&["words", "--back", &typed]).contains("is this a text?"));
-    assert_eq!(status(&["words", "--back", &typed]), 1);
+    let wrong = file("text-wrong.txt", b"table\n1000010\n");
+    for command in ["commission", "show"] {
+        assert!(told(&[command, &wrong]).contains("line 2: `1000010` is no word"));
+        assert_eq!(status(&[command, &wrong]), 2);
+    }
+    assert!(told(&["words", "--back", typed]).contains("is this a text?"));
+    assert_eq!(status(&["words", "--back", typed]), 1);
+}
+
+#[test]
+fn names_that_a_text_gives_stand_beside_the_numbers() {
+    let (table, list) = (hex(&TABLE_T), hex(&LIST_L));
+    let text = format!("domain 0 link\ntable {table}\nendpoint 1 belts\nlist {list}\n");
+    let named = file("named.txt", text.as_bytes());
+    assert_eq!(bench(&["words", &named]).stdout, example());
+    let shown = printed(&["show", &named]);
+    let sent = "domain 0 (link) sends 5 to endpoint 1 (belts)";
+    assert!(shown.contains(sent), "{shown}");
+    let list = printed(&["commission", &named, "--struck", "1"]);
+    let granted = "domain 1 grants domain 0 (link) SEND, GRANT and REMOVE on domain 2";
+    assert!(list.contains(granted), "{list}");
+    let wrong = file("named-wrong.txt", (text + "domain 3 drives\n").as_bytes());
+    let beyond = "line 5: there is no domain 3: the table has 0 to 2";
+    assert!(told(&["show", &wrong]).contains(beyond));
+}
+
+#[test]
+fn a_line_that_fails_is_told_with_names() {
+    let four = concat!(env!("CARGO_MANIFEST_DIR"), "/examples/four.txt");
+    let list = printed(&["commission", four, "--kernel", "wrong-newest-first"]);
+    let failed: Vec<&str> = list
+        .lines()
+        .filter(|line| line.contains(" failed "))
+        .collect();
+    assert_eq!(failed.len(), 2, "{list}");
+    let call = "receives from endpoint 3 (belts)): the kernel answers ";
+    assert!(failed[0].contains(call), "{list}");
+    assert!(failed[1].contains("): domain 3 (drives), with "), "{list}");
+}
+
+/// The words of a text, without the names that it has.
+fn words_without(names: &[&str], text: &str) -> Vec<String> {
+    let mut text = text.to_string();
+    for name in names {
+        text = text.replace(&format!(" ({name})"), "");
+        text = text.replace(&format!("({name}, "), "(");
+    }
+    let words = text.split_whitespace().filter(|word| !names.contains(word));
+    words.map(str::to_string).collect()
+}
+
+#[test]
+fn names_add_nothing_but_themselves() {
+    let four = fs::read_to_string(concat!(env!("CARGO_MANIFEST_DIR"), "/examples/four.txt"));
+    let named = four.expect("the example is there");
+    let is_name = |line: &&str| line.starts_with("domain ") || line.starts_with("endpoint ");
+    let lines = named.lines().filter(is_name);
+    let names: Vec<&str> = lines.filter_map(|line| line.split(' ').nth(2)).collect();
+    assert_eq!(names.len(), 8);
+    let plain: Vec<&str> = named.lines().filter(|line| !is_name(line)).collect();
+    let named = file("names-in.txt", named.as_bytes());
+    let plain = file("names-out.txt", plain.join("\n").as_bytes());
+    let turns = |table: &str, name: &str| {
+        let handed = "hand in 0 send caller 0 endpoint 1 message 5\nturn\nhand in 3 words F0000005";
+        let text = format!("table {table}\n{handed}\nhand in 2 my-rights caller 2\n");
+        file(name, text.as_bytes())
+    };
+    let turns = [
+        turns(&named, "turns-in.txt"),
+        turns(&plain, "turns-out.txt"),
+    ];
+    for (line, with, without) in [
+        (&["show", "--run"][..], &named, &plain),
+        (&["commission", "--struck", "3"], &named, &plain),
+        (&["turns"], &turns[0], &turns[1]),
+    ] {
+        let of = |path: &String| printed(&[line, &[path]].concat()).replace(path, "FILE");
+        let (with, without) = (of(with), of(without));
+        assert!(with.contains("domain 0 (link)"), "{with}");
+        let words: Vec<&str> = without.split_whitespace().collect();
+        assert_eq!(words_without(&names, &with), words);
+    }
 }
 
 #[test]
@@ -515,6 +726,24 @@ fn a_mistake_in_calls_is_told_by_line_and_field() {
 }
 
 #[test]
+fn calls_are_read_with_names_in_comments() {
+    let text = format!("domain 0 link\nlist {}\n", "20000100 F0000005");
+    let named = file("read-named.txt", text.as_bytes());
+    let read = printed(&["read", &named]);
+    let (call, comment) = read.split_once("  # ").expect("a comment");
+    assert_eq!(call.trim_end(), "send caller 0 endpoint 1 message 5");
+    assert_eq!(comment, "domain 0 (link) sends 5 to endpoint 1\n");
+    let calls = file("read-again.txt", read.as_bytes());
+    assert_eq!(printed(&["write", &calls]), "list\n20000100 F0000005\n");
+    let table = concat!(env!("CARGO_MANIFEST_DIR"), "/examples/four.txt");
+    let whole = printed(&["write", &calls, "--table", table, "--text"]);
+    assert!(
+        whole.starts_with("domain 0 link\ndomain 1 loader\n"),
+        "{whole}"
+    );
+}
+
+#[test]
 fn a_call_that_the_reader_refuses_is_told_by_number_and_code() {
     let input = file("refused.bin", &example());
     assert_eq!(status(&["read", &input]), 1);
@@ -607,6 +836,21 @@ fn a_worn_table_is_repaired_and_its_old_words_are_put_back() {
 }
 
 #[test]
+fn a_worn_table_may_be_a_text_with_names() {
+    let mut worn = TABLE_T;
+    worn[24] = 0x5000_0009;
+    let text = format!("endpoint 1 belts\ntable {}\n", hex(&worn));
+    let typed = file("worn.txt", text.as_bytes());
+    let out = path("worn-sound.bin");
+    let told = printed(&["repair", &typed, &out]);
+    let emptied = "the queue of endpoint 1 (belts, name 18) was emptied";
+    assert!(told.contains(emptied), "{told}");
+    let mut sound = example();
+    sound.truncate(4 * (1 + 34));
+    assert_eq!(fs::read(&out).unwrap(), sound);
+}
+
+#[test]
 fn what_cannot_be_repaired_is_told_and_nothing_is_written() {
     let mut worn = TABLE_T;
     worn[10] = 0x3000_0000;
@@ -623,6 +867,32 @@ fn what_cannot_be_repaired_is_told_and_nothing_is_written() {
     assert!(fs::metadata(&out).is_err());
     assert_eq!(status(&["repair", &image, &image, "--image"]), 2);
     assert_eq!(status(&["repair", &image]), 2);
+}
+
+#[test]
+fn a_page_has_the_names_that_a_text_gives() {
+    let sheet = b"endpoint 1 sent 0 received 0 lost 0 start 0 end 0\nlists 1 code 0\n";
+    let sheet = file("named-sheet.txt", sheet);
+    let page = |names: &str| printed(&["totals", "--html", &sheet, "--names", names]);
+    let alone = page(&file("names.txt", b"endpoint 1 drives\n"));
+    assert!(alone.contains("<td>1 drives</td><td>0</td>"), "{alone}");
+    let four = concat!(env!("CARGO_MANIFEST_DIR"), "/examples/four.txt");
+    assert!(page(four).contains("<td>1 routes</td>"));
+    let input = file("names.bin", &example());
+    assert!(told(&["totals", "--html", &sheet, "--names", &input]).contains("is no text"));
+    assert_eq!(status(&["totals", "/bin/true", "--names", four]), 2);
+}
+
+#[test]
+fn lines_as_text_are_joined() {
+    let input = file("joined.bin", &example());
+    let typed = concat!(env!("CARGO_MANIFEST_DIR"), "/example.txt");
+    let list = file("joined.txt", format!("list {}", hex(&LIST_L)).as_bytes());
+    let joined = |line: &[&str]| bench(&[&["totals", "--join"], line].concat()).stdout;
+    let wanted = joined(&[&input, &input]);
+    assert!(wanted.len() > example().len());
+    assert_eq!(joined(&[typed, &list]), wanted);
+    assert_eq!(status(&["totals", "--join", &list]), 2);
 }
 
 #[test]
@@ -647,16 +917,16 @@ fn the_example_of_turns_is_played_and_told() {
     let told = printed(&line);
     for part in [
         "turn 1 is idle: nothing is pending",
-        "domain 0 is refused with 37 (",
-        "domain 2 is refused with 36 (",
+        "domain 0 (link) is refused with 37 (",
+        "domain 2 (chutes) is refused with 36 (",
         "domain 4 is refused with 35 (",
-        "turn 2 serves domain 0 after 1 turn (pending calls: 8 of domain 0, 1 of domain 1",
-        "    domain 0 sends 65 to endpoint 3: refused with 17: ",
-        "turn 5 serves domain 3 after 4 turns",
-        "    domain 3 receives from endpoint 3: message 49; 0 lost so far",
-        "    domain 0 sends 66 to endpoint 3: done",
-        "  the next turn starts at domain 1\n",
-        "  the longest waits, where 4 turns is the most that can be:\n    domain 0: 4 turns\n",
+        "serves domain 0 (link) after 1 turn (pending calls: 8 of domain 0 (link), 1 of domain 1",
+        "    domain 0 (link) sends 65 to endpoint 3 (belts): refused with 17: ",
+        "turn 5 serves domain 3 (drives) after 4 turns",
+        "    domain 3 (drives) receives from endpoint 3 (belts): message 49; 0 lost so far",
+        "    domain 0 (link) sends 66 to endpoint 3 (belts): done\n",
+        "  the next turn starts at domain 1 (loader)\n",
+        "  the longest waits, where 4 turns is the most that can be:\n    domain 0 (link): 4 turns",
     ] {
         assert!(told.contains(part), "{part}: {told}");
     }

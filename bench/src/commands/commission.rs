@@ -1,6 +1,8 @@
 //! `bench commission`: the checklist that a field engineer runs on the controller's
 //! own table and list before a line is put into service.
 
+use std::ffi::OsString;
+
 use reference::table::domains;
 
 use crate::args::Options;
@@ -10,15 +12,18 @@ use crate::judging::compare::kept_calls;
 use crate::judging::variants::case_of;
 use crate::kernels::boundary::kernel;
 use crate::line::explain::{call_in_words, counted, meaning, table_fault};
-use crate::line::input::{read_input, shown, Input};
+use crate::line::given::{read_given, Given};
+use crate::line::input::{shown, Input};
+use crate::line::names::Names;
 use crate::output::{self, say};
 use crate::pictures::potential::potential_in_words;
 
 pub const HELP: &str = "\
 bench commission FILE [--struck D] [--seed S] [--kernel NAME]
 
-Goes through the checklist with the table and the list of an input of linerun, and
-with an exercise: lists made from the table that go through everything it allows.
+Goes through the checklist with the table and the list of an input of linerun,
+and with an exercise: lists made from the table that go through everything it
+allows.
 
   line 1  refusals: hundreds of damaged variants of the table, lists that are
           scrambled, too long or have too little answer space, and every refused
@@ -31,34 +36,36 @@ with an exercise: lists made from the table that go through everything it allows
           received, lost or waiting
 
 Each line says passed, with what it stands on, or failed with the first
-difference. What this table and list don't allow to be shown, and what holds only
-because there is nothing to show, is said as `not shown`, with the reason.
+difference. What this table and list don't allow to be shown, and what holds
+only because there is nothing to show, is said as `not shown`, with the reason.
 
 A kernel that faults or loops fails the line that met it, with the words that do
 it; the other lines go on.
 
-Before the lines it says what rights calls could ever give on this table, by whom
-and by which calls, as the proved function has it. That is no verdict: it is for
-whoever planned the table.
+Before the lines it says what rights calls could ever give on this table, by
+whom and by which calls, as the proved function has it. That is no verdict: it
+is for whoever planned the table.
 
   --struck D     list the calls that are struck for domain D
   --seed S       the seed that the variants are drawn from (default 1)
-  --kernel NAME  balkwizu (default), balkwizu-working, plain-gcc, plain-clang, or
-                 wrong-NAME, which has the fault of bench/c/wrong/NAME.edit
+  --kernel NAME  balkwizu (default), balkwizu-working, plain-gcc, plain-clang,
+                 or wrong-NAME, which has the fault of bench/c/wrong/NAME.edit
 
 Exit status: 0 no line failed; 1 a line failed, or the input is refused; 2 bad
 usage, or a file that can't be read.
 ";
 
 /// The command: whether no line failed.
-pub fn command(options: &[String]) -> Result<bool, String> {
+pub fn command(options: &[OsString]) -> Result<bool, String> {
     let valued = ["--struck", "--seed", "--kernel"];
     let options = Options::parse(options, &valued, &[])?;
     let kernel = kernel(options.text("--kernel").unwrap_or("balkwizu"))?;
     let seed = options.number("--seed")?.unwrap_or(1);
     let struck = options.number("--struck")?;
     let file = options.file()?;
-    let input = match commissionable(&read_input(file)?) {
+    let given = read_given(file)?;
+    let names = &given.names;
+    let input = match commissionable(&given) {
         Ok(input) => input,
         Err((code, fault)) => {
             say!(
@@ -83,32 +90,33 @@ pub fn command(options: &[String]) -> Result<bool, String> {
         input.size()
     );
     if let Some(domain) = struck {
-        output::write(struck_calls(&case_of(&input), domain as usize).as_bytes());
+        output::write(struck_calls(&case_of(&input), domain as usize, names).as_bytes());
     }
-    output::write(potential_in_words(&input.table).as_bytes());
-    Ok(go_through(&Checklist::new(kernel, &input, seed)))
+    output::write(potential_in_words(&input.table, names).as_bytes());
+    Ok(go_through(&Checklist::new(kernel, &input, seed), names))
 }
 
 /// An input that runs, or the number that refuses it and what is wrong.
-fn commissionable(bytes: &[u8]) -> Result<Input, (u32, String)> {
-    let input = Input::parse(bytes)?;
-    match table_fault(&input.table) {
+fn commissionable(given: &Given) -> Result<Input, (u32, String)> {
+    let input = Input::parse(&given.bytes)?;
+    match table_fault(&input.table, &given.names) {
         Some(fault) => Err(fault),
         None => Ok(input),
     }
 }
 
 /// The calls that are struck for a domain, each in words.
-fn struck_calls(case: &Case, domain: usize) -> String {
+fn struck_calls(case: &Case, domain: usize, names: &Names) -> String {
     let calls = kept_calls(case, domain);
     let struck: Vec<String> = calls
         .iter()
         .enumerate()
         .filter(|(_, (_, kept))| !kept)
-        .map(|(number, (call, _))| format!("  call {number}: {}\n", call_in_words(call)))
+        .map(|(number, (call, _))| format!("  call {number}: {}\n", call_in_words(call, names)))
         .collect();
     format!(
-        "struck for domain {domain}: {} of {}\n{}",
+        "struck for {}: {} of {}\n{}",
+        names.domain(domain),
         struck.len(),
         counted(calls.len(), "call"),
         struck.concat()
@@ -116,7 +124,7 @@ fn struck_calls(case: &Case, domain: usize) -> String {
 }
 
 /// Prints the four lines and the summary; whether none failed.
-fn go_through(list: &Checklist) -> bool {
+fn go_through(list: &Checklist, names: &Names) -> bool {
     say!("exercise made from this table: {}", list.size());
     let (mut passed, mut failed, mut not_shown) = (0, 0, 0);
     for (number, line) in list.lines().iter().enumerate() {
@@ -127,7 +135,7 @@ fn go_through(list: &Checklist) -> bool {
                 not_shown += found.not_shown.len();
             }
         }
-        output::write(in_words(number + 1, line).as_bytes());
+        output::write(names.beside(&in_words(number + 1, line)).as_bytes());
     }
     let not_shown = or_nothing(not_shown);
     say!("summary: {passed} passed, {failed} failed{not_shown}");
@@ -174,13 +182,13 @@ mod tests {
     fn every_kernel_is_commissioned_on_the_worked_example() {
         for kernel in KERNELS {
             let list = Checklist::new(*kernel, &Input::example(), 1);
-            assert!(go_through(&list), "{}", kernel.name);
+            assert!(go_through(&list, &Names::none()), "{}", kernel.name);
         }
     }
 
     #[test]
     fn struck_calls_are_told_in_words() {
-        let told = struck_calls(&case_of(&Input::example()), 1);
+        let told = struck_calls(&case_of(&Input::example()), 1, &Names::none());
         assert!(told.starts_with("struck for domain 1: 4 of 9 calls\n  call 4: domain 2 receives"));
         assert!(told.ends_with("call 8: domain 2 asks for its endpoints\n"));
     }

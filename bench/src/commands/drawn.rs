@@ -1,6 +1,8 @@
 //! What the commands have in common that try random things by their numbers, beside the
 //! separate machine: `bench step`, `bench queue` and `bench tables`.
 
+use std::ffi::OsString;
+
 use crate::args::Options;
 use crate::judging::trying::{Draws, Summary};
 use crate::line::explain::counted;
@@ -24,7 +26,7 @@ impl Drawn {
     /// Tries what the line asks for; whether nothing differs and all is met that must be.
     pub fn command<M: Summary + Default>(
         &self,
-        line: &[String],
+        line: &[OsString],
         tried: impl FnOnce(&Draws, &mut M) -> Result<(), String>,
     ) -> Result<bool, String> {
         let draws = self.draws(line)?;
@@ -38,7 +40,7 @@ impl Drawn {
         }
     }
 
-    fn draws(&self, line: &[String]) -> Result<Draws, String> {
+    fn draws(&self, line: &[OsString]) -> Result<Draws, String> {
         let options = Options::parse(line, &["--cases", "--seed", "--from", "--time"], &[])?;
         options.no_file()?;
         let cases = options.number("--cases")?.unwrap_or(self.cases);
@@ -105,7 +107,7 @@ mod tests {
     #[test]
     fn so_many_are_tried_as_are_asked_for() {
         let count = |line: &[&str]| {
-            let line: Vec<String> = line.iter().map(|word| word.to_string()).collect();
+            let line: Vec<OsString> = line.iter().map(OsString::from).collect();
             DRAWN.draws(&line).map(|draws| draws.count())
         };
         assert_eq!(count(&[]), Ok(7));

@@ -1,6 +1,8 @@
 //! `bench fuzz`: random runs of a kernel beside the separate machine, its check of
 //! table images beside the separate one, and the writer of lists likewise.
 
+use std::ffi::OsString;
+
 use crate::args::Options;
 use crate::judging::images::try_images;
 use crate::judging::lists::{try_lists, Met};
@@ -18,21 +20,23 @@ Runs a kernel on random tables, lists and answer spaces beside the separate
 machine and compares the code, the number of calls, every table word, every
 answer word and the words beyond; then, for a domain, what it sees of the
 kernel's run with the separate machine's run of the calls kept for it; then the
-counts of every queue; then, from a second table that differs only where a domain
-can't be reached, that this domain sees the same; then which calls are read as
-such, and that a list of these is written as it came. Compares the check of table
-images too: sound, damaged, cut short, too long, of odd lengths, any bytes. And the
-proved writer of lists: calls that can be written and that can't, in spaces that are
-large enough, just so and too short, every word of them.
+counts of every queue; then, from a second table that differs only where a
+domain can't be reached, that this domain sees the same; then which calls are
+read as such, and that a list of these is written as it came. Compares the check
+of table images too: sound, damaged, cut short, too long, of odd lengths, any
+bytes. And the proved writer of lists: calls that can be written and that can't,
+in spaces that are large enough, just so and too short, every word of them.
 
   --cases N         runs to try (default 20,000)
   --table-checks N  table images to try (default 4 for each run)
   --lists N         lists to write (default 1 for 16 runs)
   --seed S          the seed that everything is drawn from (default 1)
   --from K          the number of the first run, image and list (default 0)
-  --kernel NAME     balkwizu (default), balkwizu-working, plain-gcc or plain-clang; or
-                    a wrong one of bench/c/wrong, as wrong-faults
-  --time T          the seconds that one run, image or list may take (default 10)
+  --kernel NAME     balkwizu (default), balkwizu-working, plain-gcc or
+                    plain-clang; or a wrong one of bench/c/wrong, as
+                    wrong-faults
+  --time T          the seconds that one run, image or list may take (default
+                    10)
 
 The first difference ends it, with the words that show it as `bench words` takes
 them. The kernel runs in a child process: one that faults, that takes longer or
@@ -69,7 +73,7 @@ struct Plan {
 
 /// The command: whether nothing differs, and every code was met where that is
 /// asked.
-pub fn command(line: &[String]) -> Result<bool, String> {
+pub fn command(line: &[OsString]) -> Result<bool, String> {
     let valued = [
         "--cases",
         "--seed",

@@ -1,5 +1,7 @@
 //! `bench histories`: random histories of turns, the proved layer beside the separate one.
 
+use std::ffi::OsString;
+
 use crate::commands::drawn::Drawn;
 use crate::judging::histories::try_histories;
 use crate::kernels::layer::PROVED_LAYER;
@@ -7,28 +9,29 @@ use crate::kernels::layer::PROVED_LAYER;
 pub const HELP: &str = "\
 bench histories [--cases N] [--seed S] [--from K] [--time T]
 
-Plays random histories of turns: domains hand in calls and turns serve them, on the
-proved layer and on the separate one, and compares the code and every word that is
-lent, of the table, the state, the holders and the answer, after each event. Some
-tables are damaged, some states are such as no history makes or have another
-length, some calls are none or another's, and answers and holders now and then get
-too few or too many words. `bench turns` plays a history that is written by hand.
+Plays random histories of turns: domains hand in calls and turns serve them, on
+the proved layer and on the separate one, and compares the code and every word
+that is lent, of the table, the state, the holders and the answer, after each
+event. Some tables are damaged, some states are such as no history makes or have
+another length, some calls are none or another's, and answers and holders now
+and then get too few or too many words. `bench turns` plays a history that is
+written by hand.
 
 While only handing in and turns alter the state, no call may wait longer than as
-many turns as there are domains, and the calls served must be answered as a run of
-them as one list answers them. The last two lines show the longest wait that was
-seen for each number of domains beside the bound.
+many turns as there are domains, and the calls served must be answered as a run
+of them as one list answers them. The last two lines show the longest wait that
+was seen for each number of domains beside the bound.
 
   --cases N  histories to play (default 10,000)
   --seed S   the seed that everything is drawn from (default 1)
   --from K   the number of the first one (default 0)
   --time T   the seconds that one may take (default 10)
 
-From 1,000 on every code, every kind of damage and, for each number of domains, a
-wait of as many turns must be met.
+From 1,000 on every code, every kind of damage and, for each number of domains,
+a wait of as many turns must be met.
 
-Exit status: 0 nothing differs; 1 something differs, stops or was never met; 2 bad
-usage.
+Exit status: 0 nothing differs; 1 something differs, stops or was never met; 2
+bad usage.
 ";
 
 const HISTORIES: Drawn = Drawn {
@@ -39,7 +42,7 @@ const HISTORIES: Drawn = Drawn {
 };
 
 /// The command: whether nothing differs.
-pub fn command(line: &[String]) -> Result<bool, String> {
+pub fn command(line: &[OsString]) -> Result<bool, String> {
     HISTORIES.command(line, |draws, met| try_histories(&PROVED_LAYER, draws, met))
 }
 

@@ -1,6 +1,8 @@
 //! `bench linerun`: the program `linerun` beside the separate one, on random
 //! inputs.
 
+use std::ffi::OsString;
+
 use reference::calls::LIST_WORDS_MAX;
 use reference::check_table;
 use reference::words::from_bytes;
@@ -10,6 +12,7 @@ use crate::cases::inputs::{apart, due, given, Given};
 use crate::judging::printed::{difference, shorter};
 use crate::kernels::program::{run, Feed};
 use crate::line::explain::counted;
+use crate::line::input::shown;
 use crate::output::{self, say};
 use crate::progress::Progress;
 
@@ -32,8 +35,8 @@ calls is answered with.
   --time T   the seconds that it may take for one input (default 10)
 
 The first difference ends it, with the words that show it as `bench words` takes
-them. From 1,000 inputs on, a code that no input met is a failure too, and so is a
-way to give an input that was never used.
+them. From 1,000 inputs on, a code that no input met is a failure too, and so is
+a way to give an input that was never used.
 
 Exit status: 0 nothing differs, and every code was met where that is asked; 1
 otherwise; 2 bad usage, or a program that can't be started.
@@ -54,7 +57,7 @@ const WAYS: [&str; 6] = [
 ];
 
 /// The command: whether nothing differs.
-pub fn command(line: &[String]) -> Result<bool, String> {
+pub fn command(line: &[OsString]) -> Result<bool, String> {
     let valued = ["--cases", "--seed", "--from", "--time"];
     let options = Options::parse(line, &valued, &[])?;
     let program = options.file().map_err(|why| format!("PROGRAM: {why}"))?;
@@ -76,7 +79,8 @@ pub fn command(line: &[String]) -> Result<bool, String> {
             say!("DIFFERENCE in input {number} of seed {seed}:\n  {told}");
             output::write(way_in_words(&input, feed).as_bytes());
             say!(
-                "To see it again: bench linerun {program} --seed {seed} --from {number} --cases 1"
+                "To see it again: bench linerun {} --seed {seed} --from {number} --cases 1",
+                shown(program)
             );
             output::write(shorter(program, &input, feed, &ran).as_bytes());
             return Ok(false);
@@ -85,7 +89,7 @@ pub fn command(line: &[String]) -> Result<bool, String> {
         progress.step();
     }
     progress.clear();
-    Ok(ended(program, cases, &met))
+    Ok(ended(&shown(program), cases, &met))
 }
 
 /// How often each code and each way to give an input was met.

@@ -1,6 +1,8 @@
 //! `bench queue`: the proved queue's send and receive beside the separate ones, on
 //! any words in the place of an endpoint's twelve.
 
+use std::ffi::OsString;
+
 use crate::commands::drawn::Drawn;
 use crate::judging::queues::try_queues;
 use crate::kernels::boundary::PROVED_QUEUE;
@@ -9,9 +11,9 @@ pub const HELP: &str = "\
 bench queue [--cases N] [--seed S] [--from K] [--time T]
 
 Lends random words to the proved queue's send and to its receive, and compares
-every word with what the separate ones leave. The words are mostly twelve, with a
-capacity and a waiting count near what an endpoint can have, and anything in the
-slots, also behind the waiting count.
+every word with what the separate ones leave. The words are mostly twelve, with
+a capacity and a waiting count near what an endpoint can have, and anything in
+the slots, also behind the waiting count.
 
   --cases N  words to try (default 100,000)
   --seed S   the seed that everything is drawn from (default 1)
@@ -19,10 +21,12 @@ slots, also behind the waiting count.
   --time T   the seconds that one send or receive may take (default 10)
 
 The first difference ends it. The functions run in a child process: one that
-faults, that takes longer or that ends the program is told as STOPPED. From 10,000 words on, a case that was never met is a
-failure too: each waiting count with other slots than empty ones behind it, a send
-with space, to a full queue and with the lost count at its top, and words that each
-of the two leaves as they are.
+faults, that takes longer or that ends the program is told as STOPPED.
+
+From 10,000 words on, a case that was never met is a failure too: each waiting
+count with other slots than empty ones behind it, a send with space, to a full
+queue and with the lost count at its top, and words that each of the two leaves
+as they are.
 
 The functions are in the archive of the crate queue_export (`rt staticlib
 queue_export`), which the program is built with where it is there.
@@ -39,7 +43,7 @@ const QUEUES: Drawn = Drawn {
 };
 
 /// The command: whether nothing differs.
-pub fn command(line: &[String]) -> Result<bool, String> {
+pub fn command(line: &[OsString]) -> Result<bool, String> {
     let queue = PROVED_QUEUE.ok_or(
         "this program was built without the queue's functions: `rt staticlib queue_export`, \
          then build it again",

@@ -1,5 +1,7 @@
 //! `bench read`: a list into calls as text, one a line.
 
+use std::ffi::OsString;
+
 use reference::writer::{to_columns, COLUMNS};
 use reference::Value;
 
@@ -7,22 +9,25 @@ use crate::args::Options;
 use crate::kernels::boundary::PROVED_WRITER;
 use crate::line::calls;
 use crate::line::explain::{call_in_words, counted, meaning};
+use crate::line::given::{read_given_list, Given};
 use crate::line::input::{shown, Input};
-use crate::line::text;
-use crate::output;
+use crate::line::names::Names;
+use crate::output::{self, complain};
 
 pub const HELP: &str = "\
 bench read FILE
 
-Writes the calls of a list as text, one a line, as `bench write` takes them. FILE
-is an input of linerun, or a text of hexadecimal words as `bench words` takes it or
-as `bench write` gives it, whose `list` may stand without a table. `-` is standard
-input.
+Writes the calls of a list as text, one a line, as `bench write` takes them.
+FILE is an input of linerun, or a text of hexadecimal words as `bench words`
+takes it or as `bench write` gives it, whose `list` may stand without a table.
+`-` is standard input. Where the text gives names, each call is told with them
+in a comment.
 
 The calls are written by the proved writer again, and must give the list as it
 came: two different lists of calls are never written in the same words, so these
-are the calls of the list. A call that the reader refuses whatever the table, with
-10, 11, 13 or 14, has no such text: it is told by its number, from 0, and its code.
+are the calls of the list. A call that the reader refuses whatever the table,
+with 10, 11, 13 or 14, has no such text: it is told by its number, from 0, and
+its code.
 
 Exit status: 0 written; 1 the list has such a call, or FILE is refused; 2 bad
 usage, or a file that can't be read.
@@ -32,40 +37,57 @@ usage, or a file that can't be read.
 const TOLD_MAX: usize = 10;
 
 /// The command: whether there was something to write.
-pub fn command(line: &[String]) -> Result<bool, String> {
+pub fn command(line: &[OsString]) -> Result<bool, String> {
     let options = Options::parse(line, &[], &[])?;
     let file = options.file()?;
-    let list = match Input::parse(&text::input_bytes(file, text::read_list)?) {
+    let Given { bytes, names } = read_given_list(file)?;
+    let list = match Input::parse(&bytes) {
         Ok(Input { list, .. }) => list,
         Err((code, why)) => {
             let (file, meaning) = (shown(file), meaning(code));
-            eprintln!("bench read: {file} is refused with {code} ({meaning}): {why}");
+            complain!("bench read: {file} is refused with {code} ({meaning}): {why}");
             return Ok(false);
         }
     };
     let values = reference::read(&list);
-    let refused = told_refused(&list, &values);
+    let refused = told_refused(&list, &values, &names);
     if !refused.is_empty() {
         // Standard output is for the text alone.
-        eprint!("{refused}");
+        complain!("{}", refused.trim_end());
         return Ok(false);
     }
     let calls: Vec<[u32; COLUMNS]> = values.iter().filter_map(to_columns).collect();
     as_it_came(&list, &calls)?;
-    let text: String = calls.iter().map(calls::write).collect();
-    output::write(text.as_bytes());
+    output::write(in_text(&list, &calls, &names).as_bytes());
     Ok(true)
 }
 
+/// The calls as text. Where names are given, each is told with them in a comment.
+fn in_text(list: &[u32], calls: &[[u32; COLUMNS]], names: &Names) -> String {
+    let cut = reference::cut(list);
+    let lines = calls.iter().zip(&cut).map(|(columns, call)| {
+        let line = calls::write(columns);
+        match names.is_empty() {
+            true => line,
+            false => format!(
+                "{:<46}  # {}\n",
+                line.trim_end(),
+                call_in_words(call, names)
+            ),
+        }
+    });
+    lines.collect()
+}
+
 /// What is told of calls that have no text: nothing where there is none.
-fn told_refused(list: &[u32], values: &[Value]) -> String {
+fn told_refused(list: &[u32], values: &[Value], names: &Names) -> String {
     let cut = reference::cut(list);
     let refused = values.iter().zip(&cut).enumerate();
     let refused = refused.filter_map(|(number, (value, call))| match value {
         Value::Refused(code) => Some(format!(
             "bench read: call {number} is refused with {code} ({}): {}\n",
             meaning(*code),
-            call_in_words(call)
+            call_in_words(call, names)
         )),
         _ => None,
     });

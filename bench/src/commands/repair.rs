@@ -1,94 +1,103 @@
 //! `bench repair`: a table that a worn card gives back damaged is made fit again, and told
 //! in words; and the other way round.
 
+use std::ffi::OsString;
 use std::fs;
 use std::path::Path;
 
 use reference::repair::PAIR_WORDS;
 use reference::table::{
-    capacity, domains, endpoint_place, endpoint_words, endpoints, name, LOST, LOST_PLACE, WAITING,
+    capacity, domains, endpoint_place, endpoint_words, endpoints, LOST, LOST_PLACE, WAITING,
     WAITING_PLACE,
 };
 use reference::words::{content, from_bytes, kind, to_bytes};
 
 use crate::args::Options;
 use crate::kernels::boundary::repair;
-use crate::line::explain::{counted, meaning, place_in_words, table_fault};
-use crate::line::input::{read_at_most, read_input, shown, Input, INPUT_BYTES_MAX};
+use crate::line::explain::{counted, endpoint_in_words, meaning, place_in_words, table_fault};
+use crate::line::given::{read_given, Given};
+use crate::line::input::{read_at_most, shown, Input, INPUT_BYTES_MAX};
+use crate::line::names::Names;
 use crate::output::say;
 
 pub const HELP: &str = "\
 bench repair IN OUT [--image] [--changes FILE]
 bench repair IN OUT [--image] --undo FILE
 
-Makes a table that is refused with 4 or 5 fit again, without ever adding a right,
-by the proved function: a broken rights word becomes an empty set, and an endpoint
-with a broken waiting, lost or slot word gets an empty queue and lost 0. Tells every
-word that was altered and what that means for the line. A table whose word 0,
-length, names, owners or capacities are wrong can't be repaired.
+Makes a table that is refused with 4 or 5 fit again, without ever adding a
+right, by the proved function: a broken rights word becomes an empty set, and an
+endpoint with a broken waiting, lost or slot word gets an empty queue and lost
+0. Tells every word that was altered and what that means for the line. A table
+whose word 0, length, names, owners or capacities are wrong can't be repaired.
+IN may be a text as `bench words` takes it, OUT is an input of linerun.
 
-  --image         IN and OUT are a table's bytes alone, as a card has them. Without
-                  it they are inputs of linerun, and the list stays as it is
-  --changes FILE  write what was altered to FILE: two words for each, its place and
-                  its old content
+  --image         IN and OUT are a table's bytes alone, as a card has them.
+                  Without it they are inputs of linerun, and the list stays as
+                  it is
+  --changes FILE  write what was altered to FILE: two words for each, its place
+                  and its old content
   --undo FILE     put the old contents back that such a FILE has
 
-Exit status: 0 written, also where there was nothing to repair; 1 refused, with what
-is wrong, and nothing written; 2 bad usage, or a file that can't be read or written.
+Exit status: 0 written, also where there was nothing to repair; 1 refused, with
+what is wrong, and nothing written; 2 bad usage, or a file that can't be read or
+written.
 ";
 
 /// What the command is given.
 struct Asked<'a> {
-    from: &'a str,
-    to: &'a str,
+    from: &'a Path,
+    to: &'a Path,
     image: bool,
-    changes: Option<&'a str>,
+    changes: Option<&'a Path>,
 }
 
+/// What IN holds, with the names that it gives; or the number and what is wrong.
+type Held = Result<(Input, Names), (u32, String)>;
+
 /// The command: whether OUT was written.
-pub fn command(line: &[String]) -> Result<bool, String> {
+pub fn command(line: &[OsString]) -> Result<bool, String> {
     let options = Options::parse(line, &["--changes", "--undo"], &["--image"])?;
     let (from, to) = options.two_files()?;
     if same_file(from, to) {
+        let to = to.display();
         return Err(format!("{to} is the input, which would be overwritten"));
     }
     let asked = Asked {
         from,
         to,
         image: options.has("--image"),
-        changes: options.text("--changes"),
+        changes: options.path("--changes"),
     };
-    let mut input = match asked.read()? {
-        Ok(input) => input,
+    let (mut input, names) = match asked.read()? {
+        Ok(read) => read,
         Err((code, why)) => {
             say!("refused with {code} ({}): {why}", meaning(code));
             return Ok(false);
         }
     };
-    match options.text("--undo") {
-        None => asked.repaired(&mut input),
+    match options.path("--undo") {
+        None => asked.repaired(&mut input, &names),
         Some(_) if asked.changes.is_some() => Err("--undo alters nothing to list".to_string()),
         Some(list) => asked.undone(&mut input, list),
     }
 }
 
-fn same_file(from: &str, to: &str) -> bool {
-    let place = |path: &str| Path::new(path).canonicalize().ok();
-    from != "-" && place(from).is_some() && place(from) == place(to)
+fn same_file(from: &Path, to: &Path) -> bool {
+    let place = |path: &Path| path.canonicalize().ok();
+    from != Path::new("-") && place(from).is_some() && place(from) == place(to)
 }
 
 impl Asked<'_> {
-    /// What IN holds; the number and what is wrong where it isn't words.
-    fn read(&self) -> Result<Result<Input, (u32, String)>, String> {
+    /// Reads IN; it may hold no words.
+    fn read(&self) -> Result<Held, String> {
         if !self.image {
-            return Ok(Input::parse(&read_input(self.from)?));
+            let Given { bytes, names } = read_given(self.from)?;
+            return Ok(Input::parse(&bytes).map(|input| (input, names)));
         }
         let bytes = read_at_most(self.from, INPUT_BYTES_MAX)?;
+        let (table, list) = (from_bytes(&bytes), Vec::new());
         Ok(match bytes.len() % 4 {
-            0 => Ok(Input {
-                table: from_bytes(&bytes),
-                list: Vec::new(),
-            }),
+            0 => Ok((Input { table, list }, Names::none())),
             left => {
                 let left = counted(left, "byte");
                 Err((33, format!("{left} left over after the last whole word")))
@@ -103,12 +112,13 @@ impl Asked<'_> {
         }
     }
 
-    fn repaired(&self, input: &mut Input) -> Result<bool, String> {
+    fn repaired(&self, input: &mut Input, names: &Names) -> Result<bool, String> {
         let old = input.table.clone();
         let mut changes = vec![0; PAIR_WORDS * old.len()];
         let (code, altered) = repair(&mut input.table, &mut changes);
         if code != 0 {
-            let why = table_fault(&old).map_or(String::new(), |(_, fault)| format!(": {fault}"));
+            let fault = table_fault(&old, names);
+            let why = fault.map_or(String::new(), |(_, fault)| format!(": {fault}"));
             say!("refused with {code} ({}){why}", meaning(code));
             return Ok(false);
         }
@@ -117,11 +127,11 @@ impl Asked<'_> {
         if let Some(file) = self.changes {
             written(file, &to_bytes(&changes))?;
         }
-        say!("{}", in_words(&old, &input.table, &changes));
+        say!("{}", in_words(&old, &input.table, &changes, names));
         Ok(true)
     }
 
-    fn undone(&self, input: &mut Input, list: &str) -> Result<bool, String> {
+    fn undone(&self, input: &mut Input, list: &Path) -> Result<bool, String> {
         let changes = from_bytes(&read_at_most(list, INPUT_BYTES_MAX)?);
         let places = changes.chunks(PAIR_WORDS);
         let bad = |pair: &[u32]| pair.len() < 2 || pair[0] as usize >= input.table.len();
@@ -139,12 +149,12 @@ impl Asked<'_> {
     }
 }
 
-fn written(path: &str, bytes: &[u8]) -> Result<(), String> {
-    fs::write(path, bytes).map_err(|why| format!("cannot write {path}: {why}"))
+fn written(path: &Path, bytes: &[u8]) -> Result<(), String> {
+    fs::write(path, bytes).map_err(|why| format!("cannot write {}: {why}", path.display()))
 }
 
 /// What was altered, and what it means for the line.
-fn in_words(old: &[u32], new: &[u32], changes: &[u32]) -> String {
+fn in_words(old: &[u32], new: &[u32], changes: &[u32], names: &Names) -> String {
     if changes.is_empty() {
         return "nothing to repair: the table is sound".to_string();
     }
@@ -155,24 +165,28 @@ fn in_words(old: &[u32], new: &[u32], changes: &[u32]) -> String {
     let mut text = format!("{} altered\n", counted(places.len(), "word"));
     for &place in &places {
         let (was, is) = (old[place], new[place]);
-        let what = place_in_words(new, place);
+        let what = place_in_words(new, place, names);
         text += &format!("  {what}: was {was:08X}, is {is:08X}\n");
     }
     text += "For the line this means";
-    for told in rights_gone(new, &places).chain(queues_emptied(old, new, &places)) {
+    let rights = rights_gone(new, &places, names);
+    for told in rights.chain(queues_emptied(old, new, &places, names)) {
         text += &format!("\n  {told}");
     }
     text
 }
 
-fn rights_gone<'a>(table: &'a [u32], places: &'a [usize]) -> impl Iterator<Item = String> + 'a {
+fn rights_gone<'a>(
+    table: &'a [u32],
+    places: &'a [usize],
+    names: &'a Names,
+) -> impl Iterator<Item = String> + 'a {
     let n = domains(table);
     let rights = places.iter().filter(move |&&place| place <= n * n);
     rights.map(move |place| {
-        let (holder, target) = ((place - 1) / n, (place - 1) % n);
+        let (holder, target) = (names.domain((place - 1) / n), names.domain((place - 1) % n));
         format!(
-            "domain {holder} has no right on domain {target} any more, whatever it had: who may, \
-             grants it anew"
+            "{holder} has no right on {target} any more, whatever it had: who may, grants it anew"
         )
     })
 }
@@ -181,6 +195,7 @@ fn queues_emptied<'a>(
     old: &'a [u32],
     new: &'a [u32],
     places: &'a [usize],
+    names: &'a Names,
 ) -> impl Iterator<Item = String> + 'a {
     let emptied = (0..endpoints(new)).filter(move |&e| {
         let start = endpoint_place(new, e);
@@ -190,8 +205,8 @@ fn queues_emptied<'a>(
     });
     emptied.map(move |e| {
         format!(
-            "the queue of endpoint {e} (name {}) was emptied: {}, {}",
-            name(new, e),
+            "the queue of {} was emptied: {}, {}",
+            endpoint_in_words(new, e, names),
             messages_gone(old, e),
             lost_gone(endpoint_words(old, e)[LOST_PLACE])
         )
@@ -230,7 +245,12 @@ mod tests {
         let mut changes = vec![0; 2 * table.len()];
         let (code, altered) = repair(&mut table, &mut changes);
         assert_eq!(code, 0);
-        in_words(&old, &table, &changes[..2 * altered as usize])
+        in_words(
+            &old,
+            &table,
+            &changes[..2 * altered as usize],
+            &Names::none(),
+        )
     }
 
     #[test]

@@ -1,8 +1,11 @@
 //! `bench show`: a table and a list in words, as a small diagram, and as a
 //! picture.
 
+use std::ffi::OsString;
 use std::fs;
+use std::os::unix::ffi::OsStrExt;
 use std::os::unix::fs::MetadataExt;
+use std::path::Path;
 
 use reference::cut;
 use reference::entry::ANSWER_WORDS;
@@ -14,7 +17,8 @@ use crate::kernels::boundary::PROVED;
 use crate::kernels::child;
 use crate::kernels::lent::Ran;
 use crate::line::explain::{meaning, table_fault};
-use crate::line::input::{read_input, Input};
+use crate::line::given::{read_given, Given};
+use crate::line::input::Input;
 use crate::output::{self, say};
 use crate::pictures::diagram::in_words;
 use crate::pictures::picture;
@@ -23,36 +27,38 @@ pub const HELP: &str = "\
 bench show FILE [--run] [--svg OUT] [--calls N]
 
 Shows an input of linerun in words: who has which right on whom, the queues with
-what waits in them, and the calls of the list.
+what waits in them, and the calls of the list. FILE may be a text as `bench
+words` takes it; the names that it gives stand beside the numbers.
 
-  --run       run the list on the kernel: each call with its answer, and the rights
-              and queues that it leaves
+  --run       run the list on the kernel: each call with its answer, and the
+              rights and queues that it leaves
   --svg OUT   write the same as a picture to OUT: small tables with arrows
-  --calls N   show the first N calls only (default: all; in a picture 24, and about
-              1,300 at most)
+  --calls N   show the first N calls only (default: all; in a picture 24, and
+              about 1,300 at most)
 
-Exit status: 0 shown; 1 the input or its table is refused, with what is wrong; 2
-bad usage, or a file that can't be read or written.
+Exit status: 0 shown; 1 the input or its table is refused, with every word that
+is wrong; 2 bad usage, or a file that can't be read or written.
 ";
 
 /// How many calls a picture shows where nothing else is asked for.
 const CALLS_IN_PICTURE: usize = 24;
 
 /// The command: whether the input is one that runs.
-pub fn command(line: &[String]) -> Result<bool, String> {
+pub fn command(line: &[OsString]) -> Result<bool, String> {
     let options = Options::parse(line, &["--svg", "--calls"], &["--run"])?;
     let file = options.file()?;
     let calls = options.number("--calls")?.map(|calls| calls as usize);
-    let out = options.text("--svg");
+    let out = options.path("--svg");
     let out = out.map(|out| picture_file(out, file)).transpose()?;
-    let input = match Input::parse(&read_input(file)?) {
+    let Given { bytes, names } = read_given(file)?;
+    let input = match Input::parse(&bytes) {
         Ok(input) => input,
         Err((code, why)) => {
             say!("refused with {code} ({}): {why}", meaning(code));
             return Ok(false);
         }
     };
-    if let Some((code, fault)) = table_fault(&input.table) {
+    if let Some((code, fault)) = table_fault(&input.table, &names) {
         say!("table refused with {code} ({}): {fault}", meaning(code));
         output::write(crate::line::text::write(&input).as_bytes());
         return Ok(false);
@@ -61,7 +67,7 @@ pub fn command(line: &[String]) -> Result<bool, String> {
         .map(|out| write_picture(out, &input, calls))
         .transpose()?;
     let left = options.has("--run").then(|| ran(&input)).transpose()?;
-    output::write(in_words(&input, left.as_ref(), calls.unwrap_or(usize::MAX)).as_bytes());
+    output::write(in_words(&input, &names, left.as_ref(), calls.unwrap_or(usize::MAX)).as_bytes());
     if let Some(written) = written {
         say!("{written}");
     }
@@ -69,32 +75,39 @@ pub fn command(line: &[String]) -> Result<bool, String> {
 }
 
 /// The name of the picture's file, unless it looks like an option or is the input.
-fn picture_file<'a>(out: &'a str, input: &str) -> Result<&'a str, String> {
-    if out.is_empty() {
+fn picture_file<'a>(out: &'a Path, input: &Path) -> Result<&'a Path, String> {
+    let told = out.display();
+    if out.as_os_str().is_empty() {
         return Err("--svg needs a file's name".to_string());
     }
-    if out.starts_with('-') {
+    if out.as_os_str().as_bytes().starts_with(b"-") {
         return Err(format!(
-            "--svg needs a file's name: for a file {out} write ./{out}"
+            "--svg needs a file's name: for a file {told} write ./{told}"
         ));
     }
-    let input = if input == "-" { "/dev/stdin" } else { input };
-    let identity = |path: &str| fs::metadata(path).map(|file| (file.dev(), file.ino()));
+    let standard = input == Path::new("-");
+    let input = if standard {
+        Path::new("/dev/stdin")
+    } else {
+        input
+    };
+    let identity = |path: &Path| fs::metadata(path).map(|file| (file.dev(), file.ino()));
     match (identity(out), identity(input)) {
         (Ok(out_file), Ok(input)) if out_file == input => Err(format!(
-            "--svg {out} is the input, which the picture would overwrite"
+            "--svg {told} is the input, which the picture would overwrite"
         )),
         _ => Ok(out),
     }
 }
 
 /// Writes the picture; tells what was written, for the end of the text.
-fn write_picture(out: &str, input: &Input, calls: Option<usize>) -> Result<String, String> {
+fn write_picture(out: &Path, input: &Input, calls: Option<usize>) -> Result<String, String> {
     let svg = picture::svg(input, calls.unwrap_or(CALLS_IN_PICTURE));
-    fs::write(out, svg).map_err(|why| format!("cannot write {out}: {why}"))?;
+    let to = out.display();
+    fs::write(out, svg).map_err(|why| format!("cannot write {to}: {why}"))?;
     Ok(match picture::without_arrows(&input.table) {
-        Some(why) => format!("picture written to {out}. {why}"),
-        None => format!("picture written to {out}"),
+        Some(why) => format!("picture written to {to}. {why}"),
+        None => format!("picture written to {to}"),
     })
 }
 

@@ -1,6 +1,8 @@
 //! `bench speed`: the proved kernel's speed beside the plain C kernel's, in one
 //! run, as ratios.
 
+use std::ffi::OsString;
+
 use crate::args::Options;
 use crate::cases::mixes::{mixes, Mix};
 use crate::cases::workloads::{by_kind, workloads, Workload};
@@ -16,27 +18,28 @@ pub const HELP: &str = "\
 bench speed [--by-kind] [--lengths] [--turns] [--all] [--rounds N] [--seed S]
 
 Measures the proved kernel, by either of its runs, beside the plain C kernel of
-bench/c as gcc -O3 and, where there is one, clang -O3 make it, and prints a Markdown
-table: table checks, and calls on lists of 4,096 words of four mixes, sixty different
-lists of each in rotation and one list repeated, which the processor learns by heart.
+bench/c as gcc -O3 and, where there is one, clang -O3 make it, and prints a
+Markdown table: table checks, and calls on lists of 4,096 words of four mixes,
+sixty different lists of each in rotation and one list repeated, which the
+processor learns by heart.
 
-  --by-kind   lists in rotation with one kind of call each, or two that undo each
-              other, on a small table and on the largest
-  --lengths   the time of one run by the length of its list, from one word to 4,096,
-              on these two tables, and from which length on the run in the working
-              layout is faster than the other
-  --turns     what a turn of the proved layer costs, idle and serving, by the table's
-              size, and how much of it is the check of the table
+  --by-kind   lists in rotation with one kind of call each, or two that undo
+              each other, on a small table and on the largest
+  --lengths   the time of one run by the length of its list, from one word to
+              4,096, on these two tables, and from which length on the run in
+              the working layout is faster than the other
+  --turns     what a turn of the proved layer costs, idle and serving, by the
+              table's size, and how much of it is the check of the table
   --all       all four tables
   --rounds N  1 to 100,000 (default 301)
   --seed S    the seed that the lists are drawn from (default 1)
 
-All kernels take turns in each of N rounds. A figure is the median of the rounds. A
-ratio is the median of the rounds' ratios, the proved kernel's time over that of the
-faster plain C kernel of the row: above 1 the proved kernel is slower. In brackets
-stand the ratios that a tenth of the rounds stay below and exceed. A goal is for the
-ratio of the check, or of the faster of the two runs. Every kernel's runs are first
-compared with the separate machine's.
+All kernels take turns in each of N rounds. A figure is the median of the
+rounds. A ratio is the median of the rounds' ratios, the proved kernel's time
+over that of the faster plain C kernel of the row: above 1 the proved kernel is
+slower. In brackets stand the ratios that a tenth of the rounds stay below and
+exceed. A goal is for the ratio of the check, or of the faster of the two runs.
+Every kernel's runs are first compared with the separate machine's.
 
 Exit status: 0 measured; 1 a kernel's run or a turn differs; 2 bad usage.
 ";
@@ -50,7 +53,7 @@ const SIZES: [(usize, usize); 2] = [(4, 4), (16, 32)];
 const COMPARED: usize = 60;
 
 /// The command: whether every kernel's runs are right, so that its speed counts.
-pub fn command(line: &[String]) -> Result<bool, String> {
+pub fn command(line: &[OsString]) -> Result<bool, String> {
     let flags = ["--by-kind", "--lengths", "--turns", "--all"];
     let options = Options::parse(line, &["--rounds", "--seed"], &flags)?;
     options.no_file()?;

@@ -1,6 +1,8 @@
 //! `bench step`: the proved kernel's public step beside the separate machine's, one
 //! call at a time.
 
+use std::ffi::OsString;
+
 use crate::commands::drawn::Drawn;
 use crate::judging::steps::try_steps;
 use crate::kernels::boundary::PROVED_STEP;
@@ -8,27 +10,28 @@ use crate::kernels::boundary::PROVED_STEP;
 pub const HELP: &str = "\
 bench step [--cases N] [--seed S] [--from K] [--time T]
 
-Feeds the calls of random lists one by one to the proved kernel's public step, and
-to the separate machine, and compares the code, the answer words, every table word,
-the holders' words and the words around them after each call. Tables are sound or
-damaged, answer spaces large enough or not, the holders' words as many as domains or
-not; some calls get a second word that no list gives them: a kind that takes none
-gets one, or it is of another kind than 15.
+Feeds the calls of random lists one by one to the proved kernel's public step,
+and to the separate machine, and compares the code, the answer words, every
+table word, the holders' words and the words around them after each call. Tables
+are sound or damaged, answer spaces large enough or not, the holders' words as
+many as domains or not; some calls get a second word that no list gives them: a
+kind that takes none gets one, or it is of another kind than 15.
 
   --cases N  tables and lists to try (default 20,000)
   --seed S   the seed that everything is drawn from (default 1)
   --from K   the number of the first one (default 0)
   --time T   the seconds that one list may take (default 10)
 
-The first difference ends it, with the table before the call and the call's words
-as `bench words` takes them. The step runs in a child process: one that faults,
-that takes longer or that ends the program is told in the same way, as STOPPED.
+The first difference ends it, with the table before the call and the call's
+words as `bench words` takes them. The step runs in a child process: one that
+faults, that takes longer or that ends the program is told in the same way, as
+STOPPED.
 
-From 5,000 lists on, a code that no call met is a failure too, and so is a second
-word of either sort that was never given.
+From 5,000 lists on, a code that no call met is a failure too, and so is a
+second word of either sort that was never given.
 
-The step is in the archive of the crate step_export (`rt staticlib step_export`),
-which the program is built with where it is there.
+The step is in the archive of the crate step_export (`rt staticlib
+step_export`), which the program is built with where it is there.
 
 Exit status: 0 nothing differs, and everything was met where that is asked; 1
 otherwise; 2 bad usage, or a program built without the step.
@@ -42,7 +45,7 @@ const STEPS: Drawn = Drawn {
 };
 
 /// The command: whether nothing differs.
-pub fn command(line: &[String]) -> Result<bool, String> {
+pub fn command(line: &[OsString]) -> Result<bool, String> {
     let step = PROVED_STEP.ok_or(
         "this program was built without the step: `rt staticlib step_export`, then build it again",
     )?;

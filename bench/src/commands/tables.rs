@@ -1,5 +1,7 @@
 //! `bench tables`: functions of a table alone, on random words, beside the separate ones.
 
+use std::ffi::OsString;
+
 use crate::commands::drawn::Drawn;
 use crate::judging::potentials::{self, try_potentials};
 use crate::judging::repairs::{self, try_repairs};
@@ -9,12 +11,12 @@ use crate::kernels::boundary::{potential, repair};
 pub const HELP: &str = "\
 bench tables [--cases N] [--seed S] [--from N] [--time SECONDS]
 
-Tries the proved kernel's functions of a table alone on random tables, beside the
-separate ones: repairs of worn tables, damaged by one bit, by runs of words as a
-worn card gives them, or in many words. What is repaired must pass the table's
-check, and the list of what was altered must put the old table back. And potential
-rights: lists by the actors must give nobody more, and a list is built for each table
-that gives them all.
+Tries the proved kernel's functions of a table alone on random tables, beside
+the separate ones: repairs of worn tables, damaged by one bit, by runs of words
+as a worn card gives them, or in many words. What is repaired must pass the
+table's check, and the list of what was altered must put the old table back. And
+potential rights: lists by the actors must give nobody more, and a list is built
+for each table that gives them all.
 
   --cases N    how many tables (default 20,000)
   --seed S     the seed that they are drawn from (default 1)
@@ -23,8 +25,8 @@ that gives them all.
 
 From 10,000 on everything that is tried for must be met.
 
-Exit status: 0 nothing differs; 1 something differs, stops or was never met; 2 bad
-usage.
+Exit status: 0 nothing differs; 1 something differs, stops or was never met; 2
+bad usage.
 ";
 
 /// What was met of each.
@@ -53,7 +55,7 @@ const TABLES: Drawn = Drawn {
 };
 
 /// The command: whether nothing differs.
-pub fn command(line: &[String]) -> Result<bool, String> {
+pub fn command(line: &[OsString]) -> Result<bool, String> {
     TABLES.command(line, |draws, met: &mut Met| {
         try_repairs(repair, draws, &mut met.repairs)?;
         try_potentials(potential, draws, &mut met.potentials)

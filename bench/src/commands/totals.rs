@@ -3,6 +3,9 @@
 
 mod speed;
 
+use std::ffi::OsString;
+use std::path::{Path, PathBuf};
+
 use reference::words::to_bytes;
 
 use crate::args::Options;
@@ -11,8 +14,10 @@ use crate::cases::sheets::{given, most_lists};
 use crate::judging::printed::difference;
 use crate::kernels::program::{run, Feed};
 use crate::line::explain::counted;
-use crate::line::input::{read_at_most, read_input, shown, Input};
-use crate::output::{self, say};
+use crate::line::given::{read_given, read_given_list, read_names};
+use crate::line::input::{read_at_most, shown, Input};
+use crate::line::names::Names;
+use crate::output::{self, complain, say};
 use crate::pictures::sheet;
 use crate::progress::Progress;
 
@@ -20,42 +25,48 @@ pub const HELP: &str = "\
 bench totals PROGRAM [--cases N] [--seed S] [--from K] [--time T]
 bench totals PROGRAM --speed [--lists N] [--rounds N]
 bench totals --join LINE.. > INPUT
-bench totals --html SHEET > PAGE
+bench totals --html SHEET [--names TEXT] > PAGE
 
 Runs PROGRAM, as target/bin/linetotals, on random inputs and compares every byte
 that it prints with what the separate implementation prints: lists that run one
-after another, tables and lists that are refused, inputs that are cut short. Some
-are given byte by byte or in odd parts. Where what is printed is due before the end
-(a refused table, a length word above 4,096, a byte behind the 65,536th list) the
-pipe is held open there: the sheet must come all the same. The first two inputs have
-65,536 lists with a send and a receive each, one of them a length word more.
+after another, tables and lists that are refused, inputs that are cut short.
+Some are given byte by byte or in odd parts. Where what is printed is due before
+the end (a refused table, a length word above 4,096, a byte behind the 65,536th
+list) the pipe is held open there: the sheet must come all the same. The first
+two inputs have 65,536 lists with a send and a receive each, one of them a
+length word more.
 
   --cases N  inputs to try (default 1,000)
   --seed S   the seed that they are drawn from (default 1)
   --from K   the number of the first input (default 0)
   --time T   the seconds that it may take for one input (default 10)
 
-From 500 inputs on, a code that no input met is a failure too, and so is a way to
-give an input that was never used.
+From 500 inputs on, a code that no input met is a failure too, and so is a way
+to give an input that was never used.
 
-With --speed, measures PROGRAM on long lists beside `cat` on the same bytes and beside
-the same job in plain C, bench/c/plain_totals.c as gcc -O3 makes it. The three take
-turns on an input of a gibibyte, which is made for it and removed; times are
-processor seconds.
+With --speed, measures PROGRAM on long lists beside `cat` on the same bytes and
+beside the same job in plain C, bench/c/plain_totals.c as gcc -O3 makes it. The
+three take turns on an input of a gibibyte, which is made for it and removed;
+times are processor seconds.
 
   --lists N   lists of 4,096 words, 1 to 65,536 (default 65,536)
   --rounds N  rounds, 1 to 100 (default 5)
 
-With --join, makes an input of linetotals out of inputs of linerun: the table of the
-first, then the list of each with its length in words before it. The tables of the
-others aren't looked at, since each list runs from what the one before leaves.
+With --join, makes an input of linetotals out of inputs of linerun: the table of
+the first, then the list of each with its length in words before it. The tables
+of the others aren't looked at, since each list runs from what the one before
+leaves. A LINE may be a text as `bench words` takes it; in that of another than
+the first the list may stand without a table, as `bench write` gives it.
 
-With --html, makes a page to read and to print out of what linetotals printed, which
-stands in the file SHEET. `-` is standard input.
+With --html, makes a page to read and to print out of what linetotals printed,
+which stands in the file SHEET. `-` is standard input.
 
-Exit status: 0 nothing differs, and every code was met where that is asked, or the
-page or the input was made, or the speed was measured; 1 otherwise; 2 bad usage, or a
-program that can't be started.
+  --names TEXT  the endpoints' names, beside their numbers: a text with lines as
+                `endpoint 1 drives`, alone or as `bench words` takes it
+
+Exit status: 0 nothing differs, and every code was met where that is asked, or
+the page or the input was made, or the speed was measured; 1 otherwise; 2 bad
+usage, or a program that can't be started.
 ";
 
 /// The codes of the last line that must be met, and from how many inputs on.
@@ -69,17 +80,21 @@ const WAYS: [&str; 3] = ["byte by byte", "in odd parts", "held open where it is 
 const SHEET_BYTES_MAX: usize = 100_000;
 
 /// The command: whether nothing differs, or the page was made.
-pub fn command(line: &[String]) -> Result<bool, String> {
+pub fn command(line: &[OsString]) -> Result<bool, String> {
     let valued = [
-        "--cases", "--seed", "--from", "--time", "--html", "--lists", "--rounds",
+        "--cases", "--seed", "--from", "--time", "--html", "--names", "--lists", "--rounds",
     ];
     let options = Options::parse(line, &valued, &["--speed", "--join"])?;
     if options.has("--join") {
         return join(&options.files);
     }
-    if let Some(file) = options.text("--html") {
+    let names = options.path("--names");
+    if let Some(file) = options.path("--html") {
         options.no_file()?;
-        return page(file);
+        return page(file, &names.map_or(Ok(Names::none()), read_names)?);
+    }
+    if names.is_some() {
+        return Err("--names is for --html".to_string());
     }
     let program = options.file().map_err(|why| format!("PROGRAM: {why}"))?;
     if options.has("--speed") {
@@ -92,7 +107,7 @@ pub fn command(line: &[String]) -> Result<bool, String> {
 
 /// Holds a program to the separate one: on random inputs, and first on as many lists as
 /// there can be where the numbers start at 0.
-fn compare(program: &str, options: &Options) -> Result<bool, String> {
+fn compare(program: &Path, options: &Options) -> Result<bool, String> {
     let cases = options.number("--cases")?.unwrap_or(1000);
     let seed = options.number("--seed")?.unwrap_or(1);
     let time = options.time(10)?;
@@ -116,13 +131,14 @@ fn compare(program: &str, options: &Options) -> Result<bool, String> {
             progress.clear();
             let bytes = counted(input.input.len(), "byte");
             say!("DIFFERENCE in input {number} of seed {seed}, {bytes}:\n  {told}");
+            let program = shown(program);
             say!("To see it again: bench totals {program} --seed {seed} --from {number} --cases 1");
             return Ok(false);
         }
         progress.step();
     }
     progress.clear();
-    Ok(ended(program, cases, &met))
+    Ok(ended(&shown(program), cases, &met))
 }
 
 /// A number from 1 on that an option gives, or else the usual one.
@@ -134,16 +150,20 @@ fn within(options: &Options, name: &str, usual: u64, most: u64) -> Result<usize,
 }
 
 /// Makes an input out of inputs of linerun.
-fn join(files: &[String]) -> Result<bool, String> {
+fn join(files: &[PathBuf]) -> Result<bool, String> {
     if files.is_empty() {
         return Err("--join needs an input of linerun".to_string());
     }
     let mut inputs = Vec::new();
-    for file in files {
-        match Input::parse(&read_input(file)?) {
+    for (place, file) in files.iter().enumerate() {
+        let given = match place {
+            0 => read_given(file)?,
+            _ => read_given_list(file)?,
+        };
+        match Input::parse(&given.bytes) {
             Ok(input) => inputs.push(input),
             Err((code, why)) => {
-                eprintln!(
+                complain!(
                     "bench totals: {} is refused with {code}: {why}",
                     shown(file)
                 );
@@ -166,13 +186,16 @@ fn joined(inputs: &[Input]) -> Vec<u8> {
 }
 
 /// Makes the page of a sheet.
-fn page(file: &str) -> Result<bool, String> {
+fn page(file: &Path, names: &Names) -> Result<bool, String> {
     let printed = read_at_most(file, SHEET_BYTES_MAX)?;
     let printed = String::from_utf8_lossy(&printed);
-    match sheet::page(&printed) {
+    match sheet::page(&printed, names) {
         Ok(page) => output::write(page.as_bytes()),
         Err(why) => {
-            eprintln!("bench totals: {file} is no sheet of linetotals: {why}");
+            complain!(
+                "bench totals: {} is no sheet of linetotals: {why}",
+                shown(file)
+            );
             return Ok(false);
         }
     }
@@ -189,7 +212,7 @@ struct Met {
 
 impl Met {
     /// What a program prints otherwise than the separate one for an input, if anything.
-    fn differs(&mut self, program: &str, given: &Given) -> Result<Option<String>, String> {
+    fn differs(&mut self, program: &Path, given: &Given) -> Result<Option<String>, String> {
         let expected = reference::totals(&given.input);
         let ran = run(program, &given.input, given.feed)?;
         self.add(given.feed, &expected);

@@ -1,6 +1,7 @@
 //! `bench turns`: handing in and turns as text, played on the proved layer and told in
 //! words.
 
+use std::ffi::OsString;
 use std::path::Path;
 
 use reference::table::domains;
@@ -14,9 +15,10 @@ use crate::judging::turning::{
 };
 use crate::kernels::boundary::PROVED_WRITER;
 use crate::kernels::layer::{event_here, Event, Layer, Left, Lent, PROVED_LAYER};
-use crate::line::explain::{answer_in_words, call_in_words, counted, meaning, table_fault};
+use crate::line::explain::{answer_on_table, call_in_words, counted, meaning, table_fault};
+use crate::line::given::{self, read_given};
 use crate::line::input::{read_text, shown, Input};
-use crate::line::text;
+use crate::line::names::Names;
 use crate::line::turns::{self, Given, Happens, Table};
 use crate::output;
 use crate::output::say;
@@ -24,31 +26,32 @@ use crate::output::say;
 pub const HELP: &str = "\
 bench turns FILE
 
-Plays what domains hand in and the turns that serve it, on the proved layer of turns,
-and tells each event in words: what was pending, who was served and after how many
-turns, the answer, an idle turn, and each refusal; at the end what is still pending,
-where the next turn starts, and the longest wait of each domain beside the most that
-there can be, which is as many turns as there are domains. Every event is compared
-with the separate layer, and the calls served with a run of them as one list. `-` is
-standard input. A text looks like this:
+Plays what domains hand in and the turns that serve it, on the proved layer of
+turns, and tells each event in words: what was pending, who was served and after
+how many turns, the answer, an idle turn, and each refusal; at the end what is
+still pending, where the next turn starts, and the longest wait of each domain
+beside the most that there can be, which is as many turns as there are domains.
+Every event is compared with the separate layer, and the calls served with a run
+of them as one list. `-` is standard input. A text looks like this:
 
-  table four.txt                          # a file, or the words themselves behind
-                                          # `table`, as `bench words` takes them
-  hand in 0 send caller 0 endpoint 1 message 5      # a call as `bench write` has it
-  hand in 1 words F0000005                          # or any words
+  table four.txt                        # a file, or the words themselves behind
+                                        # `table`, as `bench words` takes them
+  hand in 0 send caller 0 endpoint 1 message 5    # a call, as of `bench write`
+  hand in 1 words F0000005                        # or any words
   turn
   turns 3
 
-A file is an input of linerun or a text as `bench words` takes it, looked for beside
-the text; its list isn't used.
+A file is an input of linerun or a text as `bench words` takes it, looked for
+beside the text; its list isn't used. Lines as `domain 0 link` and `endpoint 1
+drives` give names, beside those that the file gives.
 
-Exit status: 0 played, also where something was refused; 1 the table is refused, or
-something differs from the separate layer; 2 bad usage, a file that can't be read, or
-a line that is none of these, told by its number.
+Exit status: 0 played, also where something was refused; 1 the table is refused,
+or something differs from the separate layer; 2 bad usage, a file that can't be
+read, or a line that is none of these, told by its number.
 ";
 
 /// The command: whether all was played and nothing differs.
-pub fn command(line: &[String]) -> Result<bool, String> {
+pub fn command(line: &[OsString]) -> Result<bool, String> {
     let options = Options::parse(line, &[], &[])?;
     let file = options.file()?;
     let text = read_text(
@@ -62,35 +65,42 @@ pub fn command(line: &[String]) -> Result<bool, String> {
         let event = event_of(happens).map_err(|why| in_file(format!("line {line}: {why}")))?;
         events.push((*line, event));
     }
-    let table = match table_of(file, script.table)? {
+    let given = table_of(file, script.table)?;
+    let table = match accepted(&given) {
         Ok(table) => table,
         Err((code, why)) => {
             say!("table refused with {code} ({}): {why}", meaning(code));
             return Ok(false);
         }
     };
-    let (told, same) = played(&PROVED_LAYER, &table, &events);
+    let names = script.namings.added_to(given.names, &table);
+    let names = names.map_err(in_file)?;
+    let (told, same) = played(&PROVED_LAYER, &table, &names, &events);
     output::write(told.as_bytes());
     Ok(same)
 }
 
-/// The table of a text, or what it is refused with and why.
-fn table_of(file: &str, table: Table) -> Result<Result<Vec<u32>, (u32, String)>, String> {
-    let bytes = match table {
-        Table::Here(bytes) => bytes,
-        Table::File(name) => {
-            let beside = Path::new(file).parent().unwrap_or(Path::new(""));
-            let path = beside.join(name);
-            let path = path.to_str().ok_or("the table's file has no plain name")?;
-            text::input_bytes(path, text::read)?
-        }
-    };
-    Ok(
-        Input::parse(&bytes).and_then(|Input { table, .. }| match table_fault(&table) {
-            None => Ok(table),
-            Some(refused) => Err(refused),
+/// The table of a text, with the names that its file gives.
+fn table_of(file: &Path, table: Table) -> Result<given::Given, String> {
+    match table {
+        Table::Here(bytes) => Ok(given::Given {
+            bytes,
+            names: Names::none(),
         }),
-    )
+        Table::File(name) => {
+            let beside = file.parent().unwrap_or(Path::new(""));
+            read_given(beside.join(name))
+        }
+    }
+}
+
+/// A table that is accepted, or what it is refused with and why.
+fn accepted(given: &given::Given) -> Result<Vec<u32>, (u32, String)> {
+    let Input { table, .. } = Input::parse(&given.bytes)?;
+    match table_fault(&table, &given.names) {
+        None => Ok(table),
+        Some(refused) => Err(refused),
+    }
 }
 
 /// An event, and how often it happens.
@@ -117,7 +127,8 @@ fn event_of(happens: &Happens) -> Result<(Event, u32), String> {
 }
 
 /// What is played so far.
-struct Play {
+struct Play<'a> {
+    names: &'a Names,
     lent: Lent,
     turns: usize,
     served: Served,
@@ -126,8 +137,13 @@ struct Play {
 }
 
 /// Plays events on a table: what is told, and whether nothing differs.
-fn played(layer: &Layer, table: &[u32], events: &[(usize, (Event, u32))]) -> (String, bool) {
-    let mut play = Play::begin(layer, table);
+fn played(
+    layer: &Layer,
+    table: &[u32],
+    names: &Names,
+    events: &[(usize, (Event, u32))],
+) -> (String, bool) {
+    let mut play = Play::begin(layer, table, names);
     let each = events
         .iter()
         .flat_map(|(line, (event, times))| (0..*times).map(move |_| (*line, event)));
@@ -151,14 +167,15 @@ fn played(layer: &Layer, table: &[u32], events: &[(usize, (Event, u32))]) -> (St
     (play.told + &ended + &end, same.is_ok())
 }
 
-impl Play {
+impl<'a> Play<'a> {
     /// A state with nothing pending. The words that the layer begins on are any.
-    fn begin(layer: &Layer, table: &[u32]) -> Play {
+    fn begin(layer: &Layer, table: &[u32], names: &'a Names) -> Play<'a> {
         let n = domains(table);
         let mut state = vec![u32::MAX; length(n)];
         (layer.begin)(&mut state);
         let most = counted(n, "turn");
         Play {
+            names,
             lent: Lent {
                 table: table.to_vec(),
                 state,
@@ -169,9 +186,10 @@ impl Play {
             served: Served::begin(table),
             waits: Waits::new(n),
             told: format!(
-                "{}: nothing is pending, the first turn starts at domain 0, and no call waits \
+                "{}: nothing is pending, the first turn starts at {}, and no call waits \
                  longer than {most}\n",
-                counted(n, "domain")
+                counted(n, "domain"),
+                names.domain(0)
             ),
         }
     }
@@ -182,7 +200,7 @@ impl Play {
         let wanted = separate_event(&self.lent, event)?;
         difference(&self.lent, &left, &wanted).map_or(Ok(()), Err)?;
         let told = match event {
-            Event::HandIn { domain, words } => handed_in(&left, *domain, words),
+            Event::HandIn { domain, words } => handed_in(&left, *domain, words, self.names),
             _ => self.turned(&left),
         };
         self.told += &format!("line {line}: {told}\n");
@@ -209,11 +227,12 @@ impl Play {
             return format!("{turn} is idle: nothing is pending");
         };
         format!(
-            "{turn} serves domain {domain} after {} ({})\n    {}: {}",
+            "{turn} serves {} after {} ({})\n    {}: {}",
+            self.names.domain(domain),
             counted(self.waits.of_served(domain), "turn"),
-            pending_in_short(&self.lent),
-            call_in_words(&call),
-            answer_in_words(&left.words.answer)
+            pending_in_short(&self.lent, self.names),
+            call_in_words(&call, self.names),
+            answer_on_table(&self.lent.table, &call, &left.words.answer, self.names)
         )
     }
 
@@ -223,8 +242,9 @@ impl Play {
         let mut told = format!("At the end, after {}:\n", counted(self.turns, "turn"));
         let pending = (0..n).filter_map(|domain| {
             let calls = pending_calls(&self.lent.state, domain);
-            (!calls.is_empty())
-                .then(|| format!("  pending of domain {domain}: {}\n", calls_in_words(&calls)))
+            let told = calls_in_words(&calls, self.names);
+            let pending = || format!("  pending of {}: {told}\n", self.names.domain(domain));
+            (!calls.is_empty()).then(pending)
         });
         let pending: String = pending.collect();
         told += match pending.as_str() {
@@ -233,46 +253,53 @@ impl Play {
         };
         let place = self.lent.state[0] as usize;
         told += &match place < n {
-            true => format!("  the next turn starts at domain {place}\n"),
-            false => "  the next turn starts at domain 0, behind the last\n".to_string(),
+            true => format!("  the next turn starts at {}\n", self.names.domain(place)),
+            false => format!(
+                "  the next turn starts at {}, behind the last\n",
+                self.names.domain(0)
+            ),
         };
         let most = counted(n, "turn");
         told += &format!("  the longest waits, where {most} is the most that can be:\n");
         for (domain, longest) in self.waits.longest.iter().enumerate() {
             let longest = counted(*longest, "turn");
-            told += &format!("    domain {domain}: {longest}\n");
+            told += &format!("    {}: {longest}\n", self.names.domain(domain));
         }
         told
     }
 }
 
 /// What is told of words that were handed in.
-fn handed_in(left: &Left, domain: u32, words: &[u32]) -> String {
+fn handed_in(left: &Left, domain: u32, words: &[u32], names: &Names) -> String {
+    let who = names.domain(domain as usize);
     let what = match words {
         [] => "no word".to_string(),
-        _ => calls_in_words(&cut(words)),
+        _ => calls_in_words(&cut(words), names),
     };
     if left.code != 0 {
         return format!(
-            "domain {domain} is refused with {} ({}), handing in: {what}",
+            "{who} is refused with {} ({}), handing in: {what}",
             left.code,
             meaning(left.code)
         );
     }
     let pending = pending_words(&left.words.state, domain as usize).len();
-    format!("domain {domain} hands in: {what} ({pending} of {PENDING_WORDS} words pending)")
+    format!("{who} hands in: {what} ({pending} of {PENDING_WORDS} words pending)")
 }
 
-fn calls_in_words(calls: &[Call]) -> String {
-    let calls: Vec<String> = calls.iter().map(call_in_words).collect();
+fn calls_in_words(calls: &[Call], names: &Names) -> String {
+    let calls: Vec<String> = calls
+        .iter()
+        .map(|call| call_in_words(call, names))
+        .collect();
     calls.join("; ")
 }
 
 /// How many calls are pending of whom.
-fn pending_in_short(lent: &Lent) -> String {
+fn pending_in_short(lent: &Lent, names: &Names) -> String {
     let each = (0..domains(&lent.table)).filter_map(|domain| {
         let calls = pending_calls(&lent.state, domain).len();
-        (calls > 0).then(|| format!("{calls} of domain {domain}"))
+        (calls > 0).then(|| format!("{calls} of {}", names.domain(domain)))
     });
     let each: Vec<String> = each.collect();
     format!("pending calls: {}", each.join(", "))
@@ -305,7 +332,7 @@ hand in 2 receive caller 2 endpoint 1
 
     #[test]
     fn each_event_and_the_end_are_told() {
-        let (told, same) = played(&PROVED_LAYER, &TABLE_T, &events(TEXT));
+        let (told, same) = played(&PROVED_LAYER, &TABLE_T, &Names::none(), &events(TEXT));
         assert!(same, "{told}");
         let lines: Vec<&str> = told.lines().collect();
         assert_eq!(
@@ -338,6 +365,30 @@ hand in 2 receive caller 2 endpoint 1
     }
 
     #[test]
+    fn names_stand_beside_the_numbers() {
+        let names = Names::given("domain 0 link\ndomain 2 drives\nendpoint 1 belts");
+        let (told, _) = played(&PROVED_LAYER, &TABLE_T, &names, &events(TEXT));
+        for part in [
+            "the first turn starts at domain 0 (link)",
+            "line 3: domain 0 (link) hands in: domain 0 (link) sends 5 to endpoint 1 (belts)",
+            "turn 1 serves domain 0 (link) after 1 turn (pending calls: 2 of domain 0 (link), 1",
+            "  pending of domain 2 (drives): domain 2 (drives) receives from endpoint 1 (belts)",
+            "    domain 0 (link): 2 turns\n    domain 1: 2 turns\n",
+        ] {
+            assert!(told.contains(part), "{part}: {told}");
+        }
+    }
+
+    #[test]
+    fn a_message_that_a_send_pushed_out_is_told() {
+        let send = "hand in 1 send caller 1 endpoint 1 message 5\n";
+        let text = format!("table T\n{}turns 2\n", send.repeat(2));
+        let (told, _) = played(&PROVED_LAYER, &TABLE_T, &Names::none(), &events(&text));
+        assert!(told.contains(": done\n"), "{told}");
+        assert!(told.contains(": done; message 5 was pushed out and is lost\n"));
+    }
+
+    #[test]
     fn what_differs_is_told_with_its_line() {
         let wrong = Layer {
             turn: |table, state, holders, answer| {
@@ -347,7 +398,7 @@ hand in 2 receive caller 2 endpoint 1
             },
             ..PROVED_LAYER
         };
-        let (told, same) = played(&wrong, &TABLE_T, &events(TEXT));
+        let (told, same) = played(&wrong, &TABLE_T, &Names::none(), &events(TEXT));
         assert!(!same);
         let end = told.lines().rev().nth(1).unwrap();
         assert_eq!(end, "DIFFERENCE at line 7:");
@@ -356,7 +407,7 @@ hand in 2 receive caller 2 endpoint 1
     #[test]
     fn the_place_behind_the_last_domain_is_told_as_the_first() {
         let text = "table T\nhand in 2 my-rights caller 2\nturn";
-        let (told, _) = played(&PROVED_LAYER, &TABLE_T, &events(text));
+        let (told, _) = played(&PROVED_LAYER, &TABLE_T, &Names::none(), &events(text));
         assert!(told.contains("  nothing is pending\n  the next turn starts at domain 0, behind"));
     }
 

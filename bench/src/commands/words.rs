@@ -1,10 +1,14 @@
 //! `bench words`: words as text into an input of linerun, and back.
 
+use std::ffi::OsString;
+use std::path::Path;
+
 use crate::args::Options;
-use crate::line::explain::meaning;
+use crate::line::explain::{meaning, table_fault};
+use crate::line::given::Given;
 use crate::line::input::{read_input, read_text, shown, Input};
 use crate::line::text;
-use crate::output;
+use crate::output::{self, complain};
 
 pub const HELP: &str = "\
 bench words FILE > INPUT
@@ -23,41 +27,68 @@ the text of an input. `-` is standard input. A text looks like this:
 
 Words are eight hexadecimal digits, with 0x before them or not; F0000000*8 is
 the same word eight times, and 4,097 times is the most. Spaces, new lines, `;`
-and `,` separate words; a comment goes from # to the end of its line. The table's
-length is counted. `list` may be left out: then there are no calls. `bench write`
-makes the words of a list out of calls.
+and `,` separate words; a comment goes from # to the end of its line. The
+table's length is counted. `list` may be left out: then there are no calls.
+`bench write` makes the words of a list out of calls.
+
+Names are given in lines of their own, before, between or behind these parts:
+
+  domain 0 link
+  endpoint 1 drives
+
+A name is one word of letters, digits, `-` and `_`, of 24 characters at most.
+All commands that take the text print names beside the numbers; the input of
+linerun is the same with and without them.
 
 A text without `table` and `list` is written as it stands. Its first word must
 then be the table's length, hexadecimal like the rest: 00000022 for 34 words. Up
 to three bytes of two digits each may stand at its end, for an input that has
 bytes left over.
 
+What will be refused is written too, with a warning on standard error.
+
 Exit status: 0 written; 1 the input given with --back is refused; 2 bad usage,
-or what is given is no such text.
+what is given is no such text, or what is written can't be.
 ";
 
 /// What is said where a file is no text.
 const NO_TEXT: &str = "`bench words --back FILE` makes the text of an input";
 
 /// The command: whether there was something to write.
-pub fn command(line: &[String]) -> Result<bool, String> {
+pub fn command(line: &[OsString]) -> Result<bool, String> {
     let options = Options::parse(line, &[], &["--back"])?;
     let file = options.file()?;
     if options.has("--back") {
         return back(file);
     }
     let written = text::read(&read_text(file, NO_TEXT)?);
-    output::write(&written.map_err(|why| format!("{}: {why}", shown(file)))?);
+    let given = written.map_err(|why| format!("{}: {why}", shown(file)))?;
+    output::write(&given.bytes);
+    if let Some(warning) = will_be_refused(&given) {
+        complain!("bench words: {} {warning}", shown(file));
+    }
     Ok(true)
 }
 
+/// What is said of an input that was written and that will be refused.
+fn will_be_refused(given: &Given) -> Option<String> {
+    let (code, why) = match Input::parse(&given.bytes) {
+        Ok(input) => table_fault(&input.table, &given.names)?,
+        Err(refused) => refused,
+    };
+    let meaning = meaning(code);
+    Some(format!(
+        "is written, and will be refused with {code} ({meaning}): {why}"
+    ))
+}
+
 /// Writes the text of an input, unless the input is refused.
-fn back(file: &str) -> Result<bool, String> {
+fn back(file: &Path) -> Result<bool, String> {
     match Input::parse(&read_input(file)?) {
         Ok(input) => output::write(text::write(&input).as_bytes()),
         Err((code, why)) => {
             // Standard output is for the text alone.
-            eprintln!(
+            complain!(
                 "bench words: {} is refused with {code} ({}): {why}",
                 shown(file),
                 meaning(code)

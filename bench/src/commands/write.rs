@@ -1,14 +1,18 @@
 //! `bench write`: calls as text, one a line, into a list, by the proved writer.
 
+use std::ffi::OsString;
+use std::path::Path;
+
 use reference::calls::LIST_WORDS_MAX;
 
 use crate::args::Options;
 use crate::kernels::boundary::PROVED_WRITER;
 use crate::line::calls::{self, Typed};
 use crate::line::explain::meaning;
+use crate::line::given::{read_given, Given};
 use crate::line::input::{read_text, shown, Input};
 use crate::line::text;
-use crate::output;
+use crate::output::{self, complain};
 
 pub const HELP: &str = "\
 bench write FILE
@@ -18,7 +22,7 @@ Writes the list of the calls that stand in a text, one a line, by the proved
 writer. `-` is standard input. A text looks like this:
 
   look-up caller 0 name 0x11
-  send caller 0 endpoint 1 message 5      # a comment goes to the end of its line
+  send caller 0 endpoint 1 message 5     # a comment goes to the end of its line
   receive caller 2 endpoint 1
   my-endpoints caller 2
   my-rights caller 0
@@ -37,24 +41,25 @@ The list is written as the text that `bench words` takes behind a table:
 
 With --table the whole input of linerun is written: the table of INPUT, and this
 list in the place of INPUT's own. INPUT is an input of linerun, or a text as
-`bench words` takes it. With --text what is written is such a text too.
+`bench words` takes it. With --text what is written is such a text too, with the
+names that INPUT gives.
 
 A mistake is told by its line and field. `bench read` makes the text of a list
 again.
 
-Exit status: 0 written; 1 the writer refuses a call with 30 or the list with 31, or
-INPUT is refused; 2 bad usage, or what is given is no such text.
+Exit status: 0 written; 1 the writer refuses a call with 30 or the list with 31,
+or INPUT is refused; 2 bad usage, or what is given is no such text.
 ";
 
 /// The command: whether there was something to write.
-pub fn command(line: &[String]) -> Result<bool, String> {
+pub fn command(line: &[OsString]) -> Result<bool, String> {
     let options = Options::parse(line, &["--table"], &["--text"])?;
     let file = options.file()?;
-    let input = options.text("--table");
+    let input = options.path("--table");
     if options.has("--text") && input.is_none() {
         return Err("--text is for --table: without it a text is written".to_string());
     }
-    if input == Some("-") && file == "-" {
+    if input == Some(file) && file == Path::new("-") {
         return Err("the calls and the table can't both be standard input".to_string());
     }
     let typed = read_text(file, "calls as text, one a line, are wanted")?;
@@ -67,11 +72,12 @@ pub fn command(line: &[String]) -> Result<bool, String> {
         output::write(text::write_list(&list).as_bytes());
         return Ok(true);
     };
-    match Input::parse(&text::input_bytes(path, text::read)?) {
+    let Given { bytes, names } = read_given(path)?;
+    match Input::parse(&bytes) {
         Ok(Input { table, .. }) => {
             let input = Input { table, list };
             match options.has("--text") {
-                true => output::write(text::write(&input).as_bytes()),
+                true => output::write((names.lines() + &text::write(&input)).as_bytes()),
                 false => output::write(&input.to_bytes()),
             }
             Ok(true)
@@ -81,9 +87,9 @@ pub fn command(line: &[String]) -> Result<bool, String> {
 }
 
 /// Tells what is refused; standard output is for the list alone.
-fn refused(file: &str, code: u32, why: &str) -> bool {
+fn refused(file: &Path, code: u32, why: &str) -> bool {
     let (file, meaning) = (shown(file), meaning(code));
-    eprintln!("bench write: {file} is refused with {code} ({meaning}): {why}");
+    complain!("bench write: {file} is refused with {code} ({meaning}): {why}");
     false
 }
 

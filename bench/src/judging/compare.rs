@@ -13,6 +13,7 @@ use crate::judging::panics::or_panic;
 use crate::kernels::boundary::Outcome;
 use crate::kernels::lent::Ran;
 use crate::line::explain::{call_in_words, counted, meaning, place_in_words};
+use crate::line::names::Names;
 
 /// The separate machine's run of a case; an error where it panics, which is a
 /// difference from a kernel that answers.
@@ -72,7 +73,7 @@ fn answers_difference(case: &Case, kernel: &Ran, separate: &Ran) -> Option<Strin
     }
     Some(format!(
         "call {number} ({}): the kernel answers {}, the separate machine {}",
-        call_in_words(&cut(&case.list)[number]),
+        call_in_words(&cut(&case.list)[number], &Names::none()),
         answer_as_printed(&kernel.answers[number * ANSWER_WORDS..]),
         answer_as_printed(&separate.answers[number * ANSWER_WORDS..])
     ))
@@ -93,7 +94,7 @@ pub fn answer_as_printed(answer: &[u32]) -> String {
 fn table_difference(case: &Case, kernel: &Ran, separate: &Ran) -> Option<String> {
     let place = first_unequal(&kernel.table, &separate.table)?;
     let told = match separate.outcome.code {
-        0 => place_in_words(&case.table, place),
+        0 => place_in_words(&case.table, place, &Names::none()),
         code => format!("word {place} of a table refused with {code}"),
     };
     Some(format!(
@@ -214,7 +215,7 @@ fn own_answer_difference(
     let (number, call) = calls.iter().enumerate().filter(own).nth(place)?;
     Some(format!(
         "its call {number} ({}) is answered {} in the whole list, {} without the struck calls",
-        call_in_words(call),
+        call_in_words(call, &Names::none()),
         answer_as_printed(&whole.answers[place]),
         answer_as_printed(&again.answers[place])
     ))
@@ -225,7 +226,7 @@ fn own_rights_difference(case: &Case, whole: &View, again: &View, domain: usize)
     let place = rights_place(&case.table, domain, target);
     Some(format!(
         "{}, is {:08X} after the whole list, {:08X} without the struck calls",
-        place_in_words(&case.table, place),
+        place_in_words(&case.table, place, &Names::none()),
         whole.rights[target],
         again.rights[target]
     ))

@@ -1,6 +1,8 @@
 //! What the program `linerun` did with an input, beside what it should print: the first
 //! line that differs, how it ended, and a shorter input that still differs.
 
+use std::path::Path;
+
 use reference::words::to_bytes;
 
 use crate::cases::inputs::{apart, due, PLAIN_CALL};
@@ -73,7 +75,7 @@ fn shown(printed: &[u8]) -> String {
 }
 
 /// The words of an input that differs, with a shorter list where that still does.
-pub fn shorter(program: &str, input: &[u8], feed: Feed, ran: &Ran) -> String {
+pub fn shorter(program: &Path, input: &[u8], feed: Feed, ran: &Ran) -> String {
     let differs = |input: &[u8]| {
         let held = feed.held && due(input).is_some();
         let again = run(program, input, Feed { held, ..feed }).ok()?;

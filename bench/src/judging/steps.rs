@@ -23,6 +23,7 @@ use crate::kernels::child::{self, LIMIT};
 use crate::kernels::lent::{step_here, Failure, Ran};
 use crate::line::explain::{call_in_words, counted, meaning, place_in_words};
 use crate::line::input::Input;
+use crate::line::names::Names;
 use crate::line::text;
 
 /// No more calls of one list are tried than this.
@@ -254,7 +255,7 @@ fn answer_difference(case: &Case, ran: &Ran, wanted: &Ran) -> Option<String> {
 fn table_difference(case: &Case, ran: &Ran, wanted: &Ran) -> Option<String> {
     let place = first_unequal(&ran.table, &wanted.table)?;
     let told = match wanted.outcome.code {
-        0 => place_in_words(&case.table, place),
+        0 => place_in_words(&case.table, place, &Names::none()),
         code => format!("word {place} where the step returns {code}"),
     };
     Some(format!(
@@ -272,7 +273,7 @@ fn with_words(case: &Case, call: &Call, told: &str) -> String {
     format!(
         "{told}\nThe call ({}) and the table before it, as `bench words` takes them:\n{}\
          # answer space: {}",
-        call_in_words(call),
+        call_in_words(call, &Names::none()),
         text::write(&input),
         counted(case.answers.len(), "word")
     )

@@ -16,6 +16,7 @@ use crate::kernels::boundary::{Outcome, PROVED};
 use crate::kernels::layer::{Event, Left, Lent};
 use crate::kernels::lent::run_here;
 use crate::line::explain::{call_in_words, meaning};
+use crate::line::names::Names;
 
 /// What the separate layer makes of an event; an error where it panics, which is a
 /// difference from a layer that answers.
@@ -157,7 +158,7 @@ impl Waits {
             if served == Some(domain) {
                 self.now[domain] = 0;
             } else if self.now[domain] >= n {
-                let call = call_in_words(&call);
+                let call = call_in_words(&call, &Names::none());
                 return Err(format!("not served within {n} turns: {call}"));
             }
         }

@@ -91,7 +91,8 @@ impl End {
 }
 
 /// Runs a program on an input; an error where it can't be started.
-pub fn run(program: &str, input: &[u8], feed: Feed) -> Result<Ran, String> {
+pub fn run(program: impl AsRef<Path>, input: &[u8], feed: Feed) -> Result<Ran, String> {
+    let program = program.as_ref();
     let mut child = start(program)?;
     let deadline = Instant::now() + feed.time;
     let running = give(child.stdin.take(), input.to_vec(), feed);
@@ -110,7 +111,7 @@ pub fn run(program: &str, input: &[u8], feed: Feed) -> Result<Ran, String> {
     }
     let status = child.wait();
     drop(running);
-    let status = status.map_err(|why| format!("cannot wait for {program}: {why}"))?;
+    let status = status.map_err(|why| format!("cannot wait for {}: {why}", program.display()))?;
     Ok(Ran {
         printed,
         said: said.recv_timeout(WAIT_FOR_SAID).unwrap_or_default(),
@@ -118,19 +119,18 @@ pub fn run(program: &str, input: &[u8], feed: Feed) -> Result<Ran, String> {
     })
 }
 
-fn start(program: &str) -> Result<Child, String> {
+fn start(program: &Path) -> Result<Child, String> {
     let mut command = Command::new(program);
     command.stdin(Stdio::piped());
     command.stdout(Stdio::piped()).stderr(Stdio::piped());
     command.process_group(0);
     command.spawn().map_err(|why| {
-        let bare = why.kind() == ErrorKind::NotFound && !program.contains('/');
-        if bare && Path::new(program).exists() {
-            return format!(
-                "no program {program} is installed: for the one here write ./{program}"
-            );
+        let told = program.display();
+        let bare = why.kind() == ErrorKind::NotFound && program.components().count() == 1;
+        if bare && program.exists() {
+            return format!("no program {told} is installed: for the one here write ./{told}");
         }
-        format!("cannot start {program}: {why}")
+        format!("cannot start {told}: {why}")
     })
 }
 

@@ -14,6 +14,8 @@ use reference::table::{
 };
 use reference::words::{bits, content, kind, EMPTY_SLOT};
 
+use crate::line::names::Names;
+
 /// A number of things, as `1 call` or `3 calls`.
 pub fn counted<N: Display + PartialEq + From<u8>>(number: N, one: &str) -> String {
     let many = if number == N::from(1) { "" } else { "s" };
@@ -100,56 +102,101 @@ pub fn rights_in_words(set: u32) -> String {
 }
 
 /// What a call asks for.
-pub fn call_in_words(call: &Call) -> String {
+pub fn call_in_words(call: &Call, names: &Names) -> String {
+    asked_by(&names.domain(caller(call)), call, names)
+}
+
+/// What a call asks for of an accepted table, which may not have its caller.
+pub fn call_on_table(call: &Call, table: &[u32], names: &Names) -> String {
+    let who = match caller(call) {
+        known if known < domains(table) => names.domain(known),
+        unknown => format!("domain {unknown}, which the table hasn't,"),
+    };
+    asked_by(&who, call, names)
+}
+
+/// The caller's field, whatever the call is.
+fn caller(call: &Call) -> usize {
+    bits(call.first, 27, 22) as usize
+}
+
+fn asked_by(who: &str, call: &Call, names: &Names) -> String {
     if call.kind() == STRAY {
         return format!("a stray word with content {}", content(call.first));
     }
-    let who = format!("domain {}", bits(call.first, 27, 22));
+    let domain = |number: u32| names.domain(number as usize);
     let (a, b, c) = (call.a(), call.b(), call.c());
+    let endpoint = names.endpoint(b as usize);
     let second = match call.second_content() {
         Some(number) => number.to_string(),
         None => "(no second word)".to_string(),
     };
     match call.kind() {
         LOOK_UP => format!("{who} looks up name {second}"),
-        SEND => format!("{who} sends {second} to endpoint {b}"),
-        RECEIVE => format!("{who} receives from endpoint {b}"),
+        SEND => format!("{who} sends {second} to {endpoint}"),
+        RECEIVE => format!("{who} receives from {endpoint}"),
         MY_ENDPOINTS => format!("{who} asks for its endpoints"),
         MY_RIGHTS => format!("{who} asks for its rights"),
         GRANT => format!(
-            "{who} grants domain {b} {} on domain {a}",
-            rights_in_words(c)
+            "{who} grants {} {} on {}",
+            domain(b),
+            rights_in_words(c),
+            domain(a)
         ),
-        REMOVE => format!("{who} gives up {} on domain {a}", rights_in_words(c)),
+        REMOVE => format!("{who} gives up {} on {}", rights_in_words(c), domain(a)),
         REVOKE => format!(
-            "{who} takes {} on domain {a} back from domain {b}",
-            rights_in_words(c)
+            "{who} takes {} on {} back from {}",
+            rights_in_words(c),
+            domain(a),
+            domain(b)
         ),
         kind => format!("{who} makes a call of unknown kind {kind}"),
     }
 }
 
 /// What an answer's three words say.
-pub fn answer_in_words(answer: &[u32]) -> String {
+pub fn answer_in_words(answer: &[u32], names: &Names) -> String {
     let (code, x, y) = (bits(answer[0], 15, 0), answer[1], answer[2]);
     if code != 0 {
         return format!("refused with {code}: {}", meaning(code));
     }
     match bits(answer[0], 31, 28) {
-        LOOK_UP => format!("endpoint {x}"),
+        LOOK_UP => names.endpoint(x as usize),
         RECEIVE => format!("message {x}; {y} lost so far"),
         MY_ENDPOINTS => {
             let owned = (0..32).filter(|e| x >> e & 1 != 0);
-            some_or_none(owned.map(|e| format!("endpoint {e}")))
+            some_or_none(owned.map(|e| names.endpoint(e)))
         }
         MY_RIGHTS => {
             let both = u64::from(y) << 32 | u64::from(x);
             let sets = (0..16).map(|target| (target, (both >> (4 * target)) as u32 & 15));
             let held = sets.filter(|&(_, set)| set != 0);
-            some_or_none(held.map(|(target, set)| format!("{} on domain {target}", letters(set))))
+            let told = |(target, set)| format!("{} on {}", letters(set), names.domain(target));
+            some_or_none(held.map(told))
         }
         _ => "done".to_string(),
     }
+}
+
+/// What an answer says of a call, and what the call did besides on the table that was
+/// before it: a send to a full queue is done, and a message is lost by it.
+pub fn answer_on_table(before: &[u32], call: &Call, answer: &[u32], names: &Names) -> String {
+    let told = answer_in_words(answer, names);
+    match pushed_out(before, call, answer) {
+        Some(message) => format!("{told}; message {message} was pushed out and is lost"),
+        None => told,
+    }
+}
+
+/// The message that a send pushed out: the oldest of a queue that was full.
+fn pushed_out(before: &[u32], call: &Call, answer: &[u32]) -> Option<u32> {
+    let endpoint = call.b() as usize;
+    let sent = call.kind() == SEND && bits(answer[0], 15, 0) == 0;
+    if !sent || endpoint >= endpoints(before) {
+        return None;
+    }
+    let full = waiting(before, endpoint) == capacity(before, endpoint);
+    full.then(|| content(endpoint_words(before, endpoint)[SLOTS_PLACE]))
 }
 
 fn some_or_none(items: impl Iterator<Item = String>) -> String {
@@ -160,17 +207,26 @@ fn some_or_none(items: impl Iterator<Item = String>) -> String {
     }
 }
 
+/// An endpoint with the name that it is looked up by, behind the one that a text gives.
+pub fn endpoint_in_words(table: &[u32], endpoint: usize, names: &Names) -> String {
+    let number = name(table, endpoint);
+    match names.endpoint_name(endpoint) {
+        Some(given) => format!("endpoint {endpoint} ({given}, name {number})"),
+        None => format!("endpoint {endpoint} (name {number})"),
+    }
+}
+
 /// What stands at a place of a table whose word 0 and length are right.
-pub fn place_in_words(table: &[u32], place: usize) -> String {
+pub fn place_in_words(table: &[u32], place: usize, names: &Names) -> String {
     let n = domains(table);
     if place == 0 {
         return "word 0, the numbers of domains and endpoints".to_string();
     }
     if place <= n * n {
-        let (holder, target) = ((place - 1) / n, (place - 1) % n);
-        return format!("word {place}, the rights of domain {holder} on domain {target}");
+        let (holder, target) = (names.domain((place - 1) / n), names.domain((place - 1) % n));
+        return format!("word {place}, the rights of {holder} on {target}");
     }
-    let endpoint = (place - endpoint_place(table, 0)) / ENDPOINT_WORDS;
+    let endpoint = names.endpoint((place - endpoint_place(table, 0)) / ENDPOINT_WORDS);
     let part = match (place - endpoint_place(table, 0)) % ENDPOINT_WORDS {
         NAME_PLACE => "name".to_string(),
         INFO_PLACE => "owner and capacity".to_string(),
@@ -178,12 +234,16 @@ pub fn place_in_words(table: &[u32], place: usize) -> String {
         LOST_PLACE => "lost count".to_string(),
         slot => format!("message slot {}", slot - SLOTS_PLACE),
     };
-    format!("word {place}, endpoint {endpoint}'s {part}")
+    format!("word {place}, {endpoint}'s {part}")
 }
 
+/// So many broken words of a table are told.
+const FAULTS_MAX: usize = 20;
+
 /// What is wrong with a table, with the number that refuses it; nothing where
-/// the table is accepted.
-pub fn table_fault(table: &[u32]) -> Option<(u32, String)> {
+/// the table is accepted. The broken word that decides is told first, and the others
+/// in lines of their own.
+pub fn table_fault(table: &[u32], names: &Names) -> Option<(u32, String)> {
     let code = check_table(table);
     let fault = match code {
         0 => return None,
@@ -194,7 +254,7 @@ pub fn table_fault(table: &[u32]) -> Option<(u32, String)> {
             counted(length(table[0]), "word"),
             table.len()
         ),
-        _ => word_fault(table, code),
+        _ => faults_in_words(table, code, names),
     };
     Some((code, fault))
 }
@@ -207,26 +267,48 @@ fn header_fault(header: u32) -> &'static str {
     }
 }
 
-/// The word that 4 or 5 is about, and what is wrong with it.
-fn word_fault(table: &[u32], code: u32) -> String {
-    let rights = 1..=domains(table) * domains(table);
-    let found = if code == 4 {
-        rights
-            .into_iter()
-            .find_map(|place| Some((place, rights_fault(table[place])?)))
-    } else {
-        (0..endpoints(table))
-            .find_map(|e| endpoint_fault(table, e))
-            .or_else(|| repeated_name(table))
+/// The broken words of a table whose word 0 and length are right.
+fn faults_in_words(table: &[u32], code: u32, names: &Names) -> String {
+    let faults = faults(table, names);
+    let told = |fault: &Fault| {
+        let (place, word) = (fault.place, table[fault.place]);
+        let place = place_in_words(table, place, names);
+        format!("{place}, is {word:08X}: {}", fault.why)
     };
-    match found {
-        Some((place, why)) => format!(
-            "{}, is {:08X}: {why}",
-            place_in_words(table, place),
-            table[place]
-        ),
-        None => meaning(code).to_string(),
+    let mut lines = faults.iter().take(FAULTS_MAX);
+    let mut text = lines.next().map_or(meaning(code).to_string(), told);
+    for fault in lines {
+        text += &format!("\n  also with {}: {}", fault.code, told(fault));
     }
+    if faults.len() > FAULTS_MAX {
+        let more = counted(faults.len() - FAULTS_MAX, "broken word");
+        text += &format!("\n  and {more} more");
+    }
+    text
+}
+
+/// A broken word: the number that it is refused with, its place, and what is wrong.
+struct Fault {
+    code: u32,
+    place: usize,
+    why: String,
+}
+
+/// Every broken word, in the order in which the check comes to them.
+fn faults(table: &[u32], names: &Names) -> Vec<Fault> {
+    let fault = |code| move |(place, why)| Fault { code, place, why };
+    let rights = (1..=domains(table) * domains(table))
+        .filter_map(|place| Some((place, rights_fault(table[place])?)));
+    let mut faults: Vec<Fault> = rights.map(fault(4)).collect();
+    for endpoint in 0..endpoints(table) {
+        faults.extend(endpoint_faults(table, endpoint).map(fault(5)));
+    }
+    let repeated = repeated_names(table, names);
+    let repeated: Vec<(usize, String)> = repeated
+        .filter(|(place, _)| faults.iter().all(|fault| fault.place != *place))
+        .collect();
+    faults.extend(repeated.into_iter().map(fault(5)));
+    faults
 }
 
 /// What is wrong where a word has another kind than its place asks for.
@@ -239,11 +321,11 @@ fn rights_fault(word: u32) -> Option<String> {
     kind_fault(word, RIGHTS).or_else(spare)
 }
 
-/// The place of an endpoint's first wrong word, and what is wrong with it.
-fn endpoint_fault(table: &[u32], endpoint: usize) -> Option<(usize, String)> {
+/// The places of an endpoint's wrong words, and what is wrong with each.
+fn endpoint_faults(table: &[u32], endpoint: usize) -> impl Iterator<Item = (usize, String)> + '_ {
     let start = endpoint_place(table, endpoint);
     let words = endpoint_words(table, endpoint);
-    (0..ENDPOINT_WORDS).find_map(|at| {
+    (0..ENDPOINT_WORDS).filter_map(move |at| {
         let word = words[at];
         let why = match at {
             NAME_PLACE => name_fault(word),
@@ -293,11 +375,15 @@ fn slot_fault(word: u32, slot: usize, waiting: usize) -> Option<String> {
     filled.then(|| format!("a slot from the waiting count {waiting} on must be {EMPTY_SLOT:08X}"))
 }
 
-/// The place of the first name that another endpoint has already.
-fn repeated_name(table: &[u32]) -> Option<(usize, String)> {
-    (0..endpoints(table)).find_map(|e| {
+/// The places of the names that another endpoint has already.
+fn repeated_names<'a>(
+    table: &'a [u32],
+    names: &'a Names,
+) -> impl Iterator<Item = (usize, String)> + 'a {
+    (0..endpoints(table)).filter_map(move |e| {
         let first = (0..e).find(|&first| name(table, first) == name(table, e))?;
-        let why = format!("the name {} is that of endpoint {first}", name(table, e));
+        let first = names.endpoint(first);
+        let why = format!("the name {} is that of {first}", name(table, e));
         Some((endpoint_place(table, e) + NAME_PLACE, why))
     })
 }
@@ -311,7 +397,7 @@ mod tests {
 
     #[test]
     fn an_answer_in_words() {
-        let told = |first, x, y| answer_in_words(&[first, x, y]);
+        let told = |first, x, y| answer_in_words(&[first, x, y], &Names::none());
         assert_eq!(told(0x10C0_0000, 2, 0), "endpoint 2");
         assert_eq!(told(0x2000_0000, 0, 0), "done");
         assert_eq!(told(0x3040_0000, 9, 1), "message 9; 1 lost so far");
@@ -336,7 +422,9 @@ mod tests {
 
     #[test]
     fn calls_of_the_worked_example() {
-        let told: Vec<String> = cut(&LIST_L).iter().map(call_in_words).collect();
+        let calls = cut(&LIST_L);
+        let told = calls.iter().map(|call| call_in_words(call, &Names::none()));
+        let told: Vec<String> = told.collect();
         assert_eq!(told[0], "domain 0 sends 5 to endpoint 1");
         assert_eq!(told[1], "domain 1 grants domain 0 SEND on domain 2");
         assert_eq!(told[4], "domain 2 receives from endpoint 1");
@@ -345,8 +433,43 @@ mod tests {
     }
 
     #[test]
+    fn names_stand_beside_the_numbers() {
+        let names = "domain 0 link\ndomain 1 loader\ndomain 2 drives\nendpoint 1 belts";
+        let names = Names::given(names);
+        let told = |word| call_in_words(&cut(&[word])[0], &names);
+        assert_eq!(
+            call_in_words(&cut(&LIST_L)[0], &names),
+            "domain 0 (link) sends 5 to endpoint 1 (belts)"
+        );
+        assert_eq!(
+            told(0x3080_0100),
+            "domain 2 (drives) receives from endpoint 1 (belts)"
+        );
+        assert_eq!(
+            told(0x6042_0001),
+            "domain 1 (loader) grants domain 0 (link) SEND on domain 2 (drives)"
+        );
+        assert_eq!(
+            told(0x8042_0001),
+            "domain 1 (loader) takes SEND on domain 2 (drives) back from domain 0 (link)"
+        );
+        assert_eq!(
+            told(0x7042_0001),
+            "domain 1 (loader) gives up SEND on domain 2 (drives)"
+        );
+        let answer = |first, x| answer_in_words(&[first, x, 0], &names);
+        assert_eq!(answer(0x1000_0000, 1), "endpoint 1 (belts)");
+        assert_eq!(answer(0x4000_0000, 3), "endpoint 0, endpoint 1 (belts)");
+        assert_eq!(answer(0x5000_0000, 0x10), "S on domain 1 (loader)");
+        let place = |place| place_in_words(&TABLE_T, place, &names);
+        let rights = "word 6, the rights of domain 1 (loader) on domain 2 (drives)";
+        assert_eq!(place(6), rights);
+        assert_eq!(place(22), "word 22, endpoint 1 (belts)'s name");
+    }
+
+    #[test]
     fn calls_that_will_be_refused() {
-        let told = |word| call_in_words(&cut(&[word])[0]);
+        let told = |word| call_in_words(&cut(&[word])[0], &Names::none());
         assert_eq!(
             told(0x2000_0100),
             "domain 0 sends (no second word) to endpoint 1"
@@ -372,7 +495,7 @@ mod tests {
 
     #[test]
     fn places_of_a_table() {
-        let told = |place| place_in_words(&TABLE_T, place);
+        let told = |place| place_in_words(&TABLE_T, place, &Names::none());
         assert_eq!(told(6), "word 6, the rights of domain 1 on domain 2");
         assert_eq!(told(9), "word 9, the rights of domain 2 on domain 2");
         assert_eq!(told(10), "word 10, endpoint 0's name");
@@ -382,14 +505,17 @@ mod tests {
     fn fault(place: usize, word: u32) -> (u32, String) {
         let mut table = TABLE_T;
         table[place] = word;
-        table_fault(&table).unwrap()
+        table_fault(&table, &Names::none()).unwrap()
     }
 
     #[test]
     fn faults_of_the_whole_table_are_told() {
-        assert_eq!(table_fault(&TABLE_T), None);
-        assert_eq!(table_fault(&[]), Some((2, "the table is empty".into())));
-        let (code, told) = table_fault(&TABLE_T[..33]).unwrap();
+        assert_eq!(table_fault(&TABLE_T, &Names::none()), None);
+        assert_eq!(
+            table_fault(&[], &Names::none()),
+            Some((2, "the table is empty".into()))
+        );
+        let (code, told) = table_fault(&TABLE_T[..33], &Names::none()).unwrap();
         assert_eq!(code, 3);
         assert_eq!(told, "word 0 asks for 34 words, the table has 33");
         let (code, told) = fault(0, 0x1001_0302);
@@ -427,8 +553,39 @@ mod tests {
         assert_eq!(why(27, 0xF000_0001), empty);
         let mut table = TABLE_T;
         (table[24], table[26]) = (0x5000_0001, 0xE000_0000);
-        let (_, told) = table_fault(&table).unwrap();
+        let (_, told) = table_fault(&table, &Names::none()).unwrap();
         assert!(told.ends_with("is E0000000: kind 14 where 15 is wanted"));
+    }
+
+    #[test]
+    fn every_broken_word_is_told_and_the_one_that_decides_first() {
+        let mut table = TABLE_T;
+        (table[9], table[3]) = (0x2000_0010, 0x3000_0000);
+        (table[12], table[22]) = (0x5000_0009, 0x3000_0011);
+        let (code, told) = table_fault(&table, &Names::none()).unwrap();
+        let lines: Vec<&str> = told.lines().collect();
+        assert_eq!((code, lines.len()), (4, 4), "{told}");
+        assert!(lines[0].starts_with("word 3, the rights of domain 0 on domain 2, is 30000000"));
+        assert!(lines[1].starts_with("  also with 4: word 9, the rights of domain 2 on domain 2"));
+        let waits = "  also with 5: word 12, endpoint 0's waiting count, is 50000009: 9 wait";
+        assert!(lines[2].starts_with(waits), "{told}");
+        assert!(
+            lines[3].ends_with("endpoint 1's name, is 30000011: the name 17 is that of endpoint 0")
+        );
+    }
+
+    #[test]
+    fn a_word_is_told_once_and_many_are_counted() {
+        let mut table = TABLE_T;
+        (table[10], table[22]) = (0x3000_0000, 0x3000_0000);
+        let (_, told) = table_fault(&table, &Names::none()).unwrap();
+        assert_eq!(told.matches("the name is 0").count(), 2, "{told}");
+        assert_eq!(told.lines().count(), 2, "{told}");
+        table[1..].fill(0);
+        let (code, told) = table_fault(&table, &Names::none()).unwrap();
+        assert_eq!((code, told.lines().count()), (4, 21), "{told}");
+        // All 33 but word 0's are of a wrong kind.
+        assert!(told.ends_with("\n  and 13 broken words more"), "{told}");
     }
 
     #[test]
@@ -437,11 +594,14 @@ mod tests {
         let mut met = [0; 6];
         for _ in 0..4000 {
             let (table, code) = damaged_table(&mut rng, 4, 4);
-            let told = table_fault(&table).map(|(_, told)| told);
+            let told = table_fault(&table, &Names::none()).map(|(_, told)| told);
             let told = told.unwrap_or_default();
             met[code as usize] += 1;
             let named = told.starts_with("word ") && told.contains(": ");
             assert!(named || code < 4, "{code}: {told}");
+            if let 4 | 5 = code {
+                assert_eq!(faults(&table, &Names::none())[0].code, code, "{told}");
+            }
         }
         assert!(met[4] > 100 && met[5] > 100, "{met:?}");
     }

@@ -3,6 +3,7 @@
 
 use std::fs::File;
 use std::io::{self, Read};
+use std::path::Path;
 
 use reference::calls::{cut, LIST_WORDS_MAX};
 use reference::table::{domains, endpoints, TABLE_WORDS_MAX};
@@ -101,12 +102,13 @@ pub fn is_text(bytes: &[u8]) -> bool {
 }
 
 /// The bytes of a file that can matter to `linerun`.
-pub fn read_input(path: &str) -> Result<Vec<u8>, String> {
+pub fn read_input(path: impl AsRef<Path>) -> Result<Vec<u8>, String> {
     read_at_most(path, INPUT_BYTES_MAX)
 }
 
 /// The text of a file; `otherwise` is said where it is none.
-pub fn read_text(path: &str, otherwise: &str) -> Result<String, String> {
+pub fn read_text(path: impl AsRef<Path>, otherwise: &str) -> Result<String, String> {
+    let path = path.as_ref();
     let bytes = read_at_most(path, TEXT_BYTES_MAX + 1)?;
     if bytes.len() > TEXT_BYTES_MAX {
         return Err(format!("{} is above 1,000,000 bytes", shown(path)));
@@ -118,11 +120,12 @@ pub fn read_text(path: &str, otherwise: &str) -> Result<String, String> {
 
 /// The first bytes of a file, or of standard input where the path is `-`. What
 /// never ends is read no further than that.
-pub fn read_at_most(path: &str, most: usize) -> Result<Vec<u8>, String> {
+pub fn read_at_most(path: impl AsRef<Path>, most: usize) -> Result<Vec<u8>, String> {
+    let path = path.as_ref();
     let mut bytes = Vec::new();
     let most = most as u64;
-    let read = match path {
-        "-" => io::stdin().lock().take(most).read_to_end(&mut bytes),
+    let read = match path.to_str() {
+        Some("-") => io::stdin().lock().take(most).read_to_end(&mut bytes),
         _ => File::open(path).and_then(|file| file.take(most).read_to_end(&mut bytes)),
     };
     match read {
@@ -132,10 +135,10 @@ pub fn read_at_most(path: &str, most: usize) -> Result<Vec<u8>, String> {
 }
 
 /// What a path is called in messages.
-pub fn shown(path: &str) -> &str {
-    match path {
-        "-" => "standard input",
-        _ => path,
+pub fn shown(path: impl AsRef<Path>) -> String {
+    match path.as_ref().to_str() {
+        Some("-") => "standard input".to_string(),
+        _ => path.as_ref().display().to_string(),
     }
 }
 

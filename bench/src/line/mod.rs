@@ -3,6 +3,8 @@
 
 pub mod calls;
 pub mod explain;
+pub mod given;
 pub mod input;
+pub mod names;
 pub mod text;
 pub mod turns;

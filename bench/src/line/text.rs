@@ -2,7 +2,9 @@
 //!
 //! The help of `bench words` says what a text looks like.
 
-use crate::line::input::{is_text, read_at_most, shown, Input, TEXT_BYTES_MAX};
+use crate::line::given::Given;
+use crate::line::input::Input;
+use crate::line::names::{Names, Namings};
 
 /// How often a word may be repeated: once for each word of a list that is too long.
 const REPEATS_MAX: usize = 4097;
@@ -16,7 +18,7 @@ const WORDS_IN_A_LINE: usize = 8;
 
 /// What one text stands for, in parts as they were labelled.
 #[derive(Default)]
-struct Parts {
+struct Parts<'a> {
     unlabelled: Vec<u32>,
     /// Single bytes behind the unlabelled words.
     left_over: Vec<u8>,
@@ -24,6 +26,7 @@ struct Parts {
     list: Option<Vec<u32>>,
     /// Whether a list may stand without a table.
     list_alone: bool,
+    namings: Namings<'a>,
 }
 
 /// The text of an input: a line for word 0, for each holder's rights, for each
@@ -92,31 +95,24 @@ fn items(words: &[u32]) -> Vec<String> {
     written
 }
 
-/// The bytes for `linerun` that a text stands for, or what is wrong with it and
+/// What a text stands for, with the names that it gives, or what is wrong with it and
 /// in which line.
-pub fn read(text: &str) -> Result<Vec<u8>, String> {
-    read_parts(text, false)
+pub fn read(text: &str) -> Result<Given, String> {
+    parts_of(text, false)?.given()
 }
 
 /// The same of a text whose list may stand without a table, which is then empty.
-pub fn read_list(text: &str) -> Result<Vec<u8>, String> {
-    read_parts(text, true)
+pub fn read_list(text: &str) -> Result<Given, String> {
+    parts_of(text, true)?.given()
 }
 
-/// The bytes for `linerun` of a file: its own, or those that it stands for where it is a
-/// text, which `read` takes.
-pub fn input_bytes(
-    path: &str,
-    read: fn(&str) -> Result<Vec<u8>, String>,
-) -> Result<Vec<u8>, String> {
-    let bytes = read_at_most(path, TEXT_BYTES_MAX)?;
-    match std::str::from_utf8(&bytes) {
-        Ok(text) if is_text(&bytes) => read(text).map_err(|why| format!("{}: {why}", shown(path))),
-        _ => Ok(bytes),
-    }
+/// The names that a text gives; there need be no words in it.
+pub fn read_names(text: &str) -> Result<Names, String> {
+    let parts = parts_of(text, true)?;
+    parts.names()
 }
 
-fn read_parts(text: &str, list_alone: bool) -> Result<Vec<u8>, String> {
+fn parts_of(text: &str, list_alone: bool) -> Result<Parts<'_>, String> {
     // Some editors put a byte-order mark before a text.
     let text = text.strip_prefix('\u{FEFF}').unwrap_or(text);
     let mut parts = Parts {
@@ -124,36 +120,60 @@ fn read_parts(text: &str, list_alone: bool) -> Result<Vec<u8>, String> {
         ..Parts::default()
     };
     for (number, line) in text.lines().enumerate() {
-        read_line(line, &mut parts).map_err(|why| format!("line {}: {why}", number + 1))?;
-    }
-    match parts.table {
-        None if parts.is_empty() => Err("there is no word in it".to_string()),
-        None => {
-            let words = reference::words::to_bytes(&parts.unlabelled);
-            Ok([words, parts.left_over].concat())
+        let items = items_of(line);
+        if !parts.namings.take(number + 1, &items) {
+            let read = parts.read_line(&items);
+            read.map_err(|why| format!("line {}: {why}", number + 1))?;
         }
-        Some(table) => Ok(Input {
-            table,
-            list: parts.list.unwrap_or_default(),
-        }
-        .to_bytes()),
     }
+    Ok(parts)
 }
 
-fn read_line(line: &str, parts: &mut Parts) -> Result<(), String> {
+/// The words of a line that are no comment.
+fn items_of(line: &str) -> Vec<&str> {
     let code = line.split('#').next().unwrap_or("");
-    for item in code.split(|c: char| c.is_whitespace() || c == ';' || c == ',') {
-        match item {
-            "" => {}
-            "table" | "table:" => parts.start_table()?,
-            "list" | "list:" => parts.start_list()?,
-            _ => parts.add(item)?,
-        }
-    }
-    Ok(())
+    let items = code.split(|c: char| c.is_whitespace() || c == ';' || c == ',');
+    items.filter(|item| !item.is_empty()).collect()
 }
 
-impl Parts {
+impl Parts<'_> {
+    fn given(self) -> Result<Given, String> {
+        if self.table.is_none() && self.is_empty() {
+            return Err("there is no word in it".to_string());
+        }
+        Ok(Given {
+            bytes: self.bytes(),
+            names: self.names()?,
+        })
+    }
+
+    /// The bytes for `linerun`.
+    fn bytes(&self) -> Vec<u8> {
+        let Some(table) = &self.table else {
+            let words = reference::words::to_bytes(&self.unlabelled);
+            return [words, self.left_over.clone()].concat();
+        };
+        let (table, list) = (table.clone(), self.list.clone().unwrap_or_default());
+        Input { table, list }.to_bytes()
+    }
+
+    fn names(&self) -> Result<Names, String> {
+        let input = Input::parse(&self.bytes());
+        let table = input.map(|input| input.table).unwrap_or_default();
+        self.namings.added_to(Names::none(), &table)
+    }
+
+    fn read_line(&mut self, items: &[&str]) -> Result<(), String> {
+        for item in items {
+            match *item {
+                "table" | "table:" => self.start_table()?,
+                "list" | "list:" => self.start_list()?,
+                _ => self.add(item)?,
+            }
+        }
+        Ok(())
+    }
+
     /// Whether nothing stands outside `table` and `list`.
     fn is_empty(&self) -> bool {
         self.unlabelled.is_empty() && self.left_over.is_empty()
@@ -242,6 +262,14 @@ fn hexadecimal(digits: &str, count: usize) -> Option<u32> {
 #[cfg(test)]
 mod tests {
     use super::*;
+
+    fn bytes_of(text: &str) -> Result<Vec<u8>, String> {
+        read(text).map(|given| given.bytes)
+    }
+
+    fn list_bytes(text: &str) -> Result<Vec<u8>, String> {
+        read_list(text).map(|given| given.bytes)
+    }
     use reference::generate::{linerun_input, Rng};
 
     /// The worked example as document 01 writes it.
@@ -256,8 +284,8 @@ mod tests {
 
     #[test]
     fn the_worked_example_typed_in() {
-        assert_eq!(read(TYPED), Ok(Input::example().to_bytes()));
-        let printed = reference::linerun(&read(TYPED).unwrap());
+        assert_eq!(bytes_of(TYPED), Ok(Input::example().to_bytes()));
+        let printed = reference::linerun(&bytes_of(TYPED).unwrap());
         assert_eq!(printed, reference::example::PRINTED.as_bytes());
     }
 
@@ -267,7 +295,7 @@ mod tests {
         assert!(text.starts_with("table\n10000302\n20000000 20000001 20000000\n"));
         assert!(text.contains("30000012 40000201 50000000 60000000 F0000000*8\n"));
         assert!(text.contains("list\n20000100 F0000005\n60420001\n"));
-        assert_eq!(read(&text), Ok(Input::example().to_bytes()));
+        assert_eq!(bytes_of(&text), Ok(Input::example().to_bytes()));
     }
 
     #[test]
@@ -276,23 +304,26 @@ mod tests {
         for _ in 0..500 {
             let bytes = linerun_input(&mut rng, 5, 4, 60);
             if let Ok(input) = Input::parse(&bytes) {
-                assert_eq!(read(&write(&input)), Ok(input.to_bytes()));
+                assert_eq!(bytes_of(&write(&input)), Ok(input.to_bytes()));
             }
         }
     }
 
     #[test]
     fn words_without_labels_stand_as_they_are() {
-        assert_eq!(read("00000001 10000100"), Ok(vec![1, 0, 0, 0, 0, 1, 0, 16]));
-        assert_eq!(read("00000001 F0 a1"), Ok(vec![1, 0, 0, 0, 0xF0, 0xA1]));
-        assert_eq!(read("table\nlist"), Ok(vec![0, 0, 0, 0]));
-        assert_eq!(read("table"), read("table list"));
+        assert_eq!(
+            bytes_of("00000001 10000100"),
+            Ok(vec![1, 0, 0, 0, 0, 1, 0, 16])
+        );
+        assert_eq!(bytes_of("00000001 F0 a1"), Ok(vec![1, 0, 0, 0, 0xF0, 0xA1]));
+        assert_eq!(bytes_of("table\nlist"), Ok(vec![0, 0, 0, 0]));
+        assert_eq!(bytes_of("table"), bytes_of("table list"));
     }
 
     #[test]
     fn a_prefix_and_a_byte_order_mark_are_taken() {
-        let plain = read("table 10000100 F0000000*2");
-        assert_eq!(read("\u{FEFF}table 0x10000100 0XF0000000*2"), plain);
+        let plain = bytes_of("table 10000100 F0000000*2");
+        assert_eq!(bytes_of("\u{FEFF}table 0x10000100 0XF0000000*2"), plain);
     }
 
     #[test]
@@ -301,17 +332,17 @@ mod tests {
         for _ in 0..500 {
             let bytes = linerun_input(&mut rng, 5, 4, 60);
             if !bytes.is_empty() {
-                assert_eq!(read(&write_bytes(&bytes)), Ok(bytes));
+                assert_eq!(bytes_of(&write_bytes(&bytes)), Ok(bytes));
             }
         }
         let long = [9, 0, 0, 0x50].repeat(REPEATS_MAX + 2);
         assert_eq!(write_bytes(&long), "50000009*4097 50000009 50000009\n");
-        assert_eq!(read(&write_bytes(&long)), Ok(long));
+        assert_eq!(bytes_of(&write_bytes(&long)), Ok(long));
     }
 
     #[test]
     fn what_is_wrong_is_said_with_its_line() {
-        let wrong = |text: &str| read(text).unwrap_err();
+        let wrong = |text: &str| bytes_of(text).unwrap_err();
         assert!(wrong("table\n2000010").starts_with("line 2: `2000010` is no word"));
         assert!(wrong("+2345678").starts_with("line 1:"));
         for times in ["x", "", "0", "4098", "99999999999999999999"] {
@@ -325,7 +356,7 @@ mod tests {
 
     #[test]
     fn labels_out_of_place_are_told_apart() {
-        let wrong = |text: &str| read(text).unwrap_err();
+        let wrong = |text: &str| bytes_of(text).unwrap_err();
         let twice = wrong("table table");
         assert_eq!(twice, "line 1: `table` is written a second time");
         let twice = wrong("table list\nlist");
@@ -338,10 +369,13 @@ mod tests {
 
     #[test]
     fn a_list_stands_alone_where_it_may() {
-        let empty_table = read("table list 20000100 F0000005");
-        assert_eq!(read_list("list 20000100 F0000005"), empty_table);
-        assert_eq!(read_list(TYPED), read(TYPED));
-        assert_eq!(read_list("00000001 10000100"), read("00000001 10000100"));
+        let empty_table = bytes_of("table list 20000100 F0000005");
+        assert_eq!(list_bytes("list 20000100 F0000005"), empty_table);
+        assert_eq!(list_bytes(TYPED), bytes_of(TYPED));
+        assert_eq!(
+            list_bytes("00000001 10000100"),
+            bytes_of("00000001 10000100")
+        );
         let wrong = |text: &str| read_list(text).unwrap_err();
         assert_eq!(wrong("20000100\nlist"), "line 2: words stand before `list`");
         assert_eq!(
@@ -352,7 +386,7 @@ mod tests {
 
     #[test]
     fn single_bytes_stand_at_the_end_of_unlabelled_words() {
-        let wrong = |text: &str| read(text).unwrap_err();
+        let wrong = |text: &str| bytes_of(text).unwrap_err();
         assert!(wrong("table 10000100 F0").contains("`F0` is no word"));
         assert!(wrong("00000001 F0 F0 F0 F0").contains("make a word"));
         assert!(wrong("00000001 F0\n10000100").starts_with("line 2: the word"));
@@ -360,7 +394,57 @@ mod tests {
 
     #[test]
     fn repetitions_take_no_more_memory_than_there_should_be() {
-        let told = read(&"F0000000*4097 ".repeat(25)).unwrap_err();
+        let told = bytes_of(&"F0000000*4097 ".repeat(25)).unwrap_err();
         assert!(told.contains("more than 100,000 words"), "{told}");
+    }
+
+    const NAMED: &str = "
+        domain 2 drives   # before
+        table 10000302; 20000000*9
+        endpoint 1 drives
+        30000011 40000102 50000000 60000000 F0000000*8;
+        30000012 40000201 50000000 60000000 F0000000*8
+        list
+        domain 0 link";
+
+    #[test]
+    fn names_stand_before_between_and_behind_the_parts() {
+        let given = read(NAMED).unwrap();
+        let names = Names::given("domain 0 link\ndomain 2 drives\nendpoint 1 drives");
+        assert_eq!(given.names, names);
+        let unnamed: Vec<&str> = NAMED
+            .lines()
+            .filter(|line| !names_something(line))
+            .collect();
+        assert_eq!(read(&unnamed.join("\n")).unwrap().bytes, given.bytes);
+        assert_eq!(read_names(NAMED), Ok(names));
+    }
+
+    fn names_something(line: &str) -> bool {
+        Namings::default().take(1, &items_of(line))
+    }
+
+    #[test]
+    fn wrong_names_are_told_by_their_line() {
+        let wrong = |text: &str| read(text).unwrap_err();
+        let table = "table 10000200 20000000*4\n";
+        let beyond = wrong(&format!("{table}domain 2 link"));
+        assert_eq!(beyond, "line 2: there is no domain 2: the table has 0 to 1");
+        let before = wrong(&format!("domain 2 link\n{table}"));
+        assert!(before.starts_with("line 1: there is no domain 2"));
+        let twice = wrong(&format!("{table}\ndomain 0 link\ndomain 1 link"));
+        assert!(twice.starts_with("line 4: `link` is the name of domain 0 already"));
+        assert!(wrong("table 10000200 domain 0 link").contains("`domain` is no word"));
+        assert_eq!(wrong("domain 0 link"), "there is no word in it");
+    }
+
+    #[test]
+    fn names_may_stand_alone_where_no_table_is_asked_for() {
+        let alone = read_names("domain 15 link\nendpoint 31 drives\n").unwrap();
+        assert_eq!(alone.lines(), "domain 15 link\nendpoint 31 drives\n");
+        assert!(read_names("# nothing").unwrap().is_empty());
+        assert!(read_names("domain 16 link").is_err());
+        let listed = read_list("list 50000000\ndomain 0 link").unwrap();
+        assert_eq!(listed.names.domain(0), "domain 0 (link)");
     }
 }

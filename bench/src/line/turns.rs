@@ -4,6 +4,7 @@
 //! The help of `bench turns` says what a text looks like.
 
 use crate::line::calls::{self, number, Typed};
+use crate::line::names::Namings;
 use crate::line::text::{self, words_of};
 
 /// The most turns that one line can ask for.
@@ -11,8 +12,10 @@ const TURNS_MAX: u32 = 10_000;
 
 /// A text taken apart.
 #[derive(Debug, PartialEq, Eq)]
-pub struct Script {
+pub struct Script<'a> {
     pub table: Table,
+    /// The lines that give names.
+    pub namings: Namings<'a>,
     /// What happens, with the lines, counted from 1.
     pub events: Vec<(usize, Happens)>,
 }
@@ -41,10 +44,20 @@ pub enum Given {
 }
 
 /// Takes a text apart; or what is wrong with it and in which line.
-pub fn read(text: &str) -> Result<Script, String> {
+pub fn read(text: &str) -> Result<Script<'_>, String> {
     // Some editors put a byte-order mark before a text.
     let text = text.strip_prefix('\u{FEFF}').unwrap_or(text);
-    let lines: Vec<&str> = text.lines().collect();
+    let mut namings = Namings::default();
+    // A line that gives a name leaves an empty one: lines are told by their number.
+    let left = text.lines().enumerate().map(|(at, line)| {
+        let names = namings.take(at + 1, &items(line).collect::<Vec<&str>>());
+        if names {
+            ""
+        } else {
+            line
+        }
+    });
+    let lines: Vec<&str> = left.collect();
     let first = lines.iter().position(|line| is_event(line));
     let (head, rest) = lines.split_at(first.unwrap_or(lines.len()));
     let mut events = Vec::new();
@@ -55,6 +68,7 @@ pub fn read(text: &str) -> Result<Script, String> {
     }
     Ok(Script {
         table: read_table(head)?,
+        namings,
         events,
     })
 }
@@ -96,7 +110,7 @@ fn read_table(head: &[&str]) -> Result<Table, String> {
         .all(|line| items(line).count() == 0);
     match named[..] {
         ["table", file] if alone && words_of(file).is_err() => Ok(Table::File(file.to_string())),
-        _ => Ok(Table::Here(text::read(&head.join("\n"))?)),
+        _ => Ok(Table::Here(text::read(&head.join("\n"))?.bytes)),
     }
 }
 
@@ -149,6 +163,7 @@ fn read_given(words: &[&str], at: usize) -> Result<Given, String> {
 #[cfg(test)]
 mod tests {
     use super::*;
+    use crate::line::names::Names;
 
     const TEXT: &str = "
 table                 # one domain
@@ -196,6 +211,23 @@ turns 3
         assert_eq!(script.table, Table::File("four.txt".to_string()));
         assert_eq!(script.events, [(3, Happens::Turns(1))]);
         assert_eq!(read("table T").unwrap().events, []);
+    }
+
+    #[test]
+    fn lines_that_give_names_stand_anywhere() {
+        let script =
+            read("domain 0 link\ntable T\nendpoint 1 belts # those\nturn\ndomain 2 a").unwrap();
+        assert_eq!(script.table, Table::File("T".to_string()));
+        assert_eq!(script.events, [(4, Happens::Turns(1))]);
+        let names = script.namings.added_to(Names::none(), &[]).unwrap();
+        assert_eq!(
+            names,
+            Names::given("domain 0 link\ndomain 2 a\nendpoint 1 belts")
+        );
+        let script = read("table 10000100\ndomain 0 link\n20000000\nturn").unwrap();
+        assert!(matches!(script.table, Table::Here(bytes) if bytes.len() == 12));
+        let twice = script.namings.added_to(names, &[]).unwrap_err();
+        assert_eq!(twice, "line 2: domain 0 has a name already");
     }
 
     #[test]

@@ -4,24 +4,30 @@
 use reference::cut;
 use reference::entry::ANSWER_WORDS;
 use reference::table::{
-    capacity, domains, endpoint_words, endpoints, lost, name, owner, rights, waiting, SLOTS_PLACE,
+    capacity, domains, endpoint_words, endpoints, lost, owner, rights, waiting, SLOTS_PLACE,
 };
 use reference::words::content;
+use reference::Call;
 
+use crate::kernels::boundary::PROVED;
 use crate::kernels::lent::Ran;
-use crate::line::explain::{answer_in_words, call_in_words, counted, letters, senders};
+use crate::line::explain::{
+    answer_on_table, call_on_table, counted, endpoint_in_words, letters, senders,
+};
 use crate::line::input::Input;
+use crate::line::names::Names;
 use crate::pictures::groups::groups_in_words;
 use crate::pictures::potential::potential_in_words;
 use crate::pictures::reach::{holders_of, reach_in_words};
 
 /// An accepted table and a list in words, and what was left where it was run.
-pub fn in_words(input: &Input, left: Option<&Ran>, calls: usize) -> String {
+pub fn in_words(input: &Input, names: &Names, left: Option<&Ran>, calls: usize) -> String {
     let table = &input.table;
     let answers = left.map(|left| left.answers.as_slice());
     let after = left.map(|left| {
-        let (rights, queues) = (rights_in_words(&left.table), queues_in_words(&left.table));
-        let reach = reach_in_words(&left.holders);
+        let rights = rights_in_words(&left.table, names);
+        let queues = queues_in_words(&left.table, names);
+        let reach = reach_in_words(&left.holders, names);
         format!("\nAfter the list\n\n{rights}Reached by a chain of rights: {reach}\n\n{queues}")
     });
     format!(
@@ -29,37 +35,51 @@ pub fn in_words(input: &Input, left: Option<&Ran>, calls: usize) -> String {
         counted(domains(table), "domain"),
         counted(endpoints(table), "endpoint"),
         counted(table.len(), "word"),
-        rights_in_words(table),
-        groups_in_words(table),
-        reach_in_words(&holders_of(table)),
-        potential_in_words(table),
-        queues_in_words(table),
-        calls_in_words(&input.list, answers, calls),
+        rights_in_words(table, names),
+        groups_in_words(table, names),
+        reach_in_words(&holders_of(table), names),
+        potential_in_words(table, names),
+        queues_in_words(table, names),
+        calls_in_words(input, names, answers, calls),
         after.unwrap_or_default()
     )
 }
 
 /// The rights as a grid: a row for each holder, a column for each target.
-fn rights_in_words(table: &[u32]) -> String {
+fn rights_in_words(table: &[u32], names: &Names) -> String {
     let n = domains(table);
+    let titles = titles(n, names);
+    let width = titles[0].len();
     let mut text =
         String::from("Rights (S send, G grant, R remove, V revoke): who has them, on whom\n");
     let heads: Vec<String> = (0..n).map(|target| format!("{target:>5}")).collect();
-    text += &format!("  {:>9} {}\n", "", heads.concat());
-    for holder in 0..n {
+    text += &format!("  {:>width$} {}\n", "", heads.concat());
+    for (holder, title) in titles.iter().enumerate() {
         let cells: Vec<String> = (0..n)
             .map(|target| match rights(table, holder, target) {
                 0 => format!("{:>5}", "."),
                 set => format!("{:>5}", letters(set)),
             })
             .collect();
-        text += &format!("  domain {holder:>2} {}\n", cells.concat());
+        text += &format!("  {title} {}\n", cells.concat());
     }
     text
 }
 
+/// What the rows of the grid begin with, all of one length.
+fn titles(n: usize, names: &Names) -> Vec<String> {
+    let label = |domain| {
+        let space = if domain < 10 { " " } else { "" };
+        format!("{space}{}", names.domain_label(domain))
+    };
+    let width = (0..n).map(|domain| label(domain).len()).max().unwrap_or(0);
+    (0..n)
+        .map(|domain| format!("domain {:<width$}", label(domain)))
+        .collect()
+}
+
 /// Each endpoint with its queue: who owns it, who may send, what waits.
-fn queues_in_words(table: &[u32]) -> String {
+fn queues_in_words(table: &[u32], names: &Names) -> String {
     let mut text = String::from(
         "Queues: who may send ==> [free places -, then what waits, the oldest last] ==> owner\n",
     );
@@ -68,11 +88,11 @@ fn queues_in_words(table: &[u32]) -> String {
     }
     for e in 0..endpoints(table) {
         text += &format!(
-            "  {} ==> endpoint {e} (name {}) [{}] ==> domain {}; {} of {} waiting, {} lost\n",
-            senders_in_words(table, e),
-            name(table, e),
+            "  {} ==> {} [{}] ==> {}; {} of {} waiting, {} lost\n",
+            senders_in_words(table, e, names),
+            endpoint_in_words(table, e, names),
             slots_in_words(table, e),
-            owner(table, e),
+            names.domain(owner(table, e)),
             waiting(table, e),
             capacity(table, e),
             lost(table, e)
@@ -82,12 +102,11 @@ fn queues_in_words(table: &[u32]) -> String {
 }
 
 /// The domains that may send to an endpoint.
-fn senders_in_words(table: &[u32], endpoint: usize) -> String {
+fn senders_in_words(table: &[u32], endpoint: usize, names: &Names) -> String {
     let senders = senders(table, endpoint);
-    let numbers: Vec<String> = senders.iter().map(usize::to_string).collect();
-    match numbers.is_empty() {
+    match senders.is_empty() {
         true => "from nobody".to_string(),
-        false => format!("from {}", numbers.join(" ")),
+        false => format!("from {}", names.domain_row(&senders)),
     }
 }
 
@@ -107,18 +126,22 @@ fn slots_in_words(table: &[u32], endpoint: usize) -> String {
 }
 
 /// The calls, each with its answer where the list was run.
-fn calls_in_words(list: &[u32], answers: Option<&[u32]>, most: usize) -> String {
-    let calls = cut(list);
+fn calls_in_words(input: &Input, names: &Names, answers: Option<&[u32]>, most: usize) -> String {
+    let calls = cut(&input.list);
+    let mut before = input.table.clone();
     let mut text = format!(
         "List: {} in {}\n",
         counted(calls.len(), "call"),
-        counted(list.len(), "word")
+        counted(input.list.len(), "word")
     );
     for (number, call) in calls.iter().enumerate().take(most) {
         let words = reference::words::hex(&call.words());
-        text += &format!("  {number:>4}  {words:<17}  {}\n", call_in_words(call));
+        let asked = call_on_table(call, &input.table, names);
+        text += &format!("  {number:>4}  {words:<17}  {asked}\n");
         if let Some(answers) = answers {
-            let answer = answer_in_words(&answers[ANSWER_WORDS * number..]);
+            let answer = &answers[ANSWER_WORDS * number..];
+            let answer = answer_on_table(&before, call, answer, names);
+            step(&mut before, call);
             text += &format!("  {:>4}  {:<17}  -> {answer}\n", "", "");
         }
     }
@@ -128,17 +151,22 @@ fn calls_in_words(list: &[u32], answers: Option<&[u32]>, most: usize) -> String 
     text
 }
 
+/// Makes one call on a table, as the run of a list does with each of its calls.
+fn step(table: &mut [u32], call: &Call) {
+    let mut holders = vec![0; domains(table)];
+    PROVED.run(table, &call.words(), &mut [0; ANSWER_WORDS], &mut holders);
+}
+
 #[cfg(test)]
 mod tests {
     use super::*;
     use crate::judging::variants::case_of;
-    use crate::kernels::boundary::PROVED;
     use crate::kernels::lent::run_here;
     use reference::example::TABLE_T;
 
     #[test]
     fn the_worked_example_in_words() {
-        let told = in_words(&Input::example(), None, 2);
+        let told = in_words(&Input::example(), &Names::none(), None, 2);
         assert!(told.starts_with("Table: 3 domains, 2 endpoints, 34 words\n"));
         assert!(told.contains("domain  1     S    .  SGR\n"), "{told}");
         assert!(told.contains("from 0 ==> endpoint 0 (name 17) [- -] ==> domain 1; 0 of 2 waiting"));
@@ -147,10 +175,27 @@ mod tests {
     }
 
     #[test]
+    fn names_stand_beside_the_numbers() {
+        let names = "domain 0 link\ndomain 2 drives\nendpoint 1 belts";
+        let told = in_words(&Input::example(), &Names::given(names), None, 1);
+        assert!(
+            told.contains("\n                       0    1    2\n"),
+            "{told}"
+        );
+        assert!(told.contains("\n  domain  0 link       .    S    .\n"));
+        assert!(told.contains("\n  domain  1            S    .  SGR\n"));
+        let reached = "domain 2 (drives) by 0 (link) 1 2 (drives)\n";
+        assert!(told.contains(reached), "{told}");
+        let queue = "from 1 ==> endpoint 1 (belts, name 18) [-] ==> domain 2 (drives); 0 of 1";
+        assert!(told.contains(queue), "{told}");
+        assert!(told.contains("  domain 0 (link) sends 5 to endpoint 1 (belts)\n"));
+    }
+
+    #[test]
     fn the_worked_example_with_its_answers() {
         let input = Input::example();
         let ran = run_here(&PROVED, &case_of(&input)).unwrap();
-        let told = in_words(&input, Some(&ran), usize::MAX);
+        let told = in_words(&input, &Names::none(), Some(&ran), usize::MAX);
         let answers: Vec<&str> = told
             .lines()
             .filter_map(|line| line.trim().strip_prefix("-> "))
@@ -159,7 +204,7 @@ mod tests {
             "refused with 17: the caller has no SEND on the endpoint's owner",
             "done",
             "done",
-            "done",
+            "done; message 5 was pushed out and is lost",
             "message 6; 1 lost so far",
             "refused with 19: nothing waits",
             "refused with 10: a word of kind 15 stands alone",
@@ -175,12 +220,28 @@ mod tests {
     }
 
     #[test]
+    fn what_a_list_lost_is_told_send_by_send() {
+        let list = [0x2040_0000, 0xF000_0007].repeat(4);
+        let mut input = Input {
+            table: TABLE_T.to_vec(),
+            list: [&list[..], &[0x5B40_0000]].concat(),
+        };
+        input.table[5] = 0x2000_0001;
+        let ran = run_here(&PROVED, &case_of(&input)).unwrap();
+        let told = in_words(&input, &Names::none(), Some(&ran), usize::MAX);
+        let lost = told.matches("-> done; message 7 was pushed out and is lost\n");
+        assert_eq!(lost.count(), 2, "{told}");
+        assert!(told.contains("domain 45, which the table hasn't, asks for its rights\n"));
+        assert!(told.contains("-> refused with 12: "), "{told}");
+    }
+
+    #[test]
     fn the_oldest_message_stands_next_to_the_owner() {
         let mut table = TABLE_T;
         table[11] = 0x4000_0103;
         table[12] = 0x5000_0002;
         (table[14], table[15]) = (0xF000_0007, 0xF000_0008);
-        let told = queues_in_words(&table);
+        let told = queues_in_words(&table, &Names::none());
         assert!(
             told.contains("[- 8 7] ==> domain 1; 2 of 3 waiting, 0 lost"),
             "{told}"

@@ -4,6 +4,7 @@
 use reference::table::domains;
 
 use crate::kernels::boundary::component;
+use crate::line::names::Names;
 
 /// The groups of an accepted table, each in order, the one with the lowest domain first.
 pub fn groups(table: &[u32]) -> Vec<Vec<usize>> {
@@ -19,15 +20,9 @@ pub fn groups(table: &[u32]) -> Vec<Vec<usize>> {
 }
 
 /// A line that says which domains hang together.
-pub fn groups_in_words(table: &[u32]) -> String {
+pub fn groups_in_words(table: &[u32], names: &Names) -> String {
     let groups = groups(table);
-    let each: Vec<String> = groups
-        .iter()
-        .map(|group| {
-            let numbers: Vec<String> = group.iter().map(usize::to_string).collect();
-            numbers.join(" ")
-        })
-        .collect();
+    let each: Vec<String> = groups.iter().map(|group| names.domain_row(group)).collect();
     match groups.len() {
         1 => "Groups: all domains hang together\n".to_string(),
         _ => format!("Groups that no list can join: {}\n", each.join(" | ")),
@@ -43,15 +38,19 @@ mod tests {
     fn what_hangs_together_is_told() {
         assert_eq!(groups(&TABLE_T), [[0, 1, 2]]);
         assert_eq!(
-            groups_in_words(&TABLE_T),
+            groups_in_words(&TABLE_T, &Names::none()),
             "Groups: all domains hang together\n"
         );
         let mut apart = TABLE_T;
         apart[6] = 0x2000_0000;
         assert_eq!(groups(&apart), [vec![0, 1], vec![2]]);
         assert_eq!(
-            groups_in_words(&apart),
+            groups_in_words(&apart, &Names::none()),
             "Groups that no list can join: 0 1 | 2\n"
+        );
+        assert_eq!(
+            groups_in_words(&apart, &Names::given("domain 2 drives")),
+            "Groups that no list can join: 0 1 | 2 (drives)\n"
         );
     }
 }

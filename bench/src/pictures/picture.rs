@@ -13,6 +13,7 @@ use reference::words::{content, hex};
 
 use crate::line::explain::{call_in_words, counted, senders, NAMED_RIGHTS};
 use crate::line::input::Input;
+use crate::line::names::Names;
 use crate::pictures::groups::groups;
 use crate::pictures::reach::{holders_of, reached_by};
 use crate::pictures::svg::{Drawing, Style, INK, LINE, QUIET};
@@ -509,7 +510,7 @@ fn call_row(drawing: &mut Drawing, number: usize, call: &Call, left: f64, y: f64
     }
     drawing.text(left + 56.0, y, style, &hex(&call.words()));
     let told = Style::new(12.0, INK);
-    drawing.text(left + 188.0, y, told, &call_in_words(call));
+    drawing.text(left + 188.0, y, told, &call_in_words(call, &Names::none()));
 }
 
 #[cfg(test)]

@@ -8,6 +8,7 @@ use reference::table::{domains, rights};
 
 use crate::kernels::boundary::{potential, PROVED};
 use crate::line::explain::{call_in_words, counted, rights_in_words};
+use crate::line::names::Names;
 
 /// So many pairs of domains are told of, with so many calls each.
 const PAIRS_MAX: usize = 40;
@@ -25,11 +26,11 @@ struct More {
 
 /// What could ever come about in an accepted table: for each holder and target that could
 /// come to more than is held, by whom, and by which calls.
-pub fn potential_in_words(table: &[u32]) -> String {
+pub fn potential_in_words(table: &[u32], names: &Names) -> String {
     let more = more_than_held(table);
     let mut text = "Rights that calls could ever give:\n".to_string();
     for pair in more.iter().take(PAIRS_MAX) {
-        text += &pair.in_words(table);
+        text += &pair.in_words(table, names);
     }
     match more.len().checked_sub(PAIRS_MAX) {
         _ if more.is_empty() => text += "  none: no list of calls gives anybody more\n",
@@ -64,14 +65,16 @@ fn sets(table: &[u32], actors: u32) -> Vec<u32> {
 }
 
 impl More {
-    fn in_words(&self, table: &[u32]) -> String {
+    fn in_words(&self, table: &[u32], names: &Names) -> String {
         let (holder, target) = (self.holder, self.target);
         let alone = match self.alone == self.held {
             true => "by itself no more".to_string(),
             false => format!("by itself {}", or_nothing(self.alone)),
         };
         let mut text = format!(
-            "  domain {holder} on domain {target}: holds {}; could come to {alone}, if all act {}\n",
+            "  {} on {}: holds {}; could come to {alone}, if all act {}\n",
+            names.domain(holder),
+            names.domain(target),
             or_nothing(self.held),
             or_nothing(self.with_all)
         );
@@ -83,7 +86,7 @@ impl More {
         };
         let list = grants_for(table, actors, holder, target, self.with_all & !self.held);
         match list.filter(|list| self.comes_by(table, list)) {
-            Some(list) => text += &calls(&list),
+            Some(list) => text += &calls(&list, names),
             None => text += "    (no list was found)\n",
         }
         text
@@ -108,11 +111,11 @@ fn or_nothing(set: u32) -> String {
 }
 
 /// The calls of a list, each in a line.
-fn calls(list: &[u32]) -> String {
+fn calls(list: &[u32], names: &Names) -> String {
     let calls = cut(list);
     let told = calls.iter().take(CALLS_MAX);
     let mut text: String = told
-        .map(|call| format!("    {}\n", call_in_words(call)))
+        .map(|call| format!("    {}\n", call_in_words(call, names)))
         .collect();
     if calls.len() > CALLS_MAX {
         text += &format!(
@@ -130,19 +133,22 @@ mod tests {
 
     #[test]
     fn what_the_worked_example_could_come_to() {
-        let told = potential_in_words(&TABLE_T);
+        let told = potential_in_words(&TABLE_T, &Names::none());
         let wanted =
             "  domain 0 on domain 2: holds nothing; could come to by itself no more, if all \
                       act SEND, GRANT and REMOVE\n    domain 1 grants domain 0 SEND, GRANT and \
                       REMOVE on domain 2\n";
         assert!(told.contains(wanted), "{told}");
+        let told = potential_in_words(&TABLE_T, &Names::given("domain 0 link\ndomain 2 drives"));
+        assert!(told.contains("  domain 0 (link) on domain 2 (drives): holds nothing"));
+        assert!(told.contains("    domain 1 grants domain 0 (link) SEND, GRANT"));
     }
 
     #[test]
     fn without_grant_nothing_comes_about() {
         let mut table = TABLE_T;
         table[6] = 0x2000_0005;
-        let told = potential_in_words(&table);
+        let told = potential_in_words(&table, &Names::none());
         assert!(
             told.ends_with("  none: no list of calls gives anybody more\n"),
             "{told}"

@@ -4,6 +4,7 @@
 use reference::table::domains;
 
 use crate::kernels::boundary::{who_reaches, PROVED};
+use crate::line::names::Names;
 
 /// The holders' words of an accepted table: those that a run of an empty list leaves.
 pub fn holders_of(table: &[u32]) -> Vec<u32> {
@@ -19,13 +20,10 @@ pub fn reached_by(holders: &[u32], domain: usize) -> Vec<usize> {
 }
 
 /// A line that says, for each domain, who can reach it.
-pub fn reach_in_words(holders: &[u32]) -> String {
+pub fn reach_in_words(holders: &[u32], names: &Names) -> String {
     let each = (0..holders.len()).map(|domain| {
-        let numbers: Vec<String> = reached_by(holders, domain)
-            .iter()
-            .map(usize::to_string)
-            .collect();
-        format!("domain {domain} by {}", numbers.join(" "))
+        let by = names.domain_row(&reached_by(holders, domain));
+        format!("{} by {by}", names.domain(domain))
     });
     each.collect::<Vec<_>>().join(", ")
 }
@@ -40,8 +38,13 @@ mod tests {
         let holders = holders_of(&TABLE_T);
         assert_eq!(holders, [0b010, 0b001, 0b010]);
         assert_eq!(
-            reach_in_words(&holders),
+            reach_in_words(&holders, &Names::none()),
             "domain 0 by 0 1, domain 1 by 0 1, domain 2 by 0 1 2"
+        );
+        let names = Names::given("domain 0 link\ndomain 1 loader");
+        assert_eq!(
+            reach_in_words(&holders[..2], &names),
+            "domain 0 (link) by 0 (link) 1 (loader), domain 1 (loader) by 0 (link) 1 (loader)"
         );
     }
 }

@@ -1,5 +1,7 @@
 //! The end-of-shift sheet as a page to read and to print, out of what `linetotals` prints.
 
+use crate::line::names::Names;
+
 /// What one endpoint's line says.
 struct Row {
     endpoint: u64,
@@ -11,7 +13,7 @@ struct Row {
 }
 
 /// The page of a sheet; what is wrong where it isn't one.
-pub fn page(printed: &str) -> Result<String, String> {
+pub fn page(printed: &str, names: &Names) -> Result<String, String> {
     let mut lines: Vec<&str> = printed.lines().collect();
     let last = lines.pop().ok_or("it is empty")?;
     let (lists, code) = last_line(last).ok_or_else(|| format!("its last line is `{last}`"))?;
@@ -20,9 +22,10 @@ pub fn page(printed: &str) -> Result<String, String> {
         .map(|line| row(line).ok_or_else(|| format!("a line is `{line}`")));
     let rows: Vec<Row> = rows.collect::<Result<_, _>>()?;
     if let Some(wrong) = rows.iter().find(|row| !row.is_borne_out()) {
-        return Err(format!("endpoint {} isn't borne out", wrong.endpoint));
+        let endpoint = names.endpoint(wrong.endpoint as usize);
+        return Err(format!("{endpoint} isn't borne out"));
     }
-    Ok(with_rows(&rows, lists, code))
+    Ok(with_rows(&rows, names, lists, code))
 }
 
 /// The number of lists and the code of the last line.
@@ -61,18 +64,11 @@ impl Row {
         self.sent.checked_add(self.start) == self.received.checked_add(self.lost + self.end)
     }
 
-    fn cells(&self) -> String {
-        let numbers = [
-            self.endpoint,
-            self.sent,
-            self.received,
-            self.lost,
-            self.start,
-            self.end,
-        ];
-        numbers
-            .map(|number| format!("<td>{}</td>", grouped(number)))
-            .concat()
+    fn cells(&self, names: &Names) -> String {
+        let numbers = [self.sent, self.received, self.lost, self.start, self.end];
+        let cells = numbers.map(|number| format!("<td>{}</td>", grouped(number)));
+        let endpoint = names.endpoint_label(self.endpoint as usize);
+        format!("<td>{endpoint}</td>{}", cells.concat())
     }
 }
 
@@ -89,10 +85,10 @@ fn grouped(number: u64) -> String {
     text
 }
 
-fn with_rows(rows: &[Row], lists: u64, code: u64) -> String {
+fn with_rows(rows: &[Row], names: &Names, lists: u64, code: u64) -> String {
     let body: String = rows
         .iter()
-        .map(|row| format!("<tr>{}</tr>\n", row.cells()))
+        .map(|row| format!("<tr>{}</tr>\n", row.cells(names)))
         .collect();
     let all = |of: fn(&Row) -> u64| grouped(rows.iter().map(of).sum());
     let ended = match code {
@@ -141,7 +137,7 @@ mod tests {
 
     #[test]
     fn a_page_has_every_number() {
-        let page = page(SHEET).unwrap();
+        let page = page(SHEET, &Names::none()).unwrap();
         assert!(page.contains("<td>1</td><td>1,234,567</td><td>1,234,560</td><td>3</td>"));
         assert!(
             page.contains("<p>2 lists ran, all there were.</p>"),
@@ -150,17 +146,31 @@ mod tests {
     }
 
     #[test]
+    fn names_stand_beside_the_numbers() {
+        let names = Names::given("endpoint 1 drives");
+        let page = page(SHEET, &names).unwrap();
+        assert!(
+            page.contains("<td>1 drives</td><td>1,234,567</td>"),
+            "{page}"
+        );
+        assert!(page.contains("<td>0</td><td>0</td>"), "{page}");
+    }
+
+    #[test]
     fn a_refused_list_and_a_refused_table_are_told() {
-        let refused = page("lists 0 code 4\n").unwrap();
+        let refused = page("lists 0 code 4\n", &Names::none()).unwrap();
         assert!(refused.contains("0 lists ran; what came then was refused with 4"));
     }
 
     #[test]
     fn what_is_no_sheet_or_not_borne_out_is_refused() {
-        assert!(page("").is_err());
-        assert!(page("calls 0 code 7\n").is_err());
-        assert!(page("endpoint 0 sent 1\nlists 1 code 0\n").is_err());
+        assert!(page("", &Names::none()).is_err());
+        assert!(page("calls 0 code 7\n", &Names::none()).is_err());
+        assert!(page("endpoint 0 sent 1\nlists 1 code 0\n", &Names::none()).is_err());
         let wrong = "endpoint 0 sent 2 received 0 lost 0 start 0 end 1\nlists 1 code 0\n";
-        assert_eq!(page(wrong), Err("endpoint 0 isn't borne out".to_string()));
+        assert_eq!(
+            page(wrong, &Names::none()),
+            Err("endpoint 0 isn't borne out".to_string())
+        );
     }
 }

@@ -27,7 +27,7 @@ const FLAGS: [&str; 6] = [
 ];
 
 /// Measures a program on inputs of so many lists; whether it prints what it should.
-pub fn measure(program: &str, lists: usize, rounds: usize) -> Result<bool, String> {
+pub fn measure(program: &Path, lists: usize, rounds: usize) -> Result<bool, String> {
     let folder = Folder::make()?;
     let plain = compiled(&folder.0)?;
     let bytes = lists * 4 * (1 + LIST_WORDS_MAX);
@@ -60,9 +60,14 @@ pub fn measure(program: &str, lists: usize, rounds: usize) -> Result<bool, Strin
 type Times = [Vec<f64>; 3];
 
 /// Nothing where the two programs don't print the same.
-fn times(program: &str, plain: &Path, file: &Path, rounds: usize) -> Result<Option<Times>, String> {
+fn times(
+    program: &Path,
+    plain: &Path,
+    file: &Path,
+    rounds: usize,
+) -> Result<Option<Times>, String> {
     let mut times = Times::default();
-    let programs = [Path::new("cat"), plain, Path::new(program)];
+    let programs = [Path::new("cat"), plain, program];
     for _ in 0..rounds {
         let mut printed = Vec::new();
         for (seconds, program) in times.iter_mut().zip(programs) {
@@ -199,9 +204,9 @@ mod tests {
             let (_, printed) = timed(&plain, &file, true).unwrap();
             assert_eq!(printed, reference::totals(&bytes), "{}", input.name);
             assert!(printed.ends_with(b"lists 70 code 0\n"));
-            let same = times(plain.to_str().unwrap(), &plain, &file, 1).unwrap();
+            let same = times(&plain, &plain, &file, 1).unwrap();
             assert!(same.is_some_and(|times| times.iter().all(|of| of.len() == 1)));
-            assert_eq!(times("cat", &plain, &file, 1), Ok(None));
+            assert_eq!(times(Path::new("cat"), &plain, &file, 1), Ok(None));
         }
     }
 

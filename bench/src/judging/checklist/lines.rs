@@ -13,6 +13,7 @@ use crate::judging::counts;
 use crate::judging::variants::Variant;
 use crate::kernels::lent::{Failure, Ran};
 use crate::line::explain::counted;
+use crate::line::names::Names;
 use crate::pictures::reach::reach_in_words;
 
 impl Checklist {
@@ -206,7 +207,7 @@ fn reach_at_the_end(last: Option<&Result<Ran, Failure>>) -> String {
     match last {
         Some(Ok(ran)) => format!(
             "by a chain of rights, at the end of this list: {}",
-            reach_in_words(&ran.holders)
+            reach_in_words(&ran.holders, &Names::none())
         ),
         _ => "this list did not come to its end".to_string(),
     }

@@ -131,7 +131,9 @@ mod tests {
 
     #[test]
     fn on_the_ring_every_right_is_granted_given_up_and_taken_back() {
-        let ring = text::read(include_str!("../../../examples/ring.txt")).unwrap();
+        let ring = text::read(include_str!("../../../examples/ring.txt"))
+            .unwrap()
+            .bytes;
         let ring = Input::parse(&ring).unwrap().table;
         let basis = basis(&exercise(&ring));
         assert_eq!((basis.on.len(), basis.at.len()), (4, endpoints(&ring)));

@@ -1,0 +1,323 @@
+//! The names that a text gives to a line's domains and endpoints, said beside their
+//! numbers wherever these are told.
+
+use std::collections::BTreeMap;
+
+use reference::table::{domains, endpoints, header_is_right, DOMAINS_MAX, ENDPOINTS_MAX};
+
+/// The most characters of a name.
+const NAME_LENGTH_MAX: usize = 24;
+
+/// The names of a line's domains and endpoints, where its text gives some.
+#[derive(Debug, Clone, Default, PartialEq, Eq)]
+pub struct Names {
+    domains: BTreeMap<usize, String>,
+    endpoints: BTreeMap<usize, String>,
+}
+
+impl Names {
+    /// Nobody has a name: all is told by numbers alone.
+    pub fn none() -> Names {
+        Names::default()
+    }
+
+    pub fn is_empty(&self) -> bool {
+        self.domains.is_empty() && self.endpoints.is_empty()
+    }
+
+    /// A domain in a sentence, as `domain 0` or `domain 0 (link)`.
+    pub fn domain(&self, domain: usize) -> String {
+        in_sentence("domain", domain, self.domain_name(domain))
+    }
+
+    /// An endpoint in a sentence, as `endpoint 1` or `endpoint 1 (drives)`.
+    pub fn endpoint(&self, endpoint: usize) -> String {
+        in_sentence("endpoint", endpoint, self.endpoint_name(endpoint))
+    }
+
+    /// A domain where room is scarce, as `0` or `0 link`.
+    pub fn domain_label(&self, domain: usize) -> String {
+        label(domain, self.domain_name(domain))
+    }
+
+    /// An endpoint where room is scarce, as `1` or `1 drives`.
+    pub fn endpoint_label(&self, endpoint: usize) -> String {
+        label(endpoint, self.endpoint_name(endpoint))
+    }
+
+    /// Some domains in a row, as `0 2` or `0 (link) 2 (drives)`.
+    pub fn domain_row(&self, domains: &[usize]) -> String {
+        let each = domains
+            .iter()
+            .map(|&domain| match self.domain_name(domain) {
+                Some(name) => format!("{domain} ({name})"),
+                None => domain.to_string(),
+            });
+        each.collect::<Vec<_>>().join(" ")
+    }
+
+    /// The name of a domain alone, where it has one.
+    pub fn domain_name(&self, domain: usize) -> Option<&str> {
+        self.domains.get(&domain).map(String::as_str)
+    }
+
+    /// The name of an endpoint alone, where it has one.
+    pub fn endpoint_name(&self, endpoint: usize) -> Option<&str> {
+        self.endpoints.get(&endpoint).map(String::as_str)
+    }
+
+    /// What is told by numbers alone, with the names beside them: for what those put
+    /// together who know none, as the judges of a kernel.
+    pub fn beside(&self, told: &str) -> String {
+        let told = beside_numbers(told, "domain ", |domain| self.domain_name(domain));
+        beside_numbers(&told, "endpoint ", |endpoint| self.endpoint_name(endpoint))
+    }
+
+    /// The lines that give the names in a text.
+    pub fn lines(&self) -> String {
+        let line = |what| move |(number, name)| format!("{what} {number} {name}\n");
+        let domains = self.domains.iter().map(line("domain"));
+        let endpoints = self.endpoints.iter().map(line("endpoint"));
+        domains.chain(endpoints).collect()
+    }
+
+    /// Takes in what a line gives, as `domain 0 link`; what is wrong with it
+    /// otherwise. `sizes` are how many domains and endpoints there are.
+    fn add(&mut self, line: &[&str], sizes: (usize, usize)) -> Result<(), String> {
+        let [what, number, name] = *line else {
+            let what = line.first().unwrap_or(&"domain");
+            return Err(format!(
+                "a name is given as `{what} 0 NAME`, in a line of its own"
+            ));
+        };
+        let (names, size) = match what {
+            "domain" => (&mut self.domains, sizes.0),
+            _ => (&mut self.endpoints, sizes.1),
+        };
+        let number = number_of(what, number, size)?;
+        check_name(name)?;
+        if names.contains_key(&number) {
+            return Err(format!("{what} {number} has a name already"));
+        }
+        if let Some((other, _)) = names.iter().find(|(_, given)| *given == name) {
+            return Err(format!("`{name}` is the name of {what} {other} already"));
+        }
+        names.insert(number, name.to_string());
+        Ok(())
+    }
+}
+
+/// The lines of a text that give names, taken apart, each with its number.
+#[derive(Debug, Clone, Default, PartialEq, Eq)]
+pub struct Namings<'a>(Vec<(usize, Vec<&'a str>)>);
+
+impl<'a> Namings<'a> {
+    /// Takes a line that is meant to give a name; whether it is one.
+    pub fn take(&mut self, number: usize, line: &[&'a str]) -> bool {
+        let names = matches!(line.first(), Some(&("domain" | "endpoint")));
+        if names {
+            self.0.push((number, line.to_vec()));
+        }
+        names
+    }
+
+    /// The names that the lines add to others, which must be those of something in the
+    /// table.
+    pub fn added_to(&self, mut names: Names, table: &[u32]) -> Result<Names, String> {
+        let sizes = sizes(table);
+        for (number, line) in &self.0 {
+            let added = names.add(line, sizes);
+            added.map_err(|why| format!("line {number}: {why}"))?;
+        }
+        Ok(names)
+    }
+}
+
+/// How many domains and endpoints can have a name: those of the table where its word 0
+/// is right, otherwise as many as any table has.
+fn sizes(table: &[u32]) -> (usize, usize) {
+    match table.first() {
+        Some(&header) if header_is_right(header) => (domains(table), endpoints(table)),
+        _ => (DOMAINS_MAX, ENDPOINTS_MAX),
+    }
+}
+
+/// A text with a name behind each number that stands behind some word, unless it is
+/// there already.
+fn beside_numbers<'a>(told: &str, word: &str, name: impl Fn(usize) -> Option<&'a str>) -> String {
+    let mut parts = told.split(word);
+    let mut text = parts.next().unwrap_or("").to_string();
+    for part in parts {
+        let digits = part.bytes().take_while(u8::is_ascii_digit).count();
+        let (number, rest) = part.split_at(digits);
+        let name = number.parse().ok().and_then(&name).unwrap_or("");
+        let missing = !name.is_empty() && !rest.starts_with(&format!(" ({name}"));
+        let beside = if missing {
+            format!(" ({name})")
+        } else {
+            String::new()
+        };
+        text += &[word, number, &beside, rest].concat();
+    }
+    text
+}
+
+fn in_sentence(what: &str, number: usize, name: Option<&str>) -> String {
+    match name {
+        Some(name) => format!("{what} {number} ({name})"),
+        None => format!("{what} {number}"),
+    }
+}
+
+fn label(number: usize, name: Option<&str>) -> String {
+    match name {
+        Some(name) => format!("{number} {name}"),
+        None => number.to_string(),
+    }
+}
+
+fn number_of(what: &str, number: &str, size: usize) -> Result<usize, String> {
+    let digits = !number.is_empty() && number.bytes().all(|digit| digit.is_ascii_digit());
+    match number.parse() {
+        Ok(number) if digits && number < size => Ok(number),
+        _ if !digits => Err(format!("`{number}` is no number of {what}s")),
+        _ => Err(match size {
+            0 => format!("there is no {what} {number}: the table has no {what}s"),
+            _ => format!(
+                "there is no {what} {number}: the table has 0 to {}",
+                size - 1
+            ),
+        }),
+    }
+}
+
+fn check_name(name: &str) -> Result<(), String> {
+    let right = |byte: u8| byte.is_ascii_alphanumeric() || byte == b'-' || byte == b'_';
+    if !name.bytes().all(right) {
+        return Err(format!(
+            "`{name}` is no name: it has letters, digits, `-` and `_` alone"
+        ));
+    }
+    match name.len() {
+        1..=NAME_LENGTH_MAX => Ok(()),
+        _ => Err(format!(
+            "`{name}` is no name: it is longer than {NAME_LENGTH_MAX} characters"
+        )),
+    }
+}
+
+#[cfg(test)]
+impl Names {
+    /// The names that a text gives, for tests.
+    pub fn given(text: &str) -> Names {
+        let mut names = Names::none();
+        for line in text.lines() {
+            let words: Vec<&str> = line.split_whitespace().collect();
+            names.add(&words, (DOMAINS_MAX, ENDPOINTS_MAX)).unwrap();
+        }
+        names
+    }
+}
+
+#[cfg(test)]
+mod tests {
+    use super::*;
+    use reference::example::TABLE_T;
+
+    #[test]
+    fn names_stand_beside_the_numbers() {
+        let names = Names::given("domain 0 link\nendpoint 1 drives");
+        assert_eq!(names.domain(0), "domain 0 (link)");
+        assert_eq!(names.domain(1), "domain 1");
+        assert_eq!(names.domain_label(0), "0 link");
+        assert_eq!(names.domain_row(&[0, 1]), "0 (link) 1");
+        assert_eq!(names.domain_name(0), Some("link"));
+        assert_eq!(names.endpoint_name(1), Some("drives"));
+        assert_eq!(names.endpoint_name(0), None);
+        assert_eq!(names.endpoint(1), "endpoint 1 (drives)");
+        assert_eq!(names.endpoint(0), "endpoint 0");
+        assert_eq!(names.endpoint_label(1), "1 drives");
+        assert_eq!(names.lines(), "domain 0 link\nendpoint 1 drives\n");
+        assert!(!names.is_empty());
+    }
+
+    #[test]
+    fn without_names_numbers_stand_alone() {
+        let none = Names::none();
+        assert!(none.is_empty());
+        assert_eq!(none.domain(15), "domain 15");
+        assert_eq!(none.endpoint(31), "endpoint 31");
+        assert_eq!(none.domain_label(7), "7");
+        assert_eq!(none.domain_row(&[0, 2]), "0 2");
+        assert_eq!(none.endpoint_label(7), "7");
+        assert_eq!(none.lines(), "");
+    }
+
+    #[test]
+    fn names_are_put_beside_numbers_that_were_told_alone() {
+        let names = Names::given("domain 1 loader\nendpoint 1 routes");
+        let told = "call 1 (domain 1 sends to endpoint 1): domain 11, endpoint 0; domain 1";
+        let wanted = "call 1 (domain 1 (loader) sends to endpoint 1 (routes)): domain 11, \
+                      endpoint 0; domain 1 (loader)";
+        assert_eq!(names.beside(told), wanted);
+        assert_eq!(names.beside(wanted), wanted);
+        assert_eq!(Names::none().beside(told), told);
+        let looked_up = "endpoint 1 (routes, name 9) of each domain that there is";
+        assert_eq!(names.beside(looked_up), looked_up);
+    }
+
+    /// What is wrong with the last of some lines.
+    fn wrong(lines: &str, sizes: (usize, usize)) -> String {
+        let lines: Vec<Vec<&str>> = lines.lines().map(|l| l.split(' ').collect()).collect();
+        let (last, before) = lines.split_last().unwrap();
+        let mut names = Names::none();
+        for line in before {
+            names.add(line, sizes).unwrap();
+        }
+        names.add(last, sizes).unwrap_err()
+    }
+
+    #[test]
+    fn what_is_no_name_is_told() {
+        let given = wrong("domain 0", (3, 2));
+        assert_eq!(
+            given,
+            "a name is given as `domain 0 NAME`, in a line of its own"
+        );
+        assert!(wrong("endpoint 0 a b", (3, 2)).contains("`endpoint 0 NAME`"));
+        assert!(wrong("domain 0 a.b", (3, 2)).starts_with("`a.b` is no name"));
+        assert!(wrong("domain 0 \u{E9}", (3, 2)).contains("is no name"));
+        let longest = "n".repeat(24);
+        assert!(Names::none()
+            .add(&["domain", "0", &longest], (1, 0))
+            .is_ok());
+        let long = wrong(&format!("domain 0 {longest}n"), (3, 2));
+        assert!(long.ends_with("is longer than 24 characters"), "{long}");
+    }
+
+    #[test]
+    fn a_name_and_a_number_are_given_once() {
+        let twice = wrong("domain 0 link\ndomain 0 loader", (3, 2));
+        assert_eq!(twice, "domain 0 has a name already");
+        let twice = wrong("domain 0 link\ndomain 2 link", (3, 2));
+        assert_eq!(twice, "`link` is the name of domain 0 already");
+        // A domain and its endpoint may be called the same.
+        Names::given("domain 0 link\nendpoint 0 link");
+    }
+
+    #[test]
+    fn only_what_there_is_has_a_name() {
+        let beyond = wrong("domain 3 link", (3, 2));
+        assert_eq!(beyond, "there is no domain 3: the table has 0 to 2");
+        let none = wrong("endpoint 0 link", (3, 0));
+        assert_eq!(none, "there is no endpoint 0: the table has no endpoints");
+        assert_eq!(
+            wrong("domain +1 link", (3, 2)),
+            "`+1` is no number of domains"
+        );
+        assert!(wrong("domain 99999999999999999999 a", (3, 2)).contains("the table has 0 to 2"));
+        assert_eq!(sizes(&TABLE_T), (3, 2));
+        assert_eq!(sizes(&[]), (16, 32));
+        assert_eq!(sizes(&[0x1000_1100]), (16, 32));
+    }
+}
