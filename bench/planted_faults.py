@@ -1,6 +1,6 @@
 #!/usr/bin/env python3
-"""Shows that `bench fuzz`, `bench step`, `bench queue`, `bench tables` and `bench
-histories` report a difference when there is one.
+"""Shows that `bench fuzz`, `bench step`, `bench queue`, `bench tables`, `bench
+histories` and `bench roads` report a difference when there is one.
 
 The faults are those of the separate implementation's own mutants, by edits as
 reference/edits.py has them. The bench is built against a copy of the separate
@@ -10,9 +10,9 @@ says to see it again must show it with the kernel's working run too, and the sam
 steps must report the fault where it is one of a single call. A fault that shows only on
 words that no check accepts must be reported by the same seeded queues, one of a repair
 or of potential rights by the same seeded tables, one of turns by the same seeded
-histories, and one of the writer by the fuzz's lists alone. With none switched on all
-must pass. A panic, a run that doesn't end and a code never met are no reported
-difference.
+histories, one of the writer by the fuzz's lists alone, and one of a set that leaves
+every view equal by the roads of an example. With none switched on all must pass. A
+panic, a run that doesn't end and a code never met are no reported difference.
 
     python3 bench/planted_faults.py            all faults
     python3 bench/planted_faults.py NAME...    some of them
@@ -43,6 +43,7 @@ TABLES = "tables --seed 20 --cases 10000".split()
 STEP = ["step", "--seed", "20", "--cases", "5000"]
 QUEUE = ["queue", "--seed", "20", "--cases", "10000"]
 HISTORIES = ["histories", "--seed", "20", "--cases", "1000"]
+ROADS = ["roads", str(ROOT / "bench" / "examples" / "roads.txt")]
 LEAST = 20
 AGAIN = "To see it again: bench "
 
@@ -53,11 +54,6 @@ UNSEEN = {
     "group_keeps_*": "a stray and a call of nobody alter nothing",
     "linerun_*": "linerun's reading: the fuzz runs the library",
     "potential_list_*": "lists that are longer than they need be",
-    "purge_keeps_everything": "a run of all calls gives every domain its view",
-    "sources_by_the_table_after_the_call": "a call that alters its caller's row "
-    "alters nothing else, which leaves the views equal",
-    "sources_without_refused_calls": "a refused call alters nothing that a member "
-    "of the set sees",
     "totals_*": "sheets, which a program of its own prints",
     "view_*": "the same view is taken of both runs",
     "send_past_the_slots_fills_the_last": "words that can't be served, where the "
@@ -68,15 +64,21 @@ UNSEEN = {
 # from the waiting count on are empty, so queues of any words show what becomes of others.
 # A reader that tests the caller shows in no run, since a caller above the largest table's
 # is refused with 12 there. What a step does to the holders' words isn't what a run does.
+# A set that is another one but leaves every view equal shows where roads are told, which
+# are found without the separate machine: of a call that is refused or that gives up its
+# caller's own right, and where everything is kept.
 BY_ANOTHER = {
     "columns_*": LISTS,
     "holders_of_the_caller_alone": STEP,
     "potential_*": TABLES,
+    "purge_keeps_everything": ROADS,
     "receive_clears_the_slots_from_the_free_one_on": QUEUE,
     "receive_moves_all_eight": QUEUE,
     "receive_up_to_the_capacity": QUEUE,
     "read_tests_the_caller": LISTS,
     "repair_*": TABLES,
+    "sources_by_the_table_after_the_call": ROADS,
+    "sources_without_refused_calls": ROADS,
     "turns_*": HISTORIES,
     "writer_*": LISTS,
 }
@@ -119,7 +121,7 @@ def make(copy):
 
 def check_unedited(bench):
     """Against the separate implementation as it stands all must pass."""
-    for command in FUZZ, WORKING, LISTS, STEP, QUEUE, TABLES, HISTORIES:
+    for command in FUZZ, WORKING, LISTS, STEP, QUEUE, TABLES, HISTORIES, ROADS:
         ran = run([bench, *command], 0)
         if ran.returncode != 0:
             raise Wrong(f"{command[0]} fails:\n{ran.stdout}{ran.stderr}")

@@ -19,8 +19,8 @@ use std::process::ExitCode;
 
 use crate::output::{complain, say};
 use commands::{
-    commission, fuzz, histories, linerun, queue, read, repair, show, speed, step, tables, totals,
-    turns, words, write,
+    commission, fuzz, histories, linerun, queue, read, repair, roads, show, speed, step, tables,
+    totals, turns, words, write,
 };
 
 /// The help before the list of commands, and after it.
@@ -50,7 +50,7 @@ struct Command {
     act: fn(&[OsString]) -> Result<bool, String>,
 }
 
-const COMMANDS: [Command; 15] = [
+const COMMANDS: [Command; 16] = [
     Command {
         name: "commission",
         given: "FILE",
@@ -120,6 +120,13 @@ const COMMANDS: [Command; 15] = [
         purpose: "an input in words and as a picture",
         help: show::HELP,
         act: show::command,
+    },
+    Command {
+        name: "roads",
+        given: "FILE",
+        purpose: "who has a road of rights to whom, now and ever",
+        help: roads::HELP,
+        act: roads::command,
     },
     Command {
         name: "repair",

@@ -62,8 +62,8 @@ fn help_is_given_for_every_command() {
     assert_eq!(status(&["--help"]), 0);
     assert!(printed(&["--help"]).contains("or a closed pipe"));
     let commands =
-        "commission fuzz step queue tables histories linerun totals speed show repair turns \
-         words write read";
+        "commission fuzz step queue tables histories linerun totals speed show roads repair \
+         turns words write read";
     for command in commands.split(' ') {
         let help = printed(&[command, "--help"]);
         assert!(help.starts_with(&format!("bench {command}")), "{help}");
@@ -390,6 +390,147 @@ fn an_input_is_shown_in_words_and_as_a_picture() {
     assert!(ran.contains("-> message 6; 1 lost so far\n"), "{ran}");
     let picture = fs::read_to_string(&out).expect("the picture is there");
     assert!(picture.starts_with("<svg ") && picture.ends_with("</svg>\n"));
+}
+
+#[test]
+fn a_run_has_the_table_after_it_in_the_picture() {
+    let input = file("run-picture.bin", &example());
+    let (out, ran) = (file("plain.svg", b""), file("ran.svg", b""));
+    assert_eq!(status(&["show", &input, "--svg", &out]), 0);
+    assert_eq!(status(&["show", &input, "--run", "--svg", &ran]), 0);
+    let read = |path: &str| fs::read_to_string(path).expect("the picture is there");
+    assert!(!read(&out).contains("After the list"));
+    assert!(read(&ran).contains("After the list"));
+}
+
+/// The example of a line with names.
+const ROADS: &str = concat!(env!("CARGO_MANIFEST_DIR"), "/examples/roads.txt");
+
+#[test]
+fn a_graph_is_written_that_other_tools_take() {
+    let out = file("graph.dot", b"");
+    let line = ["show", ROADS, "--run", "--dot", &out];
+    let shown = printed(&line);
+    assert!(
+        shown.ends_with(&format!("picture written to {out}\n")),
+        "{shown}"
+    );
+    let graph = fs::read_to_string(&out).expect("the graph is there");
+    assert!(graph.starts_with("digraph line {\n") && graph.ends_with("}\n"));
+    assert!(graph.contains("label=\"0 link\""), "{graph}");
+    assert!(
+        graph.contains("d2 -> d5 [label=\"GRANT since the list\""),
+        "{graph}"
+    );
+    match Command::new("dot").args(["-Tsvg", &out]).output() {
+        Ok(drawn) => {
+            assert!(
+                drawn.status.success() && drawn.stderr.is_empty(),
+                "{drawn:?}"
+            );
+            let drawn = String::from_utf8(drawn.stdout).expect("text");
+            assert_eq!(drawn.matches("class=\"cluster\"").count(), 2);
+        }
+        Err(_) => println!("skipped: there is no program dot here to take the graph"),
+    }
+    let input = file("not-overwritten.txt", b"table 10000100 20000000");
+    assert!(told(&["show", &input, "--dot", &input]).contains("--dot"));
+    assert_eq!(status(&["show", &input, "--dot", &input]), 2);
+}
+
+#[test]
+fn a_road_is_answered_by_a_sentence() {
+    let line = ROADS;
+    let yes = printed(&["roads", line, "link", "drive-5"]);
+    assert!(
+        yes.starts_with(
+            "Yes, domain 0 (link) has a road to domain 5 (drive-5) in this table: domain 0 (link) \
+             has SEND on domain 1 (loader), domain 1 (loader) has GRANT and REMOVE on domain 5 \
+             (drive-5).\nNo call is needed for it to get one.\n"
+        ),
+        "{yes}"
+    );
+    assert!(yes.contains("Kept for domain 5 (drive-5) are 1 of the 2 calls that domain 0 (link)"));
+    let joins = "kept: domain 2 (chute) comes into the set here by GRANT on domain 5 (drive-5)";
+    assert!(yes.contains(joins), "{yes}");
+    let could = printed(&["roads", line, "chute", "5"]);
+    assert!(
+        could.starts_with(
+            "No, domain 2 (chute) has no road to domain 5 (drive-5) in this table.\nIt could get \
+             one if domain 1 (loader) acts, by these calls:\n  domain 1 (loader) grants domain 2 \
+             (chute) GRANT and REMOVE on domain 5 (drive-5)\nThen "
+        ),
+        "{could}"
+    );
+    let never = printed(&["roads", line, "5", "0"]);
+    let why = "all that it could ever have a road to is domain 2 (chute), domain 3 (drive-3) and \
+               domain 4 (drive-4).\n";
+    assert!(
+        never.contains("\nIt can never get one") && never.contains(why),
+        "{never}"
+    );
+    let apart = printed(&["roads", line, "panel", "drive-3"]);
+    assert!(
+        apart.contains("the two are in groups that no list can join.\n"),
+        "{apart}"
+    );
+    assert!(apart.contains("Struck for domain 3 (drive-3) is all that domain 7 (panel) does"));
+    assert_eq!(
+        status(&["roads", line, "5", "0"]),
+        0,
+        "no road is an answer"
+    );
+}
+
+#[test]
+fn all_roads_are_told() {
+    let input = file("roads.bin", &example());
+    let all = printed(&["roads", &input]);
+    let chain =
+        "\n    domain 0 has SEND on domain 1, domain 1 has SEND, GRANT and REMOVE on domain \
+                 2\n";
+    assert!(all.contains(chain), "{all}");
+    // Document 01, P12: four of the nine calls are struck for domain 1.
+    assert!(
+        all.contains("for domain 1, from its end back: 5 of 9 calls kept\n  at call 7: domain 0")
+    );
+    assert!(
+        all.contains("Roads that never come, whatever calls are made:\n  domain 2 to"),
+        "{all}"
+    );
+}
+
+#[test]
+fn what_roads_are_not_told_of_is_said() {
+    let input = file("no-roads.bin", &example());
+    for (line, why) in [
+        (vec!["roads"], "no file is given"),
+        (vec!["roads", &input, "0"], "FROM is given without TO"),
+        (
+            vec!["roads", &input, "0", "3"],
+            "there is no domain 3: the table has 3",
+        ),
+        (
+            vec!["roads", &input, "0", "link"],
+            "the input gives no names",
+        ),
+        (vec!["roads", &input, "0", "1", "2"], "`2` is not expected"),
+    ] {
+        assert_eq!(status(&line), 2, "{line:?}");
+        assert!(told(&line).contains(why), "{}", told(&line));
+    }
+    let mut table = TABLE_T;
+    table[9] = 0x2000_0010;
+    let refused = file(
+        "no-roads-refused.bin",
+        &to_bytes(&[&[34], &table[..]].concat()),
+    );
+    assert_eq!(status(&["roads", &refused]), 1);
+    assert!(printed(&["roads", &refused]).starts_with("table refused with 4"));
+    assert_eq!(
+        status(&["roads", &file("no-roads-short.bin", &example()[..50])]),
+        1
+    );
 }
 
 #[test]

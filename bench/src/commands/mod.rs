@@ -9,6 +9,7 @@ pub mod linerun;
 pub mod queue;
 pub mod read;
 pub mod repair;
+pub mod roads;
 pub mod show;
 pub mod speed;
 pub mod step;

@@ -21,10 +21,10 @@ use crate::line::given::{read_given, Given};
 use crate::line::input::Input;
 use crate::output::{self, say};
 use crate::pictures::diagram::in_words;
-use crate::pictures::picture;
+use crate::pictures::{dot, picture};
 
 pub const HELP: &str = "\
-bench show FILE [--run] [--svg OUT] [--calls N]
+bench show FILE [--run] [--svg OUT] [--dot OUT] [--calls N]
 
 Shows an input of linerun in words: who has which right on whom, the queues with
 what waits in them, and the calls of the list. FILE may be a text as `bench
@@ -32,7 +32,10 @@ words` takes it; the names that it gives stand beside the numbers.
 
   --run       run the list on the kernel: each call with its answer, and the
               rights and queues that it leaves
-  --svg OUT   write the same as a picture to OUT: small tables with arrows
+  --svg OUT   write the same as a picture to OUT: who has rights on whom as
+              arrows, groups apart, and with --run the table after the list too
+  --dot OUT   write the table as a graph in the language DOT to OUT, for other
+              tools: with --run what the list changed is told at each arrow
   --calls N   show the first N calls only (default: all; in a picture 24, and
               about 1,300 at most)
 
@@ -45,11 +48,11 @@ const CALLS_IN_PICTURE: usize = 24;
 
 /// The command: whether the input is one that runs.
 pub fn command(line: &[OsString]) -> Result<bool, String> {
-    let options = Options::parse(line, &["--svg", "--calls"], &["--run"])?;
+    let options = Options::parse(line, &["--svg", "--dot", "--calls"], &["--run"])?;
     let file = options.file()?;
     let calls = options.number("--calls")?.map(|calls| calls as usize);
-    let out = options.path("--svg");
-    let out = out.map(|out| picture_file(out, file)).transpose()?;
+    let svg = picture_file(&options, "--svg", file)?;
+    let dot = picture_file(&options, "--dot", file)?;
     let Given { bytes, names } = read_given(file)?;
     let input = match Input::parse(&bytes) {
         Ok(input) => input,
@@ -63,26 +66,39 @@ pub fn command(line: &[OsString]) -> Result<bool, String> {
         output::write(crate::line::text::write(&input).as_bytes());
         return Ok(false);
     }
-    let written = out
-        .map(|out| write_picture(out, &input, calls))
-        .transpose()?;
     let left = options.has("--run").then(|| ran(&input)).transpose()?;
+    let table = left.as_ref().map(|left| left.table.as_slice());
+    if let Some(out) = svg {
+        let most = calls.unwrap_or(CALLS_IN_PICTURE);
+        write_file(out, &picture::svg(&input, &names, table, most))?;
+    }
+    if let Some(out) = dot {
+        write_file(out, &dot::graph(&input.table, &names, table))?;
+    }
     output::write(in_words(&input, &names, left.as_ref(), calls.unwrap_or(usize::MAX)).as_bytes());
-    if let Some(written) = written {
-        say!("{written}");
+    for out in [svg, dot].into_iter().flatten() {
+        say!("picture written to {}", out.display());
     }
     Ok(true)
 }
 
-/// The name of the picture's file, unless it looks like an option or is the input.
-fn picture_file<'a>(out: &'a Path, input: &Path) -> Result<&'a Path, String> {
+/// The file that an option names for a picture, unless it looks like an option itself or
+/// is the input.
+fn picture_file<'a>(
+    options: &'a Options,
+    option: &str,
+    input: &Path,
+) -> Result<Option<&'a Path>, String> {
+    let Some(out) = options.path(option) else {
+        return Ok(None);
+    };
     let told = out.display();
     if out.as_os_str().is_empty() {
-        return Err("--svg needs a file's name".to_string());
+        return Err(format!("{option} needs a file's name"));
     }
     if out.as_os_str().as_bytes().starts_with(b"-") {
         return Err(format!(
-            "--svg needs a file's name: for a file {told} write ./{told}"
+            "{option} needs a file's name: for a file {told} write ./{told}"
         ));
     }
     let standard = input == Path::new("-");
@@ -94,21 +110,14 @@ fn picture_file<'a>(out: &'a Path, input: &Path) -> Result<&'a Path, String> {
     let identity = |path: &Path| fs::metadata(path).map(|file| (file.dev(), file.ino()));
     match (identity(out), identity(input)) {
         (Ok(out_file), Ok(input)) if out_file == input => Err(format!(
-            "--svg {told} is the input, which the picture would overwrite"
+            "{option} {told} is the input, which the picture would overwrite"
         )),
-        _ => Ok(out),
+        _ => Ok(Some(out)),
     }
 }
 
-/// Writes the picture; tells what was written, for the end of the text.
-fn write_picture(out: &Path, input: &Input, calls: Option<usize>) -> Result<String, String> {
-    let svg = picture::svg(input, calls.unwrap_or(CALLS_IN_PICTURE));
-    let to = out.display();
-    fs::write(out, svg).map_err(|why| format!("cannot write {to}: {why}"))?;
-    Ok(match picture::without_arrows(&input.table) {
-        Some(why) => format!("picture written to {to}. {why}"),
-        None => format!("picture written to {to}"),
-    })
+fn write_file(out: &Path, text: &str) -> Result<(), String> {
+    fs::write(out, text).map_err(|why| format!("cannot write {}: {why}", out.display()))
 }
 
 /// What the kernel leaves of an input that is not refused.

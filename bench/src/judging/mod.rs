@@ -23,6 +23,7 @@ pub mod printed;
 pub mod queues;
 pub mod repairs;
 pub mod report;
+pub mod roads;
 pub mod runs;
 pub mod shrink;
 pub mod steps;

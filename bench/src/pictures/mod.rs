@@ -1,11 +1,18 @@
-//! A line to look at: in words with a small diagram, and as a picture with the shapes
-//! that it is drawn with. And measured speeds as tables.
+//! A line to look at: in words with a small diagram, as a picture with the shapes that it
+//! is drawn with, and as a graph for other tools. And measured speeds as tables.
 
+mod arrows;
 pub mod diagram;
+pub mod dot;
+mod geometry;
 mod groups;
+mod parts;
 pub mod picture;
+mod places;
 pub mod potential;
 pub mod reach;
+mod rights;
+pub mod roads;
 pub mod sheet;
 pub mod speeds;
 pub mod svg;

@@ -1,5 +1,11 @@
 //! A few shapes of SVG, as text: what `picture` draws with.
 
+use crate::pictures::geometry::{towards, Point};
+
+/// The length of an arrow's head, and half of its width.
+const HEAD: f64 = 9.0;
+const HEAD_HALF: f64 = 3.6;
+
 /// The text colour, the quiet one, and that of lines.
 pub const INK: &str = "#1f2933";
 pub const QUIET: &str = "#66727f";
@@ -85,10 +91,11 @@ impl Drawing {
         };
         self.body += &format!(
             "<text x=\"{x:.1}\" y=\"{:.1}\" font-size=\"{}\" fill=\"{}\" \
-             text-anchor=\"{anchor}\"{weight}{family}>{text}</text>\n",
+             text-anchor=\"{anchor}\"{weight}{family}>{}</text>\n",
             y + style.size * 0.35,
             style.size,
-            style.colour
+            style.colour,
+            escaped(text)
         );
     }
 
@@ -106,12 +113,30 @@ impl Drawing {
             &format!("<circle cx=\"{x:.1}\" cy=\"{y:.1}\" r=\"{radius}\" fill=\"{fill}\"/>\n");
     }
 
-    /// An arrow along a path, which is given as SVG writes it.
-    pub fn arrow(&mut self, path: &str) {
+    /// An arrow along a path, which is given as SVG writes it, with its head where it
+    /// comes from one point to another.
+    pub fn arrow(&mut self, path: &str, from: Point, to: Point, colour: &str) {
+        let back = towards(to, from, HEAD);
+        let (dx, dy) = ((to.0 - back.0) / HEAD, (to.1 - back.1) / HEAD);
+        let side = |far: f64| (back.0 - far * dy, back.1 + far * dx);
+        let (one, other) = (side(HEAD_HALF), side(-HEAD_HALF));
         self.body += &format!(
-            "<path d=\"{path}\" fill=\"none\" stroke=\"{ARROW}\" stroke-width=\"1.6\" \
-             marker-end=\"url(#head)\"/>\n"
+            "<path d=\"{path}\" fill=\"none\" stroke=\"{colour}\" stroke-width=\"1.4\"/>\n\
+             <path d=\"M{:.1} {:.1} L{:.1} {:.1} L{:.1} {:.1} z\" fill=\"{colour}\"/>\n",
+            one.0, one.1, to.0, to.1, other.0, other.1
         );
+    }
+
+    /// What is drawn from here to [`Drawing::end_part`] has its own corner.
+    pub fn start_part(&mut self, corner: Point) {
+        self.body += &format!(
+            "<g transform=\"translate({:.1} {:.1})\">\n",
+            corner.0, corner.1
+        );
+    }
+
+    pub fn end_part(&mut self) {
+        self.body += "</g>\n";
     }
 
     /// The whole picture: its size, its name, and what was drawn.
@@ -120,12 +145,16 @@ impl Drawing {
             "<svg xmlns=\"http://www.w3.org/2000/svg\" width=\"{width:.0}\" height=\"{height:.0}\" \
              viewBox=\"0 0 {width:.0} {height:.0}\" role=\"img\" \
              font-family=\"DejaVu Sans, Helvetica, Arial, sans-serif\">\n\
-             <title>{title}</title>\n\
-             <defs><marker id=\"head\" viewBox=\"0 0 10 10\" refX=\"9\" refY=\"5\" \
-             markerWidth=\"8\" markerHeight=\"8\" markerUnits=\"userSpaceOnUse\" orient=\"auto\">\
-             <path d=\"M0 0.8 L10 5 L0 9.2 z\" fill=\"{ARROW}\"/></marker></defs>\n\
+             <title>{}</title>\n\
              <rect width=\"100%\" height=\"100%\" fill=\"#ffffff\"/>\n{}</svg>\n",
+            escaped(title),
             self.body
         )
     }
+}
+
+/// A text with what means something to SVG written so that it doesn't.
+fn escaped(text: &str) -> String {
+    let text = text.replace('&', "&amp;").replace('<', "&lt;");
+    text.replace('>', "&gt;")
 }
