@@ -11,6 +11,12 @@
 //! linked too: they have the kernel's public step for `bench step` and the queue's
 //! functions for `bench queue`, which the firmware's archive hasn't got. An archive of
 //! the kit shows its exported functions only, so they don't meet.
+//!
+//! For reports it tells the program the hash of the archive that it links, what the
+//! archive says of its own logic, and what the kit at hand says of itself.
+
+#[path = "src/reports/sha256.rs"]
+mod sha256;
 
 use std::env;
 use std::error::Error;
@@ -57,6 +63,9 @@ const TEST_ARCHIVES: [TestArchive; 2] = [
     },
 ];
 
+/// What stands before the logic's name in an archive of the kit.
+const LOGIC: &str = "rattle logic=";
+
 const PLAIN_SOURCES: [&str; 2] = ["plain_check", "plain_run"];
 const FLAGS: [&str; 6] = [
     "-std=c11",
@@ -77,6 +86,7 @@ fn main() {
     }
     println!("cargo::rerun-if-changed=build.rs");
     println!("cargo::rerun-if-changed=c");
+    println!("cargo::rerun-if-changed=src/reports/sha256.rs");
     println!("cargo::rustc-check-cfg=cfg(clang)");
     if let Err(wrong) = build() {
         println!("cargo::error={wrong}");
@@ -86,6 +96,7 @@ fn main() {
 fn build() -> Result<(), Box<dyn Error>> {
     let out = PathBuf::from(env::var("OUT_DIR")?);
     link_kernel(&out)?;
+    println!("cargo::rustc-env=KIT={}", kit().unwrap_or_default());
     for archive in &TEST_ARCHIVES {
         link_test_archive(&out, archive)?;
     }
@@ -135,7 +146,27 @@ fn link_kernel(out: &Path) -> Result<(), Box<dyn Error>> {
             format!("{shown} is for the firmware and has {name}, which is for tests").into(),
         );
     }
+    println!("cargo::rustc-env=ARCHIVE_SHA256={}", sha256::sha256(&bytes));
+    println!("cargo::rustc-env=ARCHIVE_LOGIC={}", logic(&bytes));
     link_archive(out, &archive, "balkwizu", &bytes, EXPORTS)
+}
+
+/// What the kit at hand says of itself, where there is one.
+fn kit() -> Option<String> {
+    let places = env::var_os("PATH")?;
+    let mut programs = env::split_paths(&places).map(|place| place.join("rt"));
+    let program = programs.find(|program| program.is_file())?;
+    println!("cargo::rerun-if-changed={}", program.display());
+    version("rt")
+}
+
+/// The logic that an archive says it was checked by, or nothing.
+fn logic(archive: &[u8]) -> String {
+    let mark = LOGIC.as_bytes();
+    let found = archive.windows(mark.len()).position(|part| part == mark);
+    let behind = found.map_or(&[][..], |place| &archive[place + mark.len()..]);
+    let digits = behind.iter().take_while(|byte| byte.is_ascii_hexdigit());
+    digits.map(|&byte| byte as char).collect()
 }
 
 /// Whether a name stands in an archive.

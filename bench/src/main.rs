@@ -13,6 +13,7 @@ mod line;
 mod output;
 mod pictures;
 mod progress;
+mod reports;
 
 use std::ffi::{OsStr, OsString};
 use std::process::ExitCode;

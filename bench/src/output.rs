@@ -1,5 +1,9 @@
-//! What the commands print. Where nobody reads it any more the program just ends,
-//! as a program in a pipe should.
+//! What the commands print, and the files that they write. Where nobody reads what is
+//! printed any more the program just ends, as a program in a pipe should.
+
+use std::fs;
+use std::os::unix::fs::MetadataExt;
+use std::path::Path;
 
 /// Says a line on standard error, put together as by `format!`. Where that can't be
 /// written there is nobody else to tell.
@@ -29,6 +33,39 @@ pub fn write(bytes: &[u8]) {
         }
         exit(2);
     }
+}
+
+/// That a file may be written which an option names: it doesn't look like an option, and
+/// it is none of those that are read, which would be overwritten.
+pub fn may_write(option: &str, out: &Path, read: &[&Path]) -> Result<(), String> {
+    let shown = out.display();
+    if out.as_os_str().is_empty() {
+        return Err(format!("{option} needs a file's name"));
+    }
+    if out.as_os_str().as_encoded_bytes().starts_with(b"-") {
+        return Err(format!(
+            "{option} needs a file's name: for a file {shown} write ./{shown}"
+        ));
+    }
+    let identity = |path: &Path| fs::metadata(path).map(|file| (file.dev(), file.ino())).ok();
+    let opened = |path: &Path| match path == Path::new("-") {
+        true => identity(Path::new("/dev/stdin")),
+        false => identity(path),
+    };
+    match read
+        .iter()
+        .any(|read| *read == out || opened(read).is_some() && opened(read) == identity(out))
+    {
+        true => Err(format!(
+            "{option} {shown} is the input, which it would overwrite"
+        )),
+        false => Ok(()),
+    }
+}
+
+/// Writes a file.
+pub fn write_file(out: &Path, text: &str) -> Result<(), String> {
+    fs::write(out, text).map_err(|why| format!("cannot write {}: {why}", out.display()))
 }
 
 /// Prints a line, put together as by `format!`.

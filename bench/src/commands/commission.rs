@@ -1,25 +1,39 @@
 //! `bench commission`: the checklist that a field engineer runs on the controller's
-//! own table and list before a line is put into service.
+//! own table and list before a line is put into service, on a kernel or on what the
+//! controller itself left; and the report of it.
+
+mod asked;
 
 use std::ffi::OsString;
+use std::path::Path;
+use std::time::SystemTime;
 
 use reference::table::domains;
 
 use crate::args::Options;
 use crate::cases::Case;
-use crate::judging::checklist::{Checklist, Line};
+use crate::commands::commission::asked::{Asked, On, VALUED};
+use crate::judging::checklist::read_back::ReadBack;
+use crate::judging::checklist::{Checklist, Line, Summary, Verdicts};
 use crate::judging::compare::kept_calls;
 use crate::judging::variants::case_of;
-use crate::kernels::boundary::kernel;
+use crate::kernels::boundary::Kernel;
+use crate::line::dump::{read_dump, Dump};
 use crate::line::explain::{call_in_words, counted, meaning, table_fault};
 use crate::line::given::{read_given, Given};
 use crate::line::input::{shown, Input};
 use crate::line::names::Names;
 use crate::output::{self, say};
 use crate::pictures::potential::potential_in_words;
+use crate::reports::clock::in_utc;
+use crate::reports::facts::{Judged, Report, Source};
+use crate::reports::sha256::sha256;
 
 pub const HELP: &str = "\
 bench commission FILE [--struck D] [--seed S] [--kernel NAME]
+                      [--report OUT] [--json OUT]
+bench commission FILE --answers A --left T [--struck D] [--report OUT]
+                      [--json OUT]
 
 Goes through the checklist with the table and the list of an input of linerun,
 and with an exercise: lists made from the table that go through everything it
@@ -46,54 +60,139 @@ Before the lines it says what rights calls could ever give on this table, by
 whom and by which calls, as the proved function has it. That is no verdict: it
 is for whoever planned the table.
 
+With --answers and --left the lines are judged on what a real line left: the
+answers to the list, three words a call, and the table behind it, each as
+little-endian bytes or as a text of hexadecimal words. No kernel is run and no
+exercise; what one run can't show is said as `not shown`.
+
   --struck D     list the calls that are struck for domain D
   --seed S       the seed that the variants are drawn from (default 1)
   --kernel NAME  balkwizu (default), balkwizu-working, plain-gcc, plain-clang,
                  or wrong-NAME, which has the fault of bench/c/wrong/NAME.edit
+  --answers A    the answers that were read back from a line
+  --left T       the table that was read back from it
+  --report OUT   write a report: a page of HTML to print on A4 and to sign
+  --json OUT     write the same facts as JSON; docs/REPORT.md has the fields
 
-Exit status: 0 no line failed; 1 a line failed, or the input is refused; 2 bad
-usage, or a file that can't be read.
+A report is written where a line failed too, and says so on top. The archive's
+hash in it was worked out when this bench was built, of the bytes that it links.
+
+Exit status: 0 no line failed; 1 a line failed, the input is refused, or other
+words were read back than there must be; 2 bad usage, or a file that can't be
+read or written.
 ";
 
 /// The command: whether no line failed.
 pub fn command(options: &[OsString]) -> Result<bool, String> {
-    let valued = ["--struck", "--seed", "--kernel"];
-    let options = Options::parse(options, &valued, &[])?;
-    let kernel = kernel(options.text("--kernel").unwrap_or("balkwizu"))?;
-    let seed = options.number("--seed")?.unwrap_or(1);
-    let struck = options.number("--struck")?;
-    let file = options.file()?;
-    let given = read_given(file)?;
-    let names = &given.names;
+    let options = Options::parse(options, &VALUED, &[])?;
+    let asked = Asked::of(&options)?;
+    let given = read_given(asked.file)?;
     let input = match commissionable(&given) {
         Ok(input) => input,
-        Err((code, fault)) => {
-            say!(
-                "{} cannot be commissioned: refused with {code} ({}): {fault}",
-                shown(file),
-                meaning(code)
-            );
-            if let 4 | 5 = code {
-                say!("`bench repair {} OUT` may make it fit again", shown(file));
-            }
+        Err(refusal) => {
+            tell_refusal(asked.file, refusal);
             return Ok(false);
         }
     };
     let n = domains(&input.table);
-    if let Some(domain) = struck.filter(|&domain| domain >= n as u64) {
+    if let Some(domain) = asked.struck.filter(|&domain| domain >= n as u64) {
         return Err(format!("no domain {domain}: the table has 0 to {}", n - 1));
     }
+    let found = match &asked.on {
+        On::Kernel(kernel, seed) => Ok(by_kernel(&asked, *kernel, *seed, &input, &given.names)),
+        On::ReadBack { answers, left } => {
+            let dumps = [read_dump(answers)?, read_dump(left)?];
+            by_words(&asked, [answers, left], dumps, &input, &given.names)
+        }
+    };
+    let (judged, verdicts) = match found {
+        Ok(found) => found,
+        Err(why) => {
+            say!("{} cannot be judged: {why}", shown(asked.file));
+            return Ok(false);
+        }
+    };
+    let written = asked.file_away(&Report {
+        made: in_utc(SystemTime::now()),
+        input: source(asked.file, &given.bytes),
+        line: &input,
+        names: &given.names,
+        judged,
+        verdicts: &verdicts,
+    });
+    let well = tell(&verdicts);
+    output::write(written?.as_bytes());
+    Ok(well)
+}
+
+fn tell_refusal(file: &Path, (code, fault): (u32, String)) {
     say!(
-        "commissioning {} on {}: {}",
+        "{} cannot be commissioned: refused with {code} ({}): {fault}",
         shown(file),
-        kernel.title,
+        meaning(code)
+    );
+    if let 4 | 5 = code {
+        say!("`bench repair {} OUT` may make it fit again", shown(file));
+    }
+}
+
+/// A kernel's verdicts, with what they are about for the report.
+fn by_kernel(
+    asked: &Asked,
+    kernel: Kernel,
+    seed: u64,
+    input: &Input,
+    names: &Names,
+) -> (Judged, Verdicts) {
+    tell_head(asked, kernel.title, input, names);
+    let list = Checklist::new(kernel, input, names, seed);
+    say!("exercise made from this table: {}", list.size());
+    let judged = Judged::Kernel {
+        name: kernel.name,
+        title: kernel.title,
+        seed,
+        exercise: list.size(),
+    };
+    (judged, list.verdicts())
+}
+
+/// The same of words that were read back; what is wrong with their number.
+fn by_words(
+    asked: &Asked,
+    files: [&Path; 2],
+    dumps: [Dump; 2],
+    input: &Input,
+    names: &Names,
+) -> Result<(Judged, Verdicts), String> {
+    let [answers, left] = dumps;
+    let judged = Judged::ReadBack {
+        answers: source(files[0], &answers.bytes),
+        left: source(files[1], &left.bytes),
+    };
+    let read = ReadBack::new(input, names, answers.words, left.words)?;
+    tell_head(asked, "what was read back from a line", input, names);
+    Ok((judged, read.verdicts()))
+}
+
+/// A file with the hash of what was read of it.
+fn source(file: &Path, bytes: &[u8]) -> Source {
+    Source {
+        file: shown(file),
+        sha256: sha256(bytes),
+    }
+}
+
+/// Says what is commissioned, and what can be said of its table and list before.
+fn tell_head(asked: &Asked, on: &str, input: &Input, names: &Names) {
+    say!(
+        "commissioning {} on {on}: {}",
+        shown(asked.file),
         input.size()
     );
-    if let Some(domain) = struck {
-        output::write(struck_calls(&case_of(&input), domain as usize, names).as_bytes());
+    if let Some(domain) = asked.struck {
+        output::write(struck_calls(&case_of(input), domain as usize, names).as_bytes());
     }
     output::write(potential_in_words(&input.table, names).as_bytes());
-    Ok(go_through(&Checklist::new(kernel, &input, seed), names))
 }
 
 /// An input that runs, or the number that refuses it and what is wrong.
@@ -124,19 +223,15 @@ fn struck_calls(case: &Case, domain: usize, names: &Names) -> String {
 }
 
 /// Prints the four lines and the summary; whether none failed.
-fn go_through(list: &Checklist, names: &Names) -> bool {
-    say!("exercise made from this table: {}", list.size());
-    let (mut passed, mut failed, mut not_shown) = (0, 0, 0);
-    for (number, line) in list.lines().iter().enumerate() {
-        match &line.judged {
-            Err(_) => failed += 1,
-            Ok(found) => {
-                passed += usize::from(found.shown);
-                not_shown += found.not_shown.len();
-            }
-        }
-        output::write(names.beside(&in_words(number + 1, line)).as_bytes());
+fn tell(verdicts: &Verdicts) -> bool {
+    for (number, line) in verdicts.lines.iter().enumerate() {
+        output::write(in_words(number + 1, line).as_bytes());
     }
+    let Summary {
+        passed,
+        failed,
+        not_shown,
+    } = verdicts.summary();
     let not_shown = or_nothing(not_shown);
     say!("summary: {passed} passed, {failed} failed{not_shown}");
     failed == 0
@@ -175,14 +270,14 @@ fn in_words(number: usize, line: &Line) -> String {
 #[cfg(test)]
 mod tests {
     use super::*;
-    use crate::kernels::boundary::{Kernel, KERNELS, PROVED};
+    use crate::kernels::boundary::{KERNELS, PROVED};
     use crate::kernels::faulty;
 
     #[test]
     fn every_kernel_is_commissioned_on_the_worked_example() {
         for kernel in KERNELS {
-            let list = Checklist::new(*kernel, &Input::example(), 1);
-            assert!(go_through(&list, &Names::none()), "{}", kernel.name);
+            let list = Checklist::new(*kernel, &Input::example(), &Names::none(), 1);
+            assert!(tell(&list.verdicts()), "{}", kernel.name);
         }
     }
 
@@ -199,10 +294,13 @@ mod tests {
             list: vec![],
         };
         let mut number = 0;
-        Checklist::new(kernel, &input, 1).lines().map(|line| {
-            number += 1;
-            in_words(number, &line)
-        })
+        Checklist::new(kernel, &input, &Names::none(), 1)
+            .verdicts()
+            .lines
+            .map(|line| {
+                number += 1;
+                in_words(number, &line)
+            })
     }
 
     #[test]

@@ -2,9 +2,6 @@
 //! picture.
 
 use std::ffi::OsString;
-use std::fs;
-use std::os::unix::ffi::OsStrExt;
-use std::os::unix::fs::MetadataExt;
 use std::path::Path;
 
 use reference::cut;
@@ -70,10 +67,10 @@ pub fn command(line: &[OsString]) -> Result<bool, String> {
     let table = left.as_ref().map(|left| left.table.as_slice());
     if let Some(out) = svg {
         let most = calls.unwrap_or(CALLS_IN_PICTURE);
-        write_file(out, &picture::svg(&input, &names, table, most))?;
+        output::write_file(out, &picture::svg(&input, &names, table, most))?;
     }
     if let Some(out) = dot {
-        write_file(out, &dot::graph(&input.table, &names, table))?;
+        output::write_file(out, &dot::graph(&input.table, &names, table))?;
     }
     output::write(in_words(&input, &names, left.as_ref(), calls.unwrap_or(usize::MAX)).as_bytes());
     for out in [svg, dot].into_iter().flatten() {
@@ -89,35 +86,9 @@ fn picture_file<'a>(
     option: &str,
     input: &Path,
 ) -> Result<Option<&'a Path>, String> {
-    let Some(out) = options.path(option) else {
-        return Ok(None);
-    };
-    let told = out.display();
-    if out.as_os_str().is_empty() {
-        return Err(format!("{option} needs a file's name"));
-    }
-    if out.as_os_str().as_bytes().starts_with(b"-") {
-        return Err(format!(
-            "{option} needs a file's name: for a file {told} write ./{told}"
-        ));
-    }
-    let standard = input == Path::new("-");
-    let input = if standard {
-        Path::new("/dev/stdin")
-    } else {
-        input
-    };
-    let identity = |path: &Path| fs::metadata(path).map(|file| (file.dev(), file.ino()));
-    match (identity(out), identity(input)) {
-        (Ok(out_file), Ok(input)) if out_file == input => Err(format!(
-            "{option} {told} is the input, which the picture would overwrite"
-        )),
-        _ => Ok(Some(out)),
-    }
-}
-
-fn write_file(out: &Path, text: &str) -> Result<(), String> {
-    fs::write(out, text).map_err(|why| format!("cannot write {}: {why}", out.display()))
+    let out = options.path(option);
+    out.map_or(Ok(()), |out| output::may_write(option, out, &[input]))?;
+    Ok(out)
 }
 
 /// What the kernel leaves of an input that is not refused.

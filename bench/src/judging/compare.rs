@@ -233,6 +233,13 @@ fn own_rights_difference(case: &Case, whole: &View, again: &View, domain: usize)
 }
 
 fn own_queue_difference(whole: &View, again: &View) -> Option<String> {
+    if whole.queues.len() != again.queues.len() {
+        return Some(format!(
+            "it owns {} after the whole list, {} without the struck calls",
+            counted(whole.queues.len(), "endpoint"),
+            again.queues.len()
+        ));
+    }
     let pairs = whole.queues.iter().zip(&again.queues);
     let (with, without) = pairs.into_iter().find(|(a, b)| a != b)?;
     Some(format!(

@@ -1,7 +1,9 @@
 //! A line's table and its list of calls: as the bytes that `linerun` reads, as text
-//! that is typed in, words, calls or turns, and in plain words.
+//! that is typed in, words, calls or turns, and in plain words. And words that were read
+//! back from one.
 
 pub mod calls;
+pub mod dump;
 pub mod explain;
 pub mod given;
 pub mod input;

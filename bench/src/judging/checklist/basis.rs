@@ -20,6 +20,18 @@ pub const CALL_CODES: RangeInclusive<u32> = 10..=23;
 /// The number by which a sender is refused that may not send to the endpoint.
 const MAY_NOT_SEND: u32 = 17;
 
+/// The kinds of calls, each with what one and what several of them are called.
+const KINDS: [(u32, &str, &str); 8] = [
+    (LOOK_UP, "look up", "look ups"),
+    (SEND, "send", "sends"),
+    (RECEIVE, "receive", "receives"),
+    (MY_ENDPOINTS, "my endpoints", "my endpoints"),
+    (MY_RIGHTS, "my rights", "my rights"),
+    (GRANT, "grant", "grants"),
+    (REMOVE, "remove", "removes"),
+    (REVOKE, "revoke", "revokes"),
+];
+
 #[derive(Default)]
 pub struct Basis {
     pub calls: u64,
@@ -112,36 +124,37 @@ impl Basis {
 
     /// How many calls of each kind are done.
     pub fn done_in_words(&self) -> String {
-        let full: u64 = self.at.iter().map(|at| at.queue.full).sum();
-        let gave: u64 = self.on.iter().map(|on| on.given).sum();
-        let took: u64 = self.on.iter().map(|on| on.taken_back).sum();
-        let done = |kind: u32, one, many, more| (self.done[kind as usize], one, many, more);
-        let all = [
-            done(LOOK_UP, "look up", "look ups", String::new()),
-            done(SEND, "send", "sends", format!(" ({full} to a full queue)")),
-            done(RECEIVE, "receive", "receives", String::new()),
-            done(MY_ENDPOINTS, "my endpoints", "my endpoints", String::new()),
-            done(MY_RIGHTS, "my rights", "my rights", String::new()),
-            done(
-                GRANT,
-                "grant",
-                "grants",
-                format!(" ({gave} giving something)"),
-            ),
-            done(REMOVE, "remove", "removes", String::new()),
-            done(
-                REVOKE,
-                "revoke",
-                "revokes",
-                format!(" ({took} taking something)"),
-            ),
-        ];
-        let met = all.iter().filter(|(times, ..)| *times != 0);
-        let each = met.map(|(times, one, many, more)| match times {
-            1 => format!("1 {one}{more}"),
-            _ => format!("{times} {many}{more}"),
+        let met = KINDS.iter().filter(|(kind, ..)| self.done(*kind) != 0);
+        let each = met.map(|(kind, one, many)| {
+            let (times, more) = (self.done(*kind), self.more_in_words(*kind));
+            match times {
+                1 => format!("1 {one}{more}"),
+                _ => format!("{times} {many}{more}"),
+            }
         });
         or_none(each.collect())
+    }
+
+    /// What is to be told of the calls of a kind besides how many there are.
+    fn more_in_words(&self, kind: u32) -> String {
+        let at = |of: fn(&AtEndpoint) -> u64| self.at.iter().map(of).sum::<u64>();
+        let on = |of: fn(&OnTarget) -> u64| self.on.iter().map(of).sum::<u64>();
+        match kind {
+            SEND => format!(" ({} to a full queue)", at(|at| at.queue.full)),
+            GRANT => format!(" ({} giving something)", on(|on| on.given)),
+            REVOKE => format!(" ({} taking something)", on(|on| on.taken_back)),
+            _ => String::new(),
+        }
+    }
+
+    fn done(&self, kind: u32) -> u64 {
+        self.done[kind as usize]
+    }
+
+    /// The kinds of which no call is done.
+    pub fn never_done(&self) -> Vec<&'static str> {
+        let never = KINDS.iter().filter(|(kind, ..)| self.done(*kind) == 0);
+        never.map(|(_, one, _)| *one).collect()
     }
 
     /// How many calls are refused by each number.

@@ -16,6 +16,9 @@ use crate::line::explain::counted;
 use crate::line::names::Names;
 use crate::pictures::reach::reach_in_words;
 
+/// So many domains are told by their names where each may have to be told for each.
+const DOMAINS_BY_NAME: usize = 6;
+
 impl Checklist {
     /// Line 2.
     pub(super) fn answers_and_table(&self, runs: &Runs) -> Judged {
@@ -32,7 +35,12 @@ impl Checklist {
                     counted(variants, "variant")
                 ),
             ],
-            not_shown: shown::answers_and_table(&self.this_list().table, &self.exercise, &list),
+            not_shown: shown::answers_and_table(
+                &self.this_list().table,
+                &self.exercise,
+                &list,
+                &self.names,
+            ),
             shown: true,
         })
     }
@@ -55,7 +63,8 @@ impl Checklist {
 
     /// Line 3.
     pub(super) fn isolation(&self, runs: &Runs) -> Judged {
-        let nothing = vec![Struck::default(); domains(&self.this_list().table)];
+        let table = &self.this_list().table;
+        let nothing = vec![Struck::default(); domains(table)];
         let (mut exercise, mut list) = (nothing.clone(), nothing);
         self.judged(runs, |number, case, ran| {
             let struck = match number < self.exercise_lists().len() {
@@ -72,10 +81,10 @@ impl Checklist {
         Ok(Found {
             in_order: "every domain sees the same without the calls struck for it",
             stands_on: vec![
-                struck_in_words(&list, &exercise),
-                reach_at_the_end(runs.last()),
+                struck_in_words(&list, &exercise, &self.names),
+                reach_at_the_end(runs.last(), &self.names),
             ],
-            not_shown: shown::isolation(&self.this_list().table, &exercise, of_list),
+            not_shown: shown::isolation(table, &exercise, of_list, &self.names),
             shown: exercise.iter().any(|struck| struck.by_domains != 0),
         })
     }
@@ -99,30 +108,17 @@ impl Checklist {
         Ok(Found {
             in_order: "what was sent is received, lost or waiting",
             stands_on,
-            not_shown: shown::counts(table, &self.exercise),
+            not_shown: shown::counts(table, &self.exercise, &self.names),
             shown: true,
         })
     }
 
     /// An endpoint's counts in this list and in the exercise.
     fn read_back(&self, endpoint: usize, after: &Ran) -> String {
-        let before = &self.this_list().table;
-        let calls = cut(&self.this_list().list);
-        let run = counts::follow(before, &calls, &after.answers).queues[endpoint];
-        let lost_count = lost(&after.table, endpoint);
-        let top = match lost_count {
-            CONTENT_MAX => ", at its top: it tells no further loss",
-            _ => "",
-        };
         let exercise = self.exercise.at[endpoint].queue;
         format!(
-            "endpoint {endpoint}: sent {}, received {}, lost {}, waiting {} before and {} after, \
-             lost count {lost_count}{top}; in the exercise: sent {}, received {}, lost {}",
-            run.sent,
-            run.received,
-            run.full,
-            waiting(before, endpoint),
-            waiting(&after.table, endpoint),
+            "{}; in the exercise: sent {}, received {}, lost {}",
+            endpoint_counts(self.this_list(), after, endpoint, &self.names),
             exercise.sent,
             exercise.received,
             exercise.full
@@ -171,22 +167,43 @@ impl Checklist {
     }
 }
 
+/// An endpoint's counts in a run of a list.
+pub(super) fn endpoint_counts(case: &Case, after: &Ran, endpoint: usize, names: &Names) -> String {
+    let calls = cut(&case.list);
+    let run = counts::follow(&case.table, &calls, &after.answers).queues[endpoint];
+    let lost_count = lost(&after.table, endpoint);
+    let top = match lost_count {
+        CONTENT_MAX => ", at its top: it tells no further loss",
+        _ => "",
+    };
+    format!(
+        "{}: sent {}, received {}, lost {}, waiting {} before and {} after, lost count \
+         {lost_count}{top}",
+        names.endpoint(endpoint),
+        run.sent,
+        run.received,
+        run.full,
+        waiting(&case.table, endpoint),
+        waiting(&after.table, endpoint)
+    )
+}
+
 /// That the table is left with the numbers that it is read by.
-fn same_size(case: &Case, ran: &Ran) -> Result<(), String> {
+pub(super) fn same_size(case: &Case, ran: &Ran) -> Result<(), String> {
     match case.table[0] == ran.table[0] {
         true => Ok(()),
         false => Err("the kernel alters word 0 of the table".to_string()),
     }
 }
 
-fn word_difference(case: &Case, ran: &Ran) -> Result<(), String> {
+pub(super) fn word_difference(case: &Case, ran: &Ran) -> Result<(), String> {
     match difference(case, ran, &separate_run(case)?) {
         Some(why) => Err(why),
         None => Ok(()),
     }
 }
 
-fn count_difference(case: &Case, ran: &Ran) -> Result<(), String> {
+pub(super) fn count_difference(case: &Case, ran: &Ran) -> Result<(), String> {
     let calls = cut(&case.list);
     if ran.outcome.calls as usize != calls.len() {
         let calls = counted(calls.len(), "call");
@@ -201,13 +218,22 @@ fn count_difference(case: &Case, ran: &Ran) -> Result<(), String> {
     }
 }
 
+/// Who can reach each domain. A line may have some hundred domains to tell: names stand
+/// there where these are few.
+pub(super) fn reach_by_few_names(holders: &[u32], names: &Names) -> String {
+    match holders.len() > DOMAINS_BY_NAME {
+        true => reach_in_words(holders, &Names::none()),
+        false => reach_in_words(holders, names),
+    }
+}
+
 /// Who can reach each domain once the list that was handed in has run, by the words that
 /// the kernel left.
-fn reach_at_the_end(last: Option<&Result<Ran, Failure>>) -> String {
+fn reach_at_the_end(last: Option<&Result<Ran, Failure>>, names: &Names) -> String {
     match last {
         Some(Ok(ran)) => format!(
             "by a chain of rights, at the end of this list: {}",
-            reach_in_words(&ran.holders, &Names::none())
+            reach_by_few_names(&ran.holders, names)
         ),
         _ => "this list did not come to its end".to_string(),
     }
@@ -215,11 +241,11 @@ fn reach_at_the_end(last: Option<&Result<Ran, Failure>>) -> String {
 
 /// The calls struck for each domain, those of other domains apart from those that are
 /// struck for everyone.
-fn struck_in_words(list: &[Struck], exercise: &[Struck]) -> String {
+fn struck_in_words(list: &[Struck], exercise: &[Struck], names: &Names) -> String {
     let each = (0..).zip(list.iter().zip(exercise));
     let each = each.map(|(domain, (list, exercise))| {
         let (list, exercise) = (list.by_domains, exercise.by_domains);
-        format!("domain {domain}: {list} and {exercise}")
+        format!("{}: {list} and {exercise}", names.domain(domain))
     });
     let nobody = |struck: &Struck| struck.calls - struck.by_domains;
     format!(
@@ -228,5 +254,18 @@ fn struck_in_words(list: &[Struck], exercise: &[Struck]) -> String {
         each.collect::<Vec<_>>().join(", "),
         list.first().map_or(0, nobody),
         exercise.first().map_or(0, nobody)
+    )
+}
+
+/// The calls struck for each domain in a list alone.
+pub(super) fn struck_by_list(list: &[Struck], names: &Names) -> String {
+    let each = (0..).zip(list);
+    let each = each.map(|(d, struck)| format!("{}: {}", names.domain(d), struck.by_domains));
+    format!(
+        "calls of other domains struck in this list: {}; strays and calls of nobody, struck for \
+         everyone: {}",
+        each.collect::<Vec<_>>().join(", "),
+        list.first()
+            .map_or(0, |struck| struck.calls - struck.by_domains)
     )
 }

@@ -3,6 +3,7 @@
 
 pub mod basis;
 mod lines;
+pub mod read_back;
 mod refusals;
 mod shown;
 
@@ -18,6 +19,7 @@ use crate::kernels::child;
 use crate::kernels::lent::{Failure, Ran, Stopped};
 use crate::line::explain::counted;
 use crate::line::input::Input;
+use crate::line::names::Names;
 
 /// What the list that was handed in is called.
 pub const THIS_LIST: &str = "this list";
@@ -28,9 +30,41 @@ const LOOPS: usize = 2;
 /// So many words are lent in one child process, or those of one run that has more.
 const WORDS_AT_A_TIME: usize = 400_000;
 
+/// What the checklist came to.
+pub struct Verdicts {
+    pub lines: [Line; 4],
+    /// What the run of this list left, or why there is no such run.
+    pub left: Result<Ran, String>,
+}
+
+/// How many lines passed and failed, and how many things aren't shown.
+#[derive(Debug, Clone, Copy, Default, PartialEq, Eq)]
+pub struct Summary {
+    pub passed: usize,
+    pub failed: usize,
+    pub not_shown: usize,
+}
+
+impl Verdicts {
+    pub fn summary(&self) -> Summary {
+        let mut summary = Summary::default();
+        for line in &self.lines {
+            match &line.judged {
+                Err(_) => summary.failed += 1,
+                Ok(found) => {
+                    summary.passed += usize::from(found.shown);
+                    summary.not_shown += found.not_shown.len();
+                }
+            }
+        }
+        summary
+    }
+}
+
 /// What is gone through.
 pub struct Checklist {
     kernel: Kernel,
+    names: Names,
     /// The exercise's lists, then the one that was handed in.
     lists: Vec<Planned>,
     exercise: Basis,
@@ -49,7 +83,25 @@ pub struct Line {
 
 pub type Judged = Result<Found, String>;
 
+impl Line {
+    /// A line, with the names beside the numbers of a failure: those who judge know none.
+    fn new(name: &'static str, judged: Judged, names: &Names) -> Line {
+        let judged = judged.map_err(|why| names.beside(&why));
+        Line { name, judged }
+    }
+
+    /// The verdict in a word or two.
+    pub fn verdict(&self) -> &'static str {
+        match &self.judged {
+            Err(_) => "failed",
+            Ok(found) if found.shown => "passed",
+            Ok(_) => "not shown",
+        }
+    }
+}
+
 /// What a line that didn't fail was found to be.
+#[derive(Debug)]
 pub struct Found {
     pub in_order: &'static str,
     pub stands_on: Vec<String>,
@@ -59,7 +111,7 @@ pub struct Found {
 }
 
 impl Checklist {
-    pub fn new(kernel: Kernel, input: &Input, seed: u64) -> Checklist {
+    pub fn new(kernel: Kernel, input: &Input, names: &Names, seed: u64) -> Checklist {
         let mut rng = Rng::new(seed);
         let damaged = damaged_tables(input, &mut rng);
         let scrambled = scrambled_lists(input, &mut rng);
@@ -71,6 +123,7 @@ impl Checklist {
         });
         Checklist {
             kernel,
+            names: names.clone(),
             lists,
             exercise: basis,
             damaged,
@@ -90,15 +143,20 @@ impl Checklist {
         )
     }
 
-    pub fn lines(&self) -> [Line; 4] {
+    pub fn verdicts(&self) -> Verdicts {
         let runs = self.runs();
-        let line = |name, judged| Line { name, judged };
-        [
+        let line = |name, judged| Line::new(name, judged, &self.names);
+        let lines = [
             line("refusals", self.refusals(&runs)),
             line("answers and table", self.answers_and_table(&runs)),
             line("isolation", self.isolation(&runs)),
             line("counts", self.counts(&runs)),
-        ]
+        ];
+        let left = match runs.into_iter().nth(self.lists.len() - 1) {
+            Some(ran) => ran.map_err(String::from),
+            None => Err(format!("{THIS_LIST} was not run")),
+        };
+        Verdicts { lines, left }
     }
 
     fn exercise_lists(&self) -> &[Planned] {
@@ -167,14 +225,16 @@ mod tests {
     use crate::kernels::faulty;
 
     fn lines(kernel: Kernel) -> [Judged; 4] {
-        let lines = Checklist::new(kernel, &Input::example(), 1).lines();
+        let lines = Checklist::new(kernel, &Input::example(), &Names::none(), 1)
+            .verdicts()
+            .lines;
         lines.map(|line| line.judged)
     }
 
     fn failed(kernel: Kernel, line: usize) -> String {
         let mut lines = lines(kernel);
         let judged = std::mem::replace(&mut lines[line - 1], Err(String::new()));
-        judged.err().expect("the line fails")
+        judged.expect_err("the line fails")
     }
 
     #[test]
@@ -237,7 +297,7 @@ mod tests {
     #[test]
     fn what_a_line_stands_on_is_told() {
         let [refusals, answers, isolation, counts] = lines(PROVED).map(|judged| {
-            let found = judged.ok().expect("no line fails");
+            let found = judged.expect("no line fails");
             found.stands_on.join("\n")
         });
         assert!(refusals.contains(" damaged tables: ") && refusals.contains(" with another name"));
@@ -258,8 +318,10 @@ mod tests {
     fn a_count_at_its_top_is_told() {
         let mut input = Input::example();
         input.table[25] = 0x6FFF_FFFF;
-        let lines = Checklist::new(PROVED, &input, 1).lines();
-        let counts = lines[3].judged.as_ref().ok().expect("it passes");
+        let lines = Checklist::new(PROVED, &input, &Names::none(), 1)
+            .verdicts()
+            .lines;
+        let counts = lines[3].judged.as_ref().expect("it passes");
         let told = counts.stands_on.join("\n");
         assert!(told.contains("lost count 268435455, at its top: it tells no further loss; in"));
         assert!(told.ends_with("on this table and on a copy with all lost counts one below it"));

@@ -6,6 +6,7 @@ use reference::table::{capacity, domains, endpoints};
 use crate::judging::checklist::basis::{AtEndpoint, Basis, OnTarget, CALL_CODES};
 use crate::judging::compare::Struck;
 use crate::line::explain::meaning;
+use crate::line::names::Names;
 
 /// Things that aren't shown, each in words.
 pub type NotShown = Vec<String>;
@@ -25,7 +26,7 @@ pub fn numbers(table: &[u32], basis: &Basis) -> NotShown {
 }
 
 /// Of line 2: queues that go in turn, who may not send, and rights given and given up.
-pub fn answers_and_table(table: &[u32], basis: &Basis, list: &Basis) -> NotShown {
+pub fn answers_and_table(table: &[u32], basis: &Basis, list: &Basis, names: &Names) -> NotShown {
     let mut all = NotShown::new();
     if list.calls == 0 {
         all.push("anything by this list: it has no call".into());
@@ -35,7 +36,9 @@ pub fn answers_and_table(table: &[u32], basis: &Basis, list: &Basis) -> NotShown
     }
     let at = |why: &dyn Fn(usize, &AtEndpoint) -> bool| {
         let all = basis.at.iter().enumerate();
-        all.filter(|(e, at)| why(*e, at)).map(|(e, _)| e).collect()
+        let all = all.filter(|(e, at)| why(*e, at));
+        all.map(|(e, _)| beside(e, names.endpoint_name(e)))
+            .collect()
     };
     let one = at(&|e, at| at.queue.in_turn == 0 && capacity(table, e) == 1);
     all.extend(told(
@@ -55,14 +58,16 @@ pub fn answers_and_table(table: &[u32], basis: &Basis, list: &Basis) -> NotShown
         open,
         "everyone may, for good",
     ));
-    all.extend(rights(basis));
+    all.extend(rights(basis, names));
     all
 }
 
-fn rights(basis: &Basis) -> NotShown {
+fn rights(basis: &Basis, names: &Names) -> NotShown {
     let on = |why: fn(&OnTarget) -> bool| {
         let all = basis.on.iter().enumerate();
-        all.filter(|(_, on)| why(on)).map(|(d, _)| d).collect()
+        let all = all.filter(|(_, on)| why(on));
+        all.map(|(d, _)| beside(d, names.domain_name(d)))
+            .collect::<Vec<_>>()
     };
     let never = on(|on| on.given + on.given_again == 0);
     let nothing = on(|on| on.given == 0 && on.given_again != 0);
@@ -89,45 +94,118 @@ fn rights(basis: &Basis) -> NotShown {
 
 /// Of line 3: domains for which no call of another domain is struck, in the exercise and
 /// in the list that was handed in.
-pub fn isolation(table: &[u32], exercise: &[Struck], list: Option<&[Struck]>) -> NotShown {
-    let nothing = |struck: &[Struck]| -> Vec<usize> {
-        let all = (0..domains(table)).zip(struck);
-        let none = all.filter(|(_, struck)| struck.by_domains == 0);
-        none.map(|(domain, _)| domain).collect()
-    };
+pub fn isolation(
+    table: &[u32],
+    exercise: &[Struck],
+    list: Option<&[Struck]>,
+    names: &Names,
+) -> NotShown {
     let why = match domains(table) {
         1 => "there is no other domain",
         _ => "every other domain has a right on it for good, so nothing is struck",
     };
-    let everyone = "each domain that calls reaches it, so nothing is struck";
-    let mut all = told("isolation of domain", nothing(exercise), why);
+    let mut all = told("isolation of domain", nothing_struck(exercise, names), why);
     all.extend(match list {
-        Some(list) if domains(table) > 1 => {
-            told("by this list, isolation of domain", nothing(list), everyone)
-        }
+        Some(list) if domains(table) > 1 => isolation_by_list(list, names),
         _ => NotShown::new(),
     });
     all
 }
 
+/// Of line 3, by a list alone.
+pub fn isolation_by_list(list: &[Struck], names: &Names) -> NotShown {
+    let everyone = "each domain that calls reaches it, so nothing is struck";
+    told(
+        "by this list, isolation of domain",
+        nothing_struck(list, names),
+        everyone,
+    )
+}
+
+/// The domains for which no call of another one is struck.
+fn nothing_struck(struck: &[Struck], names: &Names) -> Vec<String> {
+    let none = struck.iter().enumerate();
+    let none = none.filter(|(_, struck)| struck.by_domains == 0);
+    none.map(|(domain, _)| beside(domain, names.domain_name(domain)))
+        .collect()
+}
+
 /// Of line 4: endpoints that nothing was sent to.
-pub fn counts(table: &[u32], basis: &Basis) -> NotShown {
+pub fn counts(table: &[u32], basis: &Basis, names: &Names) -> NotShown {
     if endpoints(table) == 0 {
         return vec!["counts of a queue: there is no endpoint".to_string()];
     }
-    let all = basis.at.iter().enumerate();
-    let silent = all.filter(|(_, at)| at.queue.sent == 0).map(|(e, _)| e);
     told(
         "counts of endpoint",
-        silent.collect(),
+        silent(basis, names),
         "nobody may send there",
     )
 }
 
+/// The endpoints that nothing was sent to.
+fn silent(basis: &Basis, names: &Names) -> Vec<String> {
+    let silent = basis.at.iter().enumerate();
+    let silent = silent.filter(|(_, at)| at.queue.sent == 0);
+    silent
+        .map(|(e, _)| beside(e, names.endpoint_name(e)))
+        .collect()
+}
+
+/// Of line 1, by the words that one run left: what only a kernel at hand shows, and the
+/// numbers that this list has no refusal by.
+pub fn refusals_by_one_run(basis: &Basis) -> NotShown {
+    let mut all = vec![
+        "damaged tables, scrambled lists and the limits of the entry: one run of one list was \
+         read back"
+            .to_string(),
+        "a fault or a loop: a run that was read back came to its end".to_string(),
+        "that the list and the words around those lent are as they were: they aren't read back"
+            .to_string(),
+    ];
+    let never = CALL_CODES.filter(|&code| basis.refused_by(code) == 0);
+    let never = never.map(|code| code.to_string()).collect();
+    all.extend(told("a refusal by the number", never, "this list has none"));
+    all
+}
+
+/// Of line 2, by the words that one run left.
+pub fn answers_by_one_run(basis: &Basis) -> NotShown {
+    let mut all = vec![
+        "the words of the holders: they aren't read back".to_string(),
+        "what this table allows beyond this list: the exercise wasn't run on the line".to_string(),
+    ];
+    let never = basis.never_done();
+    if !never.is_empty() {
+        all.push(format!(
+            "calls that are done of the kinds {}: this list has none",
+            never.join(", ")
+        ));
+    }
+    all
+}
+
+/// Of line 4, by the words that one run left.
+pub fn counts_by_one_run(basis: &Basis, names: &Names) -> NotShown {
+    let mut all = vec!["the number of calls that the run returned: it isn't read back".to_string()];
+    all.extend(told(
+        "counts of endpoint",
+        silent(basis, names),
+        "this list sends nothing there",
+    ));
+    all
+}
+
+/// A number with its name beside it, where it has one.
+fn beside(number: usize, name: Option<&str>) -> String {
+    match name {
+        Some(name) => format!("{number} ({name})"),
+        None => number.to_string(),
+    }
+}
+
 /// One thing that isn't shown of some numbers, and why; nothing where there are none.
-fn told(thing: &str, of: Vec<usize>, why: &str) -> NotShown {
-    let numbers: Vec<String> = of.iter().map(usize::to_string).collect();
-    let (many, numbers) = match numbers.as_slice() {
+fn told(thing: &str, of: Vec<String>, why: &str) -> NotShown {
+    let (many, numbers) = match of.as_slice() {
         [] => return NotShown::new(),
         [one] => ("", one.clone()),
         [first @ .., last] => ("s", format!("{} and {last}", first.join(", "))),
@@ -147,8 +225,8 @@ mod tests {
         let basis = Basis::of(lists.iter().map(|list| &list.case));
         [
             numbers(table, &basis),
-            answers_and_table(table, &basis, &basis),
-            counts(table, &basis),
+            answers_and_table(table, &basis, &basis, &Names::none()),
+            counts(table, &basis, &Names::none()),
         ]
         .concat()
     }
@@ -218,10 +296,18 @@ mod tests {
             by_domains: 0,
         };
         let table = two_domains([1; 4], 1);
-        assert!(isolation(&table, &[some, some], Some(&[some, some])).is_empty());
-        let told = isolation(&table, &[some, strays], Some(&[strays, some]));
+        assert!(isolation(&table, &[some, some], Some(&[some, some]), &Names::none()).is_empty());
+        let told = isolation(
+            &table,
+            &[some, strays],
+            Some(&[strays, some]),
+            &Names::none(),
+        );
         assert!(told[0].starts_with("isolation of domain 1: every other domain has a right on it"));
         assert!(told[1].starts_with("by this list, isolation of domain 0: each domain that calls"));
-        assert_eq!(isolation(&table, &[some, some], None), NotShown::new());
+        assert_eq!(
+            isolation(&table, &[some, some], None, &Names::none()),
+            NotShown::new()
+        );
     }
 }

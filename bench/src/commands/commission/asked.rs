@@ -1,0 +1,153 @@
+//! What `bench commission` is asked for: on what the lines are judged, and what is to be
+//! filed.
+
+use std::path::Path;
+
+use crate::args::Options;
+use crate::kernels::boundary::{kernel, Kernel};
+use crate::output::{may_write, write_file};
+use crate::reports::facts::Report;
+use crate::reports::json_facts::json;
+use crate::reports::page::page;
+
+pub struct Asked<'a> {
+    pub file: &'a Path,
+    pub on: On<'a>,
+    /// The domain whose struck calls are to be listed.
+    pub struck: Option<u64>,
+    report: Option<&'a Path>,
+    json: Option<&'a Path>,
+}
+
+/// What the lines are judged on.
+pub enum On<'a> {
+    /// A kernel, with the seed of the variants.
+    Kernel(Kernel, u64),
+    /// The files of the words that were read back from a line.
+    ReadBack { answers: &'a Path, left: &'a Path },
+}
+
+/// The options that take a value.
+pub const VALUED: [&str; 7] = [
+    "--struck",
+    "--seed",
+    "--kernel",
+    "--answers",
+    "--left",
+    "--report",
+    "--json",
+];
+
+impl Asked<'_> {
+    pub fn of(options: &Options) -> Result<Asked<'_>, String> {
+        let asked = Asked {
+            file: options.file()?,
+            on: on(options)?,
+            struck: options.number("--struck")?,
+            report: options.path("--report"),
+            json: options.path("--json"),
+        };
+        asked.files_differ()?;
+        Ok(asked)
+    }
+
+    /// That nothing is written over what is read, and nothing twice.
+    fn files_differ(&self) -> Result<(), String> {
+        let mut read = vec![self.file];
+        if let On::ReadBack { answers, left } = &self.on {
+            read.extend([answers, left]);
+        }
+        if read.iter().filter(|path| **path == Path::new("-")).count() > 1 {
+            return Err("standard input can be read once only".to_string());
+        }
+        for (option, out) in [("--report", self.report), ("--json", self.json)] {
+            out.map_or(Ok(()), |out| may_write(option, out, &read))?;
+        }
+        match (self.report, self.json) {
+            (Some(report), Some(json)) if report == json => {
+                Err("--report and --json need a file each".to_string())
+            }
+            _ => Ok(()),
+        }
+    }
+
+    /// Writes what is to be filed; tells what was written, or what couldn't be.
+    pub fn file_away(&self, report: &Report) -> Result<String, String> {
+        let mut told = String::new();
+        let page = self.report.map(|out| (out, page(report)));
+        let json = self.json.map(|out| (out, json(report)));
+        for (out, text) in page.into_iter().chain(json) {
+            write_file(out, &text)?;
+            told += &format!("report written to {}\n", out.display());
+        }
+        Ok(told)
+    }
+}
+
+fn on(options: &Options) -> Result<On<'_>, String> {
+    let (answers, left) = match (options.path("--answers"), options.path("--left")) {
+        (Some(answers), Some(left)) => (answers, left),
+        (None, None) => {
+            let kernel = kernel(options.text("--kernel").unwrap_or("balkwizu"))?;
+            return Ok(On::Kernel(kernel, options.number("--seed")?.unwrap_or(1)));
+        }
+        _ => return Err("--answers and --left are given together".to_string()),
+    };
+    let runs = ["--kernel", "--seed"];
+    match runs
+        .into_iter()
+        .find(|option| options.text(option).is_some())
+    {
+        Some(option) => Err(format!(
+            "{option} is not for words that were read back: no kernel is run"
+        )),
+        None => Ok(On::ReadBack { answers, left }),
+    }
+}
+
+#[cfg(test)]
+mod tests {
+    use super::*;
+    use std::ffi::OsString;
+
+    fn wrong(line: &str) -> String {
+        let words: Vec<OsString> = line.split_whitespace().map(OsString::from).collect();
+        let options = Options::parse(&words, &VALUED, &[]).unwrap();
+        Asked::of(&options).err().unwrap_or_default()
+    }
+
+    #[test]
+    fn what_does_not_go_together_is_told() {
+        assert_eq!(wrong("line"), "");
+        assert_eq!(wrong("line --answers a --left t --report r --json j"), "");
+        assert_eq!(
+            wrong("line --answers a"),
+            "--answers and --left are given together"
+        );
+        assert_eq!(
+            wrong("line --left t"),
+            "--answers and --left are given together"
+        );
+        let kernel = wrong("line --answers a --left t --kernel plain-gcc");
+        assert!(kernel.starts_with("--kernel is not for words"), "{kernel}");
+        let seed = wrong("line --answers a --left t --seed 2");
+        assert!(seed.starts_with("--seed is not for words"), "{seed}");
+        let once = "standard input can be read once only";
+        assert_eq!(wrong("- --answers - --left t"), once);
+        assert_eq!(wrong("line --answers - --left -"), once);
+    }
+
+    #[test]
+    fn nothing_is_written_over_what_is_read_nor_twice() {
+        let twice = "--report and --json need a file each";
+        assert_eq!(wrong("line --report r --json r"), twice);
+        for read in ["line", "a", "t"] {
+            let told = wrong(&format!("line --answers a --left t --json {read}"));
+            assert_eq!(
+                told,
+                format!("--json {read} is the input, which it would overwrite")
+            );
+        }
+        assert!(wrong("line --report -").contains("needs a file's name"));
+    }
+}

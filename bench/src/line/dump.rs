@@ -1,0 +1,92 @@
+//! Words read back from a line, as whoever reads them back has them: little-endian
+//! bytes, or a text of hexadecimal words.
+
+use std::path::Path;
+
+use reference::words::from_bytes;
+
+use crate::line::explain::counted;
+use crate::line::input::{is_text, read_at_most, shown, TEXT_BYTES_MAX};
+use crate::line::text::words_of;
+
+/// The most words that are taken: far more than the answers of the longest list, so that
+/// a few repetitions too many can't take all memory.
+const WORDS_MAX: usize = 100_000;
+
+/// The bytes of a file, and the words that they are or stand for.
+pub struct Dump {
+    pub bytes: Vec<u8>,
+    pub words: Vec<u32>,
+}
+
+/// The words of a file, or what is wrong with it.
+pub fn read_dump(path: impl AsRef<Path>) -> Result<Dump, String> {
+    let path = path.as_ref();
+    let bytes = read_at_most(path, TEXT_BYTES_MAX + 1)?;
+    let words = match bytes.len() {
+        0..=TEXT_BYTES_MAX => words_in(&bytes),
+        _ => Err("it is above 1,000,000 bytes".to_string()),
+    };
+    match words {
+        Ok(words) => Ok(Dump { bytes, words }),
+        Err(why) => Err(format!("{}: {why}", shown(path))),
+    }
+}
+
+fn words_in(bytes: &[u8]) -> Result<Vec<u32>, String> {
+    match std::str::from_utf8(bytes) {
+        Ok(text) if is_text(bytes) => words_of_text(text),
+        _ => match bytes.len() % 4 {
+            0 => Ok(from_bytes(bytes)),
+            left => {
+                let left = counted(left, "byte");
+                Err(format!("{left} left over after the last whole word"))
+            }
+        },
+    }
+}
+
+/// The words of a text: `#` starts a comment, `F0000000*8` is a word eight times.
+fn words_of_text(text: &str) -> Result<Vec<u32>, String> {
+    let text = text.strip_prefix('\u{FEFF}').unwrap_or(text);
+    let numbered = text.lines().enumerate().flat_map(|(number, line)| {
+        let code = line.split('#').next().unwrap_or("");
+        let items = code.split(|c: char| c.is_whitespace() || c == ';' || c == ',');
+        items.map(move |item| (number + 1, item))
+    });
+    let mut words = Vec::new();
+    for (number, item) in numbered.filter(|(_, item)| !item.is_empty()) {
+        words.extend(words_of(item).map_err(|why| format!("line {number}: {why}"))?);
+        if words.len() > WORDS_MAX {
+            return Err(format!("line {number}: more than 100,000 words"));
+        }
+    }
+    Ok(words)
+}
+
+#[cfg(test)]
+mod tests {
+    use super::*;
+    use reference::words::to_bytes;
+
+    #[test]
+    fn both_forms_give_the_same_words() {
+        let words = vec![0x1000_0302, 0xF000_0000, 0xF000_0000, 0xF000_0000, 5];
+        assert_eq!(words_in(&to_bytes(&words)), Ok(words.clone()));
+        let text = b"10000302 # word 0\r\n0xF0000000*3; 00000005\n";
+        assert_eq!(words_in(text), Ok(words));
+        assert_eq!(words_in(b""), Ok(vec![]));
+        assert_eq!(words_in(b"# nothing\n"), Ok(vec![]));
+    }
+
+    #[test]
+    fn what_is_wrong_is_said() {
+        let wrong = |bytes: &[u8]| words_in(bytes).unwrap_err();
+        let left = "3 bytes left over after the last whole word";
+        assert_eq!(wrong(&[0; 7]), left);
+        assert!(wrong(b"10000302\n2000000").starts_with("line 2: `2000000` is no word"));
+        assert!(wrong(b"table 10000302").starts_with("line 1: `table` is no word"));
+        let many = "F0000000*4097 ".repeat(25);
+        assert_eq!(wrong(many.as_bytes()), "line 1: more than 100,000 words");
+    }
+}

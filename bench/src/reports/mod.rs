@@ -1,0 +1,12 @@
+//! What commissioning found, to be filed: a page to read, print and sign, and the same
+//! facts as JSON. With them stands what they are about: the files by their hashes, the
+//! archive, the kit, the date.
+
+pub mod clock;
+pub mod facts;
+pub mod json;
+pub mod json_facts;
+pub mod page;
+mod parts;
+mod sections;
+pub mod sha256;

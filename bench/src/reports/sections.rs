@@ -1,0 +1,427 @@
+//! The parts of a report's page.
+
+use reference::table::{domains, right, RIGHTS};
+use reference::words::{content, kind};
+
+use crate::judging::checklist::{Line, Verdicts};
+use crate::line::explain::{letters, rights_in_words};
+use crate::reports::facts::{
+    archive_logic, kit, EndpointRow, Judged, Report, RightsCell, ARCHIVE, ARCHIVE_SHA256, VERSION,
+};
+use crate::reports::page::escaped;
+
+/// The two grids of rights stand side by side up to so many domains.
+const SIDE_BY_SIDE: usize = 6;
+
+/// The heading, with what came of it all.
+pub fn head(report: &Report) -> String {
+    let summary = report.verdicts.summary();
+    let failed: Vec<String> = (1..)
+        .zip(&report.verdicts.lines)
+        .filter(|(_, line)| line.judged.is_err())
+        .map(|(number, line)| format!("line {number} ({})", line.name))
+        .collect();
+    let (class, result) = match (summary.failed, summary.passed) {
+        (0, 4) => ("result", "No line failed".to_string()),
+        (0, passed) => (
+            "result open",
+            format!("No line failed, and {passed} of 4 passed"),
+        ),
+        _ => ("result failed", format!("FAILED: {}", failed.join(", "))),
+    };
+    format!(
+        "<h1>Commissioning report</h1>\n<div class=\"{class}\">{result}\
+         <p>{} of 4 lines passed, {} failed; {} told as not shown. {}</p></div>\n",
+        summary.passed,
+        summary.failed,
+        counted_things(summary.not_shown),
+        made(report)
+    )
+}
+
+fn counted_things(number: usize) -> String {
+    match number {
+        1 => "1 thing is".to_string(),
+        _ => format!("{number} things are"),
+    }
+}
+
+/// The date and the time as a reader writes them.
+fn made(report: &Report) -> String {
+    let told = report.made.trim_end_matches('Z').replacen('T', ", ", 1);
+    format!("Made {} UTC.", escaped(&told))
+}
+
+/// What the report is about.
+pub fn about(report: &Report) -> String {
+    let mut rows = vec![
+        ("Input", escaped(&report.input.file)),
+        ("Size", escaped(&report.line.size())),
+        (
+            "SHA-256 of the input",
+            hash(&report.input.sha256) + "<br>of the words as linerun reads them",
+        ),
+    ];
+    match &report.judged {
+        Judged::Kernel {
+            name,
+            title,
+            seed,
+            exercise,
+        } => rows.extend([
+            ("Kernel", escaped(&format!("{name}: {title}"))),
+            ("Seed", seed.to_string()),
+            (
+                "Exercise",
+                format!("{}, made from this table", escaped(exercise)),
+            ),
+        ]),
+        Judged::ReadBack { answers, left } => rows.extend([
+            (
+                "Read back",
+                "words of a run on a line; no kernel was run here".to_string(),
+            ),
+            (
+                "Answers",
+                escaped(&answers.file) + "<br>" + &hash(&answers.sha256),
+            ),
+            (
+                "Table left",
+                escaped(&left.file) + "<br>" + &hash(&left.sha256),
+            ),
+        ]),
+    }
+    rows.extend(built());
+    let rows = rows
+        .iter()
+        .map(|(what, told)| format!("<tr><th>{what}</th><td>{told}</td></tr>\n"));
+    format!(
+        "<h2>What was commissioned</h2>\n<table class=\"about\">\n{}</table>\n",
+        rows.collect::<String>()
+    )
+}
+
+/// What this program is built of.
+fn built() -> [(&'static str, String); 4] {
+    let unknown = "not known: no kit was at hand when this bench was built";
+    let logic = match archive_logic() {
+        Some(logic) => format!("<br>it names the logic<br>{}", hash(logic)),
+        None => "<br>it names no logic".to_string(),
+    };
+    let told = format!("{}, linked into this bench{logic}", escaped(ARCHIVE));
+    [
+        ("Archive", told),
+        ("SHA-256 of the archive", hash(ARCHIVE_SHA256)),
+        (
+            "Kit",
+            match kit() {
+                Some(kit) => format!("{}, at hand when this bench was built", escaped(kit)),
+                None => unknown.to_string(),
+            },
+        ),
+        ("Bench", VERSION.to_string()),
+    ]
+}
+
+fn hash(hash: &str) -> String {
+    format!("<span class=\"hash\">{}</span>", escaped(hash))
+}
+
+/// The four lines, each with what it stands on and what isn't shown.
+pub fn lines(verdicts: &Verdicts) -> String {
+    let each = (1..).zip(&verdicts.lines);
+    let each: String = each.map(|(number, judged)| line(number, judged)).collect();
+    format!("<h2>The four lines</h2>\n{each}")
+}
+
+fn line(number: usize, line: &Line) -> String {
+    let verdict = line.verdict();
+    let class = match verdict {
+        "failed" => " failed",
+        "not shown" => " unshown",
+        _ => "",
+    };
+    let body = match &line.judged {
+        Err(why) => format!("<pre>{}</pre>", escaped(why)),
+        Ok(found) => {
+            let stands_on = found.stands_on.iter();
+            let stands_on = stands_on.map(|told| format!("<li>{}</li>\n", escaped(told)));
+            let not_shown = found.not_shown.iter().map(|told| {
+                let told = escaped(told);
+                format!("<li class=\"unshown\"><b>not shown:</b> {told}</li>\n")
+            });
+            let all: String = stands_on.chain(not_shown).collect();
+            format!("<p>{}</p>\n<ul>\n{all}</ul>", escaped(found.in_order))
+        }
+    };
+    format!(
+        "<div class=\"line\">\n<h3>Line {number}, {}: <span class=\"verdict{class}\">{verdict}</span></h3>\n\
+         {body}\n</div>\n",
+        escaped(line.name)
+    )
+}
+
+/// What was sent, received and lost at each endpoint by this list.
+pub fn counts(report: &Report) -> String {
+    let heading = "<h2>Counts at each endpoint, by this list</h2>\n";
+    let rows = match report.endpoint_rows() {
+        Err(why) => return format!("{heading}<p>None: {}.</p>\n", escaped(&why)),
+        Ok(rows) if rows.is_empty() => return format!("{heading}<p>There is no endpoint.</p>\n"),
+        Ok(rows) => rows,
+    };
+    let body: String = rows.iter().map(|row| endpoint(report, row)).collect();
+    let all = |of: fn(&EndpointRow) -> u64| rows.iter().map(of).sum::<u64>();
+    format!(
+        "{heading}<table>\n<thead><tr><th class=\"row\">Endpoint</th><th class=\"row\">Owner</th>\
+         <th>Capacity</th><th>Waiting before</th><th>Sent</th><th>Received</th><th>Lost</th>\
+         <th>Waiting after</th><th>Lost count before</th><th>Lost count after</th></tr></thead>\n\
+         <tbody>\n{body}<tr class=\"all\"><td class=\"row\" colspan=\"3\">All</td><td>{}</td>\
+         <td>{}</td><td>{}</td><td>{}</td><td>{}</td><td></td><td></td></tr>\n</tbody>\n</table>\n",
+        all(|row| row.waiting_before as u64),
+        all(|row| row.sent),
+        all(|row| row.received),
+        all(|row| row.lost),
+        all(|row| row.waiting_after as u64)
+    )
+}
+
+fn endpoint(report: &Report, row: &EndpointRow) -> String {
+    let numbers = [
+        row.capacity as u64,
+        row.waiting_before as u64,
+        row.sent,
+        row.received,
+        row.lost,
+        row.waiting_after as u64,
+        row.lost_count_before.into(),
+        row.lost_count_after.into(),
+    ];
+    format!(
+        "<tr><td class=\"row\">{}</td><td class=\"row\">{}</td>{}</tr>\n",
+        escaped(&report.names.endpoint_label(row.endpoint)),
+        escaped(&report.names.domain_label(row.owner)),
+        numbers.map(|number| format!("<td>{number}</td>")).concat()
+    )
+}
+
+/// The rights before this list and after it, as two grids, and what was altered in words.
+pub fn rights(report: &Report) -> String {
+    let wide = match domains(&report.line.table) > SIDE_BY_SIDE {
+        true => " wide",
+        false => "",
+    };
+    let (altered, before, after) = match report.rights() {
+        Ok(cells) => (
+            altered(report, &cells),
+            grid(report, &cells, "Before", |cell| (cell.before, false)),
+            grid(report, &cells, "After", |cell| {
+                (cell.after, cell.after != cell.before)
+            }),
+        ),
+        Err(why) => (
+            format!("<p>After it, none: {}.</p>\n", escaped(&why)),
+            grid(report, &cells_before(report), "Before", |cell| {
+                (cell.before, false)
+            }),
+            String::new(),
+        ),
+    };
+    format!(
+        "<h2>Rights before and after this list</h2>\n<p>A row is a holder, a column whom the \
+         rights are on: S for SEND, G for GRANT, R for REMOVE, V for REVOKE.</p>\n{altered}\
+         <div class=\"grids{wide}\">\n{before}{after}</div>\n"
+    )
+}
+
+/// The rights before this list, where there are none after it to be read.
+fn cells_before(report: &Report) -> Vec<RightsCell> {
+    let n = domains(&report.line.table);
+    let words = report.line.table[1..=n * n].iter().enumerate();
+    let cell = |(place, &word): (usize, &u32)| RightsCell {
+        holder: place / n,
+        target: place % n,
+        before: word,
+        after: word,
+    };
+    words.map(cell).collect()
+}
+
+/// The rights that this list altered, in words.
+fn altered(report: &Report, cells: &[RightsCell]) -> String {
+    let altered = cells.iter().filter(|cell| cell.before != cell.after);
+    let each: String = altered
+        .map(|cell| {
+            format!(
+                "<li>{} on {}: {} before, {} after</li>\n",
+                escaped(&report.names.domain(cell.holder)),
+                escaped(&report.names.domain(cell.target)),
+                held_in_words(cell.before),
+                held_in_words(cell.after)
+            )
+        })
+        .collect();
+    match each.is_empty() {
+        true => "<p>This list altered none.</p>\n".to_string(),
+        false => format!("<ul>\n{each}</ul>\n"),
+    }
+}
+
+/// Whether a word is a set of rights, which a fault may leave otherwise.
+fn is_set(word: u32) -> bool {
+    kind(word) == RIGHTS && content(word) <= right::ALL
+}
+
+fn held_in_words(word: u32) -> String {
+    match content(word) {
+        _ if !is_set(word) => format!("the word {word:08X}"),
+        0 => "none".to_string(),
+        set => rights_in_words(set),
+    }
+}
+
+fn grid(
+    report: &Report,
+    cells: &[RightsCell],
+    heading: &str,
+    of: fn(&RightsCell) -> (u32, bool),
+) -> String {
+    let n = domains(&report.line.table);
+    let head: String = (0..n).map(|d| format!("<th>{d}</th>")).collect();
+    let row = |(holder, cells): (usize, &[RightsCell])| {
+        let name = escaped(&report.names.domain_label(holder));
+        let cells: String = cells.iter().map(|cell| grid_cell(of(cell))).collect();
+        format!("<tr><th class=\"row\">{name}</th>{cells}</tr>\n")
+    };
+    let rows: String = cells.chunks(n).enumerate().map(row).collect();
+    format!(
+        "<div class=\"grid\">\n<h3>{heading}</h3>\n<table>\n<thead><tr><th class=\"row\">Holder</th>\
+         {head}</tr></thead>\n<tbody>\n{rows}</tbody>\n</table>\n</div>\n"
+    )
+}
+
+fn grid_cell((word, changed): (u32, bool)) -> String {
+    let class = match changed {
+        true => " class=\"changed\"",
+        false => "",
+    };
+    let told = match content(word) {
+        _ if !is_set(word) => format!("{word:08X}"),
+        0 if changed => "none".to_string(),
+        set => letters(set),
+    };
+    format!("<td{class}>{told}</td>")
+}
+
+/// Places for two people to sign.
+pub fn signatures() -> String {
+    let place = |who: &str| {
+        format!("<div>\n<h3>{who}</h3>\n<p>Name</p><p>Date</p><p>Signature</p>\n</div>\n")
+    };
+    format!(
+        "<section class=\"signatures\">\n<h2>Signatures</h2>\n<p>The line is \
+         <span class=\"box\"></span>put into service \
+         <span class=\"box\"></span>not put into service</p>\n\
+         <div class=\"sign\">\n{}{}</div>\n</section>\n",
+        place("Field engineer"),
+        place("Second person")
+    )
+}
+
+#[cfg(test)]
+mod tests {
+    use super::*;
+    use crate::kernels::boundary::{kernel, PROVED};
+    use crate::line::names::Names;
+    use crate::reports::facts::tests::{verdicts, with_report};
+    use crate::reports::page::page;
+
+    fn has(page: &str, parts: &[&str]) {
+        for part in parts {
+            assert!(page.contains(part), "{part}\n{page}");
+        }
+    }
+
+    #[test]
+    fn the_page_tells_every_fact() {
+        let names = Names::given("domain 0 link\ndomain 2 drives\nendpoint 1 commands\n");
+        let page = with_report(&verdicts(PROVED), &names, page);
+        has(
+            &page,
+            &[
+                "<div class=\"result\">No line failed<p>4 of 4 lines passed, 0 failed; 5 things are",
+                "Made 2026-11-16, 11:24:43 UTC.",
+                "<tr><th>Seed</th><td>7</td></tr>",
+                ARCHIVE_SHA256,
+                "Line 4, counts: <span class=\"verdict\">passed</span>",
+                "<li class=\"unshown\"><b>not shown:</b> messages in turn at endpoint 1",
+                "<td class=\"row\">1 commands</td><td class=\"row\">2 drives</td><td>1</td>\
+                 <td>0</td><td>2</td><td>1</td><td>1</td><td>0</td><td>0</td><td>1</td></tr>",
+                "<li>domain 0 (link) on domain 2 (drives): none before, SEND after</li>",
+                "<td class=\"changed\">S</td>",
+                "<h3>Second person</h3>\n<p>Name</p><p>Date</p><p>Signature</p>",
+                "<svg ",
+            ],
+        );
+    }
+
+    #[test]
+    fn the_page_needs_nothing_beside_it_and_takes_no_text_for_its_own() {
+        let page = with_report(&verdicts(PROVED), &Names::none(), page);
+        has(&page, &["<td>&lt;script&gt;&quot;&amp;&#39;</td>"]);
+        for part in ["<script", "<link", "<img", "@import", "url(http", "src="] {
+            assert!(!page.contains(part), "{part}");
+        }
+        let addresses = page.matches("http").count();
+        assert_eq!(
+            addresses,
+            page.matches("xmlns=\"http://www.w3.org/2000/svg\"").count()
+        );
+    }
+
+    #[test]
+    fn a_failure_stands_on_top() {
+        let wrong = kernel("wrong-newest-first").unwrap();
+        let page = with_report(&verdicts(wrong), &Names::none(), page);
+        let top = "<div class=\"result failed\">FAILED: line 2 (answers and table), line 3";
+        let (top, line) = (page.find(top), page.find("<pre>exercise list "));
+        assert!(top.is_some() && top < line, "{page}");
+    }
+
+    #[test]
+    fn a_line_on_which_nothing_is_shown_is_no_passed_one() {
+        let mut verdicts = verdicts(PROVED);
+        verdicts.lines[2].judged.as_mut().unwrap().shown = false;
+        let page = with_report(&verdicts, &Names::none(), page);
+        has(
+            &page,
+            &[
+                "<div class=\"result open\">No line failed, and 3 of 4 passed<p>3 of 4 lines",
+                "Line 3, isolation: <span class=\"verdict unshown\">not shown</span>",
+            ],
+        );
+    }
+
+    #[test]
+    fn words_that_are_no_rights_are_told_as_they_are() {
+        let mut verdicts = verdicts(PROVED);
+        let left = verdicts.left.as_mut().unwrap();
+        (left.table[1], left.table[2]) = (0x5000_0001, 0x2000_0000);
+        let page = with_report(&verdicts, &Names::none(), page);
+        has(
+            &page,
+            &[
+                "domain 0 on domain 0: none before, the word 50000001 after",
+                "<td class=\"changed\">50000001</td><td class=\"changed\">none</td>",
+            ],
+        );
+        verdicts.left = Err("it never came back".to_string());
+        let page = with_report(&verdicts, &Names::none(), self::page);
+        has(
+            &page,
+            &[
+                "<p>None: it never came back.</p>",
+                "<p>After it, none: it never",
+            ],
+        );
+    }
+}
