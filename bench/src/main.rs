@@ -4,6 +4,7 @@
 
 mod args;
 mod cases;
+mod clock;
 #[cfg(not(test))]
 mod closed;
 mod commands;
@@ -14,14 +15,15 @@ mod output;
 mod pictures;
 mod progress;
 mod reports;
+mod scratch;
 
 use std::ffi::{OsStr, OsString};
 use std::process::ExitCode;
 
 use crate::output::{complain, say};
 use commands::{
-    commission, fuzz, histories, linerun, queue, read, repair, roads, show, speed, step, tables,
-    totals, turns, words, write,
+    commission, fuzz, histories, instructions, linerun, queue, read, repair, roads, show, speed,
+    step, tables, totals, turns, words, write,
 };
 
 /// The help before the list of commands, and after it.
@@ -51,7 +53,7 @@ struct Command {
     act: fn(&[OsString]) -> Result<bool, String>,
 }
 
-const COMMANDS: [Command; 16] = [
+const COMMANDS: [Command; 17] = [
     Command {
         name: "commission",
         given: "FILE",
@@ -114,6 +116,13 @@ const COMMANDS: [Command; 16] = [
         purpose: "the proved kernel's speed beside plain C",
         help: speed::HELP,
         act: speed::command,
+    },
+    Command {
+        name: "instructions",
+        given: "",
+        purpose: "the proved functions' instructions, held to figures",
+        help: instructions::HELP,
+        act: instructions::command,
     },
     Command {
         name: "show",

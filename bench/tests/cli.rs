@@ -62,13 +62,20 @@ fn help_is_given_for_every_command() {
     assert_eq!(status(&["--help"]), 0);
     assert!(printed(&["--help"]).contains("or a closed pipe"));
     let commands =
-        "commission fuzz step queue tables histories linerun totals speed show roads repair \
-         turns words write read";
+        "commission fuzz step queue tables histories linerun totals speed instructions show \
+         roads repair turns words write read";
     for command in commands.split(' ') {
         let help = printed(&[command, "--help"]);
         assert!(help.starts_with(&format!("bench {command}")), "{help}");
         assert!(help.contains("Exit status:"), "{help}");
         assert!(printed(&["--help"]).contains(&format!("bench {command}")));
+    }
+    for command in ["fuzz", "linerun", "speed", "instructions"] {
+        let help = printed(&[command, "--help"]);
+        assert!(
+            help.lines().all(|line| line.chars().count() <= 80),
+            "{help}"
+        );
     }
 }
 
@@ -581,6 +588,34 @@ fn one_run_can_be_tried_again_by_itself() {
     assert_eq!(status(&["fuzz", "--cases", "0", "--table-checks", "1"]), 0);
 }
 
+#[test]
+fn fuzz_goes_on_for_seconds_and_says_how_many_it_tried() {
+    let text = printed(&["fuzz", "--seconds", "1", "--seed", "3"]);
+    let tried = text.lines().find(|line| line.starts_with("tried: "));
+    let tried = tried.unwrap_or_else(|| panic!("{text}"));
+    let runs = tried["tried: ".len()..].split(' ').next().unwrap();
+    let runs: u64 = runs.replace(',', "").parse().unwrap();
+    assert!(runs >= 512 && runs.is_multiple_of(512), "{tried}");
+    assert!(text.contains("fuzz of balkwizu with seed 3: "), "{text}");
+    let both = ["fuzz", "--seconds", "1", "--cases", "5"];
+    assert!(told(&both).contains("no number is given"));
+    assert_eq!(status(&both), 2);
+}
+
+#[test]
+fn a_difference_is_cut_down_to_a_small_table() {
+    let ran = bench(&["fuzz", "--kernel", "wrong-code-11-kind-9", "--cases", "100"]);
+    let report = String::from_utf8(ran.stdout).expect("text");
+    assert_eq!(ran.status.code(), Some(1), "{report}");
+    assert!(report.starts_with("DIFFERENCE in run "), "{report}");
+    // A call of an unknown kind needs nothing of a table.
+    assert!(report.contains("Cut down to 1 call:"), "{report}");
+    assert!(
+        report.contains("\ntable\n10000100\n20000000\nlist\n9"),
+        "{report}"
+    );
+}
+
 /// What the fuzz tells of a kernel that stops, and the input that it gives with it.
 fn stopped_fuzz(kernel: &str) -> (String, Vec<u8>) {
     let line = ["fuzz", "--cases", "100", "--kernel", kernel, "--time", "1"];
@@ -588,6 +623,8 @@ fn stopped_fuzz(kernel: &str) -> (String, Vec<u8>) {
     let report = String::from_utf8(ran.stdout).expect("text");
     assert_eq!(ran.status.code(), Some(1), "{report}");
     assert!(report.ends_with(&format!("fuzz of {kernel} with seed 1: FAILED\n")));
+    // Nothing stands before what is wrong.
+    assert!(report.starts_with("STOPPED in run "), "{report}");
     let (_, words) = report
         .split_once("as `bench words` takes them:\n")
         .expect("the words are given");
@@ -915,7 +952,7 @@ fn a_call_that_the_reader_refuses_is_told_by_number_and_code() {
 
 #[test]
 fn speed_prints_a_table() {
-    for (flag, wanted) in [(None, 15), (Some("--by-kind"), 19), (Some("--all"), 85)] {
+    for (flag, wanted) in [(None, 15), (Some("--by-kind"), 19), (Some("--all"), 146)] {
         let line = ["speed", "--rounds", "1"].into_iter().chain(flag);
         let table = printed(&line.collect::<Vec<_>>());
         let rows = table.lines().filter(|line| line.starts_with("| ")).count();
@@ -923,6 +960,27 @@ fn speed_prints_a_table() {
         assert!(table.contains("reset outside the timed part"), "{table}");
         assert!(table.contains(&format!("| What | {} |", archive_title())));
     }
+}
+
+#[test]
+fn runs_that_are_kept_are_merged_and_drawn() {
+    let files = ["1", "2"].map(|number| path(&format!("run-{number}")));
+    let picture = path("growth.svg");
+    for file in &files {
+        let line = ["speed", "--growth", "--rounds", "1", "--record", file];
+        assert_eq!(status(&line), 0);
+        // Runs are told apart by the second that they began in.
+        std::thread::sleep(std::time::Duration::from_millis(1100));
+    }
+    let text = printed(&["speed", "--merge", &files[0], &files[1], "--svg", &picture]);
+    assert!(text.starts_with("Medians over 2 runs, begun 20"), "{text}");
+    assert_eq!(text.matches("\n| mixed, n 4, m 4, by words | ").count(), 13);
+    let drawn = fs::read_to_string(&picture).expect("a picture");
+    assert!(drawn.starts_with("<svg ") && drawn.contains(">endpoints, m<"));
+    assert!(told(&["speed", "--merge", &files[0], &files[0]]).contains("is given twice"));
+    assert!(told(&["speed", "--merge", &picture]).contains("cannot read "));
+    assert!(told(&["speed", "--merge", "--all", &files[0]]).contains("nothing else"));
+    assert_eq!(status(&["speed", "--record", "/no/such/folder/run"]), 2);
 }
 
 #[test]

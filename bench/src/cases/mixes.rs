@@ -31,10 +31,14 @@ impl Mix {
     /// Lists of so many words. A call of two words where one is left goes into the next
     /// list and a `my rights` fills up; in lists of one word there is none.
     pub fn lists(&self, words: usize) -> Vec<Vec<u32>> {
+        self.first_lists(words, (WORDS / words).clamp(ROTATION, LISTS_MAX))
+    }
+
+    /// The first of them, so many.
+    pub fn first_lists(&self, words: usize, count: usize) -> Vec<Vec<u32>> {
         let mut rng = rng(self.seed, 8);
         let calls = repeat_with(|| cut(&(self.more)(&mut rng))).flatten();
         let mut calls = calls.filter(|call| call.words().len() <= words).peekable();
-        let count = (WORDS / words).clamp(ROTATION, LISTS_MAX);
         (0..count).map(|_| list(words, &mut calls)).collect()
     }
 }
@@ -116,6 +120,7 @@ mod tests {
         for mix in mixes(1, 4, 4) {
             let counts = [1, 8, 64, 512, 4096].map(|words| mix.lists(words).len());
             assert_eq!(counts, [4096, 4096, 1024, 128, 60], "{}", mix.name);
+            assert_eq!(mix.first_lists(64, 3), mix.lists(64)[..3], "{}", mix.name);
         }
     }
 

@@ -2,6 +2,7 @@
 //! table images beside the separate one, and the writer of lists likewise.
 
 use std::ffi::OsString;
+use std::time::{Duration, Instant};
 
 use crate::args::Options;
 use crate::judging::images::try_images;
@@ -10,11 +11,13 @@ use crate::judging::runs::try_runs;
 use crate::judging::tally::Tally;
 use crate::judging::trying::Draws;
 use crate::kernels::boundary::{kernel, Kernel, PROVED_WRITER};
+use crate::line::explain::counted;
 use crate::output::{self, say};
 
 pub const HELP: &str = "\
 bench fuzz [--cases N] [--seed S] [--table-checks N] [--lists N] [--from K]
            [--kernel NAME] [--time T]
+bench fuzz --seconds N [--seed S] [--from K] [--kernel NAME] [--time T]
 
 Runs a kernel on random tables, lists and answer spaces beside the separate
 machine and compares the code, the number of calls, every table word, every
@@ -30,6 +33,8 @@ in spaces that are large enough, just so and too short, every word of them.
   --cases N         runs to try (default 20,000)
   --table-checks N  table images to try (default 4 for each run)
   --lists N         lists to write (default 1 for 16 runs)
+  --seconds N       tries runs, images and lists of this ratio, from the same
+                    numbers on, until N seconds are over, and says how many
   --seed S          the seed that everything is drawn from (default 1)
   --from K          the number of the first run, image and list (default 0)
   --kernel NAME     balkwizu (default), balkwizu-working, plain-gcc or
@@ -39,8 +44,9 @@ in spaces that are large enough, just so and too short, every word of them.
                     10)
 
 The first difference ends it, with the words that show it as `bench words` takes
-them. The kernel runs in a child process: one that faults, that takes longer or
-that ends the program is told in the same way, as STOPPED.
+them: with as few calls and on as small a table as still differ. The kernel runs
+in a child process: one that faults, that takes longer or that ends the program
+is told in the same way, as STOPPED.
 
 From 10,000 runs on, a code that no run was answered with is a failure too, and
 likewise from 10,000 table images and from 500 lists on; fewer may miss one by
@@ -63,12 +69,48 @@ const RUNS_FOR_A_LIST: u64 = 16;
 /// than the longest takes, with all that it is compared with, in a slow build.
 const TIME: u64 = 10;
 
+/// So many runs are tried at a time where seconds are given, with their images and lists.
+const RUNS_AT_A_TIME: u64 = 512;
+
 /// What is to be tried.
+#[derive(Clone)]
 struct Plan {
     kernel: Kernel,
     runs: Draws,
     images: Draws,
     lists: Draws,
+}
+
+impl Plan {
+    fn all(&mut self) -> [&mut Draws; 3] {
+        [&mut self.runs, &mut self.images, &mut self.lists]
+    }
+
+    /// As much again, from the numbers behind these on; nothing where there are none.
+    fn next(&self) -> Option<Plan> {
+        let mut next = self.clone();
+        for draws in next.all() {
+            let end = draws.numbers.end.checked_add(draws.count())?;
+            draws.numbers = draws.numbers.end..end;
+        }
+        Some(next)
+    }
+
+    /// This together with one that goes on behind it.
+    fn up_to(&self, last: &mut Plan) -> Plan {
+        let mut whole = self.clone();
+        for (own, last) in whole.all().into_iter().zip(last.all()) {
+            own.numbers.end = last.numbers.end;
+        }
+        whole
+    }
+}
+
+/// What was met on the way.
+#[derive(Default)]
+struct OnTheWay {
+    tally: Tally,
+    met: Met,
 }
 
 /// The command: whether nothing differs, and every code was met where that is
@@ -82,10 +124,27 @@ pub fn command(line: &[OsString]) -> Result<bool, String> {
         "--from",
         "--kernel",
         "--time",
+        "--seconds",
     ];
     let options = Options::parse(line, &valued, &[])?;
     options.no_file()?;
-    let runs = options.number("--cases")?.unwrap_or(20_000);
+    let seconds = options.number("--seconds")?;
+    let counts = ["--cases", "--table-checks", "--lists"];
+    if seconds.is_some() && counts.iter().any(|name| options.text(name).is_some()) {
+        return Err("--seconds says how many are tried, so that no number is given".to_string());
+    }
+    let usual = if seconds.is_some() {
+        RUNS_AT_A_TIME
+    } else {
+        20_000
+    };
+    let plan = plan(&options, usual)?;
+    Ok(fuzz(&plan, seconds.map(Duration::from_secs)))
+}
+
+/// What is asked for, with so many runs where no number is given.
+fn plan(options: &Options, usual: u64) -> Result<Plan, String> {
+    let runs = options.number("--cases")?.unwrap_or(usual);
     let images = options.number("--table-checks")?;
     let images = images.unwrap_or(runs.saturating_mul(4));
     let lists = options.number("--lists")?;
@@ -102,21 +161,29 @@ pub fn command(line: &[OsString]) -> Result<bool, String> {
             limit,
         })
     };
-    Ok(fuzz(&Plan {
+    Ok(Plan {
         kernel: kernel(options.text("--kernel").unwrap_or("balkwizu"))?,
         runs: draws("--cases", runs)?,
         images: draws("--table-checks", images)?,
         lists: draws("--lists", lists)?,
-    }))
+    })
 }
 
-fn fuzz(plan: &Plan) -> bool {
-    let (mut tally, mut met) = (Tally::default(), Met::default());
-    let found = try_runs(&plan.kernel, &plan.runs, &mut tally)
-        .and_then(|()| try_images(&plan.kernel, &plan.images, &mut tally))
-        .and_then(|()| try_lists(PROVED_WRITER, &plan.lists, &mut met));
-    output::write((tally.in_words() + &met.in_words()).as_bytes());
-    let verdict = found.and_then(|()| verdict(plan, &tally, &met));
+/// Tries a plan, or parts like it as long as there is time; whether nothing is wrong.
+/// What was met is told where nothing differs: beside a difference nobody reads it.
+fn fuzz(plan: &Plan, time: Option<Duration>) -> bool {
+    let mut way = OnTheWay::default();
+    let verdict = match time {
+        None => try_plan(plan, &mut way).map(|()| plan.clone()),
+        Some(time) => try_for(plan, time, &mut way),
+    };
+    let verdict = verdict.and_then(|tried| {
+        output::write((way.tally.in_words() + &way.met.in_words()).as_bytes());
+        if time.is_some() {
+            say!("{}", tried_in_words(&tried));
+        }
+        verdict_on(&tried, &way)
+    });
     let ended = match &verdict {
         Ok(passed) => passed,
         Err(told) => {
@@ -132,18 +199,49 @@ fn fuzz(plan: &Plan) -> bool {
     verdict.is_ok()
 }
 
+/// The first thing that is wrong.
+fn try_plan(plan: &Plan, way: &mut OnTheWay) -> Result<(), String> {
+    try_runs(&plan.kernel, &plan.runs, &mut way.tally)
+        .and_then(|()| try_images(&plan.kernel, &plan.images, &mut way.tally))
+        .and_then(|()| try_lists(PROVED_WRITER, &plan.lists, &mut way.met))
+}
+
+/// Tries one part after another until the time is over; all that was tried.
+fn try_for(plan: &Plan, time: Duration, way: &mut OnTheWay) -> Result<Plan, String> {
+    let began = Instant::now();
+    let mut part = plan.clone();
+    loop {
+        try_plan(&part, way)?;
+        let over = began.elapsed() >= time;
+        match part.next().filter(|_| !over) {
+            Some(next) => part = next,
+            None => return Ok(plan.up_to(&mut part)),
+        }
+    }
+}
+
+fn tried_in_words(tried: &Plan) -> String {
+    format!(
+        "tried: {}, {} and {}, from {} on",
+        counted(tried.runs.count() as usize, "run"),
+        counted(tried.images.count() as usize, "table image"),
+        counted(tried.lists.count() as usize, "list"),
+        tried.runs.numbers.start
+    )
+}
+
 /// How a fuzz that found no difference ends; an error where enough was tried and
 /// yet something was never met.
-fn verdict(plan: &Plan, tally: &Tally, met: &Met) -> Result<String, String> {
+fn verdict_on(plan: &Plan, way: &OnTheWay) -> Result<String, String> {
     let tried = [
         ("runs", plan.runs.count(), ENOUGH),
         ("table images", plan.images.count(), ENOUGH),
         ("lists", plan.lists.count(), ENOUGH_LISTS),
     ];
     let [runs, images, lists] = tried.map(|(_, count, enough)| count >= enough);
-    let mut missing = tally.never_met(runs, images);
+    let mut missing = way.tally.never_met(runs, images);
     if lists {
-        missing.extend(met.missing());
+        missing.extend(way.met.missing());
     }
     if !missing.is_empty() {
         return Err(format!(
@@ -169,6 +267,53 @@ mod tests {
     use super::*;
     use crate::judging::trying::tests::draws;
     use crate::kernels::boundary::PROVED;
+    use crate::kernels::faulty::WRONG_ANSWER;
+
+    fn small(kernel: Kernel) -> Plan {
+        Plan {
+            kernel,
+            runs: draws(0..16),
+            images: draws(0..64),
+            lists: draws(0..1),
+        }
+    }
+
+    #[test]
+    fn parts_follow_one_another_until_the_time_is_over() {
+        let mut way = OnTheWay::default();
+        let time = Duration::from_millis(400);
+        let began = Instant::now();
+        let tried = try_for(&small(PROVED), time, &mut way).unwrap();
+        assert!(began.elapsed() >= time);
+        let parts = tried.lists.count();
+        assert!(parts > 1, "{parts}");
+        assert_eq!(tried.runs.numbers, 0..16 * parts);
+        assert_eq!(tried.images.numbers, 0..64 * parts);
+        let told = tried_in_words(&tried);
+        assert!(
+            told.starts_with(&format!("tried: {} runs, ", 16 * parts)),
+            "{told}"
+        );
+        // The first part alone is tried where there is no time at all.
+        let least = try_for(&small(PROVED), Duration::ZERO, &mut way).unwrap();
+        assert_eq!(least.runs.numbers, 0..16);
+    }
+
+    #[test]
+    fn a_difference_ends_it_before_the_time_is_over() {
+        let time = Duration::from_secs(600);
+        let found = try_for(&small(WRONG_ANSWER), time, &mut OnTheWay::default());
+        assert!(found.err().unwrap().starts_with("DIFFERENCE in run "));
+    }
+
+    #[test]
+    fn no_part_goes_beyond_the_last_number() {
+        let mut plan = small(PROVED);
+        plan.runs.numbers = u64::MAX - 20..u64::MAX - 4;
+        assert!(plan.next().is_none());
+        let tried = try_for(&plan, Duration::from_secs(600), &mut OnTheWay::default());
+        assert_eq!(tried.unwrap().runs.count(), 16);
+    }
 
     #[test]
     fn a_code_never_met_is_a_failure_only_where_enough_was_tried() {
@@ -181,7 +326,7 @@ mod tests {
                 images: draws(5..5 + images),
                 lists: draws(5..5 + lists),
             };
-            verdict(&plan, &Tally::default(), &Met::default())
+            verdict_on(&plan, &OnTheWay::default())
         };
         let missing = of(ENOUGH, 1, 1).unwrap_err();
         assert!(missing.contains("run code 6, call code 10"), "{missing}");

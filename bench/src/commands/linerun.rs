@@ -1,5 +1,7 @@
 //! `bench linerun`: the program `linerun` beside the separate one, on random
-//! inputs.
+//! inputs, and its speed.
+
+mod speed;
 
 use std::ffi::OsString;
 
@@ -18,6 +20,7 @@ use crate::progress::Progress;
 
 pub const HELP: &str = "\
 bench linerun PROGRAM [--cases N] [--seed S] [--from K] [--time T]
+bench linerun PROGRAM --speed [--rounds N]
 
 Runs PROGRAM, as target/bin/linerun, on random inputs and compares every byte
 that it prints with what the separate implementation prints: lists that run,
@@ -37,6 +40,10 @@ calls is answered with.
 The first difference ends it, with the words that show it as `bench words` takes
 them. From 1,000 inputs on, a code that no input met is a failure too, and so is
 a way to give an input that was never used.
+
+With --speed, measures PROGRAM on lists of 4,096 words beside the same job in
+plain C (bench/c/plain_linerun.c, gcc -O3): the processor time of a run. They
+take turns in N rounds (default 31), and a figure is the median of the rounds.
 
 Exit status: 0 nothing differs, and every code was met where that is asked; 1
 otherwise; 2 bad usage, or a program that can't be started.
@@ -58,9 +65,12 @@ const WAYS: [&str; 6] = [
 
 /// The command: whether nothing differs.
 pub fn command(line: &[OsString]) -> Result<bool, String> {
-    let valued = ["--cases", "--seed", "--from", "--time"];
-    let options = Options::parse(line, &valued, &[])?;
+    let valued = ["--cases", "--seed", "--from", "--time", "--rounds"];
+    let options = Options::parse(line, &valued, &["--speed"])?;
     let program = options.file().map_err(|why| format!("PROGRAM: {why}"))?;
+    if options.has("--speed") {
+        return speed::measure(program, rounds(&options)?);
+    }
     let cases = options.number("--cases")?.unwrap_or(2000);
     let seed = options.number("--seed")?.unwrap_or(1);
     let time = options.time(10)?;
@@ -90,6 +100,14 @@ pub fn command(line: &[OsString]) -> Result<bool, String> {
     }
     progress.clear();
     Ok(ended(&shown(program), cases, &met))
+}
+
+/// The rounds of a measurement.
+fn rounds(options: &Options) -> Result<usize, String> {
+    match options.number("--rounds")?.unwrap_or(31) {
+        rounds @ 1..=1000 => Ok(rounds as usize),
+        other => Err(format!("--rounds takes 1 to 1,000, not {other}")),
+    }
 }
 
 /// How often each code and each way to give an input was met.

@@ -5,6 +5,7 @@ pub mod commission;
 mod drawn;
 pub mod fuzz;
 pub mod histories;
+pub mod instructions;
 pub mod linerun;
 pub mod queue;
 pub mod read;

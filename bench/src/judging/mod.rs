@@ -3,16 +3,19 @@
 //! variants of a line that are tried, the checklist, the random runs, table images,
 //! lists to be written, single calls, single queues, pairs of lines and components, turns
 //! and their histories, what `linerun` prints, what was met in all, what is wrong cut down
-//! and told, and how long it takes, by the length of a list too.
+//! and told, how long it takes, by the length of a list too, and how many instructions.
 
 pub mod checklist;
 pub mod compare;
 pub mod counts;
 pub mod exercise;
 pub mod groups;
+pub mod growth;
 pub mod histories;
 pub mod holders;
 pub mod images;
+pub mod instructions;
+pub mod jobs;
 pub mod lengths;
 pub mod lists;
 pub mod one_after_another;
@@ -20,12 +23,15 @@ pub mod pairs;
 pub mod panics;
 pub mod potentials;
 pub mod printed;
+pub mod program_times;
 pub mod queues;
 pub mod repairs;
 pub mod report;
 pub mod roads;
+pub mod rows;
 pub mod runs;
 pub mod shrink;
+pub mod smaller;
 pub mod steps;
 pub mod tally;
 pub mod timing;

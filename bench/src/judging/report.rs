@@ -1,12 +1,10 @@
 //! What is wrong with a run, told so that it can be seen again: cut down to fewer calls,
-//! with its words as `bench words` takes them.
+//! on a smaller table where it was drawn, with its words as `bench words` takes them.
 
 use std::time::Duration;
 
-use reference::cut;
-
 use crate::cases::Case;
-use crate::judging::shrink::shrink;
+use crate::judging::shrink::{shrink, shrink_with_table};
 use crate::kernels::boundary::Kernel;
 use crate::kernels::child;
 use crate::kernels::lent::Failure;
@@ -28,27 +26,39 @@ pub fn failed(kernel: &Kernel, case: &Case, failure: Failure, limit: Duration) -
         Err(Failure::Stopped(how)) => Some(how.to_string()),
         _ => None,
     };
-    match cut_down(case, limit, stops) {
+    match cut_down(case, Cut::Calls, limit, stops) {
         Some(shorter) => format!("{how}\n{shorter}"),
         None => format!("{how}; tried again, it returned\n{}", words(case)),
     }
+}
+
+/// What a run is cut down in: its calls, or its table too.
+#[derive(Debug, Clone, Copy, PartialEq, Eq)]
+pub enum Cut {
+    Calls,
+    TableToo,
 }
 
 /// A run with as few calls as are still wrong, what is wrong with it, and its words;
 /// nothing where nothing is wrong with the run. `wrong` tries a run within a time.
 pub fn cut_down(
     case: &Case,
+    cut: Cut,
     limit: Duration,
     wrong: impl Fn(&Case, Duration) -> Option<String>,
 ) -> Option<String> {
     let short = SHORT.min(limit / 3);
-    let shorter = shrink(case, |case| wrong(case, short).is_some());
+    let is_wrong = |case: &Case| wrong(case, short).is_some();
+    let shorter = match cut {
+        Cut::Calls => shrink(case, is_wrong),
+        Cut::TableToo => shrink_with_table(case, is_wrong),
+    };
     let (shorter, told) = match wrong(&shorter, limit) {
         Some(told) => (&shorter, told),
         // What took longer than the short time may be right all the same.
         None => (case, wrong(case, limit)?),
     };
-    let calls = counted(cut(&shorter.list).len(), "call");
+    let calls = counted(reference::cut(&shorter.list).len(), "call");
     Some(format!(
         "Cut down to {calls}:\n  {told}\n{}",
         words(shorter)

@@ -15,7 +15,7 @@ use crate::judging::groups;
 use crate::judging::holders::{after_each_call, ask_anything};
 use crate::judging::lists::read_as_answered;
 use crate::judging::pairs::pair;
-use crate::judging::report::cut_down;
+use crate::judging::report::{cut_down, Cut};
 use crate::judging::tally::{Revokes, Tally, Tried};
 use crate::judging::trying::{try_all, Draws, Found};
 use crate::kernels::boundary::{Kernel, PROVED_WRITER};
@@ -140,7 +140,8 @@ fn report(kernel: &Kernel, draws: &Draws, found: &Found) -> String {
         });
         tried.err()
     };
-    match cut_down(&run_case(seed, *number), draws.limit.min(LIMIT), wrong) {
+    let (case, limit) = (run_case(seed, *number), draws.limit.min(LIMIT));
+    match cut_down(&case, Cut::TableToo, limit, wrong) {
         Some(shorter) => head + &again(*number, 1) + &shorter,
         None => {
             let before = "Only behind the runs before it: by itself this run is right.\n";
@@ -207,6 +208,9 @@ mod tests {
             assert!(told.contains("Cut down to 1 call:\n  the kernel"), "{told}");
             let list = told.split_once("list\n").expect("a list").1;
             assert!(list.starts_with('6'), "{told}");
+            // The smallest table will do, where there is time to find it.
+            let smallest = told.contains("table\n10000100\n20000000\nlist\n");
+            assert!(smallest || told.contains("not returned"), "{told}");
         }
     }
 

@@ -5,6 +5,7 @@ use std::time::{Duration, Instant};
 use reference::calls::{cut, Call};
 
 use crate::cases::Case;
+use crate::judging::smaller::smaller;
 
 /// How long fewer parts are tried.
 const TIME: Duration = Duration::from_secs(5);
@@ -13,6 +14,16 @@ const TIME: Duration = Duration::from_secs(5);
 pub fn shrink(case: &Case, differs: impl Fn(&Case) -> bool) -> Case {
     let calls = fewest(&cut(&case.list), |calls| differs(&with_calls(case, calls)));
     with_calls(case, &calls)
+}
+
+/// The same on a smaller table too: what the fuzz draws is nobody's own.
+pub fn shrink_with_table(case: &Case, differs: impl Fn(&Case) -> bool) -> Case {
+    let fewer = shrink(case, &differs);
+    let on_less = smaller(&fewer, &differs);
+    match on_less == fewer {
+        true => fewer,
+        false => shrink(&on_less, differs),
+    }
 }
 
 /// Leaves out parts, many at a time and then one by one, as long as the rest still
@@ -73,10 +84,13 @@ mod tests {
     #[test]
     fn what_does_not_differ_stays_whole() {
         assert_eq!(shrink(&example(), |_| false), example());
+        assert_eq!(shrink_with_table(&example(), |_| false), example());
     }
 
     #[test]
     fn what_always_differs_gets_empty() {
         assert_eq!(shrink(&example(), |_| true).list, []);
+        let smallest = shrink_with_table(&example(), |_| true);
+        assert_eq!((smallest.list, smallest.table.len()), (vec![], 2));
     }
 }

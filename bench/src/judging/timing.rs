@@ -8,7 +8,7 @@ use reference::table::domains;
 use reference::words::to_bytes;
 
 use crate::cases::workloads::{largest_table, Workload};
-use crate::kernels::boundary::{Kernel, KERNELS, WORKING};
+use crate::kernels::boundary::{Kernel, KERNELS, PROVED};
 use crate::line::explain::counted;
 
 /// How long one kernel is timed in one round, about: so short that it is seldom
@@ -43,6 +43,11 @@ pub struct Subject<'a> {
     pub act: Box<Act<'a>>,
 }
 
+/// The proved kernels of this program.
+pub fn proved() -> impl Iterator<Item = &'static Kernel> {
+    KERNELS.iter().filter(|kernel| !kernel.is_plain())
+}
+
 /// All that is measured on the workloads, and the check of two tables.
 pub fn subjects(workloads: &[Workload]) -> Vec<Subject<'_>> {
     let mut subjects = vec![
@@ -57,13 +62,13 @@ pub fn subjects(workloads: &[Workload]) -> Vec<Subject<'_>> {
     subjects
 }
 
-/// The check of a table image. Nothing is written, so nothing is reset. The working run
-/// has no check of its own.
-fn checks(name: &str, bytes: Vec<u8>, goal: f64) -> Subject<'static> {
-    let own = |kernel: &&Kernel| kernel.name != WORKING.name;
+/// The check of a table image. Nothing is written, so nothing is reset. There is one
+/// check for all proved runs.
+pub fn checks_of(name: &str, bytes: Vec<u8>) -> Subject<'static> {
+    let own = |kernel: &&Kernel| kernel.is_plain() || kernel.name == PROVED.name;
     Subject {
         name: format!("{name} ({} bytes)", bytes.len()),
-        goal: Some(goal),
+        goal: None,
         unit: "checks",
         units: vec![1],
         kernels: KERNELS.iter().filter(own).copied().collect(),
@@ -74,6 +79,13 @@ fn checks(name: &str, bytes: Vec<u8>, goal: f64) -> Subject<'static> {
             }
             start.elapsed()
         }),
+    }
+}
+
+fn checks(name: &str, bytes: Vec<u8>, goal: f64) -> Subject<'static> {
+    Subject {
+        goal: Some(goal),
+        ..checks_of(name, bytes)
     }
 }
 
@@ -194,6 +206,11 @@ impl Measured {
         Measured(kernels.iter().copied().zip(seconds).collect())
     }
 
+    /// The kernels that were measured.
+    pub fn kernels(&self) -> impl Iterator<Item = &Kernel> {
+        self.0.iter().map(|(kernel, _)| kernel)
+    }
+
     fn rounds(&self, name: &str) -> Option<&[f64]> {
         let own = self.0.iter().find(|(kernel, _)| kernel.name == name);
         own.map(|(_, seconds)| &seconds[..])
@@ -234,7 +251,7 @@ mod tests {
     use super::*;
     use std::cell::{Cell, RefCell};
 
-    use crate::kernels::boundary::{PLAIN_GCC, PROVED};
+    use crate::kernels::boundary::PLAIN_GCC;
 
     #[test]
     fn the_median_is_the_one_in_the_middle_and_a_tenth_is_left_out_on_either_side() {

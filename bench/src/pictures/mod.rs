@@ -1,14 +1,17 @@
 //! A line to look at: in words with a small diagram, as a picture with the shapes that it
-//! is drawn with, and as a graph for other tools. And measured speeds as tables.
+//! is drawn with, and as a graph for other tools. And measured speeds as tables, over
+//! several runs too, and as a plot.
 
 mod arrows;
 pub mod diagram;
 pub mod dot;
 mod geometry;
 mod groups;
+pub mod merged;
 mod parts;
 pub mod picture;
 mod places;
+pub mod plot;
 pub mod potential;
 pub mod reach;
 mod rights;

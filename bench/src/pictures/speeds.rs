@@ -3,8 +3,8 @@
 use crate::cases::mixes::Mix;
 use crate::cases::workloads::Workload;
 use crate::judging::lengths::Crossing;
-use crate::judging::timing::{Measured, Spread, Subject};
-use crate::kernels::boundary::{Kernel, KERNELS, PROVED, WORKING};
+use crate::judging::timing::{proved, Measured, Spread, Subject};
+use crate::kernels::boundary::{KERNELS, PROVED, WORKING};
 use crate::line::explain::counted;
 
 /// The head of a table with a row for each subject.
@@ -19,13 +19,19 @@ pub fn head(seed: u64, rounds: usize) -> String {
 
 /// The head of a table with a row for each length of the lists of each mix.
 pub fn head_of_lengths(seed: u64, rounds: usize) -> String {
+    head_along(["Lists", "words"], seed, rounds)
+}
+
+/// The head of a table with a row for each point of what grows.
+pub fn head_of_growth(seed: u64, rounds: usize) -> String {
+    head_along(["What", "at"], seed, rounds)
+}
+
+fn head_along(first: [&str; 2], seed: u64, rounds: usize) -> String {
     let times = KERNELS.iter().map(|kernel| format!("{}, ns", kernel.name));
     let ratios = proved().map(|kernel| format!("{} over the faster C", kernel.name));
     let last = format!("{} over {}", WORKING.name, PROVED.name);
-    let all = ["Lists", "words"]
-        .map(str::to_string)
-        .into_iter()
-        .chain(times);
+    let all = first.map(str::to_string).into_iter().chain(times);
     head_with(all.chain(ratios).chain([last]).collect(), seed, rounds)
 }
 
@@ -49,11 +55,6 @@ pub fn processor() -> String {
     name.map_or("unknown".to_string(), |(_, name)| name.to_string())
 }
 
-/// The proved kernels of this program.
-fn proved() -> impl Iterator<Item = &'static Kernel> {
-    KERNELS.iter().filter(|kernel| !kernel.is_plain())
-}
-
 fn line(cells: &[String]) -> String {
     format!("| {} |", cells.join(" | "))
 }
@@ -74,8 +75,8 @@ pub fn row(subject: &Subject, measured: &Measured) -> String {
     line(&all.chain(ratios).chain(last).collect::<Vec<_>>())
 }
 
-/// The row of a length.
-pub fn row_of_lengths(mix: &Mix, words: usize, measured: &Measured) -> String {
+/// The row of a length, or of another point of what grows.
+pub fn row_of_lengths(name: &str, words: usize, measured: &Measured) -> String {
     let faster = measured.faster_plain();
     let times = KERNELS.iter().map(|kernel| {
         let seconds = measured.seconds(kernel.name);
@@ -83,7 +84,7 @@ pub fn row_of_lengths(mix: &Mix, words: usize, measured: &Measured) -> String {
     });
     let ratios = proved().map(|kernel| shown(measured.ratio(kernel.name, faster), ratio));
     let last = shown(measured.ratio(WORKING.name, PROVED.name), ratio);
-    let all = [mix.name.clone(), words.to_string()].into_iter();
+    let all = [name.to_string(), words.to_string()].into_iter();
     line(
         &all.chain(times)
             .chain(ratios)
@@ -129,6 +130,11 @@ pub fn foot_of_workloads(workloads: &[Workload]) -> String {
 pub fn foot_of_kinds() -> String {
     format!("Lists of 4,096 words, sixty different ones in rotation. {RESET}")
 }
+
+/// What stands below the table of what grows.
+pub const FOOT_OF_GROWTH: &str = "The time of one run, entry included, or of one check, in \
+    nanoseconds. Runs are of mixed lists, as in the table of lengths; every domain has every \
+    right on every domain, and the endpoints' owners go round.";
 
 /// What stands below the table of lengths.
 pub fn foot_of_lengths(crossings: &[String]) -> String {
@@ -187,8 +193,9 @@ mod tests {
     #[test]
     fn a_length_has_a_cell_for_each_title() {
         let mix = &mixes(1, 4, 4)[0];
-        let row = row_of_lengths(mix, 8, &at(mix, 8, 1));
+        let row = row_of_lengths(&mix.name, 8, &at(mix, 8, 1));
         assert_eq!(cells(&row), columns(&head_of_lengths(1, 1)), "{row}");
+        assert_eq!(cells(&row), columns(&head_of_growth(1, 1)), "{row}");
         assert!(row.starts_with("| mixed, n 4, m 4 | 8 | "), "{row}");
     }
 

@@ -113,6 +113,19 @@ impl Drawing {
             &format!("<circle cx=\"{x:.1}\" cy=\"{y:.1}\" r=\"{radius}\" fill=\"{fill}\"/>\n");
     }
 
+    /// A line through points; broken into dashes where there are some, as SVG writes them.
+    pub fn line(&mut self, points: &[(f64, f64)], colour: &str, width: f64, dashes: &str) {
+        let points: Vec<String> = points
+            .iter()
+            .map(|(x, y)| format!("{x:.1},{y:.1}"))
+            .collect();
+        self.body += &format!(
+            "<polyline points=\"{}\" fill=\"none\" stroke=\"{colour}\" stroke-width=\"{width}\" \
+             stroke-dasharray=\"{dashes}\" stroke-linejoin=\"round\"/>\n",
+            points.join(" ")
+        );
+    }
+
     /// An arrow along a path, which is given as SVG writes it, with its head where it
     /// comes from one point to another.
     pub fn arrow(&mut self, path: &str, from: Point, to: Point, colour: &str) {

@@ -2,34 +2,27 @@
 //! bytes, and beside the same job in plain C. They take turns, and a figure is the median
 //! of the rounds, in processor seconds, so that other work on the machine counts little.
 
-use std::fs::{self, File};
-use std::io::{self, BufWriter, Write};
-use std::path::{Path, PathBuf};
-use std::process::{Command, Stdio};
+use std::fs::File;
+use std::io::{BufWriter, Write};
+use std::path::Path;
 
 use reference::calls::LIST_WORDS_MAX;
 use reference::words::to_bytes;
 
 use crate::cases::sheets::long_inputs;
 use crate::cases::workloads::Workload;
+use crate::judging::program_times::{compiled, median, timed, FLAGS};
 use crate::line::explain::counted;
 use crate::output::say;
+use crate::scratch::Folder;
 
-/// The plain C, and how it is compiled.
-const SOURCES: [&str; 3] = ["plain_totals.c", "plain_run.c", "plain_check.c"];
-const FLAGS: [&str; 6] = [
-    "-std=c11",
-    "-O3",
-    "-Wall",
-    "-Wextra",
-    "-Werror",
-    "-pedantic",
-];
+/// The plain C program.
+const PLAIN: &str = "plain_totals";
 
 /// Measures a program on inputs of so many lists; whether it prints what it should.
 pub fn measure(program: &Path, lists: usize, rounds: usize) -> Result<bool, String> {
-    let folder = Folder::make()?;
-    let plain = compiled(&folder.0)?;
+    let folder = Folder::make("totals")?;
+    let plain = compiled(folder.path(), PLAIN)?;
     let bytes = lists * 4 * (1 + LIST_WORDS_MAX);
     say!(
         "{} of {} words ({:.3} GB), {}, processor seconds. Plain C by gcc {}.\n",
@@ -42,7 +35,7 @@ pub fn measure(program: &Path, lists: usize, rounds: usize) -> Result<bool, Stri
     say!("| Lists | cat, s | plain C, s | linetotals, s | GB/s | over cat | over plain C |");
     say!("|---|---:|---:|---:|---:|---:|---:|");
     for input in long_inputs() {
-        let file = folder.0.join("input");
+        let file = folder.path().join("input");
         written(&input, lists, &file)?;
         let Some(times) = times(program, &plain, &file, rounds)? else {
             say!(
@@ -83,30 +76,6 @@ fn times(
     Ok(Some(times))
 }
 
-/// Runs a program on a file; the processor seconds that it took, and what it printed where
-/// that is kept.
-fn timed(program: &Path, file: &Path, kept: bool) -> Result<(f64, Vec<u8>), String> {
-    let wrong = |why: io::Error| format!("cannot run {}: {why}", program.display());
-    let input = File::open(file).map_err(wrong)?;
-    let out = if kept { Stdio::piped() } else { Stdio::null() };
-    let before = children_seconds();
-    let child = Command::new(program).stdin(input).stdout(out).spawn();
-    let ran = child
-        .and_then(|child| child.wait_with_output())
-        .map_err(wrong)?;
-    Ok((children_seconds() - before, ran.stdout))
-}
-
-/// The processor seconds of all programs that were run and have ended, user and system: the
-/// fields 16 and 17 of this process's stat, in hundredths.
-fn children_seconds() -> f64 {
-    let stat = fs::read_to_string("/proc/self/stat").unwrap_or_default();
-    let behind_name = stat.rsplit(')').next().unwrap_or_default();
-    let fields = behind_name.split_whitespace().skip(13).take(2);
-    let hundredths: f64 = fields.filter_map(|field| field.parse::<f64>().ok()).sum();
-    hundredths / 100.0
-}
-
 fn row(name: &str, bytes: usize, times: &Times) -> String {
     let [cat, plain, program] = times;
     let over = |other: &[f64]| median(program.iter().zip(other).map(|(a, b)| a / b).collect());
@@ -120,11 +89,6 @@ fn row(name: &str, bytes: usize, times: &Times) -> String {
         over(cat),
         over(plain)
     )
-}
-
-fn median(mut values: Vec<f64>) -> f64 {
-    values.sort_by(f64::total_cmp);
-    values[values.len() / 2]
 }
 
 /// Writes a table and so many lists, the input's own in rotation.
@@ -146,43 +110,6 @@ fn with_length(words: &[u32]) -> Vec<u8> {
     to_bytes(&[&[words.len() as u32], words].concat())
 }
 
-/// The plain C, compiled into a folder.
-fn compiled(folder: &Path) -> Result<PathBuf, String> {
-    let from = Path::new(env!("CARGO_MANIFEST_DIR")).join("c");
-    let program = folder.join("plain_totals");
-    let sources = SOURCES.iter().map(|source| from.join(source));
-    let status = Command::new("gcc")
-        .args(FLAGS)
-        .args(sources)
-        .arg("-o")
-        .arg(&program)
-        .status();
-    match status {
-        Ok(status) if status.success() => Ok(program),
-        Ok(status) => Err(format!("gcc ended with {status}")),
-        Err(why) => Err(format!("cannot run gcc: {why}")),
-    }
-}
-
-/// A folder that goes with what is in it.
-struct Folder(PathBuf);
-
-impl Folder {
-    fn make() -> Result<Folder, String> {
-        let name = format!("balkwizu-totals-{}", std::process::id());
-        let path = std::env::temp_dir().join(name);
-        let made = fs::create_dir(&path);
-        made.map_err(|why| format!("cannot make {}: {why}", path.display()))?;
-        Ok(Folder(path))
-    }
-}
-
-impl Drop for Folder {
-    fn drop(&mut self) {
-        let _ = fs::remove_dir_all(&self.0);
-    }
-}
-
 #[cfg(test)]
 mod tests {
     use super::*;
@@ -190,9 +117,9 @@ mod tests {
 
     #[test]
     fn the_plain_c_prints_what_the_separate_one_prints() {
-        let folder = Folder::make().unwrap();
-        let plain = compiled(&folder.0).unwrap();
-        let file = folder.0.join("input");
+        let folder = Folder::make("totals").unwrap();
+        let plain = compiled(folder.path(), PLAIN).unwrap();
+        let file = folder.path().join("input");
         for input in long_inputs() {
             written(&input, 70, &file).unwrap();
             let mut bytes = Vec::new();
@@ -208,15 +135,6 @@ mod tests {
             assert!(same.is_some_and(|times| times.iter().all(|of| of.len() == 1)));
             assert_eq!(times(Path::new("cat"), &plain, &file, 1), Ok(None));
         }
-    }
-
-    #[test]
-    fn the_time_of_a_program_that_was_run_counts() {
-        let before = children_seconds();
-        let busy = "i=0; while [ $i -lt 200000 ]; do i=$((i + 1)); done";
-        let ran = Command::new("sh").args(["-c", busy]).status();
-        assert!(ran.unwrap().success());
-        assert!(children_seconds() > before);
     }
 
     #[test]

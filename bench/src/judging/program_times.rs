@@ -1,0 +1,97 @@
+//! How long programs take, in processor seconds: of those that were run and have ended,
+//! user and system together, since of a program that ends within a tick the system can't
+//! tell the one from the other.
+
+use std::ffi::{c_int, c_long};
+use std::fs::File;
+use std::io;
+use std::path::{Path, PathBuf};
+use std::process::{Command, Stdio};
+
+/// How the plain C programs are compiled.
+pub const FLAGS: [&str; 6] = [
+    "-std=c11",
+    "-O3",
+    "-Wall",
+    "-Wextra",
+    "-Werror",
+    "-pedantic",
+];
+
+/// A program of bench/c, compiled by gcc into a folder: its own source and the kernel's.
+pub fn compiled(folder: &Path, name: &str) -> Result<PathBuf, String> {
+    let from = Path::new(env!("CARGO_MANIFEST_DIR")).join("c");
+    let program = folder.join(name);
+    let sources = [name, "plain_run", "plain_check"];
+    let status = Command::new("gcc")
+        .args(FLAGS)
+        .args(sources.map(|source| from.join(format!("{source}.c"))))
+        .arg("-o")
+        .arg(&program)
+        .status();
+    match status {
+        Ok(status) if status.success() => Ok(program),
+        Ok(status) => Err(format!("gcc ended with {status}")),
+        Err(why) => Err(format!("cannot run gcc: {why}")),
+    }
+}
+
+/// Runs a program on a file; the processor seconds that it took, and what it printed where
+/// that is kept.
+pub fn timed(program: &Path, file: &Path, kept: bool) -> Result<(f64, Vec<u8>), String> {
+    let wrong = |why: io::Error| format!("cannot run {}: {why}", program.display());
+    let input = File::open(file).map_err(wrong)?;
+    let out = if kept { Stdio::piped() } else { Stdio::null() };
+    let before = children_seconds();
+    let child = Command::new(program).stdin(input).stdout(out).spawn();
+    let ran = child
+        .and_then(|child| child.wait_with_output())
+        .map_err(wrong)?;
+    Ok((children_seconds() - before, ran.stdout))
+}
+
+/// What the system tells of the use of a processor: seconds and microseconds, user's and
+/// the system's, and fourteen numbers more.
+#[repr(C)]
+#[derive(Default)]
+struct Usage {
+    user: [c_long; 2],
+    system: [c_long; 2],
+    more: [c_long; 14],
+}
+
+/// The processor seconds of all programs that were run and have ended.
+pub fn children_seconds() -> f64 {
+    extern "C" {
+        fn getrusage(who: c_int, usage: *mut Usage) -> c_int;
+    }
+    const CHILDREN: c_int = -1;
+    let mut usage = Usage::default();
+    // SAFETY: the structure is that of the system, and borrowed alone.
+    unsafe { getrusage(CHILDREN, &mut usage) };
+    let seconds = |[whole, millionths]: [c_long; 2]| whole as f64 + 1e-6 * millionths as f64;
+    seconds(usage.user) + seconds(usage.system)
+}
+
+pub fn median(mut values: Vec<f64>) -> f64 {
+    values.sort_by(f64::total_cmp);
+    values[values.len() / 2]
+}
+
+#[cfg(test)]
+mod tests {
+    use super::*;
+    use std::time::Instant;
+
+    #[test]
+    fn the_time_of_a_program_that_was_run_counts() {
+        let (before, start) = (children_seconds(), Instant::now());
+        let busy = "i=0; while [ $i -lt 200000 ]; do i=$((i + 1)); done";
+        let ran = Command::new("sh").args(["-c", busy]).status();
+        assert!(ran.unwrap().success());
+        let (took, passed) = (children_seconds() - before, start.elapsed());
+        assert!(took > 0.01, "{took}");
+        // Other tests may run programs at the same time, on all processors.
+        assert!(took < 100.0 * passed.as_secs_f64(), "{took}");
+    }
+}
