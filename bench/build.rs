@@ -1,11 +1,12 @@
-//! Links the proved archive, and compiles the plain C kernel to measure it
+//! Links the proved archives, and compiles the plain C kernel to measure them
 //! against: by gcc, and by clang where there is one. Compiles the wrong kernels of
 //! bench/c/wrong too, by which the bench is tested in its turn.
 //!
-//! The archive is target/staticlib/libbalkwizu.a of the repository, or the file
-//! that BALKWIZU_ARCHIVE names; the program then calls it by that name, since nobody
-//! knows here whether it is the proved one. Each compiler's functions get a prefix of
-//! their own, so that all of them stand in one program.
+//! The archives are target/staticlib/libbalkwizu.a and libbalkwizu_turns.a of the
+//! repository, or the files that BALKWIZU_ARCHIVE and BALKWIZU_TURNS_ARCHIVE name; the
+//! program then calls the kernel by that name, since nobody knows here whether it is the
+//! proved one. Each compiler's functions get a prefix of their own, so that all of them
+//! stand in one program.
 //!
 //! Where they are there, the archives of the crates step_export and queue_export are
 //! linked too: they have the kernel's public step for `bench step` and the queue's
@@ -24,42 +25,59 @@ use std::fs;
 use std::path::{Path, PathBuf};
 use std::process::Command;
 
-const ARCHIVE: &str = "target/staticlib/libbalkwizu.a";
-const EXPORTS: &[&str] = &[
-    "balkwizu_table_check",
-    "balkwizu_run",
-    "balkwizu_run_working",
-    "balkwizu_component",
-    "balkwizu_repair",
-    "balkwizu_potential",
-    "balkwizu_write",
-    "balkwizu_who_reaches",
-    "balkwizu_turns_begin",
-    "balkwizu_hand_in",
-    "balkwizu_turn",
-];
-
-/// An archive for tests alone: the crate, the variable that names another archive,
-/// what the program is told where it is linked, and what it exports.
-struct TestArchive {
+/// An archive of the kit: the crate that it is made from, the variable that names
+/// another archive in its place, and what it exports.
+struct Archive {
     name: &'static str,
     variable: &'static str,
-    told: &'static str,
     exports: &'static [&'static str],
+}
+
+const KERNEL: Archive = Archive {
+    name: "balkwizu",
+    variable: "BALKWIZU_ARCHIVE",
+    exports: &[
+        "balkwizu_table_check",
+        "balkwizu_run",
+        "balkwizu_run_working",
+        "balkwizu_run_by_length",
+        "balkwizu_component",
+        "balkwizu_repair",
+        "balkwizu_potential",
+        "balkwizu_write",
+        "balkwizu_who_reaches",
+        "balkwizu_version",
+    ],
+};
+
+const TURNS: Archive = Archive {
+    name: "balkwizu_turns",
+    variable: "BALKWIZU_TURNS_ARCHIVE",
+    exports: &["balkwizu_turns_begin", "balkwizu_hand_in", "balkwizu_turn"],
+};
+
+/// An archive for tests alone, and what the program is told where it is linked.
+struct TestArchive {
+    archive: Archive,
+    told: &'static str,
 }
 
 const TEST_ARCHIVES: [TestArchive; 2] = [
     TestArchive {
-        name: "step_export",
-        variable: "BALKWIZU_STEP_ARCHIVE",
+        archive: Archive {
+            name: "step_export",
+            variable: "BALKWIZU_STEP_ARCHIVE",
+            exports: &["balkwizu_test_step"],
+        },
         told: "step",
-        exports: &["balkwizu_test_step"],
     },
     TestArchive {
-        name: "queue_export",
-        variable: "BALKWIZU_QUEUE_ARCHIVE",
+        archive: Archive {
+            name: "queue_export",
+            variable: "BALKWIZU_QUEUE_ARCHIVE",
+            exports: &["balkwizu_test_send", "balkwizu_test_receive"],
+        },
         told: "queue",
-        exports: &["balkwizu_test_send", "balkwizu_test_receive"],
     },
 ];
 
@@ -79,10 +97,12 @@ const FLAGS: [&str; 6] = [
 const WRONG_FLAGS: [&str; 4] = ["-std=c11", "-O1", "-pedantic-errors", "-w"];
 
 fn main() {
-    println!("cargo::rerun-if-env-changed=BALKWIZU_ARCHIVE");
-    for archive in &TEST_ARCHIVES {
+    for archive in [&KERNEL, &TURNS] {
         println!("cargo::rerun-if-env-changed={}", archive.variable);
-        println!("cargo::rustc-check-cfg=cfg({})", archive.told);
+    }
+    for test in &TEST_ARCHIVES {
+        println!("cargo::rerun-if-env-changed={}", test.archive.variable);
+        println!("cargo::rustc-check-cfg=cfg({})", test.told);
     }
     println!("cargo::rerun-if-changed=build.rs");
     println!("cargo::rerun-if-changed=c");
@@ -95,10 +115,12 @@ fn main() {
 
 fn build() -> Result<(), Box<dyn Error>> {
     let out = PathBuf::from(env::var("OUT_DIR")?);
-    link_kernel(&out)?;
+    tell_title();
     println!("cargo::rustc-env=KIT={}", kit().unwrap_or_default());
-    for archive in &TEST_ARCHIVES {
-        link_test_archive(&out, archive)?;
+    tell_identity(&link_for_firmware(&out, &KERNEL)?);
+    link_for_firmware(&out, &TURNS)?;
+    for test in &TEST_ARCHIVES {
+        link_test_archive(&out, test)?;
     }
     compile_wrong(&out)?;
     compile_plain("gcc", &out)?;
@@ -123,32 +145,44 @@ fn version(compiler: &str) -> Option<String> {
     text.lines().next().map(str::to_string)
 }
 
-/// Links the kernel's archive, and tells the program what to call it.
-fn link_kernel(out: &Path) -> Result<(), Box<dyn Error>> {
-    let named = env::var_os("BALKWIZU_ARCHIVE").map(PathBuf::from);
-    let title = match &named {
+/// Tells the program what to call the kernel's archive.
+fn tell_title() {
+    let title = match env::var_os(KERNEL.variable).map(PathBuf::from) {
         None => "proved archive".to_string(),
         Some(named) => {
-            let path = fs::canonicalize(named).unwrap_or(named.clone());
+            let path = fs::canonicalize(&named).unwrap_or(named);
             format!("archive {}", path.display())
         }
     };
     println!("cargo::rustc-env=ARCHIVE_TITLE={title}");
-    let archive = named.map_or_else(|| in_repository(ARCHIVE), Ok)?;
-    let bytes = fs::read(&archive).map_err(|why| {
-        let shown = archive.display();
-        format!("no archive {shown} ({why}): `rt staticlib balkwizu` makes {ARCHIVE}")
+}
+
+/// Tells the program what a report says of the kernel's archive.
+fn tell_identity(archive: &[u8]) {
+    println!(
+        "cargo::rustc-env=ARCHIVE_SHA256={}",
+        sha256::sha256(archive)
+    );
+    println!("cargo::rustc-env=ARCHIVE_LOGIC={}", logic(archive));
+}
+
+/// Links an archive that the firmware links too, and hands on its bytes: it has no
+/// function for tests.
+fn link_for_firmware(out: &Path, wanted: &Archive) -> Result<Vec<u8>, Box<dyn Error>> {
+    let path = wanted.path()?;
+    let shown = path.display();
+    let bytes = fs::read(&path).map_err(|why| {
+        let (name, made) = (wanted.name, wanted.made());
+        format!("no archive {shown} ({why}): `rt staticlib {name}` makes {made}")
     })?;
-    let mut for_tests = TEST_ARCHIVES.iter().flat_map(|archive| archive.exports);
+    let mut for_tests = TEST_ARCHIVES.iter().flat_map(|test| test.archive.exports);
     if let Some(name) = for_tests.find(|name| has(&bytes, name)) {
-        let shown = archive.display();
         return Err(
             format!("{shown} is for the firmware and has {name}, which is for tests").into(),
         );
     }
-    println!("cargo::rustc-env=ARCHIVE_SHA256={}", sha256::sha256(&bytes));
-    println!("cargo::rustc-env=ARCHIVE_LOGIC={}", logic(&bytes));
-    link_archive(out, &archive, "balkwizu", &bytes, EXPORTS)
+    wanted.link(out, &path, &bytes)?;
+    Ok(bytes)
 }
 
 /// What the kit at hand says of itself, where there is one.
@@ -178,34 +212,39 @@ fn has(archive: &[u8], name: &str) -> bool {
 
 /// Links an archive for tests, where there is one.
 fn link_test_archive(out: &Path, wanted: &TestArchive) -> Result<(), Box<dyn Error>> {
-    let named = env::var_os(wanted.variable).map(PathBuf::from);
-    let made = format!("target/staticlib/lib{}.a", wanted.name);
-    let archive = named.map_or_else(|| in_repository(&made), Ok)?;
-    let Ok(bytes) = fs::read(&archive) else {
+    let path = wanted.archive.path()?;
+    let Ok(bytes) = fs::read(&path) else {
         // Looked for again by the next build, so that it is found once it is made.
-        println!("cargo::rerun-if-changed={}", archive.display());
+        println!("cargo::rerun-if-changed={}", path.display());
         return Ok(());
     };
     println!("cargo::rustc-cfg={}", wanted.told);
-    link_archive(out, &archive, wanted.name, &bytes, wanted.exports)
+    wanted.archive.link(out, &path, &bytes)
 }
 
-/// Links an archive that has the exports. It is copied beside the others, so that it
-/// has the name to link by wherever it came from.
-fn link_archive(
-    out: &Path,
-    archive: &Path,
-    library: &str,
-    bytes: &[u8],
-    exports: &[&str],
-) -> Result<(), Box<dyn Error>> {
-    println!("cargo::rerun-if-changed={}", archive.display());
-    if let Some(name) = exports.iter().find(|name| !has(bytes, name)) {
-        return Err(format!("{} has no function {name}", archive.display()).into());
+impl Archive {
+    /// Where it is made in the repository.
+    fn made(&self) -> String {
+        format!("target/staticlib/lib{}.a", self.name)
     }
-    fs::write(out.join(format!("lib{library}.a")), bytes)?;
-    println!("cargo::rustc-link-lib=static={library}");
-    Ok(())
+
+    /// The file that is linked: the one that is named, or the repository's own.
+    fn path(&self) -> Result<PathBuf, Box<dyn Error>> {
+        let named = env::var_os(self.variable).map(PathBuf::from);
+        named.map_or_else(|| in_repository(&self.made()), Ok)
+    }
+
+    /// Links the file, which has the exports. It is copied beside the others, so that it
+    /// has the name to link by wherever it came from.
+    fn link(&self, out: &Path, path: &Path, bytes: &[u8]) -> Result<(), Box<dyn Error>> {
+        println!("cargo::rerun-if-changed={}", path.display());
+        if let Some(name) = self.exports.iter().find(|name| !has(bytes, name)) {
+            return Err(format!("{} has no function {name}", path.display()).into());
+        }
+        fs::write(out.join(format!("lib{}.a", self.name)), bytes)?;
+        println!("cargo::rustc-link-lib=static={}", self.name);
+        Ok(())
+    }
 }
 
 /// A file of the repository.

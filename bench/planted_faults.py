@@ -18,9 +18,9 @@ panic, a run that doesn't end and a code never met are no reported difference.
     python3 bench/planted_faults.py NAME...    some of them
 
 The copy and its build stand under build/planted. The kernel is the archive
-target/staticlib/libbalkwizu.a, or the one that BALKWIZU_ARCHIVE names; its step and
-its queue are target/staticlib/libstep_export.a and libqueue_export.a, or what
-BALKWIZU_STEP_ARCHIVE and BALKWIZU_QUEUE_ARCHIVE name.
+target/staticlib/libbalkwizu.a, or the one that BALKWIZU_ARCHIVE names; its turns, its
+step and its queue are libbalkwizu_turns.a, libstep_export.a and libqueue_export.a beside
+it, or what BALKWIZU_TURNS_ARCHIVE, BALKWIZU_STEP_ARCHIVE and BALKWIZU_QUEUE_ARCHIVE name.
 """
 
 import os
@@ -33,6 +33,7 @@ from edits import ROOT, Copy, Wrong, edit_files, run, try_all  # noqa: E402
 
 ARCHIVES = {
     "BALKWIZU_ARCHIVE": "libbalkwizu.a",
+    "BALKWIZU_TURNS_ARCHIVE": "libbalkwizu_turns.a",
     "BALKWIZU_STEP_ARCHIVE": "libstep_export.a",
     "BALKWIZU_QUEUE_ARCHIVE": "libqueue_export.a",
 }

@@ -20,7 +20,7 @@ static uint32_t answers[BALKWIZU_ANSWER_WORDS * BALKWIZU_LIST_WORDS_MAX];
 static uint32_t holders[BALKWIZU_DOMAINS_MAX + 1];
 static unsigned compared, differ;
 
-/* The two runs, which do the same: what a run does is compared with either. */
+/* The three runs, which do the same: what a run does is compared with each. */
 static const struct {
     const char *name;
     uint32_t (*run)(uint32_t *table, size_t table_len,
@@ -30,8 +30,9 @@ static const struct {
 } runs[] = {
     { "balkwizu_run", balkwizu_run },
     { "balkwizu_run_working", balkwizu_run_working },
+    { "balkwizu_run_by_length", balkwizu_run_by_length },
 };
-static size_t in_use; /* the one of the two that runs are made by */
+static size_t in_use; /* the one of the three that runs are made by */
 
 static void is(const char *what, uint32_t found, uint32_t wanted)
 {
@@ -644,6 +645,15 @@ static void whole_fields(void)
     IS(balkwizu_table_message(words, 0, 0), 0x0FFFFFFF);
 }
 
+/* The header is of the archive's release; no paper has its number. */
+static void release(void)
+{
+    IS(BALKWIZU_VERSION / 65536, BALKWIZU_VERSION_MAJOR);
+    IS(BALKWIZU_VERSION / 256 % 256, BALKWIZU_VERSION_MINOR);
+    IS(BALKWIZU_VERSION % 256, BALKWIZU_VERSION_PATCH);
+    IS(balkwizu_version(), BALKWIZU_VERSION);
+}
+
 /* All that a run does, by the one in use. */
 static void with_run(void)
 {
@@ -658,6 +668,7 @@ static void with_run(void)
 
 int main(void)
 {
+    release();
     limits();
     words_of_t();
     words_of_l();

@@ -172,14 +172,13 @@ static int tell(const char *name, const struct call *call, size_t most)
     return say(name, bytes, most, result);
 }
 
-/* The same of a function that answers nothing. */
-static int tell_begin(const struct call *begin)
+/* The same of a function that answers no code. */
+static int tell_plain(const char *name, const struct call *call, size_t most)
 {
-    uint32_t nothing;
-    bytes_taken(begin, &nothing);
-    size_t bytes = bytes_taken(begin, &nothing);
-    return say("balkwizu_turns_begin", bytes, BALKWIZU_TURNS_BEGIN_STACK_BYTES,
-               BALKWIZU_OK);
+    uint32_t no_code;
+    bytes_taken(call, &no_code);
+    size_t bytes = bytes_taken(call, &no_code);
+    return say(name, bytes, most, BALKWIZU_OK);
 }
 
 /* The most that a turn takes: idle, or serving the last domain's calls of the list, of
@@ -217,7 +216,8 @@ static int tell_turns(void)
                                  (uintptr_t)state, BALKWIZU_TURNS_WORDS(DOMAINS),
                                  (uintptr_t)holders, DOMAINS, (uintptr_t)answers,
                                  BALKWIZU_ANSWER_WORDS } };
-    int failed = tell_begin(&begin);
+    int failed =
+        tell_plain("balkwizu_turns_begin", &begin, BALKWIZU_TURNS_BEGIN_STACK_BYTES);
     failed |= tell("balkwizu_hand_in", &hand_in, BALKWIZU_HAND_IN_STACK_BYTES);
     return failed | tell_turn(&turn);
 }
@@ -234,6 +234,8 @@ int main(void)
                                 (uintptr_t)holders, DOMAINS } };
     struct call run_working = run;
     run_working.function = (void (*)(void))balkwizu_run_working;
+    struct call run_by_length = run;
+    run_by_length.function = (void (*)(void))balkwizu_run_by_length;
     const struct call who_reaches = { (void (*)(void))balkwizu_who_reaches,
                                       { (uintptr_t)holders, DOMAINS, 0 } };
     const struct call component = { (void (*)(void))balkwizu_component,
@@ -250,8 +252,10 @@ int main(void)
     const struct call write = { (void (*)(void))balkwizu_write,
                                 { (uintptr_t)calls, make_calls(),
                                   (uintptr_t)written, BALKWIZU_LIST_WORDS_MAX } };
+    const struct call version = { (void (*)(void))balkwizu_version, { 0 } };
     int failed =
         tell("balkwizu_table_check", &check, BALKWIZU_TABLE_CHECK_STACK_BYTES);
+    failed |= tell_plain("balkwizu_version", &version, BALKWIZU_VERSION_STACK_BYTES);
     failed |= tell("balkwizu_component", &component, BALKWIZU_COMPONENT_STACK_BYTES);
     failed |= tell("balkwizu_potential", &potential, BALKWIZU_POTENTIAL_STACK_BYTES);
     failed |= tell("balkwizu_repair", &repair, BALKWIZU_REPAIR_STACK_BYTES);
@@ -259,6 +263,8 @@ int main(void)
     failed |= tell_turns();
     failed |= tell("balkwizu_run_working", &run_working,
                    BALKWIZU_RUN_WORKING_STACK_BYTES);
+    failed |= tell("balkwizu_run_by_length", &run_by_length,
+                   BALKWIZU_RUN_BY_LENGTH_STACK_BYTES);
     failed |= tell("balkwizu_run", &run, BALKWIZU_RUN_STACK_BYTES);
     /* The run has left the holders: everybody has every right, so that none is added. */
     return failed

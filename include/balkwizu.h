@@ -2,10 +2,11 @@
  * balkwizu.h: the line controller's capability kernel, for firmware in C11 or
  * C++11.
  *
- * The functions stand in target/staticlib/libbalkwizu.a, which
- * `rt staticlib balkwizu` makes from proved code: it is for x86-64, may be linked
- * at any address, allocates nothing, and calls nothing of the C library but
- * memcpy, memmove and memset.
+ * The functions stand in target/staticlib/libbalkwizu.a, and those of the turns in
+ * target/staticlib/libbalkwizu_turns.a: `rt staticlib balkwizu` and
+ * `rt staticlib balkwizu_turns` make them from proved code. Which has which is listed
+ * below. They are for x86-64, may be linked at any address, one or both, allocate
+ * nothing, and call nothing of the C library but memcpy, memmove and memset.
  *
  * No function keeps anything from one call to the next: they may be called at the
  * same time on different words.
@@ -18,6 +19,10 @@
  * Numbers and layouts are those of document 01, "The line controller's
  * capability kernel", with the change requests of document 02. Bit 0 is the lowest
  * bit of a word.
+ *
+ * Each function has an example. An example is the body of a C function that includes
+ * <assert.h>; table points to table_len words that may be written, those of the table
+ * under "A table's words". The gate compiles and runs them as they stand here.
  */
 #ifndef BALKWIZU_H
 #define BALKWIZU_H
@@ -28,6 +33,17 @@
 #ifdef __cplusplus
 extern "C" {
 #endif
+
+/*
+ * Which release this header is of, and the three numbers in one word, so that a later
+ * release is a larger number. balkwizu_version tells the archive's.
+ */
+#define BALKWIZU_VERSION_MAJOR 1
+#define BALKWIZU_VERSION_MINOR 0
+#define BALKWIZU_VERSION_PATCH 0
+#define BALKWIZU_VERSION                                                       \
+    (65536u * BALKWIZU_VERSION_MAJOR + 256u * BALKWIZU_VERSION_MINOR +         \
+     BALKWIZU_VERSION_PATCH)
 
 /*
  * What the machine code asks of its caller
@@ -51,31 +67,38 @@ extern "C" {
  *              (endbr64): indirect branch tracking is off.
  *   stack      The bytes below the stack pointer at the call instruction, return
  *              address and red zone included, are at most those defined here for
- *              each function. What the firmware's own memcpy, memmove or memset
- *              takes comes on top.
+ *              each function, on any way through it. What the firmware's own memcpy,
+ *              memmove or memset takes comes on top.
  *
- * What each function uses of this, as the gate reads it out of the archive:
+ * Which functions each archive has, and what they use of this, as the gate reads it
+ * out of the archives:
  *
- *   balkwizu_component: general and xmm registers, aligned stack
- *   balkwizu_hand_in: general and xmm registers, aligned stack
- *   balkwizu_potential: general and xmm registers, aligned stack
- *   balkwizu_repair: general and xmm registers, aligned stack
- *   balkwizu_run: general and xmm registers, aligned stack, unmarked jumps
- *   balkwizu_run_working: general and xmm registers, aligned stack
- *   balkwizu_table_check: general and xmm registers, aligned stack, red zone
- *   balkwizu_turn: general and xmm registers, aligned stack, unmarked jumps
- *   balkwizu_turns_begin: general registers
- *   balkwizu_who_reaches: general registers
- *   balkwizu_write: general registers, unmarked jumps
+ *   libbalkwizu.a
+ *     balkwizu_component: general and xmm registers, aligned stack
+ *     balkwizu_potential: general and xmm registers, aligned stack
+ *     balkwizu_repair: general and xmm registers, aligned stack
+ *     balkwizu_run: general and xmm registers, aligned stack, unmarked jumps
+ *     balkwizu_run_by_length: general and xmm registers, aligned stack, unmarked jumps
+ *     balkwizu_run_working: general and xmm registers, aligned stack
+ *     balkwizu_table_check: general and xmm registers, aligned stack, red zone
+ *     balkwizu_version: general registers
+ *     balkwizu_who_reaches: general registers
+ *     balkwizu_write: general registers, unmarked jumps
+ *   libbalkwizu_turns.a
+ *     balkwizu_hand_in: general and xmm registers, aligned stack, red zone
+ *     balkwizu_turn: general and xmm registers, aligned stack, red zone, unmarked jumps
+ *     balkwizu_turns_begin: general registers
  */
-#define BALKWIZU_RUN_STACK_BYTES 512
-#define BALKWIZU_RUN_WORKING_STACK_BYTES 5120
+#define BALKWIZU_RUN_STACK_BYTES 768
+#define BALKWIZU_RUN_WORKING_STACK_BYTES 5632
+#define BALKWIZU_RUN_BY_LENGTH_STACK_BYTES 5632
 #define BALKWIZU_TABLE_CHECK_STACK_BYTES 256
 #define BALKWIZU_COMPONENT_STACK_BYTES 512
 #define BALKWIZU_REPAIR_STACK_BYTES 4096
 #define BALKWIZU_POTENTIAL_STACK_BYTES 512
 #define BALKWIZU_WRITE_STACK_BYTES 256
 #define BALKWIZU_WHO_REACHES_STACK_BYTES 256
+#define BALKWIZU_VERSION_STACK_BYTES 256
 #define BALKWIZU_TURNS_BEGIN_STACK_BYTES 256
 #define BALKWIZU_HAND_IN_STACK_BYTES 512
 #define BALKWIZU_TURN_STACK_BYTES 512
@@ -207,6 +230,18 @@ enum balkwizu_right {
  * A run alters rights, waiting, lost and slot words, and no other.
  *
  * Words as constants: every field must be within its bits.
+ *
+ * Table of the examples: domain 0 may send to domain 1, which owns endpoint 0, called
+ * 17, with room for two messages.
+ *
+ *     BALKWIZU_TABLE_HEADER(2, 1),
+ *     BALKWIZU_TABLE_RIGHTS(0), BALKWIZU_TABLE_RIGHTS(BALKWIZU_RIGHT_SEND),
+ *     BALKWIZU_TABLE_RIGHTS(0), BALKWIZU_TABLE_RIGHTS(0),
+ *     BALKWIZU_TABLE_NAME(17), BALKWIZU_TABLE_INFO(1, 2),
+ *     BALKWIZU_TABLE_WAITING(0), BALKWIZU_TABLE_LOST(0),
+ *     BALKWIZU_EMPTY_SLOT, BALKWIZU_EMPTY_SLOT, BALKWIZU_EMPTY_SLOT,
+ *     BALKWIZU_EMPTY_SLOT, BALKWIZU_EMPTY_SLOT, BALKWIZU_EMPTY_SLOT,
+ *     BALKWIZU_EMPTY_SLOT, BALKWIZU_EMPTY_SLOT
  */
 #define BALKWIZU_TABLE_HEADER(n, m)                                            \
     (0x10000000u | (BALKWIZU_WORD(n) << 8) | BALKWIZU_WORD(m))
@@ -236,6 +271,12 @@ enum balkwizu_place {
  * Reading a table that was accepted, or that a run left. Domains are below n,
  * endpoints below m, slots below BALKWIZU_SLOTS: none of these functions looks
  * whether that is so.
+ *
+ * Example:
+ *
+ *     uint32_t owner = balkwizu_table_owner(table, 0);
+ *     assert(owner == 1 && balkwizu_table_name(table, 0) == 17);
+ *     assert(balkwizu_table_rights(table, 0, owner) == BALKWIZU_RIGHT_SEND);
  */
 static inline uint32_t balkwizu_table_domains(const uint32_t *table)
 {
@@ -334,12 +375,8 @@ static inline uint32_t balkwizu_table_message(const uint32_t *table,
  *
  * Words as constants: every field must be within its bits (caller and target 6,
  * endpoint, recipient, holder and rights 8, name and message 28). A look up and a send are
- * directly followed by BALKWIZU_SECOND of their name or message:
- *
- *     const uint32_t list[] = {
- *         BALKWIZU_SEND(0, 1), BALKWIZU_SECOND(5),
- *         BALKWIZU_RECEIVE(2, 1),
- *     };
+ * directly followed by BALKWIZU_SECOND of their name or message, as in the example of
+ * balkwizu_run.
  */
 #define BALKWIZU_LOST_MAX 268435455
 #define BALKWIZU_FIRST(kind, caller, a, b, c)                                  \
@@ -411,9 +448,20 @@ static inline uint32_t balkwizu_answer_rights(const uint32_t *answer,
     return (answer[1 + target / 8] >> (4 * (target % 8))) & 0xFu;
 }
 
-/* What balkwizu_run returns, taken apart. */
+/* What balkwizu_run and the two other runs return, taken apart. */
 #define BALKWIZU_RUN_CODE(result) (BALKWIZU_WORD(result) & 0xFFFFu)
 #define BALKWIZU_RUN_CALLS(result) (BALKWIZU_WORD(result) >> 16)
+
+/*
+ * Which release the archive is of, as BALKWIZU_VERSION has it of the header. A header
+ * and an archive of different releases don't belong together: firmware may compare
+ * them once, when it starts.
+ *
+ * Example:
+ *
+ *     assert(balkwizu_version() == BALKWIZU_VERSION);
+ */
+uint32_t balkwizu_version(void);
 
 /*
  * The check of a table image: len bytes, little-endian words, as they stand in
@@ -429,6 +477,12 @@ static inline uint32_t balkwizu_answer_rights(const uint32_t *answer,
  *   - bytes points to len bytes that may be read, at any alignment; it isn't a
  *     null pointer, also where len is 0;
  *   - nobody writes them during the call: no other core, interrupt or transfer.
+ *
+ * Example:
+ *
+ *     const uint8_t *image = (const uint8_t *)table;
+ *     assert(balkwizu_table_check(image, 4 * table_len) == BALKWIZU_OK);
+ *     assert(balkwizu_table_check(image, 3) == BALKWIZU_TABLE_BAD_HEADER);
  */
 uint32_t balkwizu_table_check(const uint8_t *bytes, size_t len);
 
@@ -465,6 +519,22 @@ uint32_t balkwizu_table_check(const uint8_t *bytes, size_t len);
  *   - the four do not overlap, in no word;
  *   - nobody else reads or writes table, answers or holders, and nobody writes the
  *     list, during the call: no other core, interrupt or transfer.
+ *
+ * Example:
+ *
+ *     const uint32_t list[] = {
+ *         BALKWIZU_SEND(0, 0), BALKWIZU_SECOND(5),
+ *         BALKWIZU_RECEIVE(1, 0),
+ *     };
+ *     uint32_t answers[2 * BALKWIZU_ANSWER_WORDS], holders[2];
+ *     uint32_t result = balkwizu_run(table, table_len, list, 3,
+ *                                    answers, 2 * BALKWIZU_ANSWER_WORDS, holders, 2);
+ *     assert(BALKWIZU_RUN_CODE(result) == BALKWIZU_OK);
+ *     assert(BALKWIZU_RUN_CALLS(result) == 2);
+ *     const uint32_t *received = answers + BALKWIZU_ANSWER_AT(1);
+ *     assert(BALKWIZU_ANSWER_CODE(received[0]) == BALKWIZU_OK);
+ *     assert(balkwizu_answer_message(received) == 5);
+ *     assert(holders[1] == 1); // domain 0 alone has a right on domain 1
  */
 uint32_t balkwizu_run(uint32_t *table, size_t table_len,
                       const uint32_t *list, size_t list_len,
@@ -483,17 +553,50 @@ uint32_t balkwizu_run(uint32_t *table, size_t table_len,
  * BALKWIZU_RUN_WORKING_STACK_BYTES where balkwizu_run takes
  * BALKWIZU_RUN_STACK_BYTES.
  *
- * Which to take: each call is cheaper here, taking in and putting out come on top.
- * Lists of 64 words and more are for this one, shorter lists for balkwizu_run. Where
- * exactly the two cross depends on the table, the calls and the processor: about 40
- * words for a small table, 70 for the largest, and 110 for the largest where nearly
- * all calls are sends and receives. docs/BENCHMARKS.md has what was measured, and
- * `bench speed --lengths` measures it.
+ * Each call is cheaper here, taking in and putting out come on top, so that this run is
+ * for long lists. From which length on it is the faster one depends on the table, the
+ * calls and the processor: 32 to 72 words for a small table, 48 to 160 for the largest,
+ * and most where nearly all calls are sends and receives. `bench speed --lengths`
+ * measures it, and docs/BENCHMARKS.md has what was measured.
+ *
+ * Example:
+ *
+ *     const uint32_t list[] = { BALKWIZU_MY_RIGHTS(0) };
+ *     uint32_t answer[BALKWIZU_ANSWER_WORDS], holders[2];
+ *     uint32_t result = balkwizu_run_working(table, table_len, list, 1, answer,
+ *                                            BALKWIZU_ANSWER_WORDS, holders, 2);
+ *     assert(BALKWIZU_RUN_CODE(result) == BALKWIZU_OK);
+ *     assert(balkwizu_answer_rights(answer, 1) == BALKWIZU_RIGHT_SEND);
  */
 uint32_t balkwizu_run_working(uint32_t *table, size_t table_len,
                               const uint32_t *list, size_t list_len,
                               uint32_t *answers, size_t answers_len,
                               uint32_t *holders, size_t holders_len);
+
+/*
+ * The same run once more, which chooses by the list's length: a list that is long for
+ * its table runs as by balkwizu_run_working, any other as by balkwizu_run. All that is
+ * said of balkwizu_run holds of it, the caller's duties too, and which way it went can
+ * be seen by nothing but the time that it took. Choosing costs a division and a
+ * comparison.
+ *
+ * Which of the three to take: this one. balkwizu_run where the stack is too short for
+ * BALKWIZU_RUN_BY_LENGTH_STACK_BYTES, or where every list is short;
+ * balkwizu_run_working where every list is long.
+ *
+ * Example:
+ *
+ *     const uint32_t list[] = { BALKWIZU_LOOK_UP(0), BALKWIZU_SECOND(17) };
+ *     uint32_t answer[BALKWIZU_ANSWER_WORDS], holders[2];
+ *     uint32_t result = balkwizu_run_by_length(table, table_len, list, 2, answer,
+ *                                              BALKWIZU_ANSWER_WORDS, holders, 2);
+ *     assert(BALKWIZU_RUN_CODE(result) == BALKWIZU_OK);
+ *     assert(balkwizu_answer_endpoint(answer) == 0);
+ */
+uint32_t balkwizu_run_by_length(uint32_t *table, size_t table_len,
+                                const uint32_t *list, size_t list_len,
+                                uint32_t *answers, size_t answers_len,
+                                uint32_t *holders, size_t holders_len);
 
 /* What balkwizu_who_reaches returns, taken apart. */
 #define BALKWIZU_REACHES_CODE(result) (BALKWIZU_WORD(result) & 0xFFFFu)
@@ -515,6 +618,13 @@ uint32_t balkwizu_run_working(uint32_t *table, size_t table_len,
  *   - holders points to holders_len words that may be read, aligned to four bytes;
  *     it isn't a null pointer, also where holders_len is 0;
  *   - nobody writes them during the call: no other core, interrupt or transfer.
+ *
+ * Example:
+ *
+ *     const uint32_t holders[] = { 0, 1 }; // as the run above leaves them
+ *     uint32_t result = balkwizu_who_reaches(holders, 2, 1);
+ *     assert(BALKWIZU_REACHES_CODE(result) == BALKWIZU_OK);
+ *     assert(BALKWIZU_REACHES(result, 0) == 1);
  */
 uint32_t balkwizu_who_reaches(const uint32_t *holders, size_t holders_len,
                               uint32_t domain);
@@ -542,6 +652,12 @@ uint32_t balkwizu_who_reaches(const uint32_t *holders, size_t holders_len,
  *   - table points to table_len words that may be read, aligned to four bytes; it
  *     isn't a null pointer, also where table_len is 0;
  *   - nobody writes them during the call: no other core, interrupt or transfer.
+ *
+ * Example:
+ *
+ *     uint32_t result = balkwizu_component(table, table_len, 0);
+ *     assert(BALKWIZU_COMPONENT_CODE(result) == BALKWIZU_OK);
+ *     assert(BALKWIZU_COMPONENT_HAS(result, 1) == 1);
  */
 uint32_t balkwizu_component(const uint32_t *table, size_t table_len,
                             uint32_t domain);
@@ -572,6 +688,15 @@ uint32_t balkwizu_component(const uint32_t *table, size_t table_len,
  *   - the two do not overlap, in no word;
  *   - nobody writes the table and nobody else reads or writes rights during the call:
  *     no other core, interrupt or transfer.
+ *
+ * Example:
+ *
+ *     uint32_t rights[4];
+ *     uint32_t everybody = 3; // both domains act
+ *     uint32_t code = balkwizu_potential(table, table_len, everybody, rights, 4);
+ *     assert(code == BALKWIZU_OK);
+ *     assert(rights[BALKWIZU_POTENTIAL_AT(2, 0, 1)] == BALKWIZU_RIGHT_SEND);
+ *     assert(rights[BALKWIZU_POTENTIAL_AT(2, 1, 0)] == 0); // and there never is one
  */
 uint32_t balkwizu_potential(const uint32_t *table, size_t table_len,
                             uint32_t actors, uint32_t *rights, size_t rights_len);
@@ -604,6 +729,17 @@ uint32_t balkwizu_potential(const uint32_t *table, size_t table_len,
  *   - the two do not overlap, in no word;
  *   - nobody else reads or writes them during the call: no other core, interrupt or
  *     transfer.
+ *
+ * Example:
+ *
+ *     static uint32_t changes[BALKWIZU_CHANGES_WORDS_MAX];
+ *     table[1] = 0x20000037u; // as a worn card gives it back
+ *     uint32_t result = balkwizu_repair(table, table_len,
+ *                                       changes, BALKWIZU_CHANGES_WORDS_MAX);
+ *     assert(BALKWIZU_REPAIR_CODE(result) == BALKWIZU_OK);
+ *     assert(BALKWIZU_REPAIR_ALTERED(result) == 1);
+ *     assert(table[1] == BALKWIZU_TABLE_RIGHTS(0));
+ *     assert(changes[0] == 1 && changes[1] == 0x20000037u);
  */
 uint32_t balkwizu_repair(uint32_t *table, size_t table_len,
                          uint32_t *changes, size_t changes_len);
@@ -623,16 +759,8 @@ uint32_t balkwizu_repair(uint32_t *table, size_t table_len,
  *   BALKWIZU_KIND_REMOVE        caller  target  0          rights
  *   BALKWIZU_KIND_REVOKE        caller  target  holder     rights
  *
- *     const uint32_t calls[] = {
- *         BALKWIZU_KIND_SEND, 0, 0, 1, 5,
- *         BALKWIZU_KIND_RECEIVE, 2, 0, 1, 0,
- *     };
- *     uint32_t list[BALKWIZU_LIST_WORDS_MAX];
- *     uint32_t result = balkwizu_write(calls, 2 * BALKWIZU_CALL_COLUMNS,
- *                                      list, BALKWIZU_LIST_WORDS_MAX);
- *
- * This writes the three words of the list above. In columns a number is a whole
- * word, so that one which exceeds its bits is refused and not cut.
+ * In columns a number is a whole word, so that one which exceeds its bits is refused and
+ * not cut.
  */
 #define BALKWIZU_CALL_COLUMNS 5
 
@@ -667,14 +795,28 @@ uint32_t balkwizu_repair(uint32_t *table, size_t table_len,
  *   - the two do not overlap, in no word;
  *   - nobody else reads or writes the list, and nobody writes the calls, during the
  *     call: no other core, interrupt or transfer.
+ *
+ * Example:
+ *
+ *     const uint32_t calls[] = {
+ *         BALKWIZU_KIND_SEND, 0, 0, 0, 5,
+ *         BALKWIZU_KIND_RECEIVE, 1, 0, 0, 0,
+ *     };
+ *     static uint32_t list[BALKWIZU_LIST_WORDS_MAX];
+ *     uint32_t result = balkwizu_write(calls, 2 * BALKWIZU_CALL_COLUMNS,
+ *                                      list, BALKWIZU_LIST_WORDS_MAX);
+ *     assert(BALKWIZU_WRITE_CODE(result) == BALKWIZU_OK);
+ *     assert(BALKWIZU_WRITE_NUMBER(result) == 3);
+ *     assert(list[0] == BALKWIZU_SEND(0, 0) && list[1] == BALKWIZU_SECOND(5));
  */
 uint32_t balkwizu_write(const uint32_t *calls, size_t calls_len,
                         uint32_t *list, size_t list_len);
 
 /*
  * Turns: a layer above the kernel for a line on which each domain hands in its calls
- * one by one. What it keeps is in words that the firmware lends, here called the
- * state: BALKWIZU_TURNS_WORDS(n) of them for a table of n domains.
+ * one by one, in an archive of its own, libbalkwizu_turns.a. What it keeps is in words
+ * that the firmware lends, here called the state: BALKWIZU_TURNS_WORDS(n) of them for a
+ * table of n domains.
  *
  *   word 0     the place: one more than the domain served last, 0 at first
  *   then 17 words for each domain, lowest number first:
@@ -682,19 +824,7 @@ uint32_t balkwizu_write(const uint32_t *calls, size_t calls_len,
  *     16 words its pending calls, oldest first; words from the count on are old ones
  *              and are never looked at
  *
- *     static uint32_t state[BALKWIZU_TURNS_WORDS(4)], holders[4];
- *     const uint32_t call[] = { BALKWIZU_SEND(2, 1), BALKWIZU_SECOND(5) };
- *     uint32_t answer[BALKWIZU_ANSWER_WORDS];
- *
- *     balkwizu_turns_begin(state, BALKWIZU_TURNS_WORDS(4));
- *     uint32_t code = balkwizu_hand_in(table, table_len,
- *                                      state, BALKWIZU_TURNS_WORDS(4), 2, call, 2);
- *     uint32_t result = balkwizu_turn(table, table_len,
- *                                     state, BALKWIZU_TURNS_WORDS(4), holders, 4,
- *                                     answer, BALKWIZU_ANSWER_WORDS);
- *     if (BALKWIZU_TURN_CODE(result) == BALKWIZU_OK &&
- *         BALKWIZU_TURN_SERVED(result))
- *         ... answer has the call's kind, caller, code and data
+ * The example of balkwizu_turn has all three functions.
  *
  * While nothing but turns alters the table, and nothing but handing in and turns the
  * state, two things are proved: the oldest pending call of a domain is served within
@@ -784,6 +914,23 @@ uint32_t balkwizu_hand_in(const uint32_t *table, size_t table_len,
  *   - the four do not overlap, in no word;
  *   - nobody else reads or writes them during the call: no other core, interrupt or
  *     transfer. An interrupt must not hand in during a turn.
+ *
+ * Example:
+ *
+ *     static uint32_t state[BALKWIZU_TURNS_WORDS(2)], holders[2];
+ *     const uint32_t call[] = { BALKWIZU_SEND(0, 0), BALKWIZU_SECOND(5) };
+ *     uint32_t answer[BALKWIZU_ANSWER_WORDS];
+ *     balkwizu_turns_begin(state, BALKWIZU_TURNS_WORDS(2));
+ *     uint32_t code = balkwizu_hand_in(table, table_len,
+ *                                      state, BALKWIZU_TURNS_WORDS(2), 0, call, 2);
+ *     assert(code == BALKWIZU_OK);
+ *     uint32_t result = balkwizu_turn(table, table_len,
+ *                                     state, BALKWIZU_TURNS_WORDS(2), holders, 2,
+ *                                     answer, BALKWIZU_ANSWER_WORDS);
+ *     assert(BALKWIZU_TURN_CODE(result) == BALKWIZU_OK);
+ *     assert(BALKWIZU_TURN_SERVED(result) == 1);
+ *     assert(BALKWIZU_ANSWER_CALLER(answer[0]) == 0); // whose call it was
+ *     assert(balkwizu_table_message(table, 0, 0) == 5);
  */
 uint32_t balkwizu_turn(uint32_t *table, size_t table_len,
                        uint32_t *state, size_t state_len,

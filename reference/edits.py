@@ -139,6 +139,8 @@ class Copy:
                 copy_function=shutil.copy,
             )
         members = f'[workspace]\nmembers = {json.dumps(packages)}\nresolver = "2"\n'
+        release = (ROOT / "VERSION").read_text().strip()
+        members += f'\n[workspace.package]\nversion = "{release}"\n'
         (folder / "Cargo.toml").write_text(members + profile)
 
     def put_in(self, faults):

@@ -273,6 +273,17 @@ mod tests {
         }
     }
 
+    /// On either side of the lengths at which one run chooses between the other two.
+    #[test]
+    fn lists_are_short_and_long_on_every_kind_of_table() {
+        let cases: Vec<Case> = (0..4000).map(|number| run_case(6, number)).collect();
+        let of = |table: usize, list: std::ops::Range<usize>| {
+            let fits = |case: &&Case| case.table.len() <= table && list.contains(&case.list.len());
+            cases.iter().filter(fits).count()
+        };
+        assert!(of(641, 1..40) > 1000 && of(65, 45..100) > 200 && of(641, 86..4097) > 100);
+    }
+
     #[test]
     fn images_meet_every_answer_and_odd_lengths() {
         let mut met = [0; 6];

@@ -67,8 +67,9 @@ exercise; what one run can't show is said as `not shown`.
 
   --struck D     list the calls that are struck for domain D
   --seed S       the seed that the variants are drawn from (default 1)
-  --kernel NAME  balkwizu (default), balkwizu-working, plain-gcc, plain-clang,
-                 or wrong-NAME, which has the fault of bench/c/wrong/NAME.edit
+  --kernel NAME  balkwizu (default), balkwizu-working, balkwizu-by-length,
+                 plain-gcc, plain-clang, or wrong-NAME, which has the fault of
+                 bench/c/wrong/NAME.edit
   --answers A    the answers that were read back from a line
   --left T       the table that was read back from it
   --report OUT   write a report: a page of HTML to print on A4 and to sign

@@ -37,9 +37,9 @@ in spaces that are large enough, just so and too short, every word of them.
                     numbers on, until N seconds are over, and says how many
   --seed S          the seed that everything is drawn from (default 1)
   --from K          the number of the first run, image and list (default 0)
-  --kernel NAME     balkwizu (default), balkwizu-working, plain-gcc or
-                    plain-clang; or a wrong one of bench/c/wrong, as
-                    wrong-faults
+  --kernel NAME     balkwizu (default), balkwizu-working, balkwizu-by-length,
+                    plain-gcc or plain-clang; or a wrong one of bench/c/wrong,
+                    as wrong-faults
   --time T          the seconds that one run, image or list may take (default
                     10)
 

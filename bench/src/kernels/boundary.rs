@@ -149,6 +149,14 @@ pub const WORKING: Kernel = kernel!(
     balkwizu_run_working
 );
 
+/// The proved kernel by the run that chooses between the two by the list's length.
+pub const BY_LENGTH: Kernel = kernel!(
+    "balkwizu-by-length",
+    concat!(env!("ARCHIVE_TITLE"), ", by length"),
+    balkwizu_table_check,
+    balkwizu_run_by_length
+);
+
 /// The plain C kernel as gcc -O3 makes it.
 pub const PLAIN_GCC: Kernel = kernel!(
     "plain-gcc",
@@ -345,6 +353,7 @@ pub const PROVED_QUEUE: Option<Queue> = Some(Queue {
 pub const KERNELS: &[Kernel] = &[
     PROVED,
     WORKING,
+    BY_LENGTH,
     PLAIN_GCC,
     #[cfg(clang)]
     PLAIN_CLANG,
@@ -401,7 +410,7 @@ mod tests {
         assert_eq!(kernel("plain-gcc").unwrap().title, "plain C, gcc -O3");
         let wrong = kernel("fast").err().unwrap();
         assert!(
-            wrong.contains("balkwizu, balkwizu-working, plain-gcc"),
+            wrong.contains("balkwizu, balkwizu-working, balkwizu-by-length, plain-gcc"),
             "{wrong}"
         );
     }

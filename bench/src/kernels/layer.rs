@@ -31,7 +31,7 @@ impl Layer {
     }
 }
 
-/// The layer of the proved archive. As in [`boundary`](crate::kernels::boundary) the
+/// The layer of the proved archive for it. As in [`boundary`](crate::kernels::boundary) the
 /// caller's duties are what references say of themselves.
 pub const PROVED_LAYER: Layer = Layer {
     begin: |state| {

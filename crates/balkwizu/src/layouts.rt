@@ -1,4 +1,5 @@
-// The run on a working layout, for a board that runs long lists. A module can't have the name of the crate that it calls.
+// The run on a working layout, and the run that chooses between it and balkwizu_run by the length of the list. A module can't have
+// the name of a crate that it calls.
 ghost use Prim.Native.Nat.{_/_, _%_};
 ghost use Rattle.machine.specs.Promise.{RunPromise};
 
@@ -21,4 +22,25 @@ pub extern "C" fn balkwizu_run_working(
     let code = ran.code();
     let calls = ran.calls();
     code + 65536 * calls as u32
+}
+
+// The run of a list of calls, in the working layout where the list is long enough for it, else on the table as it stands: the
+// promise of balkwizu_run, word for word.
+// C: uint32_t balkwizu_run_by_length(uint32_t *table, size_t table_len, const uint32_t *list, size_t list_len, uint32_t *answers, size_t answers_len,
+//                                    uint32_t *holders, size_t holders_len)
+//
+// The parameters, the answer and every word left are those of balkwizu_run.
+#[no_mangle]
+pub extern "C" fn balkwizu_run_by_length(
+    table: &mut [u32],
+    list: &[u32],
+    answers: &mut [u32],
+    holders: &mut [u32],
+) -> u32
+    ensures { λ r. ⌜ RunPromise (now (table .entry)) (now (list .entry)) (now (answers .entry)) (now (holders .entry)) (r % 65536) (r / 65536) (now (answers .exit)) (now (table .exit)) (now (holders .exit)) ⌝ }
+{
+    let ran = choosing::run_by_length(table, list, answers, holders);
+    let code = ran.code();
+    let number = ran.calls();
+    code + 65536 * number as u32
 }

@@ -1,7 +1,7 @@
 // The C boundary: what the controller's firmware and the bench link, as target/staticlib/libbalkwizu.a.
 // Every exported name begins with `balkwizu_`. A slice passes as a pointer and then a length.
-mod in_turn;
 mod layouts;
+mod release;
 
 ghost use mathlib.Core.Path.{_≡_};
 ghost use Prim.Native.Nat.{_/_, _%_, min};

@@ -1,15 +1,21 @@
--- `balkwizu::in_turn::balkwizu_turn` meets its contract: a turn's code is small and it serves one call at most, so one word holds both,
+-- `balkwizu_turns::balkwizu_turn` meets its contract: a turn's code is small and it serves one call at most, so one word holds both,
 -- and what `turns::turn` promises of them it promises of the word's two halves. Assumes nothing.
-use Prim.Native.Nat.{ℕ, _≤_}
-use mathlib.Core.Path.{sym, subst₂, _∙_}
+use Prim.Native.Nat.{ℕ, _+_, _*_, _/_, _%_, _<_, _≤_}
+use mathlib.Core.Path.{_≡_, sym, subst₂, _∙_}
 use native.Mathlib.Omega.{arith}
 use borrow.Author.Needs.{needs}
 use denote.Ref.{now}
 use Rattle.turns.specs.Promise.{TurnPromise}
 use Rattle.turns.proofs.Outcomes.{code-small, served-small}
-use Rattle.balkwizu.proofs.Halves.{low, high}
-use Rattle.balkwizu.proofs.in_turn.balkwizu_turn.Statement.{statement}
-use Rattle.balkwizu.proofs.in_turn.balkwizu_turn.Tie as tie
+use Rattle.balkwizu_turns.proofs.balkwizu_turn.Statement.{statement}
+use Rattle.balkwizu_turns.proofs.balkwizu_turn.Tie as tie
+
+-- the two halves of a word
+low : (code number : ℕ) → code < 65536 → code ≡ (code + 65536 * number) % 65536
+low code number h = omega arith
+
+high : (code number : ℕ) → code < 65536 → number ≡ (code + 65536 * number) / 65536
+high code number h = omega arith
 
 -- one call at most, and a code of at most 99
 few : (c : tie.After-served) → c .served .result ≤ 1

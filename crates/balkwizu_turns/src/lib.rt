@@ -1,5 +1,7 @@
-// Calls handed in one by one and served in turn (document 02 (m)), for C. The state is 1 + 17 n words that the caller lends, n the
-// table's number of domains: the place of the turn, then for each domain how many of its words are pending, and sixteen words.
+// Calls handed in one by one and served in turn (document 02 (m)), for C, as target/staticlib/libbalkwizu_turns.a. It is an archive
+// beside the kernel's own: a turn serves a call by the kernel's step, and in one archive with it the run of a list was slower.
+// The state is 1 + 17 n words that the caller lends, n the table's number of domains: the place of the turn, then for each domain
+// how many of its words are pending, and sixteen words.
 ghost use mathlib.Core.Path.{_≡_};
 ghost use Prim.Native.Nat.{_/_, _%_};
 ghost use lib.ListN.{length, replicate};

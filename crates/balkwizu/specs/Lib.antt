@@ -1,0 +1,2 @@
+-- What the C boundary's own contracts cite.
+pub mod Version
