@@ -59,6 +59,9 @@ extern "C" {
  *              have a stack of their own (an entry of the interrupt stack table,
  *              or a change of privilege), or are off during the call. No option
  *              that the firmware is compiled with alters this.
+ *              firmware/bare_metal/archive makes archives that have no red zone,
+ *              use general registers alone and never jump by a register: with
+ *              these an interrupt may come on the same stack, and SSE may be off.
  *   registers  The general registers and xmm0 to xmm15, by instructions up to SSE2
  *              and without floating-point arithmetic; no x87, MMX or AVX. SSE is
  *              switched on (CR0.EM and CR0.TS are 0, CR4.OSFXSR is 1), and an

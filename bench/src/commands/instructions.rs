@@ -13,7 +13,7 @@ use crate::judging::instructions::{
 };
 use crate::judging::jobs::{do_all, jobs, BEHIND_A_JOB};
 use crate::line::explain::counted;
-use crate::output::say;
+use crate::output::{self, say};
 use crate::scratch::Folder;
 
 pub const HELP: &str = "\
@@ -23,11 +23,12 @@ Counts by valgrind's callgrind the instructions of the proved functions on fixed
 tables and lists: the checks of two tables, runs of four mixes on two tables in
 lists of 8, 64 and 4,096 words by each proved run, and the other functions. Only
 those of the archive's own functions count, not those of the C library's memcpy.
-Holds them to the figures written down in bench/instructions.txt: one that rose
-or fell by more than 3 % fails, and says so.
+Holds them to the figures that are written down in bench/instructions.txt, which
+this program was built with: one that rose or fell by more than 3 % fails, and
+says so.
 
-  --write      writes the figures down anew: where a change of the archive is
-               meant, with the change
+  --write      writes the figures down anew, to bench/instructions.txt below this
+               folder: where a change of the archive is meant, with the change
   --file FILE  takes the figures of another file, or writes them there
 
 The counts are the same at each run of one archive, whatever else the machine
@@ -37,8 +38,9 @@ Exit status: 0 all figures hold, or are written; 1 some don't; 2 bad usage, or
 nothing could be counted.
 ";
 
-/// The figures written down, in the folder of the package.
-const FILE: &str = "instructions.txt";
+/// The figures written down, and where they stand in the repository.
+const WRITTEN: &str = include_str!("../../instructions.txt");
+const FILE: &str = "bench/instructions.txt";
 
 /// The option by which the command does the jobs themselves, under callgrind.
 const JOBS: &str = "--jobs";
@@ -51,23 +53,29 @@ pub fn command(line: &[OsString]) -> Result<bool, String> {
         do_all(&jobs());
         return Ok(true);
     }
-    let own = Path::new(env!("CARGO_MANIFEST_DIR")).join(FILE);
-    let file = options.path("--file").map_or(own, Into::into);
+    let file = options.path("--file");
     if options.has("--write") {
-        let figures = counted_now()?;
-        let wrong = |why| format!("cannot write {}: {why}", file.display());
-        fs::write(&file, written(&figures)).map_err(wrong)?;
-        say!(
-            "{} written to {}",
-            counted(figures.len(), "figure"),
-            file.display()
-        );
-        return Ok(true);
+        return write_anew(file.unwrap_or(Path::new(FILE)));
     }
-    let wrong = |why: String| format!("cannot read {}: {why}", file.display());
-    let text = fs::read_to_string(&file).map_err(|why| wrong(why.to_string()))?;
-    let written = read_written(&text).map_err(wrong)?;
+    let written = match file {
+        None => read_written(WRITTEN)?,
+        Some(file) => read_file(file).map_err(|why| format!("{}: {why}", file.display()))?,
+    };
     Ok(tell(&counted_now()?, &written))
+}
+
+fn read_file(file: &Path) -> Result<Vec<Figure>, String> {
+    let text = fs::read_to_string(file).map_err(|why| why.to_string())?;
+    read_written(&text)
+}
+
+/// Counts, and writes the figures to a file.
+fn write_anew(file: &Path) -> Result<bool, String> {
+    let figures = counted_now()?;
+    output::write_file(file, &written(&figures))?;
+    let figures = counted(figures.len(), "figure");
+    say!("{figures} written to {}", file.display());
+    Ok(true)
 }
 
 /// Tells what became of each figure; whether all hold.
@@ -115,8 +123,7 @@ mod tests {
 
     #[test]
     fn the_figures_of_the_repository_are_those_of_the_jobs() {
-        let file = Path::new(env!("CARGO_MANIFEST_DIR")).join(FILE);
-        let written = read_written(&fs::read_to_string(file).unwrap()).unwrap();
+        let written = read_written(WRITTEN).unwrap();
         let names: Vec<String> = written.into_iter().map(|one| one.name).collect();
         let wanted: Vec<String> = jobs().into_iter().map(|job| job.name).collect();
         assert_eq!(names, wanted);

@@ -8,6 +8,8 @@ use std::io;
 use std::path::{Path, PathBuf};
 use std::process::{Command, Stdio};
 
+use crate::output;
+
 /// How the plain C programs are compiled.
 pub const FLAGS: [&str; 6] = [
     "-std=c11",
@@ -18,14 +20,27 @@ pub const FLAGS: [&str; 6] = [
     "-pedantic",
 ];
 
-/// A program of bench/c, compiled by gcc into a folder: its own source and the kernel's.
-pub fn compiled(folder: &Path, name: &str) -> Result<PathBuf, String> {
-    let from = Path::new(env!("CARGO_MANIFEST_DIR")).join("c");
+/// The plain C kernel, which this program carries with it: it knows no folder.
+const KERNEL: [(&str, &str); 3] = [
+    ("plain.h", include_str!("../../c/plain.h")),
+    ("plain_run.c", include_str!("../../c/plain_run.c")),
+    ("plain_check.c", include_str!("../../c/plain_check.c")),
+];
+
+/// A program in plain C: its name, and its source beside the kernel's.
+pub type Plain = (&'static str, &'static str);
+
+/// A program in plain C, compiled by gcc into a folder.
+pub fn compiled(folder: &Path, (name, source): Plain) -> Result<PathBuf, String> {
     let program = folder.join(name);
-    let sources = [name, "plain_run", "plain_check"];
+    let own = format!("{name}.c");
+    for (file, text) in KERNEL.into_iter().chain([(own.as_str(), source)]) {
+        output::write_file(&folder.join(file), text)?;
+    }
+    let sources = [own.as_str(), "plain_run.c", "plain_check.c"];
     let status = Command::new("gcc")
         .args(FLAGS)
-        .args(sources.map(|source| from.join(format!("{source}.c"))))
+        .args(sources.map(|source| folder.join(source)))
         .arg("-o")
         .arg(&program)
         .status();

@@ -8,13 +8,13 @@ use reference::cut;
 use reference::words::to_bytes;
 
 use crate::cases::workloads::{by_kind, workloads};
-use crate::judging::program_times::{compiled, median, timed, FLAGS};
+use crate::judging::program_times::{compiled, median, timed, Plain, FLAGS};
 use crate::line::explain::counted;
 use crate::output::say;
 use crate::scratch::Folder;
 
 /// The plain C program.
-const PLAIN: &str = "plain_linerun";
+const PLAIN: Plain = ("plain_linerun", include_str!("../../../c/plain_linerun.c"));
 
 /// So many runs of a program are timed in its turn.
 const RUNS: usize = 20;

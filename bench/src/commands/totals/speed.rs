@@ -11,13 +11,13 @@ use reference::words::to_bytes;
 
 use crate::cases::sheets::long_inputs;
 use crate::cases::workloads::Workload;
-use crate::judging::program_times::{compiled, median, timed, FLAGS};
+use crate::judging::program_times::{compiled, median, timed, Plain, FLAGS};
 use crate::line::explain::counted;
 use crate::output::say;
 use crate::scratch::Folder;
 
 /// The plain C program.
-const PLAIN: &str = "plain_totals";
+const PLAIN: Plain = ("plain_totals", include_str!("../../../c/plain_totals.c"));
 
 /// Measures a program on inputs of so many lists; whether it prints what it should.
 pub fn measure(program: &Path, lists: usize, rounds: usize) -> Result<bool, String> {
