@@ -54,11 +54,11 @@ extern "C" {
  *   alignment  The stack pointer is a multiple of 16 at the call instruction.
  *              Where it isn't, the function faults: it stores 16 bytes at a time.
  *   red zone   A function may keep words in the 128 bytes below its stack pointer.
- *              An interrupt on the same stack overwrites them, and the check then
- *              refuses a sound table or lets a repeated name through. Interrupts
- *              have a stack of their own (an entry of the interrupt stack table,
- *              or a change of privilege), or are off during the call. No option
- *              that the firmware is compiled with alters this.
+ *              None does in these archives, as the lines below say. Where one does, an
+ *              interrupt on the same stack overwrites them and its answer is wrong:
+ *              interrupts then have a stack of their own (an entry of the interrupt
+ *              stack table, or a change of privilege), or are off during the call.
+ *              No option that the firmware is compiled with alters this.
  *              firmware/bare_metal/archive makes archives that have no red zone,
  *              use general registers alone and never jump by a register: with
  *              these an interrupt may come on the same stack, and SSE may be off.
@@ -98,13 +98,13 @@ extern "C" {
 #define BALKWIZU_TABLE_CHECK_STACK_BYTES 256
 #define BALKWIZU_COMPONENT_STACK_BYTES 512
 #define BALKWIZU_REPAIR_STACK_BYTES 4096
-#define BALKWIZU_POTENTIAL_STACK_BYTES 512
+#define BALKWIZU_POTENTIAL_STACK_BYTES 1024
 #define BALKWIZU_WRITE_STACK_BYTES 256
 #define BALKWIZU_WHO_REACHES_STACK_BYTES 256
 #define BALKWIZU_VERSION_STACK_BYTES 256
 #define BALKWIZU_TURNS_BEGIN_STACK_BYTES 256
-#define BALKWIZU_HAND_IN_STACK_BYTES 512
-#define BALKWIZU_TURN_STACK_BYTES 512
+#define BALKWIZU_HAND_IN_STACK_BYTES 1024
+#define BALKWIZU_TURN_STACK_BYTES 1024
 
 /* The most that a table, a list and its answers can have, in words. */
 #define BALKWIZU_DOMAINS_MAX 16

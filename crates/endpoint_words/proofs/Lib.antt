@@ -1,3 +1,4 @@
 -- Laws that the proofs of several functions cite.
 pub mod Scan
 pub mod Short
+pub mod Counted

@@ -6,7 +6,7 @@ use mathlib.Core.List.{List}
 use Prim.Native.Nat.{ℕ, _+_, _<_}
 use native.Mathlib.Omega.{arith}
 use lib.ListN.{length, getD, List·getD-eq-default}
-use Rattle.machine.specs.Check.{nameWordOk, infoWordOk, waitingWordOk, lostWordOk, slotWordOk, identityOk, queueOk}
+use Rattle.machine.specs.Check.{nameWordOk, infoWordOk, waitingWordOk, lostWordOk, slotWordOk, identityOk, queueOk, endpointOk}
 use Rattle.machine.specs.Queue.{capacity, waiting}
 use Rattle.machine.proofs.Below.{all-fails}
 
@@ -24,3 +24,7 @@ unfolding queueOk
 short-queue q h =
     rw (all-fails 8 (λ i. slotWordOk (waiting q) i (getD q (4 + i) 0)) 7 (omega arith) (last-slot q h))
     (and-false (waitingWordOk (capacity q) (getD q 2 0) && lostWordOk (getD q 3 0)))
+
+pub short-endpoint : (n : ℕ) (q : List ℕ) → length q < 12 → endpointOk n q ≡ false
+unfolding endpointOk
+short-endpoint n q h = rw (short-queue q h) (and-false (identityOk n q))

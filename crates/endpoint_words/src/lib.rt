@@ -1,15 +1,15 @@
 // An endpoint's twelve words: its identity (name, info), which never changes, and its queue (waiting, lost, slots).
 // The words are lent as a part of the table. A part that is too short reads as zeros past its end, and no such word is right.
-use words::KIND;
 use words::info_word_ok;
 use words::lost_word_ok;
 use words::name_word_ok;
-use words::slot_word_ok;
+use words::slot_wrong;
 use words::waiting_word_ok;
 ghost use mathlib.Core.Path.{_≡_};
-ghost use Prim.Native.Nat.{_+_, _≤_};
+ghost use Prim.Native.Nat.{_+_, _-_, _≤_};
 ghost use lib.ListN.{length, getD};
 ghost use Rattle.machine.specs.Below.{allBelow};
+ghost use Rattle.machine.specs.Word.{word};
 ghost use Rattle.machine.specs.Check.{identityOk, queueOk, endpointOk, slotWordOk};
 
 // The name and the info, among n domains.
@@ -24,19 +24,31 @@ pub fn identity_ok(n: u32, q: &[u32]) -> bool
     name & info
 }
 
-// The eight slots while count messages wait.
-fn slots_ok(count: u32, q: &[u32]) -> bool
+// The eight slots, by the waiting word.
+fn slots_ok(waiting: u32, q: &[u32]) -> bool
     requires { ⌜ 12 ≤ length (now q) ⌝ }
-    ensures { λ b. ⌜ b ≡ allBelow 8 (λ i. slotWordOk count i (getD (now (q .entry)) (4 + i) 0)) ⌝ }
+    ensures { λ b. ⌜ b ≡ allBelow 8 (λ i. slotWordOk (waiting - word 5 0) i (getD (now (q .entry)) (4 + i) 0)) ⌝ }
 {
-    let mut all = true;
+    let mut wrong: u32 = 0;
     let mut i: u32 = 0;
     while i < 8 {
-        let slot = slot_word_ok(count, i, q[4 + i as usize]);
-        all = all & slot;
+        let slot = slot_wrong(waiting, i, q[4 + i as usize]);
+        wrong = wrong | slot;
         i += 1;
     }
-    all
+    wrong == 0
+}
+
+// The waiting count, the lost count and the slots, where all of them are there. By itself, and without a branch, it is small enough
+// for the compiler to put it into each of the two below.
+fn whole_queue_ok(q: &[u32]) -> bool
+    requires { ⌜ 12 ≤ length (now q) ⌝ }
+    ensures { λ b. ⌜ b ≡ queueOk (now (q .entry)) ⌝ }
+{
+    let waiting = waiting_word_ok(q[1] % 256, q[2]);
+    let lost = lost_word_ok(q[3]);
+    let slots = slots_ok(q[2], q);
+    waiting & lost & slots
 }
 
 // The waiting count, the lost count and the slots.
@@ -46,17 +58,17 @@ pub fn queue_ok(q: &[u32]) -> bool
     if q.len() < 12 {
         return false;
     }
-    let waiting = waiting_word_ok(q[1] % 256, q[2]);
-    let lost = lost_word_ok(q[3]);
-    let slots = slots_ok(q[2] % KIND, q);
-    waiting & lost & slots
+    whole_queue_ok(q)
 }
 
 // All twelve words, among n domains.
 pub fn endpoint_ok(n: u32, q: &[u32]) -> bool
     ensures { λ b. ⌜ b ≡ endpointOk n (now (q .entry)) ⌝ }
 {
+    if q.len() < 12 {
+        return false;
+    }
     let identity = identity_ok(n, q);
-    let queue = queue_ok(q);
+    let queue = whole_queue_ok(q);
     identity & queue
 }

@@ -1,6 +1,7 @@
 // A table's check over its image, its words as little-endian bytes. The words are taken out of the bytes where they stand: only
 // the loops are here, and every test of a word is crate words'.
 use reading::words::word;
+use right::Rights;
 use table::Checked;
 use table::TableRefusal;
 use table::names::all_different;
@@ -9,15 +10,16 @@ use words::header_word_ok;
 use words::info_word_ok;
 use words::lost_word_ok;
 use words::name_word_ok;
-use words::rights_word_ok;
-use words::slot_word_ok;
+use words::rights_wrong;
+use words::slot_wrong;
 use words::waiting_word_ok;
 ghost use mathlib.Core.Path.{_≡_};
 ghost use mathlib.Core.Bool.{true};
-ghost use Prim.Native.Nat.{_+_, _*_, _≤_};
+ghost use Prim.Native.Nat.{_+_, _-_, _*_, _≤_};
 ghost use lib.Dec.{eqb};
 ghost use lib.ListN.{length, getD, take, drop};
 ghost use Rattle.machine.specs.Below.{allBelow};
+ghost use Rattle.machine.specs.Word.{word as tableWord};
 ghost use Rattle.machine.specs.Check.{slotWordOk, endpointOk, headerOk, rightsOk, endpointsOk};
 ghost use Rattle.table.specs.Checked.{checkedCode};
 ghost use Rattle.reading.specs.Bytes.{wordsOf};
@@ -37,9 +39,10 @@ fn header_ok(bytes: &[u8]) -> bool
     ensures { λ b. ⌜ b ≡ headerOk (wordsOf (now (bytes .entry))) ⌝ }
 {
     if bytes.len() < 4 {
-        return false;
+        false
+    } else {
+        header_word_ok(nth_word(bytes, 0))
     }
-    header_word_ok(nth_word(bytes, 0))
 }
 
 // Place 3: the length is four times the one that the n domains and m endpoints of word 0 ask for.
@@ -53,7 +56,7 @@ fn length_ok(bytes: &[u8]) -> bool
     bytes.len() == 4 * (1 + n * n + 12 * m)
 }
 
-// Place 4: every rights word is right. One pass without a way out, so that it takes several words at a time.
+// Place 4: every rights word is right. What is wrong is gathered in one pass without a way out, so that it takes several words at a time.
 fn rights_ok(bytes: &[u8]) -> bool
     requires { ⌜ Fitting (now bytes) ⌝ }
     ensures { λ b. ⌜ b ≡ rightsOk (wordsOf (now (bytes .entry))) ⌝ }
@@ -61,29 +64,29 @@ fn rights_ok(bytes: &[u8]) -> bool
     let header = nth_word(bytes, 0);
     let n = (header / 256 % 256) as usize;
     let count = n * n;
-    let mut all = true;
+    let mut wrong: u32 = 0;
     let mut i: usize = 0;
     while i < count {
-        let ok = rights_word_ok(nth_word(bytes, 1 + i));
-        all = all & ok;
+        let word = rights_wrong(nth_word(bytes, 1 + i));
+        wrong = wrong | word;
         i += 1;
     }
-    all
+    wrong <= Rights::ALL.bits
 }
 
-// The eight slots from word `start` on while count messages wait.
-fn slots_ok(bytes: &[u8], start: usize, count: u32) -> bool
+// The eight slots from word `start` on, by the waiting word.
+fn slots_ok(bytes: &[u8], start: usize, waiting: u32) -> bool
     requires { ⌜ 4 * start + 32 ≤ length (now bytes) ⌝ }
-    ensures { λ b. ⌜ b ≡ allBelow 8 (λ i. slotWordOk count i (getD (wordsOf (now (bytes .entry))) (start + i) 0)) ⌝ }
+    ensures { λ b. ⌜ b ≡ allBelow 8 (λ i. slotWordOk (waiting - tableWord 5 0) i (getD (wordsOf (now (bytes .entry))) (start + i) 0)) ⌝ }
 {
-    let mut all = true;
+    let mut wrong: u32 = 0;
     let mut i: u32 = 0;
     while i < 8 {
-        let ok = slot_word_ok(count, i, nth_word(bytes, start + i as usize));
-        all = all & ok;
+        let slot = slot_wrong(waiting, i, nth_word(bytes, start + i as usize));
+        wrong = wrong | slot;
         i += 1;
     }
-    all
+    wrong == 0
 }
 
 // The endpoint from word `start` on, among n domains.
@@ -97,7 +100,7 @@ fn endpoint_ok(bytes: &[u8], start: usize, n: u32) -> bool
     let waiting_word = nth_word(bytes, start + 2);
     let waiting = waiting_word_ok(info_word % 256, waiting_word);
     let lost = lost_word_ok(nth_word(bytes, start + 3));
-    let slots = slots_ok(bytes, start + 4, waiting_word % KIND);
+    let slots = slots_ok(bytes, start + 4, waiting_word);
     (name & info) & (waiting & lost & slots)
 }
 
@@ -111,20 +114,16 @@ fn endpoints_ok(bytes: &[u8]) -> bool
     let m = (header % 256) as usize;
     let from = 1 + n as usize * n as usize;
     let mut names = [0u32; 32];
-    let mut all = true;
     let mut e: usize = 0;
     while e < m {
         let start = from + 12 * e;
-        let ok = endpoint_ok(bytes, start, n);
+        if !endpoint_ok(bytes, start, n) {
+            return false;
+        }
         names[e] = nth_word(bytes, start) % KIND;
-        all = all & ok;
         e += 1;
     }
-    if all {
-        all_different(&names[0..m])
-    } else {
-        false
-    }
+    all_different(&names[0..m])
 }
 
 // The places 2 to 5 of document 01 for a table in bytes; the first that fails decides.

@@ -34,13 +34,15 @@ pub fn word_at(bytes: &[u8], at: usize) -> u32
     )
 }
 
-// Fills words from the front with the whole words of bytes, as many as there is room for, and answers how many.
+// Fills words from the front with the whole words of bytes, as many as there is room for, and answers how many. No byte is asked for
+// that isn't there, so that four of them are one load.
 pub fn fill(bytes: &[u8], words: &mut [u32]) -> usize
     ensures { λ r. ⌜ Fills (wordsOf (now (bytes .entry))) (now (words .entry)) r (now (words .exit)) ⌝ }
 {
     let count = least(bytes.len() / 4, words.len());
     for i in 0..count {
-        words[i] = word_at(bytes, 4 * i);
+        let at = 4 * i;
+        words[i] = word(bytes[at], bytes[at + 1], bytes[at + 2], bytes[at + 3]);
     }
     count
 }

@@ -1,9 +1,9 @@
 -- The endpoints of a table, tested one after the other while their names are gathered: what the loops over endpoints keep,
--- and that their two results make the machine's test. Assumes nothing.
+-- and what decides the machine's test. Assumes nothing.
 use mathlib.Core.Path.{_≡_, refl, sym, ap, ap₂, _∙_}
 use mathlib.Core.Bool.{Bool, true, false, not, _&&_}
 use mathlib.Core.List.{List}
-use Prim.Native.Nat.{ℕ, zero, suc, _+_, _-_, _%_, _≤_}
+use Prim.Native.Nat.{ℕ, zero, suc, _+_, _-_, _%_, _<_, _≤_}
 use native.Mathlib.Nat.{add-zero, sub-zero, add-sub-cancel-left}
 use native.Mathlib.Omega.{arith}
 use lib.Dec.{eqb}
@@ -13,7 +13,7 @@ use Rattle.machine.specs.Below.{allBelow}
 use Rattle.machine.specs.Table.{domains, endpoints, endpointAt, endpoint}
 use Rattle.machine.specs.Queue.{name}
 use Rattle.machine.specs.Check.{endpointOk, nameNew, endpointsOk}
-use Rattle.machine.proofs.Below.{all-same}
+use Rattle.machine.proofs.Below.{all-same, all-fails}
 use Rattle.table.specs.Names.{newAt, allDifferent}
 use Rattle.endpoint_words.proofs.Scan.{Scanned, scan-end}
 use Rattle.table.proofs.Fill.{Filled}
@@ -31,9 +31,9 @@ all-both zero p q = refl
 all-both (suc k) p q =
     ap (λ (b : Bool). b && (p k && q k)) (all-both k p q) ∙ and-swap (allBelow k p) (allBelow k q) (p k) (q k)
 
--- What a loop over m endpoints keeps: the flag of those passed, and their names in a list of 32.
-pub record Gathered (t : List ℕ) (m : ℕ) (names : List ℕ) (flag : Bool) (e : ℕ) : Type 0 where
-  pub tested : Scanned (λ f. endpointOk (domains t) (endpoint t f)) m flag e
+-- What a loop over m endpoints keeps: the words of those passed are right, and their names stand in a list of 32.
+pub record Gathered (t : List ℕ) (m : ℕ) (names : List ℕ) (e : ℕ) : Type 0 where
+  pub tested : Scanned (λ f. endpointOk (domains t) (endpoint t f)) m true e
   pub named : Filled (λ f. name (endpoint t f)) 32 names e
 
 different : (t names : List ℕ) (m e : ℕ) → Filled (λ f. name (endpoint t f)) 32 names e → m ≤ e → m ≤ 32 → allDifferent (take m names) ≡ allBelow m (nameNew t)
@@ -58,16 +58,17 @@ module _ (t : List ℕ) where
       ap (λ (w : ℕ). w % 268435456)
       (sym (getD-take 12 (drop (endpointAt (domains t) e) t) 0 0 (omega arith) ∙ getD-drop (endpointAt (domains t) e) t 0 0 ∙ ap (λ (i : ℕ). getD t i 0) (add-zero _)))
 
-  -- at the loop's end the flag, with the test of names[0..m], is the machine's test
-  gathered : (m : ℕ) (names : List ℕ) (flag : Bool) (e : ℕ) → m ≡ endpoints t → m ≤ 32 → Gathered t m names flag e → m ≤ e → (flag && allDifferent (take (m - 0) (drop 0 names))) ≡ endpointsOk t
+  -- at the loop's end the test of names[0..m] is the machine's test
+  pub names-decide : (m : ℕ) (names : List ℕ) (e : ℕ) → m ≡ endpoints t → m ≤ 32 → Gathered t m names e → m ≤ e → allDifferent (take (m - 0) (drop 0 names)) ≡ endpointsOk t
   unfolding endpointsOk
-  gathered m names flag e all b g l =
-      rw (scan-end _ m flag e (g .tested) l, sub-zero m, different t names m e (g .named) l b, all)
-      (sym (all-both (endpoints t) (λ f. endpointOk (domains t) (endpoint t f)) (nameNew t)))
+  names-decide m names e all b g l =
+      let words : true ≡ allBelow (endpoints t) (λ f. endpointOk (domains t) (endpoint t f)) = rw all at (scan-end _ m true e (g .tested) l) in
+      rw (sub-zero m, different t names m e (g .named) l b, all)
+      (ap (λ (x : Bool). x && allBelow (endpoints t) (nameNew t)) words
+      ∙ sym (all-both (endpoints t) (λ f. endpointOk (domains t) (endpoint t f)) (nameNew t)))
 
-  -- so the test of the names decides where the flag holds, and the flag where it doesn't
-  pub all-words-right : (m : ℕ) (names : List ℕ) (flag : Bool) (e : ℕ) → m ≡ endpoints t → m ≤ 32 → Gathered t m names flag e → m ≤ e → flag ≡ true → allDifferent (take (m - 0) (drop 0 names)) ≡ endpointsOk t
-  all-words-right m names flag e all b g l holds = rw holds at (gathered m names flag e all b g l)
-
-  pub some-word-wrong : (m : ℕ) (names : List ℕ) (flag : Bool) (e : ℕ) → m ≡ endpoints t → m ≤ 32 → Gathered t m names flag e → m ≤ e → flag ≡ false → false ≡ endpointsOk t
-  some-word-wrong m names flag e all b g l fails = rw fails at (gathered m names flag e all b g l)
+  -- an endpoint with a wrong word decides by itself
+  pub wrong-decides : (m e : ℕ) → m ≡ endpoints t → e < m → endpointOk (domains t) (endpoint t e) ≡ false → false ≡ endpointsOk t
+  unfolding endpointsOk
+  wrong-decides m e all l h =
+      sym (all-fails (endpoints t) _ e (omega arith) (ap (λ (x : Bool). x && nameNew t e) h))

@@ -1,5 +1,6 @@
 -- Laws that the proofs of several functions cite.
 pub mod Fill
+pub mod Flags
 pub mod Places
 pub mod Bounds
 pub mod Gather

@@ -1,5 +1,6 @@
 -- Names that differ: the machine asks it of endpoint after endpoint (specs/Check, nameNew), here it is asked of a list of names.
-use Prim.Native.Nat.{ℕ}
+use Prim.Native.Nat.{ℕ, _*_, _/_, _%_, _<_}
+use mathlib.Core.Path.{_≡_}
 use mathlib.Core.Bool.{Bool, not}
 use mathlib.Core.List.{List}
 use lib.ListN.{length, getD}
@@ -13,3 +14,12 @@ newAt names e = allBelow e (λ f. not (eqb (getD names f 0) (getD names e 0)))
 -- no two names are the same
 unfoldable pub allDifferent : List ℕ → Bool
 allDifferent names = allBelow (length names) (newAt names)
+
+-- where the flag of a name stands among 512: any function of the name would do
+abbrev pub flagOf : ℕ → ℕ
+flagOf name = name * 2654435761 / 8388608 % 512
+
+-- the flags of the names before the one at e are set
+pub record Flagged (names flags : List ℕ) (e : ℕ) : Type 0 where
+  pub room : length flags ≡ 512
+  pub set : (f : ℕ) → f < e → getD flags (flagOf (getD names f 0)) 0 ≡ 1

@@ -1,9 +1,10 @@
 // The table check: it accepts or refuses a lent table, place by place.
 use crate::names::all_different;
 use endpoint_words::endpoint_ok;
+use right::Rights;
 use words::KIND;
 use words::header_word_ok;
-use words::rights_word_ok;
+use words::rights_wrong;
 
 pub mod names;
 
@@ -78,7 +79,7 @@ fn length_ok(table: &[u32]) -> bool
     table.len() == 1 + n * n + 12 * m
 }
 
-// Place 4: every rights word is right. One pass without a way out, so that it takes several words at a time.
+// Place 4: every rights word is right. What is wrong is gathered in one pass without a way out, so that it takes several words at a time.
 fn rights_ok(table: &[u32]) -> bool
     requires { ⌜ Headed (now table) ⌝ }
     ensures { λ b. ⌜ b ≡ rightsOk (now (table .entry)) ⌝ }
@@ -86,14 +87,14 @@ fn rights_ok(table: &[u32]) -> bool
     let header = table[0];
     let n = (header / 256 % 256) as usize;
     let count = n * n;
-    let mut all = true;
+    let mut wrong: u32 = 0;
     let mut i: usize = 0;
     while i < count {
-        let word = rights_word_ok(table[1 + i]);
-        all = all & word;
+        let word = rights_wrong(table[1 + i]);
+        wrong = wrong | word;
         i += 1;
     }
-    all
+    wrong <= Rights::ALL.bits
 }
 
 // Place 5: every endpoint word is right and no name repeats. The names are gathered on the way, and compared at the end.
@@ -106,21 +107,17 @@ fn endpoints_ok(table: &[u32]) -> bool
     let m = (header % 256) as usize;
     let from = 1 + n as usize * n as usize;
     let mut names = [0u32; 32];
-    let mut all = true;
     let mut e: usize = 0;
     while e < m {
         let start = from + 12 * e;
         let end = start + 12;
-        let words = endpoint_ok(n, &table[start..end]);
+        if !endpoint_ok(n, &table[start..end]) {
+            return false;
+        }
         names[e] = table[start] % KIND;
-        all = all & words;
         e += 1;
     }
-    if all {
-        all_different(&names[0..m])
-    } else {
-        false
-    }
+    all_different(&names[0..m])
 }
 
 // The places 2 to 5 of document 01 for a table; the first that fails decides. No word is written.

@@ -1,14 +1,26 @@
-// The test of each kind of word of a table (document 01, 'The table'), one function a kind. Each is total, and equal to
-// the machine's definition of the same name. The tests join by `&`, which leaves no branch in the loops above them.
+// The test of each kind of word of a table (document 01, 'The table'). Each is total, and told by the machine's definition of its
+// name. Most answer whether the word is right, and join by `&`, which leaves no branch in the loops above them; `rights_wrong` and
+// `slot_wrong` answer with the bits that are wrong, for the loops that gather them.
 use right::Rights;
 ghost use mathlib.Core.Path.{_≡_};
+ghost use mathlib.Core.Bool.{cond};
+ghost use Prim.Native.Nat.{_-_};
+ghost use lib.Dec.{eqb, leb};
+ghost use Rattle.machine.specs.Word.{word};
+ghost use Rattle.machine.specs.Right.{allRights};
 ghost use Rattle.machine.specs.Check.{headerWordOk, rightsWordOk, nameWordOk, infoWordOk, waitingWordOk, lostWordOk, slotWordOk};
 
 // A word's kind, bits 31–28, is its quotient by this, and what it holds besides, bits 27–0, the remainder.
 pub const KIND: u32 = 0x1000_0000;
 
+// A rights word with no right.
+const NO_RIGHT: u32 = 0x2000_0000;
+
 // A slot with no message in it.
 const EMPTY_SLOT: u32 = 0xF000_0000;
+
+// The waiting word where no message waits.
+const NONE_WAITING: u64 = 0x5000_0000;
 
 // Word 0: kind 1, bits 27–16 zero, 1 to 16 domains, at most 32 endpoints.
 pub fn header_word_ok(w: u32) -> bool
@@ -23,6 +35,14 @@ pub fn rights_word_ok(w: u32) -> bool
     ensures { λ b. ⌜ b ≡ rightsWordOk w ⌝ }
 {
     (w / KIND == 2) & (w % KIND <= Rights::ALL.bits)
+}
+
+// The bits in which a rights word differs from one that has no right: rights alone where it is right. A loop gathers the bits of all
+// rights words by `|`.
+pub fn rights_wrong(w: u32) -> u32
+    ensures { λ r. ⌜ leb r allRights ≡ rightsWordOk w ⌝ }
+{
+    w ^ NO_RIGHT
 }
 
 // An endpoint's name: kind 3, not zero.
@@ -58,9 +78,20 @@ pub fn lost_word_ok(w: u32) -> bool
     w / KIND == 6
 }
 
-// Slot i while count messages wait: kind 15, and empty from the count on.
-pub fn slot_word_ok(count: u32, i: u32, w: u32) -> bool
-    ensures { λ b. ⌜ b ≡ slotWordOk count i w ⌝ }
+// The bits of a slot that have to be those of an empty one: where a message waits in it those of the kind, else all.
+fn bits_asked(waits: bool) -> u32
+    ensures { λ r. ⌜ r ≡ cond waits 4026531840 4294967295 ⌝ }
 {
-    (w / KIND == 15) & ((i < count) | (w == EMPTY_SLOT))
+    if waits { 0xF000_0000 } else { 0xFFFF_FFFF }
+}
+
+// The bits that are wrong in slot i of an endpoint with this waiting word, none where the slot is right: of kind 15, and empty from
+// the waiting count on. A loop gathers the bits of all slots by `|`. It is the whole waiting word that tells where a message waits, since
+// a test of the count with 0 is compiled otherwise than the seven others, which then don't go side by side.
+pub fn slot_wrong(waiting: u32, i: u32, w: u32) -> u32
+    ensures { λ r. ⌜ eqb r 0 ≡ slotWordOk (waiting - word 5 0) i w ⌝ }
+{
+    let waits = NONE_WAITING + (i as u64) < waiting as u64;
+    let asked = bits_asked(waits);
+    (w ^ EMPTY_SLOT) & asked
 }

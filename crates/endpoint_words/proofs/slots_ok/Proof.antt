@@ -1,21 +1,26 @@
--- `slots_ok`: the flag is the test of the slots passed. Assumes nothing.
+-- `slots_ok`: no bit is gathered where the slots passed are right. Assumes nothing.
 use Prim.Native.Nat.{_+_, _-_}
 use native.Mathlib.Omega.{arith}
 use borrow.Author.Needs.{needs}
+use lib.Dec.{eqb}
 use lib.ListN.{getD}
+use Rattle.machine.specs.Word.{word}
 use Rattle.machine.specs.Check.{slotWordOk}
+use Rattle.words.proofs.Wrong.{none-gathered}
 use Rattle.endpoint_words.proofs.Scan.{Scanned, scan-start, scan-next, scan-end}
 use Rattle.endpoint_words.proofs.slots_ok.Statement.{statement}
 use Rattle.endpoint_words.proofs.slots_ok.Tie as tie
 
 abbrev Inv-loop : tie.InvT-loop
-Inv-loop count q all₀ i₀ all i = Scanned (λ j. slotWordOk count j (getD q (4 + j) 0)) 8 all i
+Inv-loop waiting q wrong₀ i₀ wrong i = Scanned (λ j. slotWordOk (waiting - word 5 0) j (getD q (4 + j) 0)) 8 (eqb wrong 0) i
 
 abbrev μ-loop : tie.MeasureT-loop
-μ-loop count q all₀ i₀ all i = 8 - i
+μ-loop waiting q wrong₀ i₀ wrong i = 8 - i
 
 again : tie.Need-loop-again Inv-loop μ-loop
-again c = scan-next _ _ _ _ _ (c .before .before .before .loop .inv) (c .before .before .loop-test .taken) (c .slot-word-ok .ensures)
+again c =
+    rw (none-gathered _ _)
+    (scan-next _ _ _ _ _ (c .before .before .before .loop .inv) (c .before .before .loop-test .taken) (c .slot-wrong .ensures))
 
 returns : tie.Need-returns Inv-loop μ-loop
 returns c = scan-end _ _ _ _ (c .before .loop .inv) (c .loop-test .left)

@@ -14,4 +14,4 @@ word c =
     ∙ sym (first-word _ (c .before .before .if1 .left))
 
 pub header-ok-spec : {M : Type 1} → statement M
-header-ok-spec = tie.close (tie.spec short (λ c κs. c .if1 .left) (λ c κs. tt) word)
+header-ok-spec = tie.close (tie.spec (λ c κs. c .if1 .left) (λ c κs. tt) short word)

@@ -1,11 +1,15 @@
--- `rights_ok` is the machine's `rightsOk` of the words: the flag is the test of the rights words passed. Assumes nothing.
+-- `rights_ok` is the machine's `rightsOk` of the words: rights alone are gathered where the words passed are
+-- right. Assumes nothing.
 use Prim.Native.Nat.{_+_, _-_, _*_, _≤_}
 use mathlib.Core.Path.{ap, _∙_}
 use native.Mathlib.Omega.{arith}
 use borrow.Author.Count.{falls}
+use lib.Dec.{leb}
 use lib.ListN.{getD, length}
+use Rattle.machine.specs.Right.{allRights}
 use Rattle.machine.specs.Table.{domains}
 use Rattle.machine.specs.Check.{rightsWordOk, rightsOk}
+use Rattle.words.proofs.Wrong.{rights-gathered}
 use Rattle.table.proofs.Bounds.{count-fits, rights-fits, rights-next-fits}
 use Rattle.endpoint_words.proofs.Scan.{Scanned, scan-start, scan-next, scan-end}
 use Rattle.reading.specs.Bytes.{wordsOf}
@@ -14,11 +18,11 @@ use Rattle.image.proofs.rights_ok.Statement.{statement}
 use Rattle.image.proofs.rights_ok.Tie as tie
 
 abbrev Inv-loop : tie.InvT-loop
-Inv-loop bytes header n count all₀ i₀ all i =
-    Scanned (λ j. rightsWordOk (getD (wordsOf bytes) (1 + j) 0)) count all i × (4 * (1 + count) ≤ length bytes)
+Inv-loop bytes header n count wrong₀ i₀ wrong i =
+    Scanned (λ j. rightsWordOk (getD (wordsOf bytes) (1 + j) 0)) count (leb wrong allRights) i × (4 * (1 + count) ≤ length bytes)
 
 abbrev μ-loop : tie.MeasureT-loop
-μ-loop bytes header n count all₀ i₀ all i = count - i
+μ-loop bytes header n count wrong₀ i₀ wrong i = count - i
 
 holds : tie.Need-loop-holds Inv-loop μ-loop
 holds c = (scan-start _ _, omega (arith, fitting-counted _ (c .before .before .pre) _ (c .nth-word .ensures) .room))
@@ -27,11 +31,11 @@ again : tie.Need-loop-again Inv-loop μ-loop
 again c =
     let t = c .before .before in
     let l = t .before .loop in
-    (scan-next _ _ _ _ _ (l .inv .0) (t .loop-test .taken) (c .rights-word-ok .ensures ∙ ap rightsWordOk (c .before .nth-word2 .ensures)), l .inv .1)
+    (rw (rights-gathered _ _) (scan-next _ _ _ _ _ (l .inv .0) (t .loop-test .taken) (c .rights-wrong .ensures ∙ ap rightsWordOk (c .before .nth-word2 .ensures))), l .inv .1)
 
 returns : tie.Need-returns Inv-loop μ-loop
 unfolding rightsOk domains
-returns c = rw (c .before .before .nth-word .ensures) at (scan-end _ _ _ _ (c .before .loop .inv .0) (c .loop-test .left))
+returns c = rw (c .before .before .before .nth-word .ensures) at (scan-end _ _ _ _ (c .before .before .loop .inv .0) (c .before .loop-test .left))
 
 pub rights-ok-spec : {M : Type 1} → statement M
 rights-ok-spec =

@@ -23,11 +23,32 @@ least-requires c κs = search needs
 loop-holds : tie.Need-loop-holds Inv-loop μ-loop
 loop-holds c = (omega arith, sym (overwrite-none 0 _), refl)
 
-mul-word-at : tie.Need-mul-word-at Inv-loop μ-loop
-mul-word-at c = omega (arith, c .before .before .least .ensures)
+mul-at : tie.Need-mul-at Inv-loop μ-loop
+mul-at c = omega (arith, c .before .before .least .ensures)
 
-word-at-requires : tie.Need-word-at-requires Inv-loop μ-loop
-word-at-requires c κs = search needs
+shared-slice-read-word : tie.Need-shared-slice-read-word Inv-loop μ-loop
+shared-slice-read-word c = omega (arith, c .before .before .before .least .ensures)
+
+add-word : tie.Need-add-word Inv-loop μ-loop
+add-word c = omega (arith, c .before .before .before .least .ensures)
+
+shared-slice-read-word-2 : tie.Need-shared-slice-read-word-2 Inv-loop μ-loop
+shared-slice-read-word-2 c = omega (arith, c .before .before .before .before .least .ensures)
+
+add-word-2 : tie.Need-add-word-2 Inv-loop μ-loop
+add-word-2 c = omega (arith, c .before .before .before .before .least .ensures)
+
+shared-slice-read-word-3 : tie.Need-shared-slice-read-word-3 Inv-loop μ-loop
+shared-slice-read-word-3 c = omega (arith, c .before .before .before .before .before .least .ensures)
+
+add-word-3 : tie.Need-add-word-3 Inv-loop μ-loop
+add-word-3 c = omega (arith, c .before .before .before .before .before .least .ensures)
+
+shared-slice-read-word-4 : tie.Need-shared-slice-read-word-4 Inv-loop μ-loop
+shared-slice-read-word-4 c = omega (arith, c .before .before .before .before .before .before .least .ensures)
+
+word-requires : tie.Need-word-requires Inv-loop μ-loop
+word-requires c κs = tt
 
 mul-words : tie.Need-mul-words Inv-loop μ-loop
 mul-words c = omega arith
@@ -43,13 +64,15 @@ loop-less c = omega arith
 
 loop-again : tie.Need-loop-again Inv-loop μ-loop
 loop-again c =
-    let at-loop = c .before .before .loop in
-    let bytes = c .before .before .before .before .before .before .args .bytes .now in
-    let words = c .before .before .before .before .before .before .args .words .now in
-    let more : at-loop .i < length bytes / 4 = omega (arith, c .before .before .before .least .ensures) in (
+    let in-loop = c .before .before .before .before .before in
+    let at-loop = in-loop .before .loop in
+    let start = in-loop .before .before .before .before .before in
+    let bytes = start .args .bytes .now in
+    let i = at-loop .i in
+    let more : i < length bytes / 4 = omega (arith, in-loop .before .before .least .ensures, in-loop .loop-test .taken) in (
       omega arith,
-      write-next 0 (at-loop .i) (wordsOf bytes) words (at-loop .inv .1) (omega (arith, length-wordsOf bytes)) (omega arith) (c .word-at .ensures ∙ sym (getD-wordsOf (at-loop .i) bytes more)),
-      length-set (at-loop .words) (at-loop .i) (c .word-at .result) ∙ at-loop .inv .2,
+      write-next 0 i (wordsOf bytes) (start .args .words .now) (at-loop .inv .1) (omega (arith, length-wordsOf bytes)) (omega arith) (c .word .ensures ∙ sym (getD-wordsOf i bytes more)),
+      length-set (at-loop .words) i (c .word .result) ∙ at-loop .inv .2,
     )
 
 same-length : tie.Need-same-length Inv-loop μ-loop
@@ -73,8 +96,15 @@ fill-spec =
     μ-loop
     least-requires
     loop-holds
-    mul-word-at
-    word-at-requires
+    mul-at
+    shared-slice-read-word
+    add-word
+    shared-slice-read-word-2
+    add-word-2
+    shared-slice-read-word-3
+    add-word-3
+    shared-slice-read-word-4
+    word-requires
     mul-words
     slice-write-words
     add-i

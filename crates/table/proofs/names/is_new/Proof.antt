@@ -1,25 +1,34 @@
--- `is_new`: the flag is the test of the names passed. Assumes nothing.
+-- `is_new`: the names passed differ. Assumes nothing.
 use Prim.Native.Nat.{_-_}
-use mathlib.Core.Path.{refl}
-use mathlib.Core.Bool.{not}
+use mathlib.Core.Path.{sym, ap}
+use mathlib.Core.Bool.{true, not}
 use native.Mathlib.Omega.{arith}
+use borrow.Author.Tests.{eq-eqb, ne-eqb}
 use lib.Dec.{eqb}
 use lib.ListN.{getD}
+use Rattle.machine.proofs.Below.{all-fails}
 use Rattle.table.specs.Names.{newAt}
 use Rattle.endpoint_words.proofs.Scan.{Scanned, scan-start, scan-next, scan-end}
 use Rattle.table.proofs.names.is_new.Statement.{statement}
 use Rattle.table.proofs.names.is_new.Tie as tie
 
 abbrev Inv-loop : tie.InvT-loop
-Inv-loop names e name₀ new₀ f₀ new f = Scanned (λ g. not (eqb (getD names g 0) (getD names e 0))) e new f
+Inv-loop names e name₀ f₀ f = Scanned (λ g. not (eqb (getD names g 0) (getD names e 0))) e true f
 
 abbrev μ-loop : tie.MeasureT-loop
-μ-loop names e name₀ new₀ f₀ new f = e - f
+μ-loop names e name₀ f₀ f = e - f
+
+same : tie.Need-returns Inv-loop μ-loop
+unfolding newAt
+same c =
+    sym (all-fails _ _ _ (c .before .before .loop-test .taken) (ap not (eq-eqb _ _ (c .if1 .taken))))
 
 again : tie.Need-loop-again Inv-loop μ-loop
-again c = scan-next _ _ _ _ _ (c .before .before .loop .inv) (c .before .loop-test .taken) refl
+again c =
+    let t = c .before .before in
+    scan-next _ _ true true _ (t .before .loop .inv) (t .loop-test .taken) (sym (ap not (ne-eqb _ _ (c .if1 .left))))
 
-returns : tie.Need-returns Inv-loop μ-loop
+returns : tie.Need-returns-2 Inv-loop μ-loop
 unfolding newAt
 returns c = scan-end _ _ _ _ (c .before .loop .inv) (c .loop-test .left)
 
@@ -34,6 +43,7 @@ is-new-spec =
     (λ c. scan-start _ _)
     (λ c. omega arith)
     (λ c. omega arith)
+    same
     (λ c. omega arith)
     (λ c. omega arith)
     again

@@ -1,14 +1,13 @@
 -- `list::add_words` meets its contract: the words of the bytes are the list, and it runs. Assumes nothing.
 use native.Mathlib.Nat.{le-trans}
-use native.Mathlib.Omega.{arith}
 use Rattle.text.proofs.WriteLaws.{fills-part}
 use Rattle.totals_run.proofs.RanLaws.{words-fit, words-added}
 use borrow.Author.Needs.{needs}
 use Rattle.totals_run.proofs.list.add_words.Statement.{statement}
 use Rattle.totals_run.proofs.list.add_words.Tie as tie
 
-words-in-requires : tie.Need-words-in-requires
-words-in-requires c κs = let room = c .before .before .before .before .before .before .pre in omega (arith, room .short, room .words)
+fill-requires : tie.Need-fill-requires
+fill-requires c κs = tt
 
 sub-add-list : tie.Need-sub-add-list
 sub-add-list c = search needs
@@ -39,14 +38,14 @@ returns c =
     let added = c .before .before .before .before .before .before .before in
     let filled = added .before .before .before .before .before .before .before .before in
     let start = filled .before .before .before .before .before .before .before in
-    let list = fills-part (le-trans (words-fit (start .pre)) (start .pre .words)) (filled .words-in .ensures) in
+    let list = fills-part (le-trans (words-fit (start .pre)) (start .pre .words)) (filled .fill .ensures) in
     words-added (start .pre) (rw list at (added .add-list .ensures))
 
 pub add-words-spec : {M : Type 1} → statement M
 add-words-spec =
     tie.close
     (tie.spec
-    words-in-requires
+    fill-requires
     sub-add-list
     part-add-list-start
     part-add-list-end
