@@ -59,7 +59,7 @@ unfolding shown
 all-shown there fits = rw there (mod-eq-of-lt fits)
 
 module _ (t : List ℕ) (a : Accepted t) where
-  named-below : (x e : ℕ) → named t x ≡ some e → e < endpoints t
+  pub named-below : (x e : ℕ) → named t x ≡ some e → e < endpoints t
   unfolding named
   named-below x e is = rw is at (first-below (endpoints t) (λ i. eqb (name (endpoint t i)) x))
 

@@ -1,6 +1,9 @@
 // The kernel: what a call and a list of calls do to a lent table and to the holders kept beside it, and what they answer. A table
 // is checked before any call runs.
+mod kinds;
 mod list;
+mod moves;
+mod queues;
 mod serve;
 mod space;
 

@@ -3,88 +3,85 @@ use mathlib.Core.Path.{_∙_}
 use Prim.Native.Nat.{_+_, _*_, _-_, _≤_}
 use native.Mathlib.Omega.{arith}
 use lib.ListN.{length}
-use borrow.Author.Needs.{needs}
+use Rattle.machine.proofs.Cut.{cut-few}
 use Rattle.holders.proofs.Filled.{filled-accepted}
-use Rattle.cutting.specs.Cutting.{widthOf}
+use Rattle.cutting.specs.Cutting.{secondAt, widthOf}
 use Rattle.cutting.specs.declared.Second.{Second}
 use Rattle.cutting.specs.declared.Second.the-variants.{Nothing, Word}
-use Rattle.kernel.proofs.Underway.{Underway, underway-start, room, underway-next, underway-end}
+use Rattle.kernel.proofs.Underway.{underway-start, room, underway-end}
+use Rattle.kernel.proofs.Settled.{OnItsWay, way-next}
 use Rattle.kernel.proofs.list.run_calls.Statement.{statement}
 use Rattle.kernel.proofs.list.run_calls.Tie as tie
 
 abbrev Inv-loop : tie.InvT-loop
-Inv-loop table₀ list answers₀ holders₀ calls₀ i₀ table answers holders calls i =
-    Underway table₀ list answers₀ holders₀ table answers holders calls i
+Inv-loop table₀ list answers₀ holders₀ n m calls₀ i₀ table answers holders calls i =
+    OnItsWay n m table₀ list answers₀ holders₀ table answers holders calls i
 
 abbrev μ-loop : tie.MeasureT-loop
-μ-loop table₀ list answers₀ holders₀ calls₀ i₀ table answers holders calls i = length list - i
+μ-loop table₀ list answers₀ holders₀ n m calls₀ i₀ table answers holders calls i = length list - i
 
 -- there is space for one answer more
 next-room : (c : tie.In-loop Inv-loop μ-loop) → 3 * c .before .loop .calls + 3 ≤ length (c .before .loop .answers)
-next-room c = room (c .before .loop .inv) (c .loop-test .taken) (c .before .before .before .before .before .before .before .before .before .before .before .pre .1 .1 .0)
+next-room c = room (c .before .loop .inv .underway) (c .loop-test .taken) (c .before .before .before .before .before .before .before .before .before .before .before .before .before .before .before .pre .1 .1 .0)
+
+-- no more calls than words
+few : (c : tie.In-loop Inv-loop μ-loop) → c .before .loop .calls ≤ 4096
+few c =
+    let start = c .before .before .before .before .before .before .before .before .before .before .before .before .before .before .before in
+    omega (arith, c .before .loop .inv .underway .running .count, cut-few (start .args .list .now), start .pre .1 .0)
 
 -- one call more
 next : tie.Need-loop-again Inv-loop μ-loop
 next c =
-    let call = c .before .before .before in
-    let served = call .before .before .before .before .before .before in
-    let second = served .before .before .before .before in
-    let at = second .before .before in
-    underway-next (at .loop .inv) (second .before .loop-test .taken) (second .second-at .result) _ _ _ _ _ (second .second-at .ensures)
-    (c .width .ensures)
-    (served .serve .ensures)
-    (served .serve .kept .1 .1 .1 .0)
-    (call .put .ensures)
-    (call .put .kept .0)
+    let at = c .before .before .before .before .before .before .before .before .before .before in
+    let call = c .before .before .before .before .before .before in
+    way-next (at .before .loop .inv) (at .loop-test .taken) _ _ _ _ (call .serve-at .ensures)
+    (call .serve-at .kept .1 .1 .1 .0)
+    (call .serve-at .kept .1 .1 .1 .1 .1 .1 .0)
 
 -- a call is one word at least, and within the list
 wide : (s : Second) → 1 ≤ widthOf s
 wide Nothing = omega arith
 wide (Word v) = omega arith
 
-next-place : (c : tie.After-width Inv-loop μ-loop)
-    → let i = c .before .before .before .before .before .before .before .before .before .before .before .before .before .before .before .loop .i in
-    (i + c .width .result ≤ length (c .before .before .before .before .before .before .before .before .before .before .before .before .before .before .before .before .before .before .before .before .before .before .before .before .before .args .list .now))
-    × (1 ≤ c .width .result)
-next-place c = (next c .within, omega (arith, c .width .ensures, wide (c .before .before .before .before .before .before .before .before .before .before .before .before .before .second-at .result)))
+next-place : (c : tie.After-slice-known7 Inv-loop μ-loop)
+    → (c .before .before .before .before .before .before .before .before .before .before .before .loop .i + c .before .before .before .before .before .before .serve-at .result ≤ length (c .before .before .before .before .before .before .before .before .before .before .before .before .before .before .before .before .before .before .before .before .before .before .before .before .before .args .list .now)) × (1 ≤ c .before .before .before .before .before .before .serve-at .result)
+next-place c =
+    (next c .underway .within, omega (arith, c .before .before .before .before .before .before .serve-at .ensures .wide, wide (secondAt (c .before .before .before .before .before .before .before .before .before .before .before .before .before .before .before .before .before .before .before .before .before .before .before .before .before .args .list .now) (c .before .before .before .before .before .before .before .before .before .before .before .loop .i))))
 
 fill-requires : tie.Need-fill-requires Inv-loop μ-loop
 fill-requires c κs = tt
 
+domains-requires : tie.Need-domains-requires Inv-loop μ-loop
+domains-requires c κs = tt
+
+endpoints-requires : tie.Need-endpoints-requires Inv-loop μ-loop
+endpoints-requires c κs = tt
+
 loop-holds : tie.Need-loop-holds Inv-loop μ-loop
 loop-holds c =
-    let filled = c .before .before in
-    let start = filled .before .before .before .before .before .before .before in
-    underway-start _ _ _ _ (start .pre .0) (filled .fill .ensures ∙ filled-accepted _ _ (start .pre .0) (start .pre .1 .1 .1))
+    let filled = c .before .before .before .before .before .before in
+    let start = c .before .before .before .before .before .before .before .before .before .before .before .before .before in
+    record {
+      underway =
+          underway-start _ _ _ _ (start .pre .0) (filled .fill .ensures ∙ filled-accepted _ _ (start .pre .0) (start .pre .1 .1 .1));
+      domains = c .before .before .domains .ensures;
+      endpoints = c .endpoints .ensures;
+    }
 
-second-at-requires : tie.Need-second-at-requires Inv-loop μ-loop
-second-at-requires c κs = tt
+mul-serve-at : tie.Need-mul-serve-at Inv-loop μ-loop
+mul-serve-at c = omega (arith, few (c .before .before .before))
 
-mul-serve : tie.Need-mul-serve Inv-loop μ-loop
-mul-serve c = omega arith
-
-shared-slice-read-serve : tie.Need-shared-slice-read-serve Inv-loop μ-loop
-shared-slice-read-serve c = omega arith
-
-serve-requires : tie.Need-serve-requires Inv-loop μ-loop
-serve-requires c κs =
-    let u = c .before .before .before .before .before .loop .inv in
-    (u .accepted, u .holders)
-
-mul-put : tie.Need-mul-put Inv-loop μ-loop
-mul-put c = omega (arith, next-room (c .before .before .before .before .before .before .before .before .before .before))
-
-put-requires : tie.Need-put-requires Inv-loop μ-loop
-put-requires c κs = next-room (c .before .before .before .before .before .before .before .before .before .before)
-
-add-calls : tie.Need-add-calls Inv-loop μ-loop
-add-calls c = omega (arith, next-room (c .before .before .before .before .before .before .before .before .before .before .before .before .before))
-
-width-requires : tie.Need-width-requires Inv-loop μ-loop
-width-requires c κs = tt
+serve-at-requires : tie.Need-serve-at-requires Inv-loop μ-loop
+serve-at-requires c κs =
+    let y = c .before .before .before .before .loop .inv in
+    (y .underway .accepted, (y .domains, (y .endpoints, (c .before .before .before .loop-test .taken, next-room (c .before .before .before)))))
 
 add-i : tie.Need-add-i Inv-loop μ-loop
 add-i c = omega (arith, next-place c)
+
+add-calls : tie.Need-add-calls Inv-loop μ-loop
+add-calls c = omega (arith, few (c .before .before .before .before .before .before .before .before .before .before))
 
 loop-less : tie.Need-loop-less Inv-loop μ-loop
 loop-less c = omega (arith, next-place c)
@@ -93,16 +90,16 @@ loop-again : tie.Need-loop-again Inv-loop μ-loop
 loop-again c = next c
 
 same-length : tie.Need-same-length Inv-loop μ-loop
-same-length c = c .before .loop .inv .tableSize
+same-length c = c .before .loop .inv .underway .tableSize
 
 same-length-2 : tie.Need-same-length-2 Inv-loop μ-loop
-same-length-2 c = c .before .loop .inv .spaceSize
+same-length-2 c = c .before .loop .inv .underway .spaceSize
 
 same-length-3 : tie.Need-same-length-3 Inv-loop μ-loop
-same-length-3 c = c .before .loop .inv .holdersSize ∙ c .before .before .before .before .fill .kept .1 .0
+same-length-3 c = c .before .loop .inv .underway .holdersSize ∙ c .before .before .before .before .before .before .before .before .fill .kept .1 .0
 
 returns : tie.Need-returns Inv-loop μ-loop
-returns c = underway-end (c .before .loop .inv) (c .loop-test .left)
+returns c = underway-end (c .before .loop .inv .underway) (c .loop-test .left)
 
 pub run-calls-spec : {M : Type 1} → statement M
 run-calls-spec =
@@ -111,16 +108,13 @@ run-calls-spec =
     Inv-loop
     μ-loop
     fill-requires
+    domains-requires
+    endpoints-requires
     loop-holds
-    second-at-requires
-    mul-serve
-    shared-slice-read-serve
-    serve-requires
-    mul-put
-    put-requires
-    add-calls
-    width-requires
+    mul-serve-at
+    serve-at-requires
     add-i
+    add-calls
     loop-less
     loop-again
     same-length

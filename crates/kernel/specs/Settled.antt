@@ -1,0 +1,15 @@
+-- What a call leaves once it is decided on: of any table, and of any words for the holders.
+use Prim.Native.Nat.{ℕ}
+use mathlib.Core.Path.{_≡_}
+use mathlib.Core.List.{List}
+use Rattle.machine.specs.Machine.{Decision}
+use Rattle.answers.specs.Answer.{answerOf}
+use Rattle.effects.specs.Effect.{effectFor, performed}
+use Rattle.holders.specs.Noted.{notedBy}
+
+-- the decision d fell on a call with the first word w, on the table t with the words p for the holders: the call is answered by these
+-- words, and leaves the table t′ and the words p′
+pub record Settled (t p : List ℕ) (w : ℕ) (d : Decision) (words t′ p′ : List ℕ) : Type 0 where
+  pub answer : words ≡ answerOf t w d
+  pub table : t′ ≡ performed t (effectFor t d)
+  pub holders : p′ ≡ notedBy p (effectFor t d)

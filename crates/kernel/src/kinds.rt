@@ -1,0 +1,197 @@
+// One call in the lent table's own words: its kind is found by the size of its first word, a kind having 2^28 of them, and each kind
+// of call is decided, answered and done by itself. What it comes to is what the call taken apart comes to (crate calls).
+use crate::moves::grant;
+use crate::moves::remove;
+use crate::moves::revoke;
+use crate::queues::look_up;
+use crate::queues::receive;
+use crate::queues::send;
+use answers::Answer;
+use answers::answer_to;
+use answers::given::refusal;
+use calls::Refusal;
+use rules::Decision;
+use rules::range::Range;
+use rules::range::of_caller;
+use rules::range::of_refused;
+ghost use mathlib.Core.Path.{_≡_};
+ghost use mathlib.Core.Bool.{true};
+ghost use mathlib.Core.List.{List};
+ghost use Prim.Native.Nat.{ℕ, _<_, _≤_};
+ghost use Rattle.machine.specs.Table.{domains, endpoints};
+ghost use Rattle.machine.specs.Check.{Accepted};
+ghost use Rattle.machine.specs.Call.{pairs};
+ghost use Rattle.cutting.specs.declared.Second.the-variants as second;
+ghost use Rattle.answers.specs.Answer.{answerWords};
+ghost use Rattle.calls.specs.Apart.{apart};
+ghost use Rattle.calls.specs.Decide.{decideCall};
+ghost use Rattle.calls.specs.declared.Call.the-variants as calls;
+ghost use Rattle.kernel.specs.Settled.{Settled};
+
+// A call that is refused without a table: 12 may come before its own number.
+fn refuse(n: u32, first: u32, caller: u32, number: Refusal) -> Answer
+    ensures { λ a. ⌜ ((t p : List ℕ) → n ≡ domains t → Settled t p first (decideCall t (calls.Refused caller number)) (answerWords a) t p) ⌝ }
+{
+    let range = of_refused(n, caller, number);
+    if let Range::Outside(refused) = range {
+        return refusal(first, refused);
+    }
+    refusal(first, number)
+}
+
+// A call of two words: a look up, or a send.
+pub fn serve_two(table: &mut [u32], n: u32, m: u32, first: u32, next: u32) -> Answer
+    requires { ⌜ Accepted (now table) ⌝ }
+    requires { ⌜ n ≡ domains (now table) ⌝ }
+    requires { ⌜ m ≡ endpoints (now table) ⌝ }
+    requires { ⌜ pairs first next ≡ true ⌝ }
+    ensures { λ a. ⌜ ((p : List ℕ) → Settled (now (table .entry)) p first (decideCall (now (table .entry)) (apart first (second.Word next))) (answerWords a) (now (table .exit)) p) ⌝ }
+{
+    let caller = first / 4194304 % 64;
+    if first < 0x2000_0000 {
+        if first % 4194304 != 0 {
+            return refuse(n, first, caller, Refusal::UnusedField);
+        }
+        return look_up(table, n, m, first, caller, next % 0x1000_0000);
+    }
+    let a = first / 65536 % 64;
+    let e = first / 256 % 256;
+    let c = first % 256;
+    if a + c != 0 {
+        return refuse(n, first, caller, Refusal::UnusedField);
+    }
+    send(table, n, m, first, caller, e, next % 0x1000_0000)
+}
+
+// Kinds 0 to 2: an unknown one, and those that want a second word and have none.
+fn alone(n: u32, first: u32) -> Answer
+    requires { ⌜ first < 805306368 ⌝ }
+    ensures { λ a. ⌜ ((t p : List ℕ) → n ≡ domains t → Settled t p first (decideCall t (apart first second.Nothing)) (answerWords a) t p) ⌝ }
+{
+    let caller = first / 4194304 % 64;
+    if first < 0x1000_0000 {
+        return refuse(n, first, caller, Refusal::UnknownKind);
+    }
+    if first < 0x2000_0000 {
+        if first % 4194304 != 0 {
+            return refuse(n, first, caller, Refusal::UnusedField);
+        }
+        return refuse(n, first, caller, Refusal::NoSecondWord);
+    }
+    let a = first / 65536 % 64;
+    let c = first % 256;
+    if a + c != 0 {
+        return refuse(n, first, caller, Refusal::UnusedField);
+    }
+    refuse(n, first, caller, Refusal::NoSecondWord)
+}
+
+// A domain asks for the endpoints that it owns.
+fn my_endpoints(table: &[u32], n: u32, first: u32, caller: u32) -> Answer
+    requires { ⌜ n ≡ domains (now table) ⌝ }
+    ensures { λ a. ⌜ ((p : List ℕ) → Settled (now (table .entry)) p first (decideCall (now (table .entry)) (calls.MyEndpoints caller)) (answerWords a) (now (table .entry)) p) ⌝ }
+{
+    let range = of_caller(n, caller);
+    if let Range::Outside(refused) = range {
+        return refusal(first, refused);
+    }
+    answer_to(table, first, Decision::ListsEndpoints { caller })
+}
+
+// A domain asks for its rights.
+fn my_rights(table: &[u32], n: u32, first: u32, caller: u32) -> Answer
+    requires { ⌜ n ≡ domains (now table) ⌝ }
+    ensures { λ a. ⌜ ((p : List ℕ) → Settled (now (table .entry)) p first (decideCall (now (table .entry)) (calls.MyRights caller)) (answerWords a) (now (table .entry)) p) ⌝ }
+{
+    let range = of_caller(n, caller);
+    if let Range::Outside(refused) = range {
+        return refusal(first, refused);
+    }
+    answer_to(table, first, Decision::ListsRights { caller })
+}
+
+// Kinds 3 and 4.
+fn on_queues(table: &mut [u32], n: u32, m: u32, first: u32) -> Answer
+    requires { ⌜ Accepted (now table) ⌝ }
+    requires { ⌜ n ≡ domains (now table) ⌝ }
+    requires { ⌜ m ≡ endpoints (now table) ⌝ }
+    requires { ⌜ 805306368 ≤ first ⌝ }
+    requires { ⌜ first < 1342177280 ⌝ }
+    ensures { λ a. ⌜ ((p : List ℕ) → Settled (now (table .entry)) p first (decideCall (now (table .entry)) (apart first second.Nothing)) (answerWords a) (now (table .exit)) p) ⌝ }
+{
+    let caller = first / 4194304 % 64;
+    if first < 0x4000_0000 {
+        let a = first / 65536 % 64;
+        let e = first / 256 % 256;
+        let c = first % 256;
+        if a + c != 0 {
+            return refuse(n, first, caller, Refusal::UnusedField);
+        }
+        return receive(table, n, m, first, caller, e);
+    }
+    if first % 4194304 != 0 {
+        return refuse(n, first, caller, Refusal::UnusedField);
+    }
+    my_endpoints(table, n, first, caller)
+}
+
+// Kinds 5 to 8.
+fn on_rights(table: &mut [u32], n: u32, holders: &mut [u32], first: u32) -> Answer
+    requires { ⌜ Accepted (now table) ⌝ }
+    requires { ⌜ n ≡ domains (now table) ⌝ }
+    requires { ⌜ 1342177280 ≤ first ⌝ }
+    requires { ⌜ first < 2415919104 ⌝ }
+    ensures { λ x. ⌜ Settled (now (table .entry)) (now (holders .entry)) first (decideCall (now (table .entry)) (apart first second.Nothing)) (answerWords x) (now (table .exit)) (now (holders .exit)) ⌝ }
+{
+    let caller = first / 4194304 % 64;
+    let a = first / 65536 % 64;
+    let b = first / 256 % 256;
+    let c = first % 256;
+    if first < 0x6000_0000 {
+        if first % 4194304 != 0 {
+            return refuse(n, first, caller, Refusal::UnusedField);
+        }
+        return my_rights(table, n, first, caller);
+    }
+    if first < 0x7000_0000 {
+        return grant(table, n, holders, first, caller, a, b, c);
+    }
+    if first < 0x8000_0000 {
+        if b != 0 {
+            return refuse(n, first, caller, Refusal::UnusedField);
+        }
+        return remove(table, n, holders, first, caller, a, c);
+    }
+    revoke(table, n, holders, first, caller, a, b, c)
+}
+
+// Kinds 9 to 15: unknown ones, and a second word that stands alone.
+fn no_kind(n: u32, first: u32) -> Answer
+    requires { ⌜ 2415919104 ≤ first ⌝ }
+    ensures { λ a. ⌜ ((t p : List ℕ) → n ≡ domains t → Settled t p first (decideCall t (apart first second.Nothing)) (answerWords a) t p) ⌝ }
+{
+    if first < 0xF000_0000 {
+        let caller = first / 4194304 % 64;
+        return refuse(n, first, caller, Refusal::UnknownKind);
+    }
+    refuse(n, first, 0, Refusal::Stray)
+}
+
+// A call of one word.
+pub fn serve_one(table: &mut [u32], n: u32, m: u32, holders: &mut [u32], first: u32) -> Answer
+    requires { ⌜ Accepted (now table) ⌝ }
+    requires { ⌜ n ≡ domains (now table) ⌝ }
+    requires { ⌜ m ≡ endpoints (now table) ⌝ }
+    ensures { λ a. ⌜ Settled (now (table .entry)) (now (holders .entry)) first (decideCall (now (table .entry)) (apart first second.Nothing)) (answerWords a) (now (table .exit)) (now (holders .exit)) ⌝ }
+{
+    if first < 0x3000_0000 {
+        return alone(n, first);
+    }
+    if first < 0x5000_0000 {
+        return on_queues(table, n, m, first);
+    }
+    if first < 0x9000_0000 {
+        return on_rights(table, n, holders, first);
+    }
+    no_kind(n, first)
+}
