@@ -53,14 +53,14 @@ extern "C" {
  *
  *   alignment  The stack pointer is a multiple of 16 at the call instruction.
  *              Where it isn't, the function faults: it stores 16 bytes at a time.
- *   red zone   A function may keep words in the 128 bytes below its stack pointer.
- *              None does in these archives, as the lines below say. Where one does, an
- *              interrupt on the same stack overwrites them and its answer is wrong:
- *              interrupts then have a stack of their own (an entry of the interrupt
- *              stack table, or a change of privilege), or are off during the call.
- *              No option that the firmware is compiled with alters this.
- *              firmware/bare_metal/archive makes archives that have no red zone,
- *              use general registers alone and never jump by a register: with
+ *   red zone   A function may keep words in the 128 bytes below its stack pointer,
+ *              and those do of which the lines below say so. An interrupt on the
+ *              same stack overwrites them, and what the function then answers and
+ *              writes is wrong. Interrupts have a stack of their own (an entry of
+ *              the interrupt stack table, or a change of privilege), or are off
+ *              during the call. No option that the firmware is compiled with alters
+ *              this. firmware/bare_metal/archive makes archives that have no red
+ *              zone, use general registers alone and never jump by a register: with
  *              these an interrupt may come on the same stack, and SSE may be off.
  *   registers  The general registers and xmm0 to xmm15, by instructions up to SSE2
  *              and without floating-point arithmetic; no x87, MMX or AVX. SSE is
@@ -80,23 +80,23 @@ extern "C" {
  *     balkwizu_component: general and xmm registers, aligned stack
  *     balkwizu_potential: general and xmm registers, aligned stack
  *     balkwizu_repair: general and xmm registers, aligned stack
- *     balkwizu_run: general and xmm registers, aligned stack, unmarked jumps
- *     balkwizu_run_by_length: general and xmm registers, aligned stack, unmarked jumps
+ *     balkwizu_run: general and xmm registers, aligned stack, red zone, unmarked jumps
+ *     balkwizu_run_by_length: general and xmm registers, aligned stack, red zone, unmarked jumps
  *     balkwizu_run_working: general and xmm registers, aligned stack
- *     balkwizu_table_check: general and xmm registers, aligned stack, red zone
+ *     balkwizu_table_check: general and xmm registers, aligned stack
  *     balkwizu_version: general registers
  *     balkwizu_who_reaches: general registers
  *     balkwizu_write: general registers, unmarked jumps
  *   libbalkwizu_turns.a
- *     balkwizu_hand_in: general and xmm registers, aligned stack, red zone
- *     balkwizu_turn: general and xmm registers, aligned stack, red zone, unmarked jumps
+ *     balkwizu_hand_in: general and xmm registers, aligned stack
+ *     balkwizu_turn: general and xmm registers, aligned stack, unmarked jumps
  *     balkwizu_turns_begin: general registers
  */
-#define BALKWIZU_RUN_STACK_BYTES 768
+#define BALKWIZU_RUN_STACK_BYTES 1280
 #define BALKWIZU_RUN_WORKING_STACK_BYTES 5632
 #define BALKWIZU_RUN_BY_LENGTH_STACK_BYTES 5632
-#define BALKWIZU_TABLE_CHECK_STACK_BYTES 256
-#define BALKWIZU_COMPONENT_STACK_BYTES 512
+#define BALKWIZU_TABLE_CHECK_STACK_BYTES 768
+#define BALKWIZU_COMPONENT_STACK_BYTES 1024
 #define BALKWIZU_REPAIR_STACK_BYTES 4096
 #define BALKWIZU_POTENTIAL_STACK_BYTES 1024
 #define BALKWIZU_WRITE_STACK_BYTES 256

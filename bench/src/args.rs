@@ -70,7 +70,8 @@ impl Options {
                 given,
             });
         } else {
-            return Err(format!("there is no option {}", word.to_string_lossy()));
+            let word = word.to_string_lossy();
+            return Err(format!("there is no option {word}; --help lists them"));
         }
         Ok(())
     }
@@ -129,7 +130,7 @@ impl Options {
     pub fn file(&self) -> Result<&Path, String> {
         match self.files.as_slice() {
             [file] => Ok(file),
-            [] => Err("no file is given".to_string()),
+            [] => Err("no file is given; --help says what is wanted".to_string()),
             [_, second, ..] => Err(format!(
                 "one file at a time: `{}` is a second one",
                 second.display()
@@ -141,7 +142,10 @@ impl Options {
     pub fn two_files(&self) -> Result<(&Path, &Path), String> {
         match self.files.as_slice() {
             [from, to] => Ok((from, to)),
-            few @ ([] | [_]) => Err(format!("two files are needed, {} given", few.len())),
+            few @ ([] | [_]) => Err(format!(
+                "two files are needed, IN and OUT; {} given",
+                few.len()
+            )),
             [_, _, third, ..] => Err(format!(
                 "two files are enough: `{}` is a third one",
                 third.display()
@@ -221,13 +225,11 @@ mod tests {
 
     #[test]
     fn what_is_wrong_is_said() {
-        assert_eq!(parsed("--sed 7"), Err("there is no option --sed".into()));
+        let no_option = |name: &str| Err(format!("there is no option {name}; --help lists them"));
+        assert_eq!(parsed("--sed 7"), no_option("--sed"));
         assert_eq!(parsed("--seed"), Err("--seed needs a value".into()));
-        assert_eq!(
-            parsed("--quiet=1"),
-            Err("there is no option --quiet=1".into())
-        );
-        assert_eq!(parsed("a -x"), Err("there is no option -x".into()));
+        assert_eq!(parsed("--quiet=1"), no_option("--quiet=1"));
+        assert_eq!(parsed("a -x"), no_option("-x"));
         let wrong = parsed("--seed x").unwrap().number("--seed");
         assert_eq!(wrong, Err("--seed needs a whole number, not `x`".into()));
     }

@@ -22,14 +22,18 @@ use std::process::ExitCode;
 
 use crate::output::{complain, say};
 use commands::{
-    commission, fuzz, histories, instructions, linerun, queue, read, repair, roads, show, speed,
-    step, tables, totals, turns, words, write,
+    codes, commission, fuzz, histories, instructions, linerun, queue, read, repair, roads, show,
+    speed, step, tables, totals, turns, words, write,
 };
 
 /// The help before the list of commands, and after it.
 const HEAD: &str = "\
 bench: commissioning, differential runs and benchmarks of the proved kernel
 
+For a line, its table and its list:
+";
+const BETWEEN: &str = "
+For whoever tests and measures the kernel:
 ";
 const FOOT: &str = "
 FILE is an input of linerun: little-endian words, the table's length in words,
@@ -53,13 +57,78 @@ struct Command {
     act: fn(&[OsString]) -> Result<bool, String>,
 }
 
-const COMMANDS: [Command; 17] = [
+/// The commands: first those about a line, `OF_A_LINE` of them, then those about the
+/// kernel itself.
+const COMMANDS: [Command; 18] = [
     Command {
         name: "commission",
         given: "FILE",
         purpose: "the checklist on an input of linerun",
         help: commission::HELP,
         act: commission::command,
+    },
+    Command {
+        name: "show",
+        given: "FILE",
+        purpose: "an input in words and as a picture",
+        help: show::HELP,
+        act: show::command,
+    },
+    Command {
+        name: "roads",
+        given: "FILE",
+        purpose: "who has a road of rights to whom, now and ever",
+        help: roads::HELP,
+        act: roads::command,
+    },
+    Command {
+        name: "repair",
+        given: "IN OUT",
+        purpose: "a damaged table made fit again",
+        help: repair::HELP,
+        act: repair::command,
+    },
+    Command {
+        name: "write",
+        given: "FILE",
+        purpose: "calls as text, one a line, to a list",
+        help: write::HELP,
+        act: write::command,
+    },
+    Command {
+        name: "read",
+        given: "FILE",
+        purpose: "a list to calls as text",
+        help: read::HELP,
+        act: read::command,
+    },
+    Command {
+        name: "words",
+        given: "FILE",
+        purpose: "hexadecimal words as text to an input, and back",
+        help: words::HELP,
+        act: words::command,
+    },
+    Command {
+        name: "codes",
+        given: "[CODE]..",
+        purpose: "what the numbers of refusals mean",
+        help: codes::HELP,
+        act: codes::command,
+    },
+    Command {
+        name: "turns",
+        given: "FILE",
+        purpose: "handing in and turns as text, played and told",
+        help: turns::HELP,
+        act: turns::command,
+    },
+    Command {
+        name: "totals",
+        given: "..",
+        purpose: "the end-of-shift sheet: its input, its page, its test",
+        help: totals::HELP,
+        act: totals::command,
     },
     Command {
         name: "fuzz",
@@ -104,13 +173,6 @@ const COMMANDS: [Command; 17] = [
         act: linerun::command,
     },
     Command {
-        name: "totals",
-        given: "PROGRAM",
-        purpose: "the program linetotals beside the separate one",
-        help: totals::HELP,
-        act: totals::command,
-    },
-    Command {
         name: "speed",
         given: "",
         purpose: "the proved kernel's speed beside plain C",
@@ -124,56 +186,10 @@ const COMMANDS: [Command; 17] = [
         help: instructions::HELP,
         act: instructions::command,
     },
-    Command {
-        name: "show",
-        given: "FILE",
-        purpose: "an input in words and as a picture",
-        help: show::HELP,
-        act: show::command,
-    },
-    Command {
-        name: "roads",
-        given: "FILE",
-        purpose: "who has a road of rights to whom, now and ever",
-        help: roads::HELP,
-        act: roads::command,
-    },
-    Command {
-        name: "repair",
-        given: "IN OUT",
-        purpose: "a damaged table made fit again",
-        help: repair::HELP,
-        act: repair::command,
-    },
-    Command {
-        name: "turns",
-        given: "FILE",
-        purpose: "handing in and turns as text, played and told",
-        help: turns::HELP,
-        act: turns::command,
-    },
-    Command {
-        name: "words",
-        given: "FILE",
-        purpose: "hexadecimal words as text to an input, and back",
-        help: words::HELP,
-        act: words::command,
-    },
-    Command {
-        name: "write",
-        given: "FILE",
-        purpose: "calls as text, one a line, to a list",
-        help: write::HELP,
-        act: write::command,
-    },
-    Command {
-        name: "read",
-        given: "FILE",
-        purpose: "a list to calls as text",
-        help: read::HELP,
-        act: read::command,
-    },
 ];
+
+/// How many of the commands are about a line.
+const OF_A_LINE: usize = 10;
 
 /// The release that this program is of.
 fn version() -> &'static str {
@@ -198,13 +214,18 @@ fn main() -> ExitCode {
 
 fn help() -> String {
     let row = |line: &str, purpose| format!("  bench {line:<17} {purpose}\n");
-    let listed = COMMANDS.iter().map(|command| {
-        let line = format!("{} {}", command.name, command.given);
-        row(&line, command.purpose)
-    });
+    let listed = |commands: &[Command]| -> String {
+        let lines = commands.iter().map(|command| {
+            let line = format!("{} {}", command.name, command.given);
+            row(&line, command.purpose)
+        });
+        lines.collect()
+    };
     let more = row("help COMMAND", "what a command takes and what it answers")
         + &row("--version", "which release this is");
-    format!("{HEAD}{}{more}{FOOT}", listed.collect::<String>())
+    let (line, kernel) = COMMANDS.split_at(OF_A_LINE);
+    let (line, kernel) = (listed(line), listed(kernel));
+    format!("{HEAD}{line}{BETWEEN}{kernel}\n{more}{FOOT}")
 }
 
 fn perform(command: &OsStr, rest: &[OsString]) -> Result<bool, String> {
@@ -241,6 +262,52 @@ fn found(command: &OsStr) -> Result<&'static Command, String> {
     let found = COMMANDS.iter().find(|known| command == known.name);
     found.ok_or_else(|| {
         let command = command.to_string_lossy();
-        format!("there is no such command as `{command}`; `bench --help` lists them")
+        let meant = COMMANDS.iter().find(|known| is_near(&command, known.name));
+        let meant = meant.map_or(String::new(), |known| {
+            format!(" (is `{}` meant?)", known.name)
+        });
+        format!("there is no such command as `{command}`{meant}; `bench --help` lists them")
     })
+}
+
+/// Whether a word is a name but for a slip: another case, a letter more, less or wrong, or
+/// two exchanged.
+fn is_near(word: &str, name: &str) -> bool {
+    let letters = |text: &str| text.to_lowercase().chars().collect::<Vec<char>>();
+    let (word, name) = (letters(word), letters(name));
+    let same = word.iter().zip(&name).take_while(|(a, b)| a == b).count();
+    let (word, name) = (&word[same..], &name[same..]);
+    match (word, name) {
+        ([], []) | ([_], []) | ([], [_]) => true,
+        ([], _) | (_, []) => false,
+        ([a, word @ ..], [b, name @ ..]) => {
+            let exchanged = word.first() == Some(b) && name.first() == Some(a);
+            word == name
+                || word == [&[*b], name].concat()
+                || [&[*a], word].concat() == name
+                || exchanged && word[1..] == name[1..]
+        }
+    }
+}
+
+#[cfg(test)]
+mod tests {
+    use super::*;
+
+    #[test]
+    fn a_slip_is_near_and_another_word_is_not() {
+        for near in [
+            "comission",
+            "commissoin",
+            "commision",
+            "Commission",
+            "commissions",
+        ] {
+            assert!(is_near(near, "commission"), "{near}");
+        }
+        assert!(is_near("shwo", "show") && is_near("how", "show") && is_near("shaw", "show"));
+        for far in ["frobnicate", "", "s", "words", "showing"] {
+            assert!(!is_near(far, "show"), "{far}");
+        }
+    }
 }

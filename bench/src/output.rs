@@ -35,8 +35,8 @@ pub fn write(bytes: &[u8]) {
     }
 }
 
-/// That a file may be written which an option names: it doesn't look like an option, and
-/// it is none of those that are read, which would be overwritten.
+/// That a file may be written which an option names: it doesn't look like an option, its
+/// folder is there, and it is none of those that are read, which would be overwritten.
 pub fn may_write(option: &str, out: &Path, read: &[&Path]) -> Result<(), String> {
     let shown = out.display();
     if out.as_os_str().is_empty() {
@@ -46,6 +46,14 @@ pub fn may_write(option: &str, out: &Path, read: &[&Path]) -> Result<(), String>
         return Err(format!(
             "{option} needs a file's name: for a file {shown} write ./{shown}"
         ));
+    }
+    if out.is_dir() {
+        return Err(format!(
+            "{option} {shown} is a folder: a file's name is needed"
+        ));
+    }
+    if let Some(folder) = no_folder(out) {
+        return Err(format!("{option} {shown}: there is no folder {folder}"));
     }
     let identity = |path: &Path| fs::metadata(path).map(|file| (file.dev(), file.ino())).ok();
     let opened = |path: &Path| match path == Path::new("-") {
@@ -61,6 +69,14 @@ pub fn may_write(option: &str, out: &Path, read: &[&Path]) -> Result<(), String>
         )),
         false => Ok(()),
     }
+}
+
+/// The folder that a file should stand in, where there is none.
+pub fn no_folder(out: &Path) -> Option<String> {
+    let folder = out
+        .parent()
+        .filter(|folder| !folder.as_os_str().is_empty())?;
+    (!folder.is_dir()).then(|| folder.display().to_string())
 }
 
 /// Writes a file.

@@ -63,7 +63,7 @@ fn help_is_given_for_every_command() {
     assert!(printed(&["--help"]).contains("or a closed pipe"));
     let commands =
         "commission fuzz step queue tables histories linerun totals speed instructions show \
-         roads repair turns words write read";
+         roads repair turns words write read codes";
     for command in commands.split(' ') {
         let help = printed(&[command, "--help"]);
         assert!(help.starts_with(&format!("bench {command}")), "{help}");
@@ -112,7 +112,7 @@ fn an_option_that_there_is_not_is_no_file() {
     assert_eq!(status(&["show", "-x", &input]), 2);
     assert_eq!(
         told(&["show", "-x", &input]),
-        "bench show: there is no option -x\n"
+        "bench show: there is no option -x; --help lists them\n"
     );
     let behind = printed(&["show", "--run", "--", &input]);
     assert_eq!(behind, printed(&["show", &input, "--run"]));
@@ -1165,4 +1165,162 @@ fn histories_show_the_longest_waits_beside_the_bound() {
     assert_eq!(bound[4..], numbers, "{told}");
     assert_eq!(waits[4..], numbers, "{told}");
     assert!(told.ends_with("1000 cases with seed 1: passed\n"), "{told}");
+}
+
+fn in_examples(name: &str) -> String {
+    format!("{}/examples/{name}", env!("CARGO_MANIFEST_DIR"))
+}
+
+#[test]
+fn a_slip_in_a_command_is_told_with_what_is_meant() {
+    assert!(told(&["comission", "x"]).contains("(is `commission` meant?)"));
+    assert!(!told(&["frobnicate"]).contains("meant"));
+    assert!(told(&["show", "--png"]).ends_with("there is no option --png; --help lists them\n"));
+    assert!(told(&["show"]).contains("--help says what is wanted"));
+    assert!(told(&["repair", "x"]).contains("IN and OUT; 1 given"));
+    let roads = ["roads", "link", "loader", &in_examples("four.txt")];
+    assert!(told(&roads).ends_with("FILE comes first, then FROM and TO\n"));
+}
+
+#[test]
+fn the_numbers_of_refusals_are_told() {
+    let two = "17  the caller has no SEND on the endpoint's owner\n19  nothing waits\n";
+    assert_eq!(printed(&["codes", "17", "19"]), two);
+    let all = printed(&["codes"]);
+    for code in (0..8).chain(10..24).chain(30..38).chain([99]) {
+        assert!(all.contains(&format!("\n  {code:>2}  ")), "{code}: {all}");
+    }
+    for none in ["8", "x", "-1", "100"] {
+        assert_eq!(status(&["codes", none]), 2, "{none}");
+    }
+}
+
+#[test]
+fn a_text_of_another_kind_is_told_with_the_command_for_it() {
+    let calls = in_examples("calls.txt");
+    for line in [["show", &calls], ["words", &calls], ["read", &calls]] {
+        assert!(told(&line).contains("of a text of calls `bench write` makes the words"));
+    }
+    assert!(told(&["show", &in_examples("turns.txt")]).contains("only `bench turns` takes"));
+    assert!(told(&["write", &in_examples("four.txt")]).contains("is given with --table"));
+    let words = file("words-for-calls.txt", b"20000100 F0000005\n");
+    assert!(told(&["write", &words]).contains("of words `bench read` makes the calls"));
+    let named = file("named-caller.txt", b"my-rights caller link\n");
+    assert!(told(&["write", &named]).contains("a call takes no names"));
+    let right = file("named-right.txt", b"remove caller 1 target 2 rights SEND\n");
+    assert!(told(&["write", &right]).contains("a sum of SEND 1, GRANT 2, REMOVE 4 and REVOKE 8"));
+    let lines = file("printed-lines.txt", PRINTED.as_bytes());
+    assert!(told(&["show", &lines]).contains("a line that linerun prints"));
+}
+
+#[test]
+fn a_folder_that_there_is_not_is_told_before_anything_is_done() {
+    let four = in_examples("four.txt");
+    for line in [
+        ["commission", &four, "--report", "/no/such/x.html"],
+        ["commission", &four, "--json", "/no/such/x.json"],
+        ["show", &four, "--svg", "/no/such/x.svg"],
+    ] {
+        let ran = bench(&line);
+        assert_eq!(ran.status.code(), Some(2), "{line:?}");
+        assert!(ran.stdout.is_empty(), "{line:?}");
+        assert!(told(&line).ends_with(": there is no folder /no/such\n"));
+    }
+    assert!(told(&["show", &four, "--svg", "/"]).contains("--svg / is a folder"));
+    let damaged = in_examples("damaged.txt");
+    assert!(told(&["repair", &damaged, "/no/such/x"]).contains("there is no folder /no/such"));
+    let out = path("kept-away.bin");
+    let _ = fs::remove_file(&out);
+    let changes = ["repair", &damaged, &out, "--changes", "/no/such/x"];
+    assert_eq!(status(&changes), 2);
+    assert!(fs::metadata(&out).is_err(), "nothing is written before");
+}
+
+#[test]
+fn a_damaged_table_is_told_with_what_mends_it() {
+    let damaged = in_examples("damaged.txt");
+    for command in ["show", "roads", "commission"] {
+        let told = printed(&[command, &damaged]);
+        let mend = format!("`bench repair {damaged} OUT` may make it fit again\n");
+        assert!(told.ends_with(&mend), "{told}");
+        assert_eq!(status(&[command, &damaged]), 1);
+    }
+    let out = path("mended.bin");
+    assert_eq!(status(&["repair", &damaged, &out]), 0);
+    assert_eq!(status(&["show", &out]), 0);
+    let four = printed(&["show", &in_examples("four.txt")]);
+    assert!(!four.contains("bench repair"));
+}
+
+#[test]
+fn a_card_has_a_text() {
+    let card = file("card.image", &to_bytes(&TABLE_T));
+    let text = printed(&["words", "--back", "--image", &card]);
+    let typed = file("card.txt", text.as_bytes());
+    let input = bench(&["words", &typed]).stdout;
+    assert_eq!(input, to_bytes(&[&[34], &TABLE_T[..]].concat()));
+    assert!(printed(&["show", &card]).contains("`bench words --back --image FILE`"));
+    assert!(told(&["words", "--image", &card]).contains("--image is for --back"));
+    let cut = file("cut.image", &to_bytes(&TABLE_T)[..30]);
+    assert_eq!(status(&["words", "--back", "--image", &cut]), 1);
+    assert!(told(&["words", "--back", "--image", &cut]).contains("2 bytes left over"));
+    let long = file("long.image", &[0; 4 * 642]);
+    assert!(told(&["words", "--back", "--image", &long]).contains("more than the 641 words"));
+}
+
+#[test]
+fn what_a_controller_answered_to_the_plain_line_is_in_order() {
+    let [four, answers, left] = ["four.txt", "answers.txt", "left.txt"].map(in_examples);
+    let line = ["commission", &four, "--answers", &answers, "--left", &left];
+    let told = printed(&line);
+    assert!(told.contains("summary: 4 passed, 0 failed"), "{told}");
+    let exchanged = ["commission", &four, "--answers", &left, "--left", &answers];
+    assert_eq!(status(&exchanged), 1);
+}
+
+#[test]
+fn the_lists_of_a_shift_are_joined_and_a_sheet_says_what_was_refused() {
+    let [four, evening] = ["four.txt", "evening.txt"].map(in_examples);
+    let joined = bench(&["totals", "--join", &four, &evening]).stdout;
+    let sheet = String::from_utf8(reference::totals(&joined)).expect("text");
+    let routes = "endpoint 1 sent 5 received 3 lost 1 start 0 end 1\n";
+    assert!(sheet.contains(routes), "{sheet}");
+    assert!(told(&["totals", &four, &evening]).contains("are joined with --join"));
+    assert!(told(&["totals", &four]).contains("are joined with --join"));
+    let one = printed(&["totals", "--html", &file("one.txt", b"lists 1 code 7\n")]);
+    assert!(one.contains("1 list ran; what came then was refused with 7: the input is cut short"));
+    let bytes = told(&["totals", "--html", &file("no-sheet.bin", &example())]);
+    assert!(bytes.trim_end().chars().all(|letter| !letter.is_control()));
+    assert!(bytes.contains("is no sheet of linetotals"), "{bytes}");
+}
+
+/// The commands of docs/WAYS.md that need nothing but the bench, one after another in a
+/// folder that has the repository's bench and nothing else.
+#[test]
+fn the_ways_are_walked() {
+    let root = PathBuf::from(env!("CARGO_MANIFEST_DIR")).join("..");
+    let ways = fs::read_to_string(root.join("docs/WAYS.md")).expect("the ways are there");
+    let folder = PathBuf::from(path("ways"));
+    let _ = fs::remove_dir_all(&folder);
+    fs::create_dir_all(folder.join("build")).expect("a folder can be made");
+    std::os::unix::fs::symlink(root.join("bench"), folder.join("bench")).expect("a link");
+    let lines = ways
+        .lines()
+        .filter_map(|line| line.strip_prefix("build/release/bench "))
+        .filter(|line| !line.contains("CARD") && !line.contains("target/bin"));
+    let mut walked = 0;
+    for line in lines {
+        let line = format!("'{}' {line}", env!("CARGO_BIN_EXE_bench"));
+        let mut shell = Command::new("bash");
+        // linetotals makes it, which need not be at hand here.
+        if line.contains("build/sheet ") {
+            let sheet = folder.join("build/sheet");
+            fs::write(sheet, "lists 1 code 0\n").expect("a file can be written");
+        }
+        let ran = shell.args(["-c", &line]).current_dir(&folder).output();
+        let ran = ran.expect("bash starts");
+        assert_eq!(ran.status.code(), Some(0), "{line}: {ran:?}");
+        walked += 1;
+    }
+    assert!(walked >= 12, "{walked}");
 }

@@ -143,10 +143,10 @@ fn a_report_is_written_where_a_line_failed() {
 #[test]
 fn a_report_that_cannot_be_written_ends_with_2_and_the_verdicts_are_told() {
     let input = file("unwritten.bin", &example());
-    for (option, out) in [("--report", "/no/such/place.html"), ("--json", "/dev/full")] {
-        let (status, printed, told) = ran(&["commission", &input, option, out]);
+    for option in ["--report", "--json"] {
+        let (status, printed, told) = ran(&["commission", &input, option, "/dev/full"]);
         assert_eq!(status, 2);
-        assert!(told.contains(&format!("cannot write {out}: ")), "{told}");
+        assert!(told.contains("cannot write /dev/full: "), "{told}");
         assert!(printed.ends_with("summary: 4 passed, 0 failed, 5 not shown\n"));
     }
 }

@@ -19,7 +19,7 @@ use crate::judging::compare::kept_calls;
 use crate::judging::variants::case_of;
 use crate::kernels::boundary::Kernel;
 use crate::line::dump::{read_dump, Dump};
-use crate::line::explain::{call_in_words, counted, meaning, table_fault};
+use crate::line::explain::{call_in_words, counted, meaning, mended_by, table_fault};
 use crate::line::given::{read_given, Given};
 use crate::line::input::{shown, Input};
 use crate::line::names::Names;
@@ -132,8 +132,8 @@ fn tell_refusal(file: &Path, (code, fault): (u32, String)) {
         shown(file),
         meaning(code)
     );
-    if let 4 | 5 = code {
-        say!("`bench repair {} OUT` may make it fit again", shown(file));
+    if let Some(told) = mended_by(code, file) {
+        say!("{told}");
     }
 }
 

@@ -18,7 +18,7 @@ use crate::line::explain::{counted, endpoint_in_words, meaning, place_in_words, 
 use crate::line::given::{read_given, Given};
 use crate::line::input::{read_at_most, shown, Input, INPUT_BYTES_MAX};
 use crate::line::names::Names;
-use crate::output::say;
+use crate::output::{no_folder, say};
 
 pub const HELP: &str = "\
 bench repair IN OUT [--image] [--changes FILE]
@@ -61,6 +61,10 @@ pub fn command(line: &[OsString]) -> Result<bool, String> {
     if same_file(from, to) {
         let to = to.display();
         return Err(format!("{to} is the input, which would be overwritten"));
+    }
+    let written = [Some(to), options.path("--changes")];
+    if let Some(folder) = written.into_iter().flatten().find_map(no_folder) {
+        return Err(format!("there is no folder {folder} to write into"));
     }
     let asked = Asked {
         from,

@@ -6,7 +6,7 @@ use std::path::Path;
 use reference::table::domains;
 
 use crate::args::Options;
-use crate::line::explain::{meaning, table_fault};
+use crate::line::explain::{meaning, mended_by, table_fault};
 use crate::line::given::{read_given, Given};
 use crate::line::input::Input;
 use crate::line::names::Names;
@@ -47,14 +47,19 @@ that can't be read.
 pub fn command(line: &[OsString]) -> Result<bool, String> {
     let options = Options::parse(line, &["--calls"], &[])?;
     let (file, pair) = match options.files.as_slice() {
-        [] => return Err("no file is given".to_string()),
+        [] => return Err("no file is given; --help says what is wanted".to_string()),
         [file] => (file, None),
         [file, from, to] => (file, Some((from, to))),
         [_, _] => return Err("FROM is given without TO".to_string()),
         [_, _, _, more, ..] => return Err(format!("`{}` is not expected here", more.display())),
     };
     let calls = options.number("--calls")?.unwrap_or(u64::MAX) as usize;
-    let Given { bytes, names } = read_given(file)?;
+    let Given { bytes, names } = read_given(file).map_err(|why| match pair {
+        Some(_) if why.starts_with("cannot read") && !file.exists() => {
+            format!("{why}; FILE comes first, then FROM and TO")
+        }
+        _ => why,
+    })?;
     let input = match Input::parse(&bytes) {
         Ok(input) => input,
         Err((code, why)) => {
@@ -64,6 +69,9 @@ pub fn command(line: &[OsString]) -> Result<bool, String> {
     };
     if let Some((code, fault)) = table_fault(&input.table, &names) {
         say!("table refused with {code} ({}): {fault}", meaning(code));
+        if let Some(told) = mended_by(code, file) {
+            say!("{told}");
+        }
         return Ok(false);
     }
     let pair = pair.map(|(from, to)| {

@@ -13,7 +13,7 @@ use crate::cases::Case;
 use crate::kernels::boundary::PROVED;
 use crate::kernels::child;
 use crate::kernels::lent::Ran;
-use crate::line::explain::{meaning, table_fault};
+use crate::line::explain::{meaning, mended_by, table_fault};
 use crate::line::given::{read_given, Given};
 use crate::line::input::Input;
 use crate::output::{self, say};
@@ -30,11 +30,12 @@ words` takes it; the names that it gives stand beside the numbers.
   --run       run the list on the kernel: each call with its answer, and the
               rights and queues that it leaves
   --svg OUT   write the same as a picture to OUT: who has rights on whom as
-              arrows, groups apart, and with --run the table after the list too
+              arrows, groups apart, and with --run the table after the list and
+              the answers too
   --dot OUT   write the table as a graph in the language DOT to OUT, for other
               tools: with --run what the list changed is told at each arrow
   --calls N   show the first N calls only (default: all; in a picture 24, and
-              about 1,300 at most)
+              about 1,300 at most, 750 with --run)
 
 Exit status: 0 shown; 1 the input or its table is refused, with every word that
 is wrong; 2 bad usage, or a file that can't be read or written.
@@ -61,13 +62,16 @@ pub fn command(line: &[OsString]) -> Result<bool, String> {
     if let Some((code, fault)) = table_fault(&input.table, &names) {
         say!("table refused with {code} ({}): {fault}", meaning(code));
         output::write(crate::line::text::write(&input).as_bytes());
+        if let Some(told) = mended_by(code, file) {
+            say!("{told}");
+        }
         return Ok(false);
     }
     let left = options.has("--run").then(|| ran(&input)).transpose()?;
     let table = left.as_ref().map(|left| left.table.as_slice());
     if let Some(out) = svg {
         let most = calls.unwrap_or(CALLS_IN_PICTURE);
-        output::write_file(out, &picture::svg(&input, &names, table, most))?;
+        output::write_file(out, &picture::svg(&input, &names, left.as_ref(), most))?;
     }
     if let Some(out) = dot {
         output::write_file(out, &dot::graph(&input.table, &names, table))?;

@@ -22,19 +22,36 @@ use crate::pictures::sheet;
 use crate::progress::Progress;
 
 pub const HELP: &str = "\
-bench totals PROGRAM [--cases N] [--seed S] [--from K] [--time T]
-bench totals PROGRAM --speed [--lists N] [--rounds N]
 bench totals --join LINE.. > INPUT
 bench totals --html SHEET [--names TEXT] > PAGE
+bench totals PROGRAM [--cases N] [--seed S] [--from K] [--time T]
+bench totals PROGRAM --speed [--lists N] [--rounds N]
 
-Runs PROGRAM, as target/bin/linetotals, on random inputs and compares every byte
-that it prints with what the separate implementation prints: lists that run one
-after another, tables and lists that are refused, inputs that are cut short.
-Some are given byte by byte or in odd parts. Where what is printed is due before
-the end (a refused table, a length word above 4,096, a byte behind the 65,536th
-list) the pipe is held open there: the sheet must come all the same. The first
-two inputs have 65,536 lists with a send and a receive each, one of them a
-length word more.
+The page of a shift, whose first list stands in a.txt behind the table:
+
+  bench totals --join a.txt b.txt | target/bin/linetotals > SHEET
+  bench totals --html SHEET --names a.txt > PAGE
+
+With --join, makes an input of linetotals out of inputs of linerun: the table of
+the first, then the list of each with its length in words before it. The tables
+of the others aren't looked at, since each list runs from what the one before
+leaves. A LINE may be a text as `bench words` takes it; in that of another than
+the first the list may stand without a table, as `bench write` gives it.
+
+With --html, makes a page to read and to print out of what linetotals printed,
+which stands in the file SHEET. `-` is standard input.
+
+  --names TEXT  the endpoints' names, beside their numbers: a text with lines as
+                `endpoint 1 drives`, alone or as `bench words` takes it
+
+With PROGRAM, runs it, as target/bin/linetotals, on random inputs and compares
+every byte that it prints with what the separate implementation prints: lists
+that run one after another, tables and lists that are refused, inputs that are
+cut short. Some are given byte by byte or in odd parts. Where what is printed is
+due before the end (a refused table, a length word above 4,096, a byte behind
+the 65,536th list) the pipe is held open there: the sheet must come all the
+same. The first two inputs have 65,536 lists with a send and a receive each, one
+of them a length word more.
 
   --cases N  inputs to try (default 1,000)
   --seed S   the seed that they are drawn from (default 1)
@@ -52,18 +69,6 @@ times are processor seconds.
   --lists N   lists of 4,096 words, 1 to 65,536 (default 65,536)
   --rounds N  rounds, 1 to 100 (default 5)
 
-With --join, makes an input of linetotals out of inputs of linerun: the table of
-the first, then the list of each with its length in words before it. The tables
-of the others aren't looked at, since each list runs from what the one before
-leaves. A LINE may be a text as `bench words` takes it; in that of another than
-the first the list may stand without a table, as `bench write` gives it.
-
-With --html, makes a page to read and to print out of what linetotals printed,
-which stands in the file SHEET. `-` is standard input.
-
-  --names TEXT  the endpoints' names, beside their numbers: a text with lines as
-                `endpoint 1 drives`, alone or as `bench words` takes it
-
 Exit status: 0 nothing differs, and every code was met where that is asked, or
 the page or the input was made, or the speed was measured; 1 otherwise; 2 bad
 usage, or a program that can't be started.
@@ -75,6 +80,10 @@ const ENOUGH: u64 = 500;
 
 /// The ways to give an input that must be met too.
 const WAYS: [&str; 3] = ["byte by byte", "in odd parts", "held open where it is due"];
+
+/// What is said where no program is given, perhaps for lines that were meant to be joined.
+const LINES: &str =
+    "; inputs of linerun are joined with --join, a sheet is made a page with --html";
 
 /// The longest sheet that is made a page of: far more than 32 endpoints need.
 const SHEET_BYTES_MAX: usize = 100_000;
@@ -96,13 +105,18 @@ pub fn command(line: &[OsString]) -> Result<bool, String> {
     if names.is_some() {
         return Err("--names is for --html".to_string());
     }
-    let program = options.file().map_err(|why| format!("PROGRAM: {why}"))?;
+    let program = options
+        .file()
+        .map_err(|why| format!("PROGRAM: {why}{LINES}"))?;
     if options.has("--speed") {
         let lists = within(&options, "--lists", 65_536, 65_536)?;
         let rounds = within(&options, "--rounds", 5, 100)?;
         return speed::measure(program, lists, rounds);
     }
-    compare(program, &options)
+    compare(program, &options).map_err(|why| match why.starts_with("cannot start") {
+        true => why + LINES,
+        false => why,
+    })
 }
 
 /// Holds a program to the separate one: on random inputs, and first on as many lists as

@@ -13,9 +13,11 @@ use crate::output::{self, complain};
 pub const HELP: &str = "\
 bench words FILE > INPUT
 bench words --back INPUT
+bench words --back --image IMAGE
 
 Writes the input of linerun for a text of hexadecimal words; with --back, writes
-the text of an input. `-` is standard input. A text looks like this:
+the text of an input, and with --image that of a table's bytes alone, as a card
+has them. `-` is standard input. A text looks like this:
 
   table
   10000201                        # two domains, one endpoint
@@ -56,10 +58,13 @@ const NO_TEXT: &str = "`bench words --back FILE` makes the text of an input";
 
 /// The command: whether there was something to write.
 pub fn command(line: &[OsString]) -> Result<bool, String> {
-    let options = Options::parse(line, &[], &["--back"])?;
+    let options = Options::parse(line, &[], &["--back", "--image"])?;
     let file = options.file()?;
-    if options.has("--back") {
-        return back(file);
+    match (options.has("--back"), options.has("--image")) {
+        (true, false) => return Ok(back(file, Input::parse(&read_input(file)?))),
+        (true, true) => return Ok(back(file, Input::of_image(&read_input(file)?))),
+        (false, true) => return Err("--image is for --back".to_string()),
+        (false, false) => {}
     }
     let written = text::read(&read_text(file, NO_TEXT)?);
     let given = written.map_err(|why| format!("{}: {why}", shown(file)))?;
@@ -83,8 +88,8 @@ fn will_be_refused(given: &Given) -> Option<String> {
 }
 
 /// Writes the text of an input, unless the input is refused.
-fn back(file: &Path) -> Result<bool, String> {
-    match Input::parse(&read_input(file)?) {
+fn back(file: &Path, read: Result<Input, (u32, String)>) -> bool {
+    match read {
         Ok(input) => output::write(text::write(&input).as_bytes()),
         Err((code, why)) => {
             // Standard output is for the text alone.
@@ -93,8 +98,8 @@ fn back(file: &Path) -> Result<bool, String> {
                 shown(file),
                 meaning(code)
             );
-            return Ok(false);
+            return false;
         }
     }
-    Ok(true)
+    true
 }

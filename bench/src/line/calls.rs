@@ -27,6 +27,16 @@ impl Field {
     const fn new(name: &'static str, column: usize, bits: u32) -> Field {
         Field { name, column, bits }
     }
+
+    /// What is said where no number is given.
+    fn no_number(&self, typed: &str) -> String {
+        let wanted = match self.name {
+            "rights" => "rights are a sum of SEND 1, GRANT 2, REMOVE 4 and REVOKE 8",
+            "name" | "message" => "17 or 0x11 is one",
+            _ => "17 or 0x11 is one, and a call takes no names",
+        };
+        format!("{} is `{typed}`, which is no number: {wanted}", self.name)
+    }
 }
 
 const CALLER: Field = Field::new("caller", 1, 6);
@@ -90,6 +100,23 @@ pub fn read(text: &str) -> Result<Vec<Typed>, String> {
     Ok(calls)
 }
 
+/// Whether a word is the name of a kind of call.
+pub fn is_kind(word: &str) -> bool {
+    KINDS.iter().any(|kind| kind.name == word)
+}
+
+/// What else a text may be that has this in the place of a call.
+fn meant(word: &str) -> &'static str {
+    let digits = word.len() == 8 && word.bytes().all(|digit| digit.is_ascii_hexdigit());
+    match word {
+        "table" | "list" | "domain" | "endpoint" => {
+            "; a text of words is given with --table, and read by `bench read`"
+        }
+        _ if digits => "; of words `bench read` makes the calls",
+        _ => "",
+    }
+}
+
 /// The call of a line, where there is one, or what is wrong with it.
 pub fn read_line(line: &str, at: usize) -> Result<Option<Typed>, String> {
     let mut words = line.split('#').next().unwrap_or("").split_whitespace();
@@ -97,8 +124,9 @@ pub fn read_line(line: &str, at: usize) -> Result<Option<Typed>, String> {
         return Ok(None);
     };
     let kind = KINDS.iter().find(|kind| kind.name == name).ok_or_else(|| {
-        let names = KINDS.map(|kind| kind.name);
-        format!("there is no call `{name}`, only {}", names.join(", "))
+        let names = KINDS.map(|kind| kind.name).join(", ");
+        let meant = meant(name);
+        format!("there is no call `{name}`, only {names}{meant}")
     })?;
     let mut columns = [0; COLUMNS];
     columns[0] = kind.number;
@@ -111,8 +139,7 @@ pub fn read_line(line: &str, at: usize) -> Result<Option<Typed>, String> {
         let typed = words
             .next()
             .ok_or_else(|| format!("{word} has no number"))?;
-        columns[field.column] = number(typed)
-            .ok_or_else(|| format!("{word} is `{typed}`, which is no number: 17 or 0x11 is one"))?;
+        columns[field.column] = number(typed).ok_or_else(|| field.no_number(typed))?;
         fields.push((field, typed.to_string()));
     }
     let missing = kind

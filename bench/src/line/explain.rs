@@ -2,6 +2,7 @@
 //! what stands at a place of a table, and what is wrong with a refused one.
 
 use std::fmt::Display;
+use std::path::Path;
 
 use reference::calls::{
     Call, GRANT, LOOK_UP, MY_ENDPOINTS, MY_RIGHTS, RECEIVE, REMOVE, REVOKE, SEND, STRAY,
@@ -56,8 +57,21 @@ pub fn meaning(code: u32) -> &'static str {
         36 => "the words are not exactly one call, no stray, of that domain",
         37 => "the domain's pending words would pass 16",
         99 => "words are lent that are not as many as they must be",
-        _ => "not a number of the kernel",
+        _ => NO_CODE,
     }
+}
+
+const NO_CODE: &str = "not a number of the kernel";
+
+/// Whether a number is one that means something.
+pub fn is_code(code: u32) -> bool {
+    meaning(code) != NO_CODE
+}
+
+/// What can be done about a table that is refused, where something can.
+pub fn mended_by(code: u32, file: &Path) -> Option<String> {
+    let file = file.display();
+    matches!(code, 4 | 5).then(|| format!("`bench repair {file} OUT` may make it fit again"))
 }
 
 /// The domains that may send to an endpoint: those with SEND on its owner.

@@ -32,9 +32,31 @@ impl Input {
         Input::of_words(bytes).map_err(|(code, mut why)| {
             if is_text(bytes) {
                 why += "; is this a text? `bench words FILE` makes the input of it";
+            } else if is_table_alone(bytes) {
+                why += "; are these a table's bytes alone? `bench words --back --image FILE` \
+                        makes a text of them, and `bench repair --image` takes them";
             }
             (code, why)
         })
+    }
+
+    /// The table that a card's bytes are, with no list; code 3 and what is wrong where they
+    /// are no words of a table.
+    pub fn of_image(bytes: &[u8]) -> Result<Input, (u32, String)> {
+        match (bytes.len() % 4, bytes.len() / 4) {
+            (0, ..=TABLE_WORDS_MAX) => Ok(Input {
+                table: from_bytes(bytes),
+                list: Vec::new(),
+            }),
+            (0, _) => Err((
+                3,
+                "it has more than the 641 words of the largest table".into(),
+            )),
+            (left, _) => {
+                let left = counted(left, "byte");
+                Err((3, format!("{left} left over after the last whole word")))
+            }
+        }
     }
 
     fn of_words(bytes: &[u8]) -> Result<Input, (u32, String)> {
@@ -93,6 +115,12 @@ impl Input {
             list: LIST_L.to_vec(),
         }
     }
+}
+
+/// Whether bytes start as a table does, with no length before it.
+fn is_table_alone(bytes: &[u8]) -> bool {
+    let first = bytes.get(..4).map(|word| from_bytes(word)[0]);
+    first.is_some_and(|word| word >> 28 == 1)
 }
 
 /// Whether bytes could be typed text: an input of linerun has zero bytes instead.

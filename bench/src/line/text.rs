@@ -2,6 +2,7 @@
 //!
 //! The help of `bench words` says what a text looks like.
 
+use crate::line::calls;
 use crate::line::given::Given;
 use crate::line::input::Input;
 use crate::line::names::{Names, Namings};
@@ -242,14 +243,26 @@ pub fn words_of(item: &str) -> Result<Vec<u32>, String> {
     let (digits, times) = item.split_once('*').unwrap_or((item, "1"));
     let prefixed = digits.strip_prefix("0x").or(digits.strip_prefix("0X"));
     let Some(word) = hexadecimal(prefixed.unwrap_or(digits), 8) else {
+        let meant = meant(item);
         return Err(format!(
-            "`{item}` is no word: eight hexadecimal digits, as F0000005 or F0000000*8"
+            "`{item}` is no word: eight hexadecimal digits, as F0000005 or F0000000*8{meant}"
         ));
     };
     let digits_only = times.bytes().all(|digit| digit.is_ascii_digit());
     match times.parse() {
         Ok(times @ 1..=REPEATS_MAX) if digits_only => Ok(vec![word; times]),
         _ => Err(format!("`{item}`: a word can stand 1 to 4,097 times")),
+    }
+}
+
+/// What else a text may be that has this in the place of a word.
+fn meant(item: &str) -> &'static str {
+    match item {
+        _ if calls::is_kind(item) => "; of a text of calls `bench write` makes the words",
+        "hand" | "turn" | "turns" => "; a text of turns is for `bench turns`",
+        "calls" => "; a line that linerun prints is no word either",
+        _ if item.contains('.') => "; only `bench turns` takes a file's name here",
+        _ => "",
     }
 }
 

@@ -9,7 +9,6 @@ use reference::table::{
 use reference::words::content;
 use reference::Call;
 
-use crate::kernels::boundary::PROVED;
 use crate::kernels::lent::Ran;
 use crate::line::explain::{
     answer_on_table, call_on_table, counted, endpoint_in_words, letters, senders,
@@ -128,7 +127,7 @@ fn slots_in_words(table: &[u32], endpoint: usize) -> String {
 /// The calls, each with its answer where the list was run.
 fn calls_in_words(input: &Input, names: &Names, answers: Option<&[u32]>, most: usize) -> String {
     let calls = cut(&input.list);
-    let mut before = input.table.clone();
+    let told = answers.map_or(vec![], |answers| told_answers(input, names, answers, most));
     let mut text = format!(
         "List: {} in {}\n",
         counted(calls.len(), "call"),
@@ -138,10 +137,7 @@ fn calls_in_words(input: &Input, names: &Names, answers: Option<&[u32]>, most: u
         let words = reference::words::hex(&call.words());
         let asked = call_on_table(call, &input.table, names);
         text += &format!("  {number:>4}  {words:<17}  {asked}\n");
-        if let Some(answers) = answers {
-            let answer = &answers[ANSWER_WORDS * number..];
-            let answer = answer_on_table(&before, call, answer, names);
-            step(&mut before, call);
+        if let Some(answer) = told.get(number) {
             text += &format!("  {:>4}  {:<17}  -> {answer}\n", "", "");
         }
     }
@@ -151,16 +147,30 @@ fn calls_in_words(input: &Input, names: &Names, answers: Option<&[u32]>, most: u
     text
 }
 
-/// Makes one call on a table, as the run of a list does with each of its calls.
+/// What the first `most` calls of a list were answered, each in words.
+pub fn told_answers(input: &Input, names: &Names, answers: &[u32], most: usize) -> Vec<String> {
+    let mut before = input.table.clone();
+    let calls = cut(&input.list);
+    let answered = calls.iter().zip(answers.chunks_exact(ANSWER_WORDS));
+    let told = answered.take(most).map(|(call, answer)| {
+        let told = answer_on_table(&before, call, answer, names);
+        step(&mut before, call);
+        told
+    });
+    told.collect()
+}
+
+/// Makes one call on a table, as the run of a list does with each of its calls. It is the
+/// separate machine's, which can't fault: the kernel that is told of may.
 fn step(table: &mut [u32], call: &Call) {
-    let mut holders = vec![0; domains(table)];
-    PROVED.run(table, &call.words(), &mut [0; ANSWER_WORDS], &mut holders);
+    reference::run(table, &call.words(), &mut [0; ANSWER_WORDS]);
 }
 
 #[cfg(test)]
 mod tests {
     use super::*;
     use crate::judging::variants::case_of;
+    use crate::kernels::boundary::PROVED;
     use crate::kernels::lent::run_here;
     use reference::example::TABLE_T;
 

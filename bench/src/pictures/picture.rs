@@ -9,9 +9,11 @@ use reference::table::{
 };
 use reference::words::{content, hex};
 
+use crate::kernels::lent::Ran;
 use crate::line::explain::{call_in_words, counted, senders};
 use crate::line::input::Input;
 use crate::line::names::Names;
+use crate::pictures::diagram::told_answers;
 use crate::pictures::parts::{
     chip, panel, GAP, INNER, LABEL, MARGIN, NAMED, NAMED_LETTER, PANEL_HEAD, SMALL, SUBTITLE, WIDTH,
 };
@@ -39,9 +41,9 @@ const TITLE: Style = Style::new(24.0, INK).bold();
 const SECTION: Style = Style::new(18.0, INK).bold();
 const LOST: Style = Style::new(11.0, "#b8383d").bold();
 
-/// The picture of an accepted table and the first `calls` calls of a list, with the table
-/// that was left where the list was run.
-pub fn svg(input: &Input, names: &Names, left: Option<&[u32]>, calls: usize) -> String {
+/// The picture of an accepted table and the first `calls` calls of a list; where the list
+/// was run, with the table that was left and what each call was answered.
+pub fn svg(input: &Input, names: &Names, left: Option<&Ran>, calls: usize) -> String {
     let mut page = Page {
         drawing: Drawing::default(),
         stage: Stage::of(&input.table, names),
@@ -57,10 +59,13 @@ pub fn svg(input: &Input, names: &Names, left: Option<&[u32]>, calls: usize) -> 
     // room for.
     if let Some(left) = left {
         page.section("After the list");
-        page.table(left);
+        page.table(&left.table);
         page.section("The list");
     }
-    page.calls(&cut(&input.list), calls);
+    let answers = left.map_or(vec![], |left| {
+        told_answers(input, names, &left.answers, calls)
+    });
+    page.calls(&cut(&input.list), &answers, calls);
     let height = page.y - GAP + MARGIN;
     let title = format!("Capability table: {told}");
     page.drawing.finish(WIDTH, height, &title)
@@ -151,12 +156,22 @@ impl Page<'_> {
         }
     }
 
-    fn calls(&mut self, calls: &[Call], most: usize) {
+    /// A call in lines, with its answer in one of its own where there is one.
+    fn told(&self, call: &Call, answer: Option<&String>) -> Vec<String> {
+        let mut lines = lines_of(&call_in_words(call, self.names), CALL_LETTERS);
+        if let Some(answer) = answer {
+            lines.extend(lines_of(&format!("-> {answer}"), CALL_LETTERS));
+        }
+        lines
+    }
+
+    fn calls(&mut self, calls: &[Call], answers: &[String], most: usize) {
         let fixed = PANEL_HEAD + 8.0 + CALL_ROW;
         let rows: Vec<Vec<String>> = calls
             .iter()
+            .enumerate()
             .take(most)
-            .map(|call| lines_of(&call_in_words(call, self.names), CALL_LETTERS))
+            .map(|(number, call)| self.told(call, answers.get(number)))
             .collect();
         let room = HIGHEST - MARGIN - self.y - fixed;
         let shown = fitting(&rows, room);
@@ -284,6 +299,7 @@ fn call_row(drawing: &mut Drawing, number: usize, call: &Call, lines: &[String],
 #[cfg(test)]
 mod tests {
     use super::*;
+    use crate::kernels::boundary::Outcome;
     use reference::generate::{list, table_of, Rng};
 
     fn opened_and_closed(svg: &str) -> bool {
@@ -316,9 +332,19 @@ mod tests {
     fn the_table_after_the_list_has_its_own_arrows_and_marks() {
         let input = Input::example();
         let mut left = input.table.clone();
-        let (code, _) = reference::run(&mut left, &input.list, &mut [0; 27]);
+        let mut answers = vec![0; 27];
+        let (code, calls) = reference::run(&mut left, &input.list, &mut answers);
         assert_eq!(code, 0);
+        let left = Ran {
+            outcome: Outcome { code, calls },
+            table: left,
+            answers,
+            holders: vec![],
+        };
         let picture = svg(&input, &Names::none(), Some(&left), 24);
+        let refused = "&gt; refused with 19: nothing waits<";
+        assert!(picture.contains(refused), "{picture}");
+        assert!(!drawn(&input, 24).contains("refused"));
         assert!(opened_and_closed(&picture));
         let bent = picture
             .lines()

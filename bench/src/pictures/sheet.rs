@@ -1,5 +1,6 @@
 //! The end-of-shift sheet as a page to read and to print, out of what `linetotals` prints.
 
+use crate::line::explain::meaning;
 use crate::line::names::Names;
 
 /// What one endpoint's line says.
@@ -16,10 +17,11 @@ struct Row {
 pub fn page(printed: &str, names: &Names) -> Result<String, String> {
     let mut lines: Vec<&str> = printed.lines().collect();
     let last = lines.pop().ok_or("it is empty")?;
-    let (lists, code) = last_line(last).ok_or_else(|| format!("its last line is `{last}`"))?;
+    let (lists, code) =
+        last_line(last).ok_or_else(|| format!("its last line is {}", shown(last)))?;
     let rows = lines
         .into_iter()
-        .map(|line| row(line).ok_or_else(|| format!("a line is `{line}`")));
+        .map(|line| row(line).ok_or_else(|| format!("a line is {}", shown(line))));
     let rows: Vec<Row> = rows.collect::<Result<_, _>>()?;
     if let Some(wrong) = rows.iter().find(|row| !row.is_borne_out()) {
         let endpoint = names.endpoint(wrong.endpoint as usize);
@@ -85,6 +87,24 @@ fn grouped(number: u64) -> String {
     text
 }
 
+fn lists_in_words(lists: u64) -> String {
+    match lists {
+        1 => "1 list".to_string(),
+        _ => format!("{} lists", grouped(lists)),
+    }
+}
+
+/// A line of something else, as it can be shown: its first letters, none that a terminal
+/// acts on.
+fn shown(line: &str) -> String {
+    let plain = line.chars().filter(|letter| !letter.is_control());
+    let start: String = plain.take(60).collect();
+    match start == line {
+        true => format!("`{line}`"),
+        false => format!("`{start}`.."),
+    }
+}
+
 fn with_rows(rows: &[Row], names: &Names, lists: u64, code: u64) -> String {
     let body: String = rows
         .iter()
@@ -92,10 +112,11 @@ fn with_rows(rows: &[Row], names: &Names, lists: u64, code: u64) -> String {
         .collect();
     let all = |of: fn(&Row) -> u64| grouped(rows.iter().map(of).sum());
     let ended = match code {
-        0 => format!("<p>{} lists ran, all there were.</p>", grouped(lists)),
+        0 => format!("<p>{} ran, all there were.</p>", lists_in_words(lists)),
         _ => format!(
-            "<p class=\"refused\">{} lists ran; what came then was refused with {code}.</p>",
-            grouped(lists)
+            "<p class=\"refused\">{} ran; what came then was refused with {code}: {}.</p>",
+            lists_in_words(lists),
+            meaning(code as u32)
         ),
     };
     format!(
@@ -120,7 +141,8 @@ const STYLE: &str = "\
 body { font: 11pt sans-serif; max-width: 60em; margin: 1em auto; color: #111 }
 table { border-collapse: collapse; width: 100% }
 th, td { border: 1px solid #999; padding: .25em .6em; text-align: right }
-th { background: #eee; text-align: left }
+th { background: #eee }
+th:first-child, td:first-child { text-align: left }
 tfoot td { font-weight: bold }
 thead { display: table-header-group }
 tr { break-inside: avoid }

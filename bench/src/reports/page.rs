@@ -38,8 +38,8 @@ pub fn page(report: &Report) -> String {
 /// The picture: whole on the screen, and in print too where it fits a page. A higher one
 /// is printed in parts.
 fn picture(report: &Report) -> String {
-    let left = report.left().ok().map(|ran| &ran.table[..]);
-    let left = left.filter(|table| check_table(table) == 0);
+    let left = report.left().ok();
+    let left = left.filter(|ran| check_table(&ran.table) == 0);
     let svg = picture::svg(report.line, report.names, left, CALLS_IN_PICTURE);
     let heading = "The picture of the table and the list";
     let (width, height) = size(&svg);
