@@ -70,13 +70,6 @@ fn help_is_given_for_every_command() {
         assert!(help.contains("Exit status:"), "{help}");
         assert!(printed(&["--help"]).contains(&format!("bench {command}")));
     }
-    for command in ["fuzz", "linerun", "speed", "instructions"] {
-        let help = printed(&[command, "--help"]);
-        assert!(
-            help.lines().all(|line| line.chars().count() <= 80),
-            "{help}"
-        );
-    }
 }
 
 #[test]

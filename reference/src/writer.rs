@@ -150,7 +150,9 @@ fn value(call: &Call) -> Value {
     }
     let last = call.second_content().unwrap_or(call.c());
     let caller = call.caller().expect("no stray");
-    from_columns(&[call.kind(), caller, call.a(), call.b(), last]).expect("a call that is read")
+    // Columns that are no call have one that its kind doesn't use: 13, as above.
+    let columns = [call.kind(), caller, call.a(), call.b(), last];
+    from_columns(&columns).unwrap_or(Value::Refused(13))
 }
 
 /// The first of the codes 10, 11, 13 and 14 that the call meets; 12 isn't tested.

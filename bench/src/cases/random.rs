@@ -21,7 +21,7 @@ const LONG_EVERY: u64 = 1024;
 const SIZES: [(usize, usize, usize); 6] = [
     (16, 32, 24),
     (4, 4, 48),
-    (3, 2, 96),
+    (3, 2, 192),
     (16, 32, 8),
     (8, 8, 32),
     (16, 4, 64),
@@ -281,7 +281,7 @@ mod tests {
             let fits = |case: &&Case| case.table.len() <= table && list.contains(&case.list.len());
             cases.iter().filter(fits).count()
         };
-        assert!(of(641, 1..40) > 1000 && of(65, 45..100) > 200 && of(641, 86..4097) > 100);
+        assert!(of(641, 1..104) > 1000 && of(65, 110..4097) > 200 && of(641, 158..4097) > 100);
     }
 
     #[test]

@@ -12,6 +12,7 @@ use reference::table::domains;
 
 use crate::args::Options;
 use crate::cases::Case;
+use crate::clock::in_utc;
 use crate::commands::commission::asked::{Asked, On, VALUED};
 use crate::judging::checklist::read_back::ReadBack;
 use crate::judging::checklist::{Checklist, Line, Summary, Verdicts};
@@ -19,13 +20,12 @@ use crate::judging::compare::kept_calls;
 use crate::judging::variants::case_of;
 use crate::kernels::boundary::Kernel;
 use crate::line::dump::{read_dump, Dump};
-use crate::line::explain::{call_in_words, counted, meaning, mended_by, table_fault};
+use crate::line::explain::{call_on_table, counted, meaning, mended_by, table_fault};
 use crate::line::given::{read_given, Given};
 use crate::line::input::{shown, Input};
 use crate::line::names::Names;
 use crate::output::{self, say};
 use crate::pictures::potential::potential_in_words;
-use crate::reports::clock::in_utc;
 use crate::reports::facts::{Judged, Report, Source};
 use crate::reports::sha256::sha256;
 
@@ -212,7 +212,10 @@ fn struck_calls(case: &Case, domain: usize, names: &Names) -> String {
         .iter()
         .enumerate()
         .filter(|(_, (_, kept))| !kept)
-        .map(|(number, (call, _))| format!("  call {number}: {}\n", call_in_words(call, names)))
+        .map(|(number, (call, _))| {
+            let told = call_on_table(call, &case.table, names);
+            format!("  call {number}: {told}\n")
+        })
         .collect();
     format!(
         "struck for {}: {} of {}\n{}",
@@ -287,6 +290,16 @@ mod tests {
         let told = struck_calls(&case_of(&Input::example()), 1, &Names::none());
         assert!(told.starts_with("struck for domain 1: 4 of 9 calls\n  call 4: domain 2 receives"));
         assert!(told.ends_with("call 8: domain 2 asks for its endpoints\n"));
+    }
+
+    #[test]
+    fn a_struck_caller_that_the_table_has_not_is_told_as_such() {
+        let input = Input {
+            list: vec![0x5B40_0000],
+            ..Input::example()
+        };
+        let told = struck_calls(&case_of(&input), 1, &Names::none());
+        assert!(told.ends_with("domain 45, which the table hasn't, asks for its rights\n"));
     }
 
     fn lines(kernel: Kernel, table: &[u32]) -> [String; 4] {

@@ -27,8 +27,8 @@ Holds them to the figures that are written down in bench/instructions.txt, which
 this program was built with: one that rose or fell by more than 3 % fails, and
 says so.
 
-  --write      writes the figures down anew, to bench/instructions.txt below this
-               folder: where a change of the archive is meant, with the change
+  --write      writes the figures down anew, to bench/instructions.txt below
+               this folder: where a change of the archive is meant, with it
   --file FILE  takes the figures of another file, or writes them there
 
 The counts are the same at each run of one archive, whatever else the machine

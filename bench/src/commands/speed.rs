@@ -4,6 +4,7 @@
 use std::ffi::OsString;
 use std::fs;
 use std::path::Path;
+use std::time::SystemTime;
 
 use crate::args::Options;
 use crate::cases::mixes::{mixes, Mix};
@@ -92,7 +93,7 @@ pub fn command(line: &[OsString]) -> Result<bool, String> {
         seed: options.number("--seed")?.unwrap_or(1),
         rows: Vec::new(),
     };
-    let time = clock::now();
+    let time = clock::in_utc(SystemTime::now());
     let right = session.tell_all(|flag| {
         options.has("--all") || options.has(flag) || flag == "--growth" && outs[1].is_some()
     });

@@ -11,7 +11,7 @@ use crate::line::names::Names;
 
 /// A report: what was judged, on what, and what came of it.
 pub struct Report<'a> {
-    /// The time, as [`in_utc`](super::clock::in_utc) tells it.
+    /// The time, as [`in_utc`](crate::clock::in_utc) tells it.
     pub made: String,
     pub input: Source,
     pub line: &'a Input,

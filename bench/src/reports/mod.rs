@@ -2,7 +2,6 @@
 //! facts as JSON. With them stands what they are about: the files by their hashes, the
 //! archive, the kit, the date.
 
-pub mod clock;
 pub mod facts;
 pub mod json;
 pub mod json_facts;

@@ -6,9 +6,9 @@ ghost use Rattle.entry.specs.Entry.{ranCode, ranCalls};
 
 // The first list that is long enough for the working layout has so many words, and one more for so many words of the table, which
 // are what it costs to take in and to put out (docs/BENCHMARKS.md, `bench speed --lengths`).
-const CROSSING_WORDS: usize = 40;
+const CROSSING_WORDS: usize = 104;
 
-const TABLE_WORDS_FOR_ONE: usize = 14;
+const TABLE_WORDS_FOR_ONE: usize = 12;
 
 // A list of calls on any table, with any answer space and any words for the holders: what `kernel::run` and `working::run_working`
 // promise.

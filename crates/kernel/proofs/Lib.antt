@@ -2,9 +2,8 @@
 pub mod Fits
 pub mod Underway
 pub mod Entries
-pub mod Passed
 pub mod Within
 pub mod Outcomes
-pub mod ByWord
+pub mod SameCall
 pub mod Pairs
 pub mod Settled

@@ -26,7 +26,7 @@ use Rattle.kernel.specs.Step.{Served}
 use Rattle.kernel.specs.Settled.{Settled}
 use Rattle.kernel.specs.Run.{ServedAt}
 use Rattle.kernel.proofs.Fits.{answer-whole, can-be-done}
-use Rattle.kernel.proofs.ByWord.{here}
+use Rattle.kernel.proofs.SameCall.{here}
 use Rattle.kernel.proofs.Pairs.{second-word, no-second-word}
 use Rattle.kernel.proofs.Underway.{Underway, underway-next}
 

@@ -28,7 +28,7 @@ fn put(answers: &mut [u32], at: usize, words: Answer)
 }
 
 // The call that stands at place i of the list, in one word or two; its answer goes to a place of the answer space. How many words it
-// is: each branch knows it, so that the next call needs not wait for it.
+// is: each branch knows it, so that the next call need not wait for it.
 fn serve_at(
     table: &mut [u32],
     n: u32,

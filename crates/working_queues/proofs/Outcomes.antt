@@ -14,7 +14,7 @@ use Rattle.effects.specs.declared.Effect.the-variants.{Send, Receive}
 use Rattle.rows.specs.Rows.{heldIn}
 use Rattle.rings.specs.Ring.{messageAt, lostCount, ringSent, ringTake, ofTwelve}
 use Rattle.working_state.proofs.Answered.{refused-answer}
-use Rattle.working_state.proofs.Passed.{IsDone, not-refused}
+use Rattle.rules.proofs.Passed.{IsDone, not-refused}
 use Rattle.working_state.specs.State.{Rights, noRights, ringAt, withRing, firstFrom, secondFrom, answerFrom, ringsAfter}
 use Rattle.working_queues.specs.Served.{numberIn, RingServed, QueueServed}
 use Rattle.working_queues.proofs.Parts.{lent, back, same-back}

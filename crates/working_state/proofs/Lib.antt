@@ -4,5 +4,4 @@ pub mod Packed
 pub mod Reading
 pub mod Answered
 pub mod Along
-pub mod Passed
 pub mod TwoWays

@@ -1,7 +1,8 @@
 -- `look_up_call` meets its contract: the unused fields, and the look up. Assumes nothing.
 use native.Mathlib.Omega.{arith}
 use Rattle.working_calls.proofs.Whole.{served-refused, served-look-up}
-use Rattle.working_calls.proofs.ByWord.{here, look-up-unused, look-up-apart}
+use Rattle.calls.proofs.ByWord.{look-up-unused, look-up-apart}
+use Rattle.working_calls.proofs.ByWord.{here}
 use borrow.Author.Needs.{needs}
 use Rattle.working_calls.proofs.look_up_call.Statement.{statement}
 use Rattle.working_calls.proofs.look_up_call.Tie as tie

@@ -1,7 +1,8 @@
 -- `send_call` meets its contract: the unused fields, and the send. Assumes nothing.
 use native.Mathlib.Omega.{arith}
 use Rattle.working_calls.proofs.Whole.{served-refused, served-send}
-use Rattle.working_calls.proofs.ByWord.{here, send-unused, send-apart}
+use Rattle.calls.proofs.ByWord.{send-unused, send-apart}
+use Rattle.working_calls.proofs.ByWord.{here}
 use borrow.Author.Needs.{needs}
 use Rattle.working_calls.proofs.send_call.Statement.{statement}
 use Rattle.working_calls.proofs.send_call.Tie as tie

@@ -5,7 +5,7 @@ use Rattle.rules.specs.Access.{receiveAccess}
 use Rattle.rules.specs.Decision.{decisionOf}
 use Rattle.rings.specs.Ring.{count, ringOwner}
 use Rattle.working_state.specs.State.{ringAt}
-use Rattle.working_state.proofs.Passed.{passed}
+use Rattle.rules.proofs.Passed.{passed}
 use Rattle.working_queues.proofs.Parts.{owner-read, count-read, not-taken, nothing-shown}
 use Rattle.working_queues.proofs.Outcomes.{queue-refused, queue-received}
 use borrow.Author.Needs.{needs}

@@ -3,7 +3,7 @@ use mathlib.Core.Path.{_≡_, sym, ap, _∙_}
 use Rattle.rules.specs.Access.{receiveAccess}
 use Rattle.rules.specs.Decision.{decisionOf}
 use Rattle.rings.specs.Ring.{count, info, ringOwner}
-use Rattle.working_state.proofs.Passed.{passed}
+use Rattle.rules.proofs.Passed.{passed}
 use Rattle.working_queues.proofs.Outcomes.{ring-refused, ring-received}
 use borrow.Author.Needs.{needs}
 use Rattle.working_queues.proofs.receive_on.Statement.{statement}

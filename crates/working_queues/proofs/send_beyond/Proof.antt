@@ -6,7 +6,7 @@ use Rattle.rules.specs.Decision.{decisionOf}
 use Rattle.rows.specs.Rows.{heldIn}
 use Rattle.rings.specs.Ring.{ringOwner}
 use Rattle.working_state.specs.State.{ringAt}
-use Rattle.working_state.proofs.Passed.{passed}
+use Rattle.rules.proofs.Passed.{passed}
 use Rattle.working_queues.proofs.Parts.{owner-read, not-sent}
 use Rattle.working_queues.proofs.Outcomes.{queue-refused, queue-sent}
 use borrow.Author.Needs.{needs}

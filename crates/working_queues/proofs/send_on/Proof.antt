@@ -5,7 +5,7 @@ use Rattle.rules.specs.Access.{sendAccess}
 use Rattle.rules.specs.Decision.{decisionOf}
 use Rattle.rows.specs.Rows.{heldIn}
 use Rattle.rings.specs.Ring.{info, ringOwner}
-use Rattle.working_state.proofs.Passed.{passed}
+use Rattle.rules.proofs.Passed.{passed}
 use Rattle.working_queues.proofs.Outcomes.{ring-refused, ring-sent}
 use borrow.Author.Needs.{needs}
 use Rattle.working_queues.proofs.send_on.Statement.{statement}

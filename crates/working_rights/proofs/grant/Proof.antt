@@ -9,7 +9,7 @@ use Rattle.rules.specs.Access.{grantAccess, accessBy, decidedBy}
 use Rattle.rules.specs.Decision.{decisionOf}
 use Rattle.rules.proofs.Guards.{outside, within}
 use Rattle.working_state.specs.State.{nobody, readingFrom}
-use Rattle.working_state.proofs.Passed.{passed}
+use Rattle.rules.proofs.Passed.{passed}
 use Rattle.working_rights.proofs.Outcomes.{rights-refused, granted}
 use borrow.Author.Needs.{needs}
 use Rattle.working_rights.proofs.grant.Statement.{statement}

@@ -1,7 +1,8 @@
 -- `kinds::alone` meets its contract: unused fields, and no second word. Assumes nothing.
 use native.Mathlib.Omega.{arith}
 use borrow.Author.Needs.{needs}
-use Rattle.kernel.proofs.ByWord.{here, low-unknown, alone-unused-1, alone-1, alone-unused-2, alone-2}
+use Rattle.calls.proofs.ByWord.{low-unknown, alone-unused-1, alone-1, alone-unused-2, alone-2}
+use Rattle.kernel.proofs.SameCall.{here}
 use Rattle.kernel.proofs.kinds.alone.Statement.{statement}
 use Rattle.kernel.proofs.kinds.alone.Tie as tie
 

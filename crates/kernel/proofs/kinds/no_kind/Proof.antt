@@ -1,5 +1,6 @@
 -- `kinds::no_kind` meets its contract: unknown kinds, and a stray. Assumes nothing.
-use Rattle.kernel.proofs.ByWord.{here, high-unknown, is-stray}
+use Rattle.calls.proofs.ByWord.{high-unknown, is-stray}
+use Rattle.kernel.proofs.SameCall.{here}
 use Rattle.kernel.proofs.kinds.no_kind.Statement.{statement}
 use Rattle.kernel.proofs.kinds.no_kind.Tie as tie
 

@@ -1,7 +1,8 @@
 -- `kinds::on_queues` meets its contract: each kind, with its unused fields. Assumes nothing.
 use native.Mathlib.Omega.{arith}
 use borrow.Author.Needs.{needs}
-use Rattle.kernel.proofs.ByWord.{here, receive-unused, receive-apart, endpoints-unused, endpoints-apart}
+use Rattle.calls.proofs.ByWord.{receive-unused, receive-apart, endpoints-unused, endpoints-apart}
+use Rattle.kernel.proofs.SameCall.{here}
 use Rattle.kernel.proofs.kinds.on_queues.Statement.{statement}
 use Rattle.kernel.proofs.kinds.on_queues.Tie as tie
 

@@ -1,7 +1,8 @@
 -- `kinds::on_rights` meets its contract: each kind, with its unused fields. Assumes nothing.
 use native.Mathlib.Omega.{arith}
 use borrow.Author.Needs.{needs}
-use Rattle.kernel.proofs.ByWord.{here, rights-unused, rights-apart, grant-apart, remove-unused, remove-apart, revoke-apart}
+use Rattle.calls.proofs.ByWord.{rights-unused, rights-apart, grant-apart, remove-unused, remove-apart, revoke-apart}
+use Rattle.kernel.proofs.SameCall.{here}
 use Rattle.kernel.proofs.kinds.on_rights.Statement.{statement}
 use Rattle.kernel.proofs.kinds.on_rights.Tie as tie
 

@@ -1,7 +1,8 @@
 -- `kinds::serve_two` meets its contract: a look up or a send, with its unused fields. Assumes nothing.
 use borrow.Author.Needs.{needs}
 use mathlib.Core.Path.{_∙_}
-use Rattle.kernel.proofs.ByWord.{here, look-up-unused, look-up-apart, send-unused, send-apart}
+use Rattle.calls.proofs.ByWord.{look-up-unused, look-up-apart, send-unused, send-apart}
+use Rattle.kernel.proofs.SameCall.{here}
 use Rattle.kernel.proofs.Pairs.{low-pair, high-pair}
 use Rattle.kernel.proofs.kinds.serve_two.Statement.{statement}
 use Rattle.kernel.proofs.kinds.serve_two.Tie as tie

@@ -11,7 +11,7 @@ use Rattle.rules.specs.Range.{callNumbers}
 use Rattle.rules.specs.Access.{removeAccess, accessBy}
 use Rattle.rules.proofs.Guards.{outside, within}
 use Rattle.rules.proofs.Places.{decided}
-use Rattle.kernel.proofs.Passed.{passed}
+use Rattle.rules.proofs.Passed.{passed}
 use Rattle.kernel.proofs.Within.{in-remove, less-fits}
 use Rattle.kernel.proofs.Outcomes.{settled-refused, removed}
 use Rattle.kernel.proofs.moves.remove.Statement.{statement}

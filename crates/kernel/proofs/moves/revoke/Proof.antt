@@ -11,7 +11,7 @@ use Rattle.rules.specs.Range.{callNumbers}
 use Rattle.rules.specs.Access.{revokeAccess, accessBy}
 use Rattle.rules.proofs.Guards.{outside, within}
 use Rattle.rules.proofs.Places.{decided}
-use Rattle.kernel.proofs.Passed.{passed}
+use Rattle.rules.proofs.Passed.{passed}
 use Rattle.kernel.proofs.Within.{in-grant, less-fits}
 use Rattle.kernel.proofs.Outcomes.{settled-refused, revoked}
 use Rattle.kernel.proofs.moves.revoke.Statement.{statement}

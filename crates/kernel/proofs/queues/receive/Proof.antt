@@ -17,7 +17,7 @@ use Rattle.rules.proofs.Places.{decided}
 use Rattle.layout.proofs.Places.{endpoint-read}
 use Rattle.answers.proofs.AnswerWords.{shows, payload-fits, endpoint-there}
 use Rattle.effects.proofs.Words.{received-back}
-use Rattle.kernel.proofs.Passed.{passed}
+use Rattle.rules.proofs.Passed.{passed}
 use Rattle.kernel.proofs.Within.{in-endpoint, endpoint-in}
 use Rattle.kernel.proofs.Outcomes.{settled-refused, settled-received}
 use Rattle.kernel.proofs.queues.receive.Statement.{statement}

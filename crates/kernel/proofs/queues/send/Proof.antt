@@ -16,7 +16,7 @@ use Rattle.rules.proofs.Guards.{outside, within}
 use Rattle.rules.proofs.Places.{decided}
 use Rattle.decide.proofs.Reading.{owner-is}
 use Rattle.effects.proofs.Words.{sent-back}
-use Rattle.kernel.proofs.Passed.{passed}
+use Rattle.rules.proofs.Passed.{passed}
 use Rattle.kernel.proofs.Within.{in-endpoint, endpoint-in, owner-in}
 use Rattle.kernel.proofs.Outcomes.{settled-refused, settled-sent}
 use Rattle.kernel.proofs.queues.send.Statement.{statement}

@@ -1,7 +1,8 @@
 -- `kinds::alone` meets its contract: each return is one refusal. Assumes nothing.
 use native.Mathlib.Omega.{arith}
 use Rattle.working_calls.proofs.Whole.{served-refused}
-use Rattle.working_calls.proofs.ByWord.{here, low-unknown, alone-unused-1, alone-1, alone-unused-2, alone-2}
+use Rattle.calls.proofs.ByWord.{low-unknown, alone-unused-1, alone-1, alone-unused-2, alone-2}
+use Rattle.working_calls.proofs.ByWord.{here}
 use borrow.Author.Needs.{needs}
 use Rattle.working_calls.proofs.kinds.alone.Statement.{statement}
 use Rattle.working_calls.proofs.kinds.alone.Tie as tie

@@ -1,7 +1,8 @@
 -- `kinds::no_kind` meets its contract: both returns are refusals. Assumes nothing.
 use native.Mathlib.Omega.{arith}
 use Rattle.working_calls.proofs.Whole.{served-refused}
-use Rattle.working_calls.proofs.ByWord.{here, high-unknown, is-stray}
+use Rattle.calls.proofs.ByWord.{high-unknown, is-stray}
+use Rattle.working_calls.proofs.ByWord.{here}
 use borrow.Author.Needs.{needs}
 use Rattle.working_calls.proofs.kinds.no_kind.Statement.{statement}
 use Rattle.working_calls.proofs.kinds.no_kind.Tie as tie

@@ -1,7 +1,8 @@
 -- `kinds::on_queues` meets its contract: a receive and my endpoints, each with its unused fields. Assumes nothing.
 use native.Mathlib.Omega.{arith}
 use Rattle.working_calls.proofs.Whole.{served-refused, served-receive, served-endpoints}
-use Rattle.working_calls.proofs.ByWord.{here, receive-unused, receive-apart, endpoints-unused, endpoints-apart}
+use Rattle.calls.proofs.ByWord.{receive-unused, receive-apart, endpoints-unused, endpoints-apart}
+use Rattle.working_calls.proofs.ByWord.{here}
 use borrow.Author.Needs.{needs}
 use Rattle.working_calls.proofs.kinds.on_queues.Statement.{statement}
 use Rattle.working_calls.proofs.kinds.on_queues.Tie as tie

@@ -1,7 +1,8 @@
 -- `kinds::on_rights` meets its contract: each kind, with its unused fields. Assumes nothing.
 use native.Mathlib.Omega.{arith}
 use Rattle.working_calls.proofs.Whole.{served-refused, served-rights, served-grant, served-remove, served-revoke}
-use Rattle.working_calls.proofs.ByWord.{here, rights-unused, rights-apart, grant-apart, remove-unused, remove-apart, revoke-apart}
+use Rattle.calls.proofs.ByWord.{rights-unused, rights-apart, grant-apart, remove-unused, remove-apart, revoke-apart}
+use Rattle.working_calls.proofs.ByWord.{here}
 use borrow.Author.Needs.{needs}
 use Rattle.working_calls.proofs.kinds.on_rights.Statement.{statement}
 use Rattle.working_calls.proofs.kinds.on_rights.Tie as tie

@@ -1,26 +1,15 @@
 -- Calls of one word and of two, by the size of the first word and by what the code tests. Assumes nothing.
 use Prim.Native.Nat.{ℕ, _+_, _/_, _%_, _^_, _<_, _≤_}
-use mathlib.Core.Path.{_≡_, refl, sym, ap, subst, _∙_}
+use mathlib.Core.Path.{_≡_, refl, sym, ap, _∙_}
 use mathlib.Core.Bool.{Bool, true, false, _&&_}
-use mathlib.Core.List.{List}
 use native.Mathlib.Omega.{arith}
 use Rattle.machine.specs.Word.{kind, caller, payload, fieldA, fieldB, fieldC}
 use Rattle.machine.specs.Call.{kindOf, unusedFields, wantsSecond, hasSecond, secondPayload, Kind.lookUp, Kind.send, Kind.receive, Kind.myEndpoints, Kind.myRights, Kind.grant, Kind.remove, Kind.revoke, Kind.stray, Kind.unknown}
 use Rattle.cutting.specs.declared.Second.the-variants.{Nothing, Word}
 use Rattle.calls.specs.Apart.{ofKind, apart}
-use Rattle.calls.specs.declared.Call.{Call}
 use Rattle.calls.specs.declared.Call.the-variants.{LookUp, Send, Receive, MyEndpoints, MyRights, Grant, Remove, Revoke, Refused}
 use Rattle.calls.specs.declared.Refusal.the-variants.{Stray, UnknownKind, UnusedField, NoSecondWord}
 use Rattle.calls.proofs.Apart.{no-field, unused, no-second, fine, of-kind, unknown-kind}
-use Rattle.calls.specs.Decide.{decideCall}
-use Rattle.kernel.specs.Settled.{Settled}
-
--- what holds of a call holds of the same call
-pub here : {t p : List ℕ} {w : ℕ} {x y : Call} {words t′ p′ : List ℕ}
-    → x ≡ y
-    → Settled t p w (decideCall t x) words t′ p′
-    → Settled t p w (decideCall t y) words t′ p′
-here {t} {p} {w} {x} {y} {words} {t′} {p′} e s = subst (λ (c : Call). Settled t p w (decideCall t c) words t′ p′) e s
 
 never : (b : Bool) → (b && false) ≡ false
 never true = refl
