@@ -1,5 +1,5 @@
-// The words of a table are written here and nowhere else: one rights word, or the twelve words of one endpoint, which are lent to
-// the queue as a part of the table. Where the place isn't in the table nothing is written.
+// An effect is written here and nowhere else: one rights word, or the twelve words of one endpoint, which are lent to the queue as
+// a part of the table. Where the place isn't in the table nothing is written.
 use layout::domains;
 use layout::endpoint_at;
 use layout::rights_at;
