@@ -1,7 +1,7 @@
 -- The rows at the bounds hold, each by computation. Assumes nothing.
 use mathlib.Core.Path.{refl}
 use mathlib.Core.List.{[], _∷_}
-use Rattle.machine.specs.Everything.{everything}
+use Rattle.machine.proofs.Everything.{everything}
 use Rattle.machine.specs.Examples.{EveryRow}
 use Rattle.machine.specs.TableExamples.{EveryTable, namedCodes, foundCodes}
 use Rattle.bounds.specs.Rows.{sizeRows, endpointsNamed, boundRows}

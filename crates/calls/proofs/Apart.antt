@@ -10,14 +10,15 @@ use lib.Arith.{lt-of-le-ne, mod-mul}
 use lib.Dec.{eqb, lit<}
 use borrow.Author.Tests.{eqb-true, eqb-false, eq-eqb, ne-eqb}
 use Rattle.machine.specs.Word.{kind, caller, fieldA, fieldB, fieldC}
-use Rattle.machine.specs.Call.{first, Kind, kindOf, Kind.unknown, unusedFields, allZero, wantsSecond, hasSecond, wordPlaces}
+use Rattle.machine.specs.Call.{Kind, kindOf, Kind.unknown, unusedFields, allZero, wantsSecond, hasSecond, wordPlaces}
 use Rattle.calls.specs.Apart.{whole, ofKind, apart}
 use Rattle.cutting.specs.Cutting.{callOf}
 use Rattle.calls.specs.declared.Call.{Call}
 use Rattle.calls.specs.declared.Call.the-variants.{Refused}
 use Rattle.calls.specs.declared.Refusal.the-variants.{UnusedField, NoSecondWord}
 use Rattle.cutting.specs.declared.Second.{Second}
-use Rattle.cutting.specs.declared.Second.the-variants.{Nothing, Word}
+use Rattle.cutting.specs.declared.Second.the-variants.{Nothing}
+use Rattle.cutting.proofs.CutAt.{first-of}
 
 abbrev pub total : List ℕ → ℕ
 total [] = 0
@@ -47,11 +48,6 @@ digits x a b c e = ((λ z. omega arith), (λ z. omega arith))
 
 pub no-field : (w : ℕ) → (w % 4194304 ≡ 0) ↔ (total (fieldA w ∷ fieldB w ∷ fieldC w ∷ []) ≡ 0)
 no-field w = digits (w % 4194304) (fieldA w) (fieldB w) (fieldC w) (low-bits w)
-
-pub first-of : (w : ℕ) (s : Second) → first (callOf w s) ≡ w
-unfolding first
-first-of w Nothing = refl
-first-of w (Word v) = refl
 
 module _ (w n : ℕ) (is : kind w ≡ n) where
   pub unused : (s : Second) (k : Kind) (next : Call)

@@ -1,19 +1,15 @@
 -- Calls of one word and of two, by the size of the first word and by what the code tests. Assumes nothing.
-use Prim.Native.Nat.{ℕ, _+_, _/_, _%_, _^_, _<_, _≤_}
+use Prim.Native.Nat.{ℕ, _+_, _%_, _^_, _<_, _≤_}
 use mathlib.Core.Path.{_≡_, refl, sym, ap, _∙_}
-use mathlib.Core.Bool.{Bool, true, false, _&&_}
+use mathlib.Core.Bool.{and-false}
 use native.Mathlib.Omega.{arith}
 use Rattle.machine.specs.Word.{kind, caller, payload, fieldA, fieldB, fieldC}
-use Rattle.machine.specs.Call.{kindOf, unusedFields, wantsSecond, hasSecond, secondPayload, Kind.lookUp, Kind.send, Kind.receive, Kind.myEndpoints, Kind.myRights, Kind.grant, Kind.remove, Kind.revoke, Kind.stray, Kind.unknown}
+use Rattle.machine.specs.Call.{kindOf, unusedFields, wantsSecond, hasSecond, secondPayload, Kind.lookUp, Kind.send, Kind.receive, Kind.myEndpoints, Kind.myRights, Kind.grant, Kind.remove, Kind.revoke}
 use Rattle.cutting.specs.declared.Second.the-variants.{Nothing, Word}
 use Rattle.calls.specs.Apart.{ofKind, apart}
 use Rattle.calls.specs.declared.Call.the-variants.{LookUp, Send, Receive, MyEndpoints, MyRights, Grant, Remove, Revoke, Refused}
 use Rattle.calls.specs.declared.Refusal.the-variants.{Stray, UnknownKind, UnusedField, NoSecondWord}
 use Rattle.calls.proofs.Apart.{no-field, unused, no-second, fine, of-kind, unknown-kind}
-
-never : (b : Bool) → (b && false) ≡ false
-never true = refl
-never false = refl
 
 -- ---- two words
 module _ (w v : ℕ) where
@@ -23,7 +19,7 @@ module _ (w v : ℕ) where
 
   pub look-up-apart : w % 4194304 ≡ 0 → LookUp (caller w) (payload v) ≡ ofKind w (Word v) lookUp
   unfolding ofKind unusedFields hasSecond secondPayload
-  look-up-apart none = fine w (kind w) refl (Word v) lookUp _ (no-field w .0 none) (never (wantsSecond (kind w)))
+  look-up-apart none = fine w (kind w) refl (Word v) lookUp _ (no-field w .0 none) (and-false (wantsSecond (kind w)))
 
   pub send-unused : (fieldA w + fieldC w ≡ 0 → ⊥) → Refused (caller w) UnusedField ≡ ofKind w (Word v) send
   unfolding ofKind unusedFields
@@ -31,7 +27,7 @@ module _ (w v : ℕ) where
 
   pub send-apart : fieldA w + fieldC w ≡ 0 → Send (caller w) (fieldB w) (payload v) ≡ ofKind w (Word v) send
   unfolding ofKind unusedFields hasSecond secondPayload
-  send-apart none = fine w (kind w) refl (Word v) send _ (omega arith) (never (wantsSecond (kind w)))
+  send-apart none = fine w (kind w) refl (Word v) send _ (omega arith) (and-false (wantsSecond (kind w)))
 
 -- ---- one word
 module _ (w : ℕ) where

@@ -11,11 +11,11 @@ use Rattle.machine.specs.Machine.{Decision, Decision.refused, framed, places, d
 use Rattle.calls.specs.Apart.{whole, ofKind, apart}
 use Rattle.cutting.specs.Cutting.{callOf}
 use Rattle.calls.specs.Decide.{knownCaller, refusedCall, decideCall}
-use Rattle.calls.proofs.Apart.{first-of}
 use Rattle.calls.specs.declared.Call.{Call}
 use Rattle.calls.specs.declared.Call.the-variants.{Refused}
 use Rattle.calls.specs.declared.Refusal.the-variants.{UnusedField, NoSecondWord}
 use Rattle.cutting.specs.declared.Second.{Second}
+use Rattle.cutting.proofs.CutAt.{first-of}
 
 -- 12 before 13 and 14, whatever these two find
 framed-whole : (t : List ℕ) (w : ℕ) (s : Second) (k : Kind) (next : Decision) (call : Call)

@@ -2,14 +2,14 @@
 use mathlib.Core.Path.{_≡_, refl, ap, subst, _∙_}
 use mathlib.Core.Bool.{Bool, true, false, _||_}
 use mathlib.Core.List.{List, [], _∷_, _++_}
-use Prim.Native.Nat.{ℕ, suc, _+_, _-_, _*_, _%_, _^_, _<_, _≤_}
-use native.Mathlib.Nat.{one-mul, pow-suc, sub-zero}
+use Prim.Native.Nat.{ℕ, suc, _+_, _-_, _^_, _<_, _≤_}
+use native.Mathlib.Nat.{pow-suc, sub-zero}
 use native.Mathlib.Numerals.{add-one}
 use native.Mathlib.Omega.{arith}
 use mir.Syntax.{w32}
 use mir.Val.{Fits}
 use lib.ListN.{length, getD, take, drop, set, length-set}
-use lib.Pow.{shl-exact, pow-mono}
+use lib.Pow.{pow-mono}
 use lib.Seq.{take-suc-set}
 use Rattle.machine.specs.Below.{sumBelow, wordsBelow, bitsBelow}
 use Rattle.machine.specs.Word.{payload}
@@ -20,10 +20,6 @@ use Rattle.machine.proofs.Below.{bits-lt}
 use Rattle.reach.specs.Closure.{closed}
 use Rattle.reach.specs.Chain.{wordsOf}
 use Rattle.isolation.specs.Component.{joined, component}
-
--- a bit moved up by less than sixteen places stays in a word
-pub shifted : (d : ℕ) → d < 16 → 1 * 2 ^ d % 2 ^ 32 ≡ 2 ^ d
-shifted d l = shl-exact 1 d 32 (omega arith) (omega arith) ∙ one-mul (2 ^ d)
 
 -- two rights sets as they are read from a table of n domains
 pub joined-read :

@@ -2,8 +2,8 @@
 -- list counts; and a loop that fills a list. Assumes nothing.
 use Prim.Native.Nat.{ℕ, _+_, _<_, _≤_}
 use mathlib.Core.Path.{_≡_, refl, sym, ap, ap₂, _∙_}
-use mathlib.Core.Bool.{Bool, true, false, cond, _&&_, and-false}
-use mathlib.Core.Logic.{_≢_, ⊎-elim}
+use mathlib.Core.Bool.{Bool, true, false, cond, _&&_}
+use mathlib.Core.Logic.{⊎-elim}
 use mathlib.Core.List.{List, [], _∷_, _++_}
 use native.Mathlib.Numerals.{add-one}
 use native.Mathlib.Omega.{arith}
@@ -21,9 +21,7 @@ use Rattle.machine.proofs.Decide.{kind-elim}
 use Rattle.machine.proofs.Cut.{cut-few}
 use Rattle.totals.proofs.TotalsLaws.{done-few}
 use Rattle.cutting.specs.Cutting.{callOf, secondAt, widthOf}
-use Rattle.cutting.specs.declared.Second.{Second}
-use Rattle.cutting.specs.declared.Second.the-variants.{Nothing, Word}
-use Rattle.cutting.proofs.CutAt.{CutAt, cut-at}
+use Rattle.cutting.proofs.CutAt.{first-of, cut-at}
 
 -- the next call begins at place i of the list, its answer at place at of the answers
 pub record Counting (is : Kind → Bool) (list answers counts : List ℕ) (at i : ℕ) : Type 0 where
@@ -41,12 +39,6 @@ one w answer k = cond (eqb (kind w) k && eqb (answerCode answer) 0) 1 0
 -- a kind that passes the test is the one with the number k
 abbrev pub Numbered : (Kind → Bool) → ℕ → Type 0
 Numbered is k = (j : ℕ) → is (kindOf j) ≡ eqb j k
-
--- a call's first word is the one that it was made of
-first-of : (w : ℕ) (s : Second) → first (callOf w s) ≡ w
-unfolding first
-first-of w Nothing = refl
-first-of w (Word v) = refl
 
 -- what a call adds at f: 1 where it is done and names f
 adds-at : (is : Kind → Bool) (k f : ℕ) (c : Call) (w answer : ℕ) (ws : List ℕ) → Numbered is k → first c ≡ w

@@ -11,11 +11,21 @@ use lib.Dec.{ltb}
 use lib.ListN.{length, getD, drop, drop-of-length-le}
 use lib.Seq.{drop-cons}
 use Rattle.machine.specs.Call as machine
-use Rattle.machine.specs.Call.{pairs, cut}
+use Rattle.machine.specs.Call.{first, pairs, cut}
 use Rattle.machine.proofs.Cut.{cut-last, cut-one, cut-two}
 use Rattle.cutting.specs.Cutting.{callOf, secondAt, widthOf}
 use Rattle.cutting.specs.declared.Second.{Second}
 use Rattle.cutting.specs.declared.Second.the-variants.{Nothing, Word}
+
+-- the first word of a call, and how many words it is at the least
+pub first-of : (w : ℕ) (s : Second) → first (callOf w s) ≡ w
+unfolding first
+first-of w Nothing = refl
+first-of w (Word v) = refl
+
+pub wide : (s : Second) → 1 ≤ widthOf s
+wide Nothing = omega arith
+wide (Word v) = omega arith
 
 pub record CutAt (ws : List ℕ) (i : ℕ) (s : Second) : Type 0 where
   pub within : i + widthOf s ≤ length ws

@@ -2,7 +2,7 @@
 use mathlib.Core.Path.{refl}
 use Rattle.machine.specs.Below.{wordsBelow, bitsBelow}
 use Rattle.machine.specs.Holders.{holdersOf}
-use Rattle.machine.specs.Everything.{everything}
+use Rattle.machine.proofs.Everything.{everything}
 use Rattle.reach.specs.Closure.{withWords, widened, rounds, closed}
 use Rattle.holder_words.specs.Noted.{withBit, noted, roomFor, filled, holdersAfter, holdersAlong}
 use Rattle.holder_words.specs.Asked.{bitsWithin, askable, askCode, asked}

@@ -2,7 +2,7 @@
 use mathlib.Core.Path.{_≡_, sym, ap, ap₂, _∙_}
 use mathlib.Core.Bool.{Bool, true, false, cond, not, _&&_, or-false, or-true, and-true, and-false, false≢true}
 use mathlib.Core.Logic.{⊎-elim}
-use Prim.Native.Nat.{ℕ, suc, _+_, _-_, _*_, _/_, _%_, _^_, _<_}
+use Prim.Native.Nat.{ℕ, suc, _+_, _-_, _/_, _%_, _^_, _<_}
 use native.Mathlib.Decide.{decLt}
 use native.Mathlib.Nat.{one-mul}
 use native.Mathlib.Omega.{arith}
@@ -10,7 +10,6 @@ use borrow.Author.Tests.{eqb-true, eqb-false}
 use lib.Arith.{bin-ind}
 use lib.Bits.{bitAnd, bitOr, or-zero-r, or-shifted-r}
 use lib.Dec.{eqb}
-use lib.Pow.{shl-exact}
 use Rattle.machine.specs.Below.{sumBelow, bitsBelow, hasBit}
 use Rattle.machine.specs.Right.{without}
 use Rattle.machine.proofs.Bools.{either}
@@ -19,10 +18,6 @@ use Rattle.machine.proofs.Right.{holds-bit, holds-without}
 use Rattle.machine.proofs.Table.{equal-either}
 use Rattle.reach.proofs.Bits.{bit-or, bit-none, bit-zero, bit-half, bit-own, bit-other, some-bit}
 use Rattle.holder_words.specs.Noted.{withBit}
-
--- one bit stays in a word
-pub one-bit : (i : ℕ) → i < 32 → 1 * 2 ^ i % 2 ^ 32 ≡ 2 ^ i
-one-bit i l = shl-exact 1 i 32 (omega arith) (omega arith) ∙ one-mul (2 ^ i)
 
 -- numbers with the same bits are the same
 pub same-bits : (a b : ℕ) → ((k : ℕ) → hasBit a k ≡ hasBit b k) → a ≡ b

@@ -2,7 +2,7 @@
 use mathlib.Core.Path.{refl}
 use Rattle.machine.specs.Below.{wordsBelow, bitsBelow, hasBit}
 use Rattle.machine.specs.DomainSet.{fromGroup}
-use Rattle.machine.specs.Everything.{everything}
+use Rattle.machine.proofs.Everything.{everything}
 use Rattle.reach.specs.Closure.{withWords, widened, rounds, closed}
 use Rattle.reach.specs.Chain.{wordsOf}
 use Rattle.isolation.specs.Component.{joined, component, callsFrom, componentCalls}

@@ -1,4 +1,4 @@
--- The rows of two lines hold by computation; one pair meets the rule's condition, and two show that less is not enough
+-- The rows of two lines hold by computation; one pair meets the rule's condition, and others show that less is not enough
 -- (specs/LineExamples). Assumes nothing.
 use mathlib.Core.Path.{_≡_, refl, sym, ap, subst}
 use mathlib.Core.Bool.{Bool, true, false≢true}
@@ -9,7 +9,7 @@ use native.Mathlib.Omega.{arith}
 use borrow.Author.Tests.{eqb-true}
 use lib.Dec.{eqb}
 use lib.ListN.{getD}
-use Rattle.machine.specs.Everything.{everything}
+use Rattle.machine.proofs.Everything.{everything}
 use Rattle.machine.specs.Below.{allBelow}
 use Rattle.machine.specs.Table.{domains, endpoints, rightsWord, endpoint}
 use Rattle.machine.specs.Queue.{name, owner, capacity}

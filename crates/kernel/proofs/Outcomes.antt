@@ -1,7 +1,7 @@
 -- What is answered and left, by what a call came to. Assumes nothing.
 use mathlib.Core.Path.{_≡_, refl, sym, ap, ap₂, subst, _∙_}
 use mathlib.Core.List.{List, [], _∷_}
-use Prim.Native.Nat.{ℕ, _%_, _^_, _<_}
+use Prim.Native.Nat.{ℕ, _^_, _<_}
 use native.Mathlib.Nat.{mod-eq-of-lt}
 use Rattle.machine.specs.Right.{adds, without}
 use Rattle.machine.specs.Table.{rights, endpoint}

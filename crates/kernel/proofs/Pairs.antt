@@ -1,7 +1,7 @@
 -- The word behind a call's first, by the test of the code: it makes one call with it or doesn't. Assumes nothing.
-use mathlib.Core.Path.{_≡_, refl, ap}
+use mathlib.Core.Path.{_≡_}
 use mathlib.Core.Logic.{_⊎_, inl, inr}
-use mathlib.Core.Bool.{Bool, true, false, _&&_}
+use mathlib.Core.Bool.{true, false, and-false}
 use mathlib.Core.List.{List}
 use Prim.Native.Nat.{ℕ, _+_, _<_, _≤_}
 use native.Mathlib.Decide.{decLt}
@@ -16,10 +16,6 @@ use Rattle.cutting.specs.Cutting.{secondAt}
 use Rattle.cutting.specs.declared.Second.the-variants.{Nothing, Word}
 use Rattle.calls.specs.Apart.{ofKind, apart}
 use Rattle.calls.proofs.Apart.{of-kind}
-
-never : (b : Bool) → (b && false) ≡ false
-never true = refl
-never false = refl
 
 -- two words that make one call are of these kinds
 module _ (w v : ℕ) (h : pairs w v ≡ true) where
@@ -65,4 +61,4 @@ module _ (ws : List ℕ) (i : ℕ) where
 
   pub no-second-word : pairs (getD ws i 0) (getD ws (i + 1) 0) ≡ false → Nothing ≡ secondAt ws i
   unfolding secondAt
-  no-second-word h = rw (h, never (ltb (i + 1) (length ws)))
+  no-second-word h = rw (h, and-false (ltb (i + 1) (length ws)))

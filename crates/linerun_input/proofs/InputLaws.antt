@@ -5,11 +5,10 @@ use mathlib.Core.Path.{_≡_, refl, sym, ap, _∙_}
 use mathlib.Core.Bool.{Bool, true, false}
 use mathlib.Core.List.{List, [], _++_}
 use borrow.Author.Tests.{lt-ltb, le-ltb}
-use native.Mathlib.Decide.{decLt}
 use native.Mathlib.Omega.{arith}
 use lib.Dec.{lit≤}
 use lib.ListN.{length, take, drop, length-append, length-take, length-drop}
-use lib.Seq.{length-take-le, take-append-le, take-append-add, take-add}
+use lib.Seq.{length-take-le}
 use Rattle.machine.proofs.Bools.{or-none-left}
 use Rattle.reading.specs.Bytes.{wordsOf}
 use Rattle.reading.specs.TableInput.{tableEnd, noTable, afterTable, tableWanted}
@@ -17,6 +16,7 @@ use Rattle.text.specs.Write.{Fills}
 use Rattle.text.proofs.WriteLaws.{fills-cut, fills-part}
 use Rattle.reading.proofs.WordLaws.{take-wordsOf-append}
 use Rattle.reading.proofs.TableLaws.{Whole, whole, whole-table, table-within, whole-more, afterTable-more, still-asks}
+use Rattle.reading.proofs.Needed.{needed-none, needed-more, stored}
 use Rattle.linerun_input.specs.Input.{listWordsRead, mostInput, listOf, leftOver, unreadable, wanted, Needed, Reads}
 
 -- the reading asks for no byte past the room for a longest table and a list one word too long
@@ -71,44 +71,28 @@ still-wanted bytes more h = go (noTable bytes) refl
         simp (whole-table (bytes ++ more) (whole-more bytes more w), afterTable-more bytes more w)
         (omega (arith, simp e at h, length-append (afterTable bytes) more))
 
--- The two ways to stop, and the step between: what a read that asked for no more than was wanted put behind the bytes was needed
--- too.
-pub needed-none : Needed []
-needed-none k l = absurd (omega arith)
+-- ---- the two ways to stop, and the step between
 
 -- of no byte at all the length word is wanted
 pub stops-empty : Reads [] true
 unfolding wanted noTable tableWanted
-stops-empty = record { reason = refl; needed = needed-none }
+stops-empty = record { reason = refl; needed = needed-none wanted }
 
 pub stops-full : (bytes : List ℕ) → Needed bytes → wanted bytes ≡ 0 → Reads bytes false
 stops-full bytes needed done = record { reason = sym (le-ltb 0 (wanted bytes) (omega arith)); needed = needed }
 
-needed-more : (bytes more : List ℕ) → Needed bytes → length more ≤ wanted bytes → Needed (bytes ++ more)
-needed-more bytes more needed asked k l = go (decLt k (length bytes))
-  where
-    go : Dec (k < length bytes) → 0 < wanted (take k (bytes ++ more))
-    go (yes h) = rw (take-append-le k bytes more (omega arith)) (needed k h)
-    go (no h) =
-        let behind = k - length bytes in
-        let place : k ≡ length bytes + behind = omega arith in
-        rw (place, take-append-add bytes more behind)
-        (still-wanted bytes (take behind more) (omega (arith, length-take behind more, length-append bytes more)))
-
--- the same of a buffer of which the first bytes stayed while a read stored its own behind them
+-- a buffer of which the first bytes stayed while a read, which asked for no more than was wanted, stored its own behind them: these
+-- were needed too
 module _ (before after : List ℕ) (have got : ℕ) (kept : take have after ≡ take have before) (room : have + got ≤ length after)
     (needed : Needed (take have before)) where
-  stored : take (have + got) after ≡ take have before ++ take got (drop have after)
-  stored = take-add have got after ∙ ap (λ l. l ++ take got (drop have after)) kept
-
   many : length (take got (drop have after)) ≡ got
   many = length-take-le got (drop have after) (omega (arith, length-drop have after))
 
   pub needed-step : got ≤ wanted (take have before) → Needed (take (have + got) after)
-  needed-step asked = rw stored (needed-more (take have before) (take got (drop have after)) needed (omega (arith, many)))
+  needed-step asked = rw (stored before after have got kept) (needed-more wanted still-wanted (take have before) (take got (drop have after)) needed (omega (arith, many)))
 
   pub stops-short : got < wanted (take have before) → Reads (take (have + got) after) true
   stops-short short =
       let more : 0 < wanted (take (have + got) after) =
-      rw stored (still-wanted (take have before) (take got (drop have after)) (omega (arith, many))) in
+      rw (stored before after have got kept) (still-wanted (take have before) (take got (drop have after)) (omega (arith, many))) in
       record { reason = sym (lt-ltb _ _ more); needed = needed-step (omega arith) }

@@ -1,5 +1,5 @@
 -- What `linerun` reads (document 01, 'Into firmware and onto the bench'): the table, then the list's words up to word 4,097.
-use Prim.Native.Nat.{ℕ, _+_, _-_, _*_, _%_, _<_}
+use Prim.Native.Nat.{ℕ, _+_, _-_, _*_, _%_}
 use mathlib.Core.Path.{_≡_}
 use mathlib.Core.Bool.{Bool, cond, not, _&&_, _||_}
 use mathlib.Core.List.{List}
@@ -7,7 +7,7 @@ use lib.ListN.{length, take}
 use lib.Dec.{eqb, ltb}
 use Rattle.machine.specs.Entry.{longestList}
 use Rattle.reading.specs.Bytes.{wordsOf}
-use Rattle.reading.specs.TableInput.{longestTable, noTable, afterTable, tableWanted}
+use Rattle.reading.specs.TableInput.{longestTable, noTable, afterTable, tableWanted, NeededBy}
 
 -- the reading stops at the first list word that is one too many
 abbrev pub listWordsRead : ℕ
@@ -35,7 +35,7 @@ mostInput = 4 + 4 * longestTable + 4 * listWordsRead
 
 -- each of these bytes was needed: behind the ones before it more was wanted
 abbrev pub Needed : List ℕ → Type 0
-Needed bytes = (k : ℕ) → k < length bytes → 0 < wanted (take k bytes)
+Needed bytes = NeededBy wanted bytes
 
 -- what the reading leaves: these bytes, and the answer whether more is wanted behind them. It reads no byte past the first place
 -- where nothing more is wanted, so that it waits for none. That a reading which stops while more is wanted has met the input's

@@ -1,20 +1,20 @@
 -- Laws of the tests, searches, sums, lists and sets of bits over the numbers below k (specs/Below).
 -- Assumes nothing.
 use mathlib.Core.Path.{_≡_, refl, sym, ap, ap₂, _∙_}
-use mathlib.Core.Bool.{Bool, true, false, cond, not, _&&_, _||_, false≢true}
+use mathlib.Core.Bool.{Bool, true, false, cond, _&&_, false≢true}
 use mathlib.Core.Logic.{_⊎_, _⊎_.inl, _⊎_.inr, ⊎-elim}
 use mathlib.Core.List.{List, [], _∷_, _++_, map, map-append}
 use mathlib.Core.Option.{Option, none, some}
 use Prim.Native.Nat.{ℕ, zero, suc, _+_, _-_, _*_, _/_, _%_, _^_, _<_, _≤_}
-use native.Mathlib.Nat.{not-suc-le-zero, add-mul-div-right, add-mul-mod-self-right, div-eq-of-lt, lt-of-lt-of-le, pow-suc}
+use native.Mathlib.Nat.{not-suc-le-zero, one-mul, add-mul-div-right, add-mul-mod-self-right, div-eq-of-lt, lt-of-lt-of-le, pow-suc}
 use native.Mathlib.Decide.{decLt}
 use native.Mathlib.Omega.{arith}
 use lib.Dec.{eqb}
 use lib.ListN.{length, getD, length-append, List·getD-append, List·getD-eq-default}
 use lib.Seq.{getD-at}
-use lib.Pow.{pow-pos, pow-mono, pow-add, high}
-use Rattle.machine.specs.Below.{allBelow, anyBelow, numbersBelow, firstBelow, sumBelow, wordsBelow, bitsBelow, hasBit}
-use Rattle.machine.proofs.Bools.{and-left, and-right, and-intro, or-cases, or-right, or-none-left, or-none-right}
+use lib.Pow.{pow-pos, pow-mono, pow-add, shl-exact, high}
+use Rattle.machine.specs.Below.{allBelow, numbersBelow, firstBelow, sumBelow, wordsBelow, bitsBelow, hasBit}
+use Rattle.machine.proofs.Bools.{and-left, and-right, and-intro}
 
 -- a number below suc k is below k or is k
 pub below-or-last : (k i : ℕ) → i < suc k → (i < k) ⊎ (i ≡ k)
@@ -63,63 +63,6 @@ first-same (suc k) p q e =
     ap₂ (λ (o : Option ℕ) (b : Bool). elim o [ none ↦ cond b (some k) none | some i ↦ some i ])
     (first-same k p q (λ i l. e i (omega arith)))
     (e k (omega arith))
-
--- ---- some number below k
-
--- a test that any passes is passed by one
-pub any-at : (k : ℕ) (p : ℕ → Bool) → anyBelow k p ≡ true → (i : ℕ) × (i < k) × (p i ≡ true)
-unfolding anyBelow
-any-at zero p h = absurd (false≢true h)
-any-at (suc k) p h =
-    ⊎-elim (λ b. let (i, l, e) = any-at k p b in (i, omega arith, e)) (λ e. (k, omega arith, e))
-    (or-cases (anyBelow k p) (p k) h)
-
-pub any-of : (k : ℕ) (p : ℕ → Bool) (i : ℕ) → i < k → p i ≡ true → anyBelow k p ≡ true
-unfolding anyBelow
-any-of zero p i l e = absurd (not-suc-le-zero l)
-any-of (suc k) p i l e =
-    ⊎-elim (λ b. rw (any-of k p i b e)) (λ is. or-right (anyBelow k p) (p k) (ap p (sym is) ∙ e)) (below-or-last k i l)
-
--- a test that none passes
-pub none-at : (k : ℕ) (p : ℕ → Bool) → anyBelow k p ≡ false → (i : ℕ) → i < k → p i ≡ false
-unfolding anyBelow
-none-at zero p h i l = absurd (not-suc-le-zero l)
-none-at (suc k) p h i l =
-    ⊎-elim (λ b. none-at k p (or-none-left (anyBelow k p) (p k) h) i b)
-    (λ e. ap p e ∙ or-none-right (anyBelow k p) (p k) h)
-    (below-or-last k i l)
-
-pub none-of : (k : ℕ) (p : ℕ → Bool) → ((i : ℕ) → i < k → p i ≡ false) → anyBelow k p ≡ false
-unfolding anyBelow
-none-of zero p f = refl
-none-of (suc k) p f = rw (none-of k p (λ i l. f i (omega arith)), f k (omega arith))
-
-pub any-same : (k : ℕ) (p q : ℕ → Bool) → ((i : ℕ) → i < k → p i ≡ q i) → anyBelow k p ≡ anyBelow k q
-unfolding anyBelow
-any-same zero p q f = refl
-any-same (suc k) p q f = ap₂ _||_ (any-same k p q (λ i l. f i (omega arith))) (f k (omega arith))
-
--- some pass where not all fail
-pub any-not-all : (k : ℕ) (p : ℕ → Bool) → anyBelow k p ≡ not (allBelow k (λ i. not (p i)))
-unfolding anyBelow allBelow
-any-not-all zero p = refl
-any-not-all (suc k) p = rw (any-not-all k p) (go (allBelow k (λ i. not (p i))) (p k))
-  where
-    go : (a b : Bool) → (not a || b) ≡ not (a && not b)
-    go true true = refl
-    go true false = refl
-    go false b = refl
-
--- all pass where none fails
-pub all-not-any : (k : ℕ) (p : ℕ → Bool) → allBelow k p ≡ not (anyBelow k (λ i. not (p i)))
-unfolding anyBelow allBelow
-all-not-any zero p = refl
-all-not-any (suc k) p = rw (all-not-any k p) (go (anyBelow k (λ i. not (p i))) (p k))
-  where
-    go : (a b : Bool) → (not a && b) ≡ not (a || not b)
-    go true b = refl
-    go false true = refl
-    go false false = refl
 
 -- ---- the list of f below k
 
@@ -203,6 +146,10 @@ bits-at (suc k) p i l =
 pub bits-past : (k : ℕ) (p : ℕ → Bool) (i : ℕ) → k ≤ i → hasBit (bitsBelow k p) i ≡ false
 unfolding hasBit
 bits-past k p i l = rw (div-eq-of-lt (lt-of-lt-of-le (bits-lt k p) (pow-mono l)))
+
+-- bit i by itself stays in a word of 32 bits
+pub one-bit : (i : ℕ) → i < 32 → 1 * 2 ^ i % 2 ^ 32 ≡ 2 ^ i
+one-bit i l = shl-exact 1 i 32 (omega arith) (omega arith) ∙ one-mul (2 ^ i)
 
 -- two tests that agree below k, and what is made of each number of which they hold
 pub map-same : {A : Type 0} (k : ℕ) (p q : ℕ → Bool) (f g : ℕ → A) → ((i : ℕ) → i < k → p i ≡ q i) → ((i : ℕ) → i < k → q i ≡ true → f i ≡ g i) → map f (numbersBelow k p) ≡ map g (numbersBelow k q)

@@ -11,7 +11,7 @@ use native.Mathlib.Omega.{arith}
 use borrow.Author.Tests.{eq-eqb, ne-eqb}
 use lib.Dec.{eqb}
 use lib.ListN.{length}
-use Rattle.machine.specs.Word.{kind, fieldB, answerCode}
+use Rattle.machine.specs.Word.{kind, mostPayload, fieldB, answerCode}
 use Rattle.machine.specs.Table.{domains, endpoints, endpoint, setEndpoint}
 use Rattle.machine.specs.Queue.{waiting, lost, oldest, mostLost, hasSpace, sent, received}
 use Rattle.machine.specs.Check.{endpointOk, Accepted}
@@ -55,7 +55,7 @@ module _ (n : ℕ) (q : List ℕ) (twelve : length q ≡ 12) (ok : endpointOk n 
   most : waiting q ≤ 8
   most = queue.waiting-most n q ok
 
-  served-send : {shown : ℕ} (m : ℕ) → m ≤ mostLost → Served true false m shown q (sent q m)
+  served-send : {shown : ℕ} (m : ℕ) → m ≤ mostPayload → Served true false m shown q (sent q m)
   unfolding messageOf toldOf
   served-send {shown} m small =
       queue.sent-elim n q twelve ok m (Served true false m shown q)

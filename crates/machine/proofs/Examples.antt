@@ -2,7 +2,7 @@
 -- check accepts, those that pin sources, purge and view, and the counts.
 -- Assumes nothing.
 use mathlib.Core.Path.{refl}
-use Rattle.machine.specs.Everything.{everything}
+use Rattle.machine.proofs.Everything.{everything}
 use Rattle.machine.specs.Examples.{EveryRow, rows}
 use Rattle.machine.specs.CodeExamples.{codeRows}
 use Rattle.machine.specs.TableExamples.{EveryTable, tableRows, altered, namedCodes, foundCodes}

@@ -1,4 +1,5 @@
 -- What is proved of the machine.
+pub mod Everything
 pub mod Examples
 pub mod Bools
 pub mod Below

@@ -4,7 +4,7 @@
 use mathlib.Core.Path.{_≡_, refl, sym, ap, subst, _∙_}
 use mathlib.Core.Bool.{Bool, true, false, _&&_}
 use mathlib.Core.List.{List, _∷_, _++_, map}
-use mathlib.Core.Option.{Option, some}
+use mathlib.Core.Option.{some, Option·some-injective}
 use Prim.Native.Nat.{ℕ, _<_}
 use borrow.Author.Tests.{ltb-true, eqb-true}
 use lib.Dec.{eqb, ltb}
@@ -91,13 +91,10 @@ policy-respect {n} {v} {s} {t} u o a =
     go true e = ap (λ (w : ℕ). hasAny (payload w)) (a .onIt u (ltb-true _ _ e))
     go false e = refl
 
-some-is : {x y : ℕ} → _≡_ {A = Option ℕ} (some x) (some y) → x ≡ y
-some-is p = cc
-
 -- whoever calls is the caller that is known
 same-caller : {u : ℕ} {s t : List ℕ} (c : Call) → callerOf c ≡ some u → Agree u s t → callerOf c ≡ some (caller (first c)) → SamePart (caller (first c)) s t
 same-caller {u} {s} {t} c e a k =
-    subst (λ (w : ℕ). SamePart w s t) (some-is (sym e ∙ k)) (a .part)
+    subst (λ (w : ℕ). SamePart w s t) (Option·some-injective _ _ (sym e ∙ k)) (a .part)
 
 -- Accepted tables of n domains meet the unwinding conditions.
 pub conditions : (n : ℕ) → unwinding.Unwinding (tables n) (Alike n) Agree
@@ -122,7 +119,7 @@ conditions n =
           b;
       outputConsistent =
           λ {s} {t} {u} c o lu e a.
-          answer-depends s t c (o .second) (o .frame) (λ w k _. subst (λ (x : ℕ). SamePart x s t) (some-is (sym e ∙ k)) (a .part));
+          answer-depends s t c (o .second) (o .frame) (λ w k _. subst (λ (x : ℕ). SamePart x s t) (Option·some-injective _ _ (sym e ∙ k)) (a .part));
     }
 
 -- what is made of the endpoints that d owns, in two tables that agree on d

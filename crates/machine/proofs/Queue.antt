@@ -14,7 +14,7 @@ use lib.Dec.{eqb, leb, ltb}
 use lib.ListN.{length, getD, take, drop, set, length-set, length-take, length-drop, length-append, List·getD-append}
 use lib.Seq.{lt-length-set, getD-set-same, getD-set-other, take-set-le, drop-set-lt, drop-set-add, take-suc-set, length-take-le, getD-take, getD-drop, take-append-le, take-take, take-at, drop-at, drop-cons, getD-append-add, getD-at}
 use Rattle.machine.specs.Below.{allBelow}
-use Rattle.machine.specs.Word.{kind, payload, word}
+use Rattle.machine.specs.Word.{kind, payload, mostPayload, word}
 use Rattle.machine.specs.Queue.{name, owner, capacity, waiting, lost, oldest, emptySlot, mostLost, hasSpace, sendWithSpace, sendToFull, sent, movedUp, received}
 use Rattle.machine.specs.Check.{waitingWordOk, lostWordOk, slotWordOk, identityOk, queueOk, endpointOk}
 use Rattle.machine.specs.Call.{Call, secondPayload, Call.one, Call.two}
@@ -24,10 +24,10 @@ use Rattle.machine.proofs.Below.{all-at, all-of}
 use Rattle.machine.proofs.Accepted.{info-of}
 
 -- a word gives back the kind and the payload that it was made of
-pub kind-word : (k p : ℕ) → p ≤ mostLost → kind (word k p) ≡ k
+pub kind-word : (k p : ℕ) → p ≤ mostPayload → kind (word k p) ≡ k
 kind-word k p h = omega arith
 
-pub payload-word : (k p : ℕ) → p ≤ mostLost → payload (word k p) ≡ p
+pub payload-word : (k p : ℕ) → p ≤ mostPayload → payload (word k p) ≡ p
 payload-word k p h = omega arith
 
 -- ---- sound words: what the test of an endpoint's queue says, word by word
@@ -110,11 +110,7 @@ module _ (p q : List ℕ) (same : take 2 p ≡ take 2 q) where
   unfolding identityOk
   identity-kept n = rw (identity-word p q same 0 (omega arith), identity-word p q same 1 (omega arith))
 
--- counts are payloads, so they fit a word
-pub waiting-small : (q : List ℕ) → waiting q ≤ mostLost
-unfolding waiting
-waiting-small q = omega arith
-
+-- a lost count is a payload, so it fits a word
 pub lost-small : (q : List ℕ) → lost q ≤ mostLost
 unfolding lost
 lost-small q = omega arith
@@ -128,7 +124,7 @@ pub waiting-most : (n : ℕ) (q : List ℕ) → endpointOk n q ≡ true → wait
 waiting-most n q h = omega (arith, endpoint-sound n q h .fits, info-of n q h)
 
 -- a call's message fits a word
-pub message-small : (c : Call) → secondPayload c ≤ mostLost
+pub message-small : (c : Call) → secondPayload c ≤ mostPayload
 unfolding secondPayload
 message-small (one w) = omega arith
 message-small (two w v) = omega arith
@@ -170,7 +166,7 @@ module _ (q : List ℕ) (twelve : length q ≡ 12) (m : ℕ) where
   unfolding lost
   sendWithSpace-lost = ap payload (sendWithSpace-other 3 (omega arith) (omega arith))
 
-  pub sendWithSpace-slots : m ≤ mostLost → waiting q < 8 → Sound q → (i : ℕ) → i < 8 → Slot (waiting q + 1) i (getD (sendWithSpace q m) (4 + i) 0)
+  pub sendWithSpace-slots : m ≤ mostPayload → waiting q < 8 → Sound q → (i : ℕ) → i < 8 → Slot (waiting q + 1) i (getD (sendWithSpace q m) (4 + i) 0)
   sendWithSpace-slots small b s i l = go (ℕ-discrete i (waiting q))
     where
       go : Dec (i ≡ waiting q) → Slot (waiting q + 1) i (getD (sendWithSpace q m) (4 + i) 0)
@@ -181,7 +177,7 @@ module _ (q : List ℕ) (twelve : length q ≡ 12) (m : ℕ) where
           rw (sendWithSpace-other (4 + i) (omega arith) (omega arith))
           (record { isSlot = s .slots i l .isSlot; empty = λ a. s .slots i l .empty (omega arith) })
 
-  pub sendWithSpace-sound : m ≤ mostLost → capacity q ≤ 8 → hasSpace q ≡ true → Sound q → Sound (sendWithSpace q m)
+  pub sendWithSpace-sound : m ≤ mostPayload → capacity q ≤ 8 → hasSpace q ≡ true → Sound q → Sound (sendWithSpace q m)
   unfolding hasSpace
   sendWithSpace-sound small most space s =
       let b : waiting q < capacity q = ltb-true _ _ space in
@@ -198,7 +194,7 @@ module _ (q : List ℕ) (twelve : length q ≡ 12) (m : ℕ) where
   sendWithSpace-drop = let b : 2 < 4 = omega arith in rw (drop-set-lt, drop-set-add)
 
   -- the message goes last
-  pub sendWithSpace-messages : m ≤ mostLost → waiting q < 8 → messages (sendWithSpace q m) ≡ messages q ++ (m ∷ [])
+  pub sendWithSpace-messages : m ≤ mostPayload → waiting q < 8 → messages (sendWithSpace q m) ≡ messages q ++ (m ∷ [])
   unfolding messages
   sendWithSpace-messages small b =
       rw (sendWithSpace-waiting b, add-one, sendWithSpace-drop)
@@ -350,7 +346,7 @@ module _ (q : List ℕ) (twelve : length q ≡ 12) (some : waiting q ≢ 0) (mos
   after-send = sendWithSpace-length (received q) after-receive m
 
   -- the oldest message goes out, and the newcomer goes last
-  pub sendToFull-messages : m ≤ mostLost → oldest q ∷ messages (sendToFull q m) ≡ messages q ++ (m ∷ [])
+  pub sendToFull-messages : m ≤ mostPayload → oldest q ∷ messages (sendToFull q m) ≡ messages q ++ (m ∷ [])
   unfolding sendToFull
   sendToFull-messages small =
       ap (λ (l : List ℕ). oldest q ∷ l) (withLost-messages _ after-send _ ∙ sendWithSpace-messages _ after-receive m small room)
@@ -380,7 +376,7 @@ module _ (q : List ℕ) (twelve : length q ≡ 12) (some : waiting q ≢ 0) (mos
       ∙ sendWithSpace-identity (received q) after-receive m
       ∙ received-identity q twelve some most
 
-  pub sendToFull-sound : m ≤ mostLost → capacity q ≤ 8 → Sound q → Sound (sendToFull q m)
+  pub sendToFull-sound : m ≤ mostPayload → capacity q ≤ 8 → Sound q → Sound (sendToFull q m)
   unfolding sendToFull hasSpace
   sendToFull-sound small slots s =
       let same = capacity-kept (received q) q (received-identity q twelve some most) in
@@ -407,7 +403,7 @@ module _ (n : ℕ) (q : List ℕ) (twelve : length q ≡ 12) (ok : endpointOk n 
   pub sent-identity : take 2 (sent q m) ≡ take 2 q
   sent-identity = sent-elim (λ p. take 2 p ≡ take 2 q) (λ _ _. sendWithSpace-identity q twelve m) (λ _ some. sendToFull-identity q twelve some most m)
 
-  pub sent-sound : m ≤ mostLost → Sound (sent q m)
+  pub sent-sound : m ≤ mostPayload → Sound (sent q m)
   sent-sound small =
       let s = endpoint-sound n q ok in
       let slots = info-of n q ok .2 in
@@ -419,7 +415,7 @@ unfolding endpointOk
 endpoint-kept n p q same s h =
     and-intro (identity-kept p q same n ∙ and-left (identityOk n q) (queueOk q) h) (queue-ok p s)
 
-pub sent-ok : (n : ℕ) (q : List ℕ) (m : ℕ) → length q ≡ 12 → m ≤ mostLost → endpointOk n q ≡ true → endpointOk n (sent q m) ≡ true
+pub sent-ok : (n : ℕ) (q : List ℕ) (m : ℕ) → length q ≡ 12 → m ≤ mostPayload → endpointOk n q ≡ true → endpointOk n (sent q m) ≡ true
 sent-ok n q m twelve small h =
     endpoint-kept n (sent q m) q (sent-identity n q twelve h m) (sent-sound n q twelve h m small) h
 

@@ -11,12 +11,12 @@ use borrow.Author.Tests.{leb-true, eqb-true, eqb-false, le-leb, eq-eqb, ne-eqb, 
 use lib.Arith.{bin-ind, digits-mod}
 use lib.Pow.{pow-pos, pow-add}
 use lib.Dec.{eqb, leb}
-use lib.Bits.{bitAnd, bitOr, bitXor, and-step, and-self, and-le-l, and-le-r, and-shr, and-mod, and-high, or-add-and, or-lt, or-shr, or-mod, xor-add-and, xor-shr, xor-mod}
+use lib.Bits.{bitAnd, bitOr, bitXor, and-step, and-self, and-le-l, and-shr, and-mod, and-high, or-shr, or-mod, xor-add-and, xor-shr, xor-mod}
 use Rattle.machine.specs.Below.{allBelow}
 use Rattle.machine.specs.Word.{kind, payload, word}
 use Rattle.machine.specs.Right.{allRights, holds, adds, without, hasAny}
 use Rattle.machine.specs.Check.{rightsWordOk}
-use Rattle.machine.proofs.Bools.{and-left, and-right, and-intro}
+use Rattle.machine.proofs.Bools.{and-right, and-intro}
 use Rattle.machine.proofs.Below.{all-at}
 
 -- ---- bits, of any numbers
@@ -153,16 +153,6 @@ pub any-nonzero : (s : ℕ) → hasAny s ≡ true → s ≡ 0 → ⊥
 unfolding hasAny
 any-nonzero s h = eqb-false s 0 (not-true _ h)
 
-pub any-adds-left : (a b : ℕ) → hasAny a ≡ true → hasAny (adds a b) ≡ true
-unfolding adds
-any-adds-left a b h =
-    has-any (bitOr a b) (λ e. any-nonzero a h (omega (arith, or-add-and a b, and-le-r a b)))
-
-pub any-adds-right : (a b : ℕ) → hasAny b ≡ true → hasAny (adds a b) ≡ true
-unfolding adds
-any-adds-right a b h =
-    has-any (bitOr a b) (λ e. any-nonzero b h (omega (arith, or-add-and a b, and-le-l a b)))
-
 pub holds-any : (s r : ℕ) → (r ≡ 0 → ⊥) → holds s r ≡ true → hasAny s ≡ true
 holds-any s r ne h = has-any s (λ e. ne (omega (arith, holds-le s r h)))
 
@@ -180,26 +170,6 @@ module _ (s : ℕ) (within : s ≤ allRights) where
   rights-word-ok = and-intro (eq-eqb _ _ rights-kind) (le-leb (payload (word 2 s)) allRights (omega arith))
 
 module _ (w : ℕ) (ok : rightsWordOk w ≡ true) where
-  pub rights-word : w ≡ word 2 (payload w)
-  unfolding rightsWordOk
-  rights-word = omega (arith, eqb-true (kind w) 2 (and-left (eqb (kind w) 2) (leb (payload w) allRights) ok))
-
   pub rights-within : payload w ≤ allRights
   unfolding rightsWordOk
   rights-within = leb-true _ _ (and-right (eqb (kind w) 2) (leb (payload w) allRights) ok)
-
--- ---- in a machine word: nothing wraps, whatever the words hold
-
-pub adds-below : (k a b : ℕ) → a < 2 ^ k → b < 2 ^ k → adds a b < 2 ^ k
-unfolding adds
-adds-below = or-lt
-
-pub rights-word-fits : (s : ℕ) → s < 2 ^ 28 → word 2 s < 2 ^ 32
-rights-word-fits s l = omega arith
-
--- a rights word with rights added, or taken away
-pub added-fits : (w r : ℕ) → r < 2 ^ 28 → word 2 (adds (payload w) r) < 2 ^ 32
-added-fits w r l = rights-word-fits _ (adds-below 28 (payload w) r (omega arith) l)
-
-pub cut-fits : (w r : ℕ) → word 2 (without (payload w) r) < 2 ^ 32
-cut-fits w r = rights-word-fits _ (omega (arith, without-le (payload w) r))

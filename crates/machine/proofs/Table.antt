@@ -29,7 +29,8 @@ rights-apart n h g h′ g′ p q e =
 pub endpoint-fits : (n m e : ℕ) → e < m → endpointAt n e + 12 ≤ lengthFor n m
 endpoint-fits n m e h = omega arith
 
-apart : (f e : ℕ) → (f ≡ e → ⊥) → (f < e) ⊎ (e < f)
+-- two numbers that differ are one below the other
+pub apart : (f e : ℕ) → (f ≡ e → ⊥) → (f < e) ⊎ (e < f)
 apart f e ne = go (decLt f e)
   where
     go : Dec (f < e) → (f < e) ⊎ (e < f)

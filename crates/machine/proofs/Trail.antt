@@ -21,7 +21,7 @@ use Rattle.machine.specs.Machine.{Decision, removePlaces, decide, effect
 use Rattle.machine.specs.Influence.{influences}
 use Rattle.machine.specs.Machine.{Decision.grants, Decision.removes, Decision.revokes, Effect.newRights, Effect.newEndpoint}
 use Rattle.machine.specs.Run.{run}
-use Rattle.machine.specs.Everything.{everything}
+use Rattle.machine.proofs.Everything.{everything}
 use Rattle.machine.specs.Examples.{T, L}
 use Rattle.machine.specs.Trail.{GivenBy, GivenAlong, RemovedBy, RevokedBy}
 use Rattle.machine.specs.MachineClaims.{StaysAccepted, EveryCallEachRight, AllOrNothing, EveryRemoveAllOrNothing, removeOfOne, EveryRemoveOfOne, EveryRunNoRightFromNowhere}

@@ -1,6 +1,6 @@
--- For each number below k: a test of all of them or of any, those that pass one, the first that does, a sum, a list and a set of bits over them.
+-- For each number below k: a test of all of them, those that pass one, the first that does, a sum, a list and a set of bits over them.
 use Prim.Native.Nat.{ℕ, zero, suc, _+_, _/_, _%_, _^_}
-use mathlib.Core.Bool.{Bool, true, false, cond, _&&_, _||_}
+use mathlib.Core.Bool.{Bool, true, cond, _&&_}
 use mathlib.Core.List.{List, [], _∷_, _++_}
 use mathlib.Core.Option.{Option, none, some}
 use lib.Dec.{eqb}
@@ -9,11 +9,6 @@ use lib.Dec.{eqb}
 unfoldable pub allBelow : ℕ → (ℕ → Bool) → Bool
 allBelow zero p = true
 allBelow (suc k) p = allBelow k p && p k
-
--- p holds of some number below k
-unfoldable pub anyBelow : ℕ → (ℕ → Bool) → Bool
-anyBelow zero p = false
-anyBelow (suc k) p = anyBelow k p || p k
 
 -- the numbers below k of which p holds, lowest first
 unfoldable pub numbersBelow : ℕ → (ℕ → Bool) → List ℕ

@@ -18,8 +18,8 @@ abbrev pub callAnswers : List Answered → List ℕ
 callAnswers [] = []
 callAnswers (answered _ a ∷ rest) = a ++ callAnswers rest
 
--- four domains: 0 has SEND and GRANT on 1 and SEND on 2, 1 has GRANT on 0 and SEND on itself, 2 has SEND and REMOVE on 1 and REMOVE on 2;
--- endpoint 0 is 1's, holds one message of two and has lost as many as it can count; endpoints 1 and 2 are 0's
+-- four domains: 0 has SEND and GRANT on 1 and SEND on 2, 1 has GRANT on 0 and SEND on itself, 2 has SEND and REMOVE on 1 and REMOVE on
+-- itself; endpoint 0 is 1's, holds one message of two and has lost as many as it can count; endpoints 1 and 2 are 0's
 abbrev pub fourDomains : List ℕ
 fourDomains =
     (0x1000_0403

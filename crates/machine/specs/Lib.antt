@@ -20,7 +20,6 @@ pub mod RunClaims
 pub mod Promise
 pub mod SameParts
 pub mod MachineClaims
-pub mod Everything
 pub mod Examples
 pub mod CodeExamples
 pub mod TableExamples

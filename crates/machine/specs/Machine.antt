@@ -36,7 +36,7 @@ place false code next = next
 unfoldable pub maySend : List ℕ → ℕ → ℕ → Bool
 maySend t u e = holds (rights t u (owner (endpoint t e))) SEND
 
--- the endpoint that has a name
+-- the endpoint that has a name, the first where a name repeats
 unfoldable pub named : List ℕ → ℕ → Option ℕ
 named t x = firstBelow (endpoints t) (λ e. eqb (name (endpoint t e)) x)
 

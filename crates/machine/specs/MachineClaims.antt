@@ -55,8 +55,8 @@ abbrev pub AnswerDepends : List ℕ → List ℕ → Call → Type 0
 AnswerDepends s t c =
     SameFrame s t → ((u : ℕ) → callerOf c ≡ some u → u < domains t → SamePart u s t) → answer s c ≡ answer t c
 
--- A call's answer depends only on its own words, its caller's part and the unchanging parts (document 01, 'Influence'), on an accepted table t and any
--- other s.
+-- A call's answer depends only on its own words, its caller's part and the unchanging parts (document 01, 'Influence'), on an
+-- accepted table t and any other s.
 abbrev pub EveryCallAnswerDepends : Type 0
 EveryCallAnswerDepends = (s t : List ℕ) (c : Call) → Accepted t → AnswerDepends s t c
 

@@ -10,8 +10,8 @@ use Rattle.machine.specs.Entry.{entry}
 use Rattle.machine.specs.RunClaims.{Noninterference, NoRightFromNowhere, CountsBorneOut, InTurn}
 
 pub record RunPromise (t ws space holders : List ℕ) (code calls : ℕ) (answers end kept : List ℕ) : Type 0 where
-  -- demands 1 and 2 (docs/ASSURANCE has the checklist with its lines): the code, the number of calls, every answer word and every table word are those of the machine of
-  -- document 01, for any words at all; a refusal changes nothing
+  -- demands 1 and 2 (docs/ASSURANCE has the checklist with its lines): the code, the number of calls, every answer word and every
+  -- table word are those of the machine of document 01, for any words at all; a refusal changes nothing
   pub sameCode : code ≡ entry t ws space holders .code
   pub sameCalls : calls ≡ entry t ws space holders .calls
   pub sameAnswers : answers ≡ entry t ws space holders .answers

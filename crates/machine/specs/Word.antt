@@ -9,6 +9,10 @@ kind w = w / 268435456
 abbrev pub payload : ℕ → ℕ
 payload w = w % 268435456
 
+-- the largest number that they hold
+abbrev pub mostPayload : ℕ
+mostPayload = 268435455
+
 -- the word of kind k that holds p
 abbrev pub word : ℕ → ℕ → ℕ
 word k p = k * 268435456 + p

@@ -1,6 +1,6 @@
 -- The rows of pending words hold, each by computation (specs/Examples). Assumes nothing.
 use mathlib.Core.Path.{refl}
-use Rattle.machine.specs.Everything.{everything}
+use Rattle.machine.proofs.Everything.{everything}
 use Rattle.cutting.specs.Cutting.{secondAt}
 use Rattle.pending.specs.Pending.{count, pendingIn, enqueuable, enqueued, leftByEnqueue, dequeuable, dequeued, leftByDequeue, secondOfOldest}
 use Rattle.pending.specs.Examples.{EveryPendingRow, pendingRows}

@@ -1,17 +1,17 @@
 -- Laws of a domain's seventeen words (specs/Pending): the tests put together and taken apart, what the two loops make of the words, and
 -- what is pending in the words that they leave. Assumes nothing.
-use mathlib.Core.Path.{_≡_, refl, sym, ap, ap₂, subst, _∙_}
-use mathlib.Core.Bool.{Bool, true, false, cond, _&&_}
-use mathlib.Core.List.{List, [], _∷_, _++_, append-assoc, append-nil}
+use mathlib.Core.Path.{_≡_, refl, sym, ap, ap₂, _∙_}
+use mathlib.Core.Bool.{true, false}
+use mathlib.Core.List.{List, [], _∷_, _++_, append-assoc}
 use Prim.Native.Nat.{ℕ, suc, _+_, _-_, _<_, _≤_, min}
 use native.Mathlib.Numerals.{add-one}
 use native.Mathlib.Decide.{decLe}
 use native.Mathlib.Omega.{arith}
 use borrow.Author.Tests.{eqb-true, leb-true, le-leb, lt-leb}
 use lib.Dec.{eqb, leb}
-use lib.ListN.{length, getD, take, drop, set, length-append, length-take, length-drop}
+use lib.ListN.{length, getD, take, drop, set, length-append, length-drop}
 use lib.Seq.{length-take-le, take-length, take-at, drop-at, getD-drop, drop-drop, take-add, paste, paste-suc, drop-paste}
-use Rattle.machine.proofs.Bools.{and-left, and-right, and-intro}
+use Rattle.machine.proofs.Bools.{and-left, and-right}
 use Rattle.turn_order.specs.Turns.{mostPending}
 use Rattle.pending.specs.Pending.{blockLength, count, pendingIn, enqueuable, enqueued, leftByEnqueue, dequeuable, dequeued, leftByDequeue, MayEnqueue, MayDequeue}
 

@@ -1,7 +1,7 @@
 -- The rows of potential rights hold, each by computation (specs/Examples). Assumes nothing.
 use mathlib.Core.Path.{refl}
 use Rattle.machine.specs.Below.{wordsBelow, hasBit}
-use Rattle.machine.specs.Everything.{everything}
+use Rattle.machine.proofs.Everything.{everything}
 use Rattle.potential.specs.Closure as closure
 use Rattle.potential.specs.Lists as lists
 use Rattle.potential.specs.Examples.{EveryPotentialRow, potentialRows}

@@ -13,6 +13,7 @@ use Rattle.machine.specs.Check.{Accepted}
 use Rattle.machine.specs.Call.{Call, callerOf, cut}
 use Rattle.machine.specs.Machine.{decide, step, code}
 use Rattle.machine.specs.Run as machine
+use Rattle.machine.specs.Entry.{longestList}
 use Rattle.isolation.specs.PromisedRun.{PromisedRun}
 use Rattle.isolation.specs.Component.{component}
 use Rattle.potential.specs.Potential.{Potential}
@@ -101,7 +102,7 @@ HasPotential t s end = (h g : ℕ) → h < domains t → g < domains t → right
 
 -- The list ws gives every potential right of t, and a list may have so many words.
 pub record GivesAll (t : List ℕ) (s : ℕ) (ws : List ℕ) : Type 0 where
-  pub few : length ws ≤ 4096
+  pub few : length ws ≤ longestList
   pub calls : AllDoneBy s t (cut ws)
   pub gives : HasPotential t s (machine.run t (cut ws))
 

@@ -3,20 +3,16 @@
 use mathlib.Core.Path.{_≡_, sym, ap, _∙_}
 use mathlib.Core.Bool.{true, false}
 use mathlib.Core.List.{List}
-use Prim.Native.Nat.{ℕ, _+_, _*_, _/_, _%_, _^_, _<_, _≤_}
-use native.Mathlib.Nat.{one-mul, div-one}
+use Prim.Native.Nat.{ℕ, _+_, _*_, _/_, _%_, _^_, _<_}
+use native.Mathlib.Nat.{div-one}
 use native.Mathlib.Omega.{arith}
 use borrow.Author.Tests.{eq-eqb, ne-eqb}
 use lib.Arith.{digits-lt}
 use lib.ListN.{getD, set}
-use lib.Pow.{shl-exact, shr-shr}
+use lib.Pow.{shr-shr}
 use Rattle.machine.specs.Below.{hasBit}
 use Rattle.machine.specs.Right.{GRANT, holds, adds, hasAny}
 use Rattle.potential.specs.Closure.{cellAt, cell, stepsBelow, grantedOn, grantedTo, grantedBy}
-
--- a bit moved up by sixteen places or less stays in a word
-pub shifted : (d : ℕ) → d ≤ 16 → 1 * 2 ^ d % 2 ^ 32 ≡ 2 ^ d
-shifted d l = shl-exact 1 d 32 (omega arith) (omega arith) ∙ one-mul (2 ^ d)
 
 -- ---- where a cell stands
 

@@ -7,7 +7,7 @@ use native.Mathlib.Omega.{arith}
 use lib.ListN.{length, take, drop, length-drop}
 use lib.Seq.{length-take-le, drop-drop, drop-append-add}
 use Rattle.machine.specs.Queue.{waiting, emptySlot, received}
-use Rattle.machine.specs.Everything.{everything}
+use Rattle.machine.proofs.Everything.{everything}
 use Rattle.machine.proofs.Queue.{received-drop}
 use Rattle.queue.specs.Queue.{receivable, leftByReceive}
 use Rattle.queue.specs.LaterSlots.{LaterSlotsStay, EveryReceive, receiveRows}

@@ -9,14 +9,14 @@ use mathlib.Core.List.{List}
 use borrow.Author.Tests.{eq-eqb, le-leb, eqb-true, leb-true, lt-ltb, le-ltb}
 use lib.Dec.{eqb, leb}
 use lib.ListN.{length, set}
-use Rattle.machine.specs.Word.{word}
+use Rattle.machine.specs.Word.{mostPayload, word}
 use Rattle.machine.specs.Queue.{capacity, waiting, lost, mostLost, hasSpace, sendWithSpace, sendToFull, sent, received}
 use Rattle.machine.proofs.Bools.{and-left, and-right}
 use Rattle.machine.proofs.Queue.{received-length, received-waiting}
 use Rattle.queue.specs.Queue.{sendable, leftBySend, receivable, leftByReceive, HasRoom, MayReceive, MayPushOut}
 
 -- ---- for callers: words that they know to pass the test
-pub may-be-sent : (q : List ℕ) (m : ℕ) → length q ≡ 12 → 1 ≤ capacity q → capacity q ≤ 8 → waiting q ≤ 8 → m ≤ mostLost → sendable q m ≡ true
+pub may-be-sent : (q : List ℕ) (m : ℕ) → length q ≡ 12 → 1 ≤ capacity q → capacity q ≤ 8 → waiting q ≤ 8 → m ≤ mostPayload → sendable q m ≡ true
 unfolding sendable
 may-be-sent q m twelve holds slots most small =
     rw (eq-eqb _ _ twelve, le-leb _ _ holds, le-leb _ _ slots, le-leb _ _ most, le-leb _ _ small)
@@ -31,7 +31,7 @@ pub record MaySend (q : List ℕ) (message : ℕ) : Type 0 where
   pub holds : 1 ≤ capacity q
   pub slots : capacity q ≤ 8
   pub most : waiting q ≤ 8
-  pub small : message ≤ mostLost
+  pub small : message ≤ mostPayload
 
 pub may-send : (q : List ℕ) (m : ℕ) → sendable q m ≡ true → MaySend q m
 unfolding sendable
@@ -40,7 +40,7 @@ may-send q m h =
     let holds = leb 1 (capacity q) in
     let slots = leb (capacity q) 8 in
     let most = leb (waiting q) 8 in
-    let four = and-left (twelve && holds && slots && most) (leb m mostLost) h in
+    let four = and-left (twelve && holds && slots && most) (leb m mostPayload) h in
     let three = and-left (twelve && holds && slots) most four in
     let two = and-left (twelve && holds) slots three in
     record {
@@ -48,7 +48,7 @@ may-send q m h =
       holds = leb-true _ _ (and-right twelve holds two);
       slots = leb-true _ _ (and-right (twelve && holds) slots three);
       most = leb-true _ _ (and-right (twelve && holds && slots) most four);
-      small = leb-true _ _ (and-right (twelve && holds && slots && most) (leb m mostLost) h);
+      small = leb-true _ _ (and-right (twelve && holds && slots && most) (leb m mostPayload) h);
     }
 
 pub not-sent : (q : List ℕ) (m : ℕ) → sendable q m ≡ false → q ≡ leftBySend q m

@@ -5,12 +5,13 @@ use mathlib.Core.Bool.{Bool, cond, _&&_}
 use mathlib.Core.List.{List}
 use lib.Dec.{eqb, leb}
 use lib.ListN.{length}
-use Rattle.machine.specs.Queue.{capacity, waiting, mostLost, sent, received}
+use Rattle.machine.specs.Word.{mostPayload}
+use Rattle.machine.specs.Queue.{capacity, waiting, sent, received}
 
 -- twelve words with a capacity of 1 to 8 and at most 8 waiting, and a message of 28 bits
 unfoldable pub sendable : List ℕ → ℕ → Bool
 sendable q message =
-    eqb (length q) 12 && leb 1 (capacity q) && leb (capacity q) 8 && leb (waiting q) 8 && leb message mostLost
+    eqb (length q) 12 && leb 1 (capacity q) && leb (capacity q) 8 && leb (waiting q) 8 && leb message mostPayload
 
 -- a send; other words stay as they are
 unfoldable pub leftBySend : List ℕ → ℕ → List ℕ
@@ -28,7 +29,7 @@ leftByReceive q = cond (receivable q) (received q) q
 pub record HasRoom (q : List ℕ) (message : ℕ) : Type 0 where
   pub twelve : length q ≡ 12
   pub room : waiting q < 8
-  pub small : message ≤ mostLost
+  pub small : message ≤ mostPayload
 
 -- what `take_oldest` asks: one waits, and all that wait stand in slots
 pub record MayReceive (q : List ℕ) : Type 0 where
@@ -39,4 +40,4 @@ pub record MayReceive (q : List ℕ) : Type 0 where
 -- what `send_to_full` asks: an oldest message that can go out, and a newcomer of 28 bits
 pub record MayPushOut (q : List ℕ) (message : ℕ) : Type 0 where
   pub oldest : MayReceive q
-  pub small : message ≤ mostLost
+  pub small : message ≤ mostPayload

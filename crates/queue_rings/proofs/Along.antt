@@ -11,7 +11,7 @@ use lib.ListN.{length, getD, take, set, length-set}
 use lib.Seq.{getD-set-same, getD-set-other, lt-length-set, getD-append-add, take-add, drop-cons}
 use borrow.Author.Tests.{ltb-true, ltb-false}
 use Rattle.machine.specs.Below.{wordsBelow}
-use Rattle.machine.specs.Word.{kind, payload, word, fieldC}
+use Rattle.machine.specs.Word.{kind, payload, mostPayload, word, fieldC}
 use Rattle.machine.specs.Queue.{capacity, waiting, lost, mostLost, emptySlot, hasSpace, sendWithSpace, sendToFull, sent, received}
 use Rattle.machine.proofs.Below.{below-or-last, words-length, words-at}
 use Rattle.machine.proofs.Queue.{payload-word, Sound, sound-of, sendWithSpace-waiting, sendWithSpace-lost, sendWithSpace-other, sendWithSpace-slot, received-waiting, received-lost, received-before, received-moved, received-length, sendToFull-waiting, sendToFull-lost}
@@ -82,7 +82,7 @@ module _ (q r : List ℕ) (twelve : length q ≡ 12) (s : Stands r q) where
     unfolding at
     put-count k l = put-other k (λ e. omega arith)
 
-    module _ (small : m ≤ mostLost) where
+    module _ (small : m ≤ mostPayload) where
       -- with space
       spaced : List ℕ
       spaced = set (putLast r m) 1 (count r + 1)
@@ -264,7 +264,7 @@ module _ (q r : List ℕ) (twelve : length q ≡ 12) (s : Stands r q) where
   unfolding hasSpace
   same-space = ap₂ ltb (s .sameCount) same-capacity
 
-  send-along : 1 ≤ capacity q → capacity q ≤ 8 → (m : ℕ) → m ≤ mostLost → Stands (ringSent r m) (sent q m)
+  send-along : 1 ≤ capacity q → capacity q ≤ 8 → (m : ℕ) → m ≤ mostPayload → Stands (ringSent r m) (sent q m)
   unfolding ringSent sent hasSpace spaced full
   send-along one slots m small =
       subst (λ (b : Bool). Stands (cond b with-space to-full) (sent q m)) (sym same-space) (go (hasSpace q) refl)

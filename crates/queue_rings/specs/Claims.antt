@@ -5,8 +5,8 @@ use mathlib.Core.Path.{_≡_}
 use mathlib.Core.Bool.{true}
 use mathlib.Core.List.{List}
 use lib.ListN.{length, getD, take}
-use Rattle.machine.specs.Word.{payload}
-use Rattle.machine.specs.Queue.{capacity, waiting, lost, mostLost, sent, received}
+use Rattle.machine.specs.Word.{payload, mostPayload}
+use Rattle.machine.specs.Queue.{capacity, waiting, lost, sent, received}
 use Rattle.machine.specs.Check.{queueOk}
 use Rattle.queue_rings.specs.Ring as ring
 use Rattle.queue_rings.specs.Ring.{firstPlace, count, lostCount, messageAt, ringSent, ringTake, ringOf, putOutQueue}
@@ -34,7 +34,7 @@ QueuesGoAlong =
     → 1 ≤ capacity q
     → capacity q ≤ 8
     → Stands r q
-    → ((message : ℕ) → message ≤ mostLost → Stands (ringSent r message) (sent q message))
+    → ((message : ℕ) → message ≤ mostPayload → Stands (ringSent r message) (sent q message))
     × (1 ≤ waiting q → Stands (ringTake r) (received q))
 
 -- what is put out, to words with the same name and info, is the queue

@@ -13,11 +13,12 @@ use borrow.Author.Tests.{ltb-true, ltb-false, not-true, not-false}
 use lib.Bits.{bitOr}
 use lib.Dec.{eqb, ltb}
 use lib.ListN.{length, getD, List·getD-eq-default}
-use Rattle.machine.specs.Below.{anyBelow, sumBelow, bitsBelow, hasBit}
+use Rattle.machine.specs.Below.{sumBelow, bitsBelow, hasBit}
 use Rattle.machine.proofs.Bools.{and-left, and-right, or-cases, or-right, either}
-use Rattle.machine.proofs.Below.{below-or-last, any-at, none-at, words-at, words-past, bits-at, bits-past}
+use Rattle.machine.proofs.Below.{below-or-last, words-at, words-past, bits-at, bits-past}
 use Rattle.reach.specs.Closure.{withWords, widened, rounds, closed}
 use Rattle.reach.specs.Chain.{Chain, Chain.end, Chain.link, linked, ClosedExactly, among, wordsOf, RelationClosedExactly}
+use Rattle.reach.proofs.Any.{anyBelow, any-at, none-at}
 use Rattle.reach.proofs.Bits.{bit-or, bit-none, bit-zero, bit-half, bit-own, bit-other}
 
 -- ---- chains

@@ -1,4 +1,5 @@
 -- What is proved of the closure, and laws that the proofs of the functions cite.
+pub mod Any
 pub mod Bits
 pub mod Chain
 pub mod Bounds

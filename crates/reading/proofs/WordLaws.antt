@@ -20,15 +20,6 @@ length-wordsOf (a ∷ b ∷ c ∷ d ∷ bytes) = omega (arith, length-wordsOf by
 four-times : (k : ℕ) → 4 * suc k ≡ suc (suc (suc (suc (4 * k))))
 four-times k = omega arith
 
-pub drop-wordsOf : (k : ℕ) (bytes : List ℕ) → wordsOf (drop (4 * k) bytes) ≡ drop k (wordsOf bytes)
-unfolding wordsOf
-drop-wordsOf zero bytes = refl
-drop-wordsOf (suc k) [] = rw four-times
-drop-wordsOf (suc k) (a ∷ []) = rw four-times
-drop-wordsOf (suc k) (a ∷ b ∷ []) = rw four-times
-drop-wordsOf (suc k) (a ∷ b ∷ c ∷ []) = rw four-times
-drop-wordsOf (suc k) (a ∷ b ∷ c ∷ d ∷ bytes) = rw four-times (drop-wordsOf k bytes)
-
 pub take-wordsOf : (k : ℕ) (bytes : List ℕ) → wordsOf (take (4 * k) bytes) ≡ take k (wordsOf bytes)
 unfolding wordsOf
 take-wordsOf zero bytes = refl

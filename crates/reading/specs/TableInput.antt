@@ -1,6 +1,6 @@
 -- How a program's input gives a table: a word with the table's length in words, then the table's words (document 01, 'Into
--- firmware and onto the bench', and the first three conditions of code 7).
-use Prim.Native.Nat.{ℕ, _+_, _-_, _*_}
+-- firmware and onto the bench', and the first three conditions of code 7); and when the bytes of an input were needed.
+use Prim.Native.Nat.{ℕ, _+_, _-_, _*_, _<_}
 use mathlib.Core.Bool.{Bool, cond, _||_}
 use mathlib.Core.List.{List}
 use lib.ListN.{length, take, drop}
@@ -37,3 +37,7 @@ unfoldable pub tableWanted : List ℕ → ℕ
 tableWanted bytes =
     cond (ltb (length bytes) 4) (4 - length bytes)
     (cond (ltb longestTable (tableLength bytes)) 0 (tableEnd bytes - length bytes))
+
+-- Each of these bytes was needed, where so many more are wanted behind any bytes: behind the ones before it some were.
+abbrev pub NeededBy : (List ℕ → ℕ) → List ℕ → Type 0
+NeededBy wanted bytes = (k : ℕ) → k < length bytes → 0 < wanted (take k bytes)

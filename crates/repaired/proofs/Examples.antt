@@ -1,7 +1,7 @@
 -- The rows hold, each by computation. Assumes nothing.
 use mathlib.Core.Path.{refl}
 use Rattle.machine.specs.Below.{wordsBelow}
-use Rattle.machine.specs.Everything.{everything}
+use Rattle.machine.proofs.Everything.{everything}
 use Rattle.mended.specs.Mend.{mendedRights, mendedEndpoint, mendedAt, mended, mendable}
 use Rattle.repaired.specs.Changes.{differing, pairs, changes, putBack}
 use Rattle.repaired.specs.Repair.{altered, alteredCount, repairCode, refusal, repaired, repair}

@@ -3,16 +3,27 @@
 use mathlib.Core.Path.{_≡_, refl, ap₂, _∙_}
 use mathlib.Core.List.{List}
 use Prim.Native.Nat.{ℕ}
-use Rattle.machine.specs.Table.{domains, endpoints}
+use Rattle.machine.specs.Table.{domains, endpoints, rights, endpoint}
+use Rattle.machine.specs.Queue.{owner, waiting}
 use Rattle.machine.specs.Machine as machine
-use Rattle.machine.specs.Machine.{Decision, maySend}
+use Rattle.machine.specs.Machine.{Decision, maySend, named}
 use Rattle.machine.specs.Influence.{influences, reaches}
 use Rattle.calls.specs.Decide.{knownCaller, refusedCall, decideCall}
 use Rattle.calls.specs.declared.Call.{Call}
 use Rattle.calls.specs.declared.Call.the-variants.{LookUp, Send, Receive, MyEndpoints, MyRights, Grant, Remove, Revoke, Refused}
 use Rattle.rules.specs.declared.range.Range.{Range}
 use Rattle.rules.specs.Range.{followed, callerNumber, refusedNumbers, endpointNumbers, grantNumbers, removeNumbers, callNumbers}
-use Rattle.rules.specs.Access.{sendAccess, receiveAccess, grantAccess, revokeAccess, removeAccess, readingOf, accessBy, decidedBy}
+use Rattle.rules.specs.Access.{sendAccess, receiveAccess, grantAccess, revokeAccess, removeAccess, Reading, accessBy, decidedBy}
+
+-- what a table's words hold
+abbrev pub readingOf : List ℕ → Reading
+readingOf t =
+    record {
+      rights = rights t;
+      owner = λ e. owner (endpoint t e);
+      waiting = λ e. waiting (endpoint t e);
+      named = named t;
+    }
 
 pub decide-places : (t : List ℕ) (call : Call) → decidedBy (domains t) (endpoints t) (readingOf t) call ≡ decideCall t call
 unfolding callNumbers accessBy decideCall callerNumber knownCaller refusedNumbers refusedCall endpointNumbers grantNumbers removeNumbers sendAccess receiveAccess grantAccess revokeAccess removeAccess maySend influences reaches machine.sendPlaces machine.receivePlaces machine.rightsPlaces machine.grantPlaces machine.revokePlaces machine.removePlaces

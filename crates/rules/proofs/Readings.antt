@@ -1,18 +1,17 @@
 -- Readings that agree come to the same (specs/Readings): what lies outside n and m is refused before it is read.
 -- Assumes nothing.
 use mathlib.Core.Path.{_≡_, refl, ap, ap₂, _∙_}
-use mathlib.Core.Bool.{Bool, true, false, not, _&&_}
+use mathlib.Core.Bool.{Bool, true, false, not}
 use Prim.Native.Nat.{ℕ, _<_}
 use lib.Dec.{ltb}
 use borrow.Author.Tests.{ltb-true, not-false}
 use Rattle.machine.specs.Right.{isSet}
 use Rattle.machine.specs.Machine.{Decision, place, lookUpPlaces}
 use Rattle.machine.proofs.Bools.{and-left, and-right}
-use Rattle.calls.specs.declared.Call.{Call}
 use Rattle.calls.specs.declared.Call.the-variants.{LookUp, Send, Receive, MyEndpoints, MyRights, Grant, Remove, Revoke, Refused}
 use Rattle.rules.specs.Range.{callerNumber, endpointNumbers, grantNumbers, removeNumbers, callNumbers}
-use Rattle.rules.specs.Access.{Reading, sendAccess, receiveAccess, grantAccess, revokeAccess, removeAccess, accessBy}
-use Rattle.rules.specs.Readings.{SameReading, SameDecision}
+use Rattle.rules.specs.Access.{sendAccess, receiveAccess, grantAccess, revokeAccess, removeAccess, accessBy}
+use Rattle.rules.specs.Readings.{SameDecision}
 
 -- behind a place only what passes it matters
 pub place-same : (b : Bool) (k : ℕ) {x y : Decision} → (b ≡ false → x ≡ y) → place b k x ≡ place b k y

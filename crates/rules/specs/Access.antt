@@ -1,14 +1,11 @@
--- The places that test what was read for a call: 15, 17, 18, 19, 22 and 23, by plain values, and by what a table holds
--- (document 01, 'Where each number is checked').
+-- The places that test what was read for a call, by plain values: 15, 17, 18, 19, 22 and 23; and what a call comes to by these and by
+-- the tests of its numbers (document 01, 'Where each number is checked').
 use Prim.Native.Nat.{ℕ}
 use mathlib.Core.Bool.{not, _&&_, _||_}
-use mathlib.Core.List.{List}
 use mathlib.Core.Option.{Option, none, some}
 use lib.Dec.{eqb}
 use Rattle.machine.specs.Right.{SEND, GRANT, REMOVE, REVOKE, holds, hasAny}
-use Rattle.machine.specs.Table.{rights, endpoint}
-use Rattle.machine.specs.Queue.{owner, waiting}
-use Rattle.machine.specs.Machine.{Decision, place, named, lookUpPlaces}
+use Rattle.machine.specs.Machine.{Decision, place, lookUpPlaces}
 use Rattle.machine.specs.Machine.{Decision.refused, Decision.sends, Decision.receives, Decision.listsEndpoints, Decision.listsRights, Decision.grants, Decision.removes, Decision.revokes}
 use Rattle.calls.specs.Number.{numberOf}
 use Rattle.calls.specs.declared.Call.{Call}
@@ -51,16 +48,6 @@ pub record Reading : Type 0 where
   pub owner : ℕ → ℕ
   pub waiting : ℕ → ℕ
   pub named : ℕ → Option ℕ
-
--- what a table's words hold
-abbrev pub readingOf : List ℕ → Reading
-readingOf t =
-    record {
-      rights = rights t;
-      owner = λ e. owner (endpoint t e);
-      waiting = λ e. waiting (endpoint t e);
-      named = named t;
-    }
 
 -- the places of a call behind the tests of its numbers, by what is read for it
 unfoldable pub accessBy : Reading → Call → Decision

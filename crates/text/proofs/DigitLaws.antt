@@ -27,11 +27,6 @@ digits-step zero h = absurd (omega arith)
 digits-step (suc n) h =
     ap (λ l. l ++ (lastDigit (suc n) ∷ [])) (same-digits n (suc n / 10) (suc n / 10) (omega arith) (omega arith))
 
--- a number above 0 has no leading zero
-pub decimal-positive : (n : ℕ) → 0 < n → decimal n ≡ digits n
-unfolding decimal
-decimal-positive n h = sym (digits-step n h)
-
 -- a tenth of a number has one digit less
 pub tenth-lt : (n k : ℕ) → n < 10 ^ suc k → n / 10 < 10 ^ k
 tenth-lt n k h = div-lt-iff-lt-mul (lit< tt) .1 (rw (pow-suc) at h)

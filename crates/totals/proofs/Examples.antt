@@ -1,6 +1,6 @@
 -- The rows hold, each by computation. Assumes nothing.
 use mathlib.Core.Path.{refl}
-use Rattle.machine.specs.Everything.{everything}
+use Rattle.machine.proofs.Everything.{everything}
 use Rattle.totals.specs.Totals.{nothing, together, listTotals, totals}
 use Rattle.totals.specs.Examples.{EveryRow, rows}
 

@@ -1,15 +1,12 @@
 -- The totals over lists: they are those of all the calls as one list, they balance, and they can be made up list by list
 -- (specs/Claims: SheetHolds, OneRun, ListByList); and none is above the number of words. Assumes nothing.
-use Prim.Native.Nat.{ℕ, _+_, _*_, _<_, _≤_}
+use Prim.Native.Nat.{ℕ, _+_, _≤_}
 use mathlib.Core.Path.{_≡_, refl, sym, ap, ap₂, subst, _∙_}
 use mathlib.Core.Bool.{Bool, true, false, cond}
 use mathlib.Core.List.{List, [], _∷_, _++_, append-nil}
 use native.Mathlib.Nat.{le-trans}
 use native.Mathlib.Omega.{arith}
 use lib.ListN.{length, drop}
-use Rattle.machine.specs.Table.{endpoints, endpoint}
-use Rattle.machine.specs.Queue.{waiting}
-use Rattle.machine.specs.Check.{Accepted}
 use Rattle.machine.specs.Call.{Call, Kind, cut}
 use Rattle.machine.specs.Machine.{step}
 use Rattle.machine.specs.Run.{run, answers}

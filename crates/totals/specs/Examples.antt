@@ -2,7 +2,7 @@
 -- whose lost word is at its largest, and no list.
 use Prim.Native.Nat.{ℕ}
 use mathlib.Core.Path.{_≡_}
-use mathlib.Core.List.{List, [], _∷_, _++_}
+use mathlib.Core.List.{List, [], _∷_}
 use lib.ListN.{set}
 use Rattle.machine.specs.Examples.{T, L}
 use Rattle.totals.specs.Totals.{Totals, totals}

@@ -1,7 +1,6 @@
 -- Going on list by list, as the program's loop does: the bytes read so far, the lists that they gave, and what remains. Assumes nothing.
-use Prim.Native.Nat.{ℕ, zero, suc, _+_, _-_, _*_, _≤_, _<_}
+use Prim.Native.Nat.{ℕ, suc, _+_, _-_, _*_, _≤_, _<_}
 use mathlib.Core.Path.{_≡_, refl, sym, ap, subst, _∙_}
-use mathlib.Core.Bool.{cond}
 use mathlib.Core.List.{List, [], _∷_, _++_, append-nil, append-assoc}
 use borrow.Author.Tests.{eq-eqb, ne-eqb, lt-ltb, le-ltb}
 use native.Mathlib.Decide.{decLt}
@@ -9,13 +8,14 @@ use native.Mathlib.Omega.{arith}
 use lib.ListN.{length, take, drop, length-append, length-drop, drop-of-length-le}
 use Rattle.machine.specs.Entry.{longestList}
 use Rattle.reading.specs.Bytes.{wordAt, wordsOf}
-use Rattle.totals_input.specs.Input.{mostLists, Lists, stopped, then, headWanted, listsFrom, NeededBy}
+use Rattle.reading.proofs.Needed.{needed-more}
+use Rattle.reading.specs.TableInput.{NeededBy}
+use Rattle.totals_input.specs.Input.{mostLists, Lists, stopped, then, headWanted, listsFrom}
 use Rattle.totals_input.specs.Next.{nextOf}
 use Rattle.totals_input.specs.declared.Next.{Next}
 use Rattle.totals_input.specs.declared.Next.the-variants.{Ends, Words}
 use Rattle.totals_input.proofs.ListLaws.{Front, front, fromList, head-few, from-none, list-cut, list-whole, list-stays, whole-stays, still-wanted}
 use Rattle.totals_input.proofs.ListLaws.{Front.none, Front.many, Front.cutWord, Front.long, Front.list}
-use Rattle.totals_input.proofs.InputLaws.{needed-more}
 
 -- ---- what stands before a list
 

@@ -1,49 +1,30 @@
--- The reading: bytes that were asked for because they were wanted were needed, read by read; and what is wanted of a whole input.
+-- The reading, read by read: the bytes of the table were needed, and what each step leaves.
 -- Assumes nothing.
 use Prim.Native.Nat.{ℕ, _+_, _-_, _*_, _≤_, _<_}
 use mathlib.Core.Path.{_≡_, refl, sym, ap, _∙_}
 use mathlib.Core.Bool.{Bool, true, false, cond}
-use mathlib.Core.List.{List, [], _++_, append-nil}
+use mathlib.Core.List.{List, _++_}
 use borrow.Author.Tests.{lt-ltb, le-ltb}
 use lib.Dec.{ltb}
 use native.Mathlib.Nat.{zero-add}
 use native.Mathlib.Decide.{decLt}
 use native.Mathlib.Omega.{arith}
 use lib.ListN.{length, take, drop, length-append, length-take, length-drop}
-use lib.Seq.{length-take-le, take-append-le, take-append-add, take-add}
-use Rattle.machine.specs.Check.{tableCode, Accepted}
-use Rattle.reading.specs.TableInput.{longestTable, noTable, tableOf, afterTable, tableWanted}
-use Rattle.reading.proofs.TableLaws.{Whole, table-within, whole-table, whole-more, tableOf-more, afterTable-more, still-asks}
+use lib.Seq.{length-take-le}
+use Rattle.reading.specs.TableInput.{longestTable, tableWanted, NeededBy}
+use Rattle.reading.proofs.TableLaws.{table-within, still-asks}
+use Rattle.reading.proofs.Needed.{needed-none, needed-more, stored}
 use Rattle.reading.specs.Bytes.{wordAt}
 use Rattle.reading.proofs.WordLaws.{wordAt-append}
-use Rattle.totals_input.specs.Input.{headWanted, NeededBy}
+use Rattle.totals_input.specs.Input.{headWanted}
 use Rattle.totals_input.specs.Read.{listBytes, ListRead, TableRead}
 use Rattle.totals_input.proofs.ListLaws.{head-few}
 
--- what wants bytes, and while fewer follow than are wanted still wants some
-module _ (asks : List ℕ → ℕ) (still : (bytes more : List ℕ) → length more < asks bytes → 0 < asks (bytes ++ more)) where
-  pub needed-none : NeededBy asks []
-  needed-none k l = absurd (omega arith)
-
-  pub needed-more : (bytes more : List ℕ) → NeededBy asks bytes → length more ≤ asks bytes → NeededBy asks (bytes ++ more)
-  needed-more bytes more needed asked k l = go (decLt k (length bytes))
-    where
-      go : Dec (k < length bytes) → 0 < asks (take k (bytes ++ more))
-      go (yes h) = rw (take-append-le k bytes more (omega arith)) (needed k h)
-      go (no h) =
-          let behind = k - length bytes in
-          let place : k ≡ length bytes + behind = omega arith in
-          rw (place, take-append-add bytes more behind)
-          (still bytes (take behind more) (omega (arith, length-take behind more, length-append bytes more)))
-
 -- the table's bytes, in a buffer of which the first stayed while a read stored its own behind them
 module _ (before after : List ℕ) (have got : ℕ) (kept : take have after ≡ take have before) (room : have + got ≤ length after) where
-  pub stored : take (have + got) after ≡ take have before ++ take got (drop have after)
-  stored = take-add have got after ∙ ap (λ (l : List ℕ). l ++ take got (drop have after)) kept
-
   pub table-needed : NeededBy tableWanted (take have before) → got ≤ tableWanted (take have before) → NeededBy tableWanted (take (have + got) after)
   table-needed needed asked =
-      rw stored
+      rw (stored before after have got kept)
       (needed-more tableWanted (λ bytes more h. still-asks bytes more h .1) (take have before) (take got (drop have after)) needed
       (omega (arith, length-take got (drop have after))))
 
@@ -52,7 +33,7 @@ pub first-needed : (before after : List ℕ) (got : ℕ) → take 0 after ≡ ta
 unfolding tableWanted
 first-needed before after got kept room few =
     rw (zero-add got) at
-    (table-needed before after 0 got kept (omega arith) (needed-none tableWanted (λ bytes more h. still-asks bytes more h .1)) few)
+    (table-needed before after 0 got kept (omega arith) (needed-none tableWanted) few)
 
 -- what a length word announces has room behind it
 pub table-fits : (bytes : List ℕ) → length bytes ≤ 4 → length bytes + tableWanted bytes ≤ 4 + 4 * longestTable
@@ -73,7 +54,7 @@ list-read words left buffer got head is asked room =
 pub no-table-read : (buffer : List ℕ) → TableRead buffer (record { got = 0; short = true })
 unfolding tableWanted
 no-table-read buffer =
-    record { room = omega arith; needed = needed-none tableWanted (λ bytes more h. still-asks bytes more h .1); shortBy = refl }
+    record { room = omega arith; needed = needed-none tableWanted; shortBy = refl }
 
 -- under four bytes the length word is still wanted
 pub first-read : (before after : List ℕ) (got : ℕ) → take 0 after ≡ take 0 before → got ≤ length after → got < 4 → TableRead after (record { got = got; short = true })
@@ -110,7 +91,7 @@ table-read before after got want kept room needed is asked =
     record {
       room = room;
       needed = table-needed before after 4 got kept room needed (omega arith);
-      shortBy = rw (stored before after 4 got kept room, falls) (same got (tableWanted (take 4 before)) want (length rest) is long asked);
+      shortBy = rw (stored before after 4 got kept, falls) (same got (tableWanted (take 4 before)) want (length rest) is long asked);
     }
   where
     same : (got w want n : ℕ) → want ≡ w → n ≡ got → got ≤ want → ltb got want ≡ ltb 0 (w - n)

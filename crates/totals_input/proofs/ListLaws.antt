@@ -1,18 +1,16 @@
 -- The lists that bytes give: what stands at the front of the bytes, bytes that follow, and how much is wanted. Assumes nothing.
 use Prim.Native.Nat.{ℕ, zero, suc, _+_, _-_, _*_, _≤_, _<_}
 use mathlib.Core.Path.{_≡_, refl, sym, ap, _∙_}
-use mathlib.Core.Bool.{Bool, true, false, cond}
-use mathlib.Core.List.{List, [], _∷_, _++_, append-nil, append-assoc}
-use borrow.Author.Tests.{lt-ltb, le-ltb, ltb-true, ltb-false}
+use mathlib.Core.List.{List, [], _∷_, _++_}
+use borrow.Author.Tests.{lt-ltb, le-ltb}
 use native.Mathlib.Decide.{decLt}
 use native.Mathlib.Omega.{arith}
-use lib.Dec.{ltb}
-use lib.ListN.{length, take, drop, length-append, length-take, length-drop, drop-of-length-le}
-use lib.Seq.{length-take-le, take-append-le, take-append-add, drop-append-le, drop-drop}
+use lib.ListN.{length, take, drop, length-append, length-drop}
+use lib.Seq.{drop-append-le}
 use Rattle.machine.specs.Entry.{longestList}
 use Rattle.reading.specs.Bytes.{wordAt, wordsOf}
 use Rattle.reading.proofs.WordLaws.{wordAt-append, take-wordsOf-append}
-use Rattle.totals_input.specs.Input.{Lists, stopped, then, headWanted, listFirst, listsFrom, NeededBy}
+use Rattle.totals_input.specs.Input.{Lists, stopped, then, headWanted, listFirst, listsFrom}
 
 -- ---- what stands at the front
 

@@ -3,7 +3,6 @@
 use Prim.Native.Nat.{ℕ}
 use mathlib.Core.Path.{_≡_}
 use mathlib.Core.List.{List, [], _∷_, _++_}
-use lib.ListN.{replicate}
 use Rattle.reading.specs.Bytes.{bytesOf}
 use Rattle.totals_input.specs.Input.{Lists, listsFrom}
 

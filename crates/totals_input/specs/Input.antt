@@ -1,7 +1,6 @@
 -- What `linetotals` reads (document 02 (e), end-of-shift totals): the table as `linerun` takes it, then each list with its length
 -- in words before it.
-use Prim.Native.Nat.{ℕ, zero, suc, _+_, _-_, _*_, _<_}
-use mathlib.Core.Path.{_≡_}
+use Prim.Native.Nat.{ℕ, zero, suc, _+_, _-_, _*_}
 use mathlib.Core.Bool.{cond}
 use mathlib.Core.List.{List, [], _∷_}
 use lib.ListN.{length, take, drop}
@@ -9,7 +8,7 @@ use lib.Dec.{eqb, ltb}
 use Rattle.machine.specs.Check.{tableCode}
 use Rattle.machine.specs.Entry.{longestList}
 use Rattle.reading.specs.Bytes.{wordAt, wordsOf}
-use Rattle.reading.specs.TableInput.{noTable, tableOf, afterTable, tableWanted}
+use Rattle.reading.specs.TableInput.{noTable, tableOf, afterTable, tableWanted, NeededBy}
 
 -- the most lists that there may be
 abbrev pub mostLists : ℕ
@@ -68,8 +67,5 @@ wanted bytes =
     (cond (eqb (tableCode (tableOf bytes)) 0) (listsOf bytes .wanted) 0)
 
 -- each of these bytes was needed: behind the ones before it more was wanted
-abbrev pub NeededBy : (List ℕ → ℕ) → List ℕ → Type 0
-NeededBy wanted bytes = (k : ℕ) → k < length bytes → 0 < wanted (take k bytes)
-
 abbrev pub Needed : List ℕ → Type 0
 Needed bytes = NeededBy wanted bytes

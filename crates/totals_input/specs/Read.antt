@@ -5,9 +5,9 @@ use mathlib.Core.Path.{_≡_}
 use mathlib.Core.List.{List}
 use lib.ListN.{length, take}
 use lib.Dec.{ltb}
-use Rattle.reading.specs.TableInput.{tableWanted}
+use Rattle.reading.specs.TableInput.{tableWanted, NeededBy}
 use Rattle.totals_input.specs.declared.stdin.Read.{Read}
-use Rattle.totals_input.specs.Input.{headWanted, NeededBy}
+use Rattle.totals_input.specs.Input.{headWanted}
 
 -- the bytes of a list of so many words, and what stands before the next, of which so many may still come
 abbrev pub listBytes : ℕ → ℕ → ℕ

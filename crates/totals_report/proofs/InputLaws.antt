@@ -12,13 +12,13 @@ use lib.ListN.{length, take, drop, length-append, drop-of-length-le, take-append
 use lib.Seq.{length-take-le, take-append-le, take-append-add}
 use Rattle.machine.specs.Check.{tableCode}
 use Rattle.reading.specs.Bytes.{wordAt}
-use Rattle.reading.specs.TableInput.{longestTable, tableLength, tableEnd, noTable, tableOf, afterTable, tableWanted}
+use Rattle.reading.specs.TableInput.{longestTable, tableLength, tableEnd, noTable, tableOf, afterTable, tableWanted, NeededBy}
 use Rattle.reading.proofs.WordLaws.{wordAt-append}
 use Rattle.reading.proofs.TableLaws.{Whole, whole-table, whole-more, tableOf-more, afterTable-more, still-asks}
 use Rattle.text.specs.Write.{Writes}
 use Rattle.totals_text.specs.Lines.{lastLine}
 use Rattle.totals_text.proofs.LineLaws.{length-lastLine}
-use Rattle.totals_input.specs.Input.{mostLists, Lists, stopped, listsFrom, wanted, NeededBy, Needed}
+use Rattle.totals_input.specs.Input.{mostLists, Lists, stopped, listsFrom, wanted, Needed}
 use Rattle.totals_run.specs.Ran.{listsBehind}
 use Rattle.totals_sheet.specs.Sheet.{tableSheet, sheet}
 use Rattle.totals_report.specs.Report.{TableReported, Reported}

@@ -4,7 +4,8 @@ use mathlib.Core.List.{List, [], _++_}
 use lib.ListN.{length, getD}
 use Rattle.text.specs.Write.{Writes}
 use Rattle.totals_text.specs.Lines.{endpointLine}
-use Rattle.totals_input.specs.Input.{NeededBy, Needed}
+use Rattle.reading.specs.TableInput.{NeededBy}
+use Rattle.totals_input.specs.Input.{Needed}
 use Rattle.totals_sheet.specs.Sheet.{tableSheet, sheet}
 use Rattle.totals_run.specs.Ran.{listsBehind}
 

@@ -10,11 +10,12 @@ use Rattle.machine.specs.Table.{domains, endpoints}
 use Rattle.machine.specs.Check.{tableCode, Accepted}
 use Rattle.machine.specs.Entry.{longestList}
 use Rattle.reading.specs.Bytes.{wordsOf}
+use Rattle.reading.specs.TableInput.{NeededBy}
 use Rattle.totals.specs.Totals.{tableAfter}
 use Rattle.tally.specs.declared.Tally.{Tally}
 use Rattle.tally.specs.Added.{ListAdded}
 use Rattle.tally.specs.Tallied.{tallyOf}
-use Rattle.totals_input.specs.Input.{mostLists, Lists, stopped, listsFrom, NeededBy}
+use Rattle.totals_input.specs.Input.{mostLists, Lists, stopped, listsFrom}
 use Rattle.totals_run.specs.declared.Lists as declared
 
 -- the bytes of a list, and what is lent for it: space for the longest list and for its answers, and a word for each domain

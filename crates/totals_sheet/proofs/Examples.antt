@@ -1,6 +1,6 @@
 -- The rows hold, each by computation. Assumes nothing.
 use mathlib.Core.Path.{refl}
-use Rattle.machine.specs.Everything.{everything}
+use Rattle.machine.proofs.Everything.{everything}
 use Rattle.text.specs.Ascii.{ascii}
 use Rattle.text.specs.Decimal.{digitsWithin, decimal, labelled}
 use Rattle.reading.specs.Bytes.{wordsOf, bytesOf}

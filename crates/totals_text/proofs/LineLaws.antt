@@ -1,17 +1,12 @@
 -- How long the lines are. Assumes nothing.
-use Prim.Native.Nat.{ℕ, suc, _+_, _^_, _≤_, _<_}
-use mathlib.Core.List.{List, _++_}
+use Prim.Native.Nat.{ℕ, _+_, _^_, _≤_, _<_}
+use mathlib.Core.List.{_++_}
 use native.Mathlib.Omega.{arith}
 use lib.ListN.{length, length-append}
 use Rattle.text.specs.Ascii.{ascii}
-use Rattle.text.specs.Decimal.{decimal, labelled}
-use Rattle.text.proofs.DigitLaws.{length-decimal}
+use Rattle.text.specs.Decimal.{labelled}
+use Rattle.text.proofs.LabelLaws.{length-labelled}
 use Rattle.totals_text.specs.Lines.{endpointLine, lastLine}
-
--- a label and a number of at most so many digits
-length-labelled : (label : List ℕ) (n k : ℕ) → n < 10 ^ suc k → length (labelled label n) ≤ length label + suc k
-unfolding labelled
-length-labelled label n k h = omega (arith, length-append label (decimal n), length-decimal n k h)
 
 pub length-lastLine : (lists code : ℕ) → lists < 2 ^ 64 → code < 2 ^ 32 → length (lastLine lists code) ≤ 43
 unfolding lastLine ascii

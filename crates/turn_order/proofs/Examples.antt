@@ -2,7 +2,7 @@
 use mathlib.Core.Path.{refl}
 use Rattle.machine.specs.Below.{wordsBelow, bitsBelow}
 use Rattle.machine.specs.Holders.{holdersOf}
-use Rattle.machine.specs.Everything.{everything}
+use Rattle.machine.proofs.Everything.{everything}
 use Rattle.turn_order.specs.Turns as turns
 use Rattle.turn_order.specs.History as history
 use Rattle.turn_order.specs.Examples.{shown, EveryTurnRow, turnRows}

@@ -1,10 +1,10 @@
 -- What a history of handing in and turns comes to: the calls served are one list for the machine, each domain's calls go in order,
 -- and what a history from the beginning can have made stays so (specs/Claims). Assumes nothing.
-use mathlib.Core.Path.{_≡_, refl, sym, ap, ap₂, subst, subst₂, _∙_}
-use mathlib.Core.Bool.{Bool, true, false, cond, not, _&&_, _||_, true≢false, false≢true}
-use mathlib.Core.Logic.{_⊎_, ⊎-elim, _⊎_.inl, _⊎_.inr}
+use mathlib.Core.Path.{_≡_, refl, sym, ap, subst, subst₂, _∙_}
+use mathlib.Core.Bool.{Bool, true, false, cond, not, _&&_, true≢false, false≢true}
+use mathlib.Core.Logic.{_⊎_, ⊎-elim}
 use mathlib.Core.List.{List, [], _∷_, _++_, append-assoc, append-nil}
-use Prim.Native.Nat.{ℕ, zero, suc, _+_, _<_, _≤_}
+use Prim.Native.Nat.{ℕ, suc, _+_, _<_, _≤_}
 use native.Mathlib.Omega.{arith}
 use borrow.Author.Tests.{eqb-true, ne-eqb, ltb-true, ltb-false, lt-ltb}
 use lib.Dec.{eqb, ltb}
@@ -12,18 +12,17 @@ use lib.ListN.{length, drop, length-append, length-drop}
 use Rattle.machine.specs.Table.{domains}
 use Rattle.machine.specs.Check.{Accepted, tableCode}
 use Rattle.machine.specs.Call.{Call, callerOf, cut}
-use Rattle.machine.specs.Machine.{step, answer}
 use Rattle.machine.specs.Run as machine
 use Rattle.machine.specs.DomainSet.{calledBy}
 use Rattle.machine.specs.RunClaims.{Noninterference}
-use Rattle.machine.proofs.Bools.{and-left, and-right, and-intro, either}
+use Rattle.machine.proofs.Bools.{and-left, and-right, and-intro}
 use Rattle.machine.proofs.Step.{stays-accepted}
 use Rattle.machine.proofs.Noninterference.{noninterference}
-use Rattle.turn_order.specs.Turns.{Turns, Turn, begun, replaced, isOneOf, handInCode, handedIn, turnOf, width, afterTurn, tableAfter, answerOf, Turn.idle, Turn.serves}
+use Rattle.turn_order.specs.Turns.{Turns, Turn, begun, replaced, isOneOf, handInCode, handedIn, width, afterTurn, tableAfter, answerOf, Turn.idle, Turn.serves}
 use Rattle.turn_order.specs.Turns as turns
-use Rattle.turn_order.specs.History.{Layer, Event, eventCode, nextTurn, done, afterEvent, after, alongWith, turnAt, turnsOf, answerAt, answersOf, holdersOfTurn, holdersAt, holdersAlong, callsAt, handedInBy, served, servedOf, holdersEach, Event.handIn, Event.turn}
-use Rattle.turn_order.specs.Claims.{OneList, AsOneList, EveryHistoryNoninterference, InOrder, IdleExactly, RefusedChangesNothing, allOf, Proper, BeginsProper, StaysProper, servesOwn, ServesOwn}
-use Rattle.turn_order.proofs.Pending.{no-cons, cut-rest, cut-append, one-of, one-opens, Serving, Turning, turn-cases, replaced-all, replaced-else}
+use Rattle.turn_order.specs.History.{Layer, Event, eventCode, nextTurn, done, afterEvent, after, alongWith, turnAt, turnsOf, answerAt, holdersOfTurn, holdersAt, callsAt, handedInBy, served, servedOf, holdersEach, Event.handIn, Event.turn}
+use Rattle.turn_order.specs.Claims.{AsOneList, EveryHistoryNoninterference, InOrder, IdleExactly, RefusedChangesNothing, allOf, Proper, BeginsProper, StaysProper, servesOwn, ServesOwn}
+use Rattle.turn_order.proofs.Pending.{no-cons, cut-append, one-opens, Serving, turn-cases, replaced-all}
 
 pub refused-changes-nothing : RefusedChangesNothing
 unfolding afterEvent

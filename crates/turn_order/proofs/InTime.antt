@@ -1,7 +1,7 @@
 -- The oldest pending call of a domain is served within n turns that aren't refused (specs/Claims: ServedInTime): each turn that
 -- serves another domain comes nearer to it. Assumes nothing.
 use mathlib.Core.Path.{_≡_, refl, sym, ap, ap₂, subst, _∙_}
-use mathlib.Core.Bool.{Bool, true, false, cond, not, true≢false, false≢true}
+use mathlib.Core.Bool.{Bool, true, false, cond, not, true≢false}
 use mathlib.Core.Logic.{_⊎_, ⊎-elim, _⊎_.inl, _⊎_.inr}
 use mathlib.Core.List.{List, [], _∷_, _++_}
 use Prim.Native.Nat.{ℕ, zero, suc, _+_, _-_, _<_, _≤_}
@@ -9,11 +9,10 @@ use native.Mathlib.Decide.{decLt}
 use native.Mathlib.Omega.{arith}
 use borrow.Author.Tests.{eqb-true, eqb-false, ne-eqb, le-leb, lt-leb}
 use lib.Dec.{eqb, leb}
-use lib.ListN.{length, getD, take, drop}
+use lib.ListN.{length}
 use Rattle.machine.specs.Table.{domains}
-use Rattle.machine.specs.Check.{Accepted}
 use Rattle.machine.specs.Call.{Call, cut}
-use Rattle.turn_order.specs.Turns.{Turns, Turn, replaced, handedIn, waits, turnOf, afterTurn, width, Turn.idle, Turn.serves}
+use Rattle.turn_order.specs.Turns.{Turns, Turn, handedIn, waits, turnOf, afterTurn, Turn.serves}
 use Rattle.turn_order.specs.History.{Layer, Event, eventCode, nextTurn, done, afterEvent, alongWith, turnAt, turnsOf, servedOf, Event.handIn, Event.turn}
 use Rattle.turn_order.specs.Claims.{ServedWithin, ServedInTime}
 use Rattle.turn_order.proofs.Pending.{cons-same, no-cons, Serving, turn-cases, replaced-else}

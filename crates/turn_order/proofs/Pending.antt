@@ -1,6 +1,6 @@
 -- Laws of pending words: what a call at their front is and what remains behind it, what handing in adds, and whom a turn serves
 -- (specs/Turns). Assumes nothing.
-use mathlib.Core.Path.{_≡_, refl, sym, ap, ap₂, subst, _∙_}
+use mathlib.Core.Path.{_≡_, refl, sym, ap, subst, _∙_}
 use mathlib.Core.Bool.{Bool, true, false, cond, not, _&&_, true≢false, false≢true}
 use mathlib.Core.Logic.{_⊎_, ⊎-elim, _⊎_.inl, _⊎_.inr}
 use mathlib.Core.List.{List, [], _∷_, _++_}
@@ -15,9 +15,9 @@ use Rattle.machine.specs.Word.{kind, caller}
 use Rattle.machine.specs.Below.{firstBelow}
 use Rattle.machine.specs.Call.{Call, first, callerOf, wantsSecond, pairs, cut, Call.one, Call.two}
 use Rattle.machine.specs.DomainSet.{calledBy}
-use Rattle.machine.proofs.Bools.{and-left, and-right, and-intro}
+use Rattle.machine.proofs.Bools.{and-left, and-right}
 use Rattle.machine.proofs.Below.{below-or-last}
-use Rattle.turn_order.specs.Turns.{Turns, Turn, replaced, isOneOf, waits, firstFrom, orElse, firstWaiting, servesOldest, servesAt, turnOf, width, Turn.idle, Turn.serves}
+use Rattle.turn_order.specs.Turns.{Turns, replaced, isOneOf, waits, firstFrom, orElse, firstWaiting, servesOldest, servesAt, turnOf, width, Turn.idle, Turn.serves}
 
 -- ---- the call at the front of words
 
@@ -54,14 +54,6 @@ no-cons {A} p = true≢false (ap isNil p)
     isNil : List A → Bool
     isNil [] = true
     isNil (x ∷ xs) = false
-
--- what remains behind the first call
-pub cut-rest : (ws : List ℕ) (c : Call) (cs : List Call) → cut ws ≡ c ∷ cs → cut (drop (width c) ws) ≡ cs
-unfolding cut
-cut-rest [] c cs h = absurd (no-cons h)
-cut-rest (w ∷ ws) c cs h =
-    let (is, rest) = cons-same (sym (cut-oldest w ws) ∙ h) in
-    ap (λ (x : Call). cut (drop (width x) (w ∷ ws))) (sym is) ∙ rest
 
 -- ---- words behind words
 
@@ -196,13 +188,13 @@ from-false : (place d : ℕ) (b : Bool) → place ≤ d → (leb place d && b) �
 from-false place d b l h = sym (ap (λ (x : Bool). x && b) (le-leb place d l)) ∙ h
 
 -- the search from the place of the turn on, and then from 0
-up : (n : ℕ) (s : Turns) (d : ℕ) → firstFrom n s (s .place) ≡ some d → firstWaiting n s ≡ some d
+pub waiting-up : (n : ℕ) (s : Turns) (d : ℕ) → firstFrom n s (s .place) ≡ some d → firstWaiting n s ≡ some d
 unfolding firstWaiting orElse
-up n s d is = ap (λ (o : Option ℕ). orElse o (firstFrom n s 0)) is
+waiting-up n s d is = ap (λ (o : Option ℕ). orElse o (firstFrom n s 0)) is
 
-round : (n : ℕ) (s : Turns) (o : Option ℕ) → firstFrom n s (s .place) ≡ none → firstFrom n s 0 ≡ o → firstWaiting n s ≡ o
+pub waiting-round : (n : ℕ) (s : Turns) → firstFrom n s (s .place) ≡ none → firstWaiting n s ≡ firstFrom n s 0
 unfolding firstWaiting orElse
-round n s o is is′ = ap (λ (o : Option ℕ). orElse o (firstFrom n s 0)) is ∙ is′
+waiting-round n s is = ap (λ (o : Option ℕ). orElse o (firstFrom n s 0)) is
 
 pub from-cases : (n : ℕ) (s : Turns) (place : ℕ) → ((d : ℕ) × (firstFrom n s place ≡ some d) × Lowest n (λ d. leb place d && waits s d) d) ⊎ ((firstFrom n s place ≡ none) × ((e : ℕ) → e < n → (leb place e && waits s e) ≡ false))
 unfolding firstFrom
@@ -232,7 +224,7 @@ turn-cases n s =
     inr (
       d,
       o .call,
-      turn-of n s d (up n s d is) ∙ o .served,
+      turn-of n s d (waiting-up n s d is) ∙ o .served,
       record {
         below = low .below;
         order = inl (after, λ e l b. from-false (s .place) e _ l (low .least e b));
@@ -253,7 +245,7 @@ turn-cases n s =
         inr (
           d,
           o .call,
-          turn-of n s d (round n s (some d) is is′) ∙ o .served,
+          turn-of n s d (waiting-round n s is ∙ is′) ∙ o .served,
           record {
             below = low .below;
             order = inr (λ e l b. from-false (s .place) e _ l (all e b), λ e b. from-false 0 e _ (omega arith) (low .least e b));
@@ -261,7 +253,7 @@ turn-cases n s =
             fits = o .fits;
           },
         ))
-        (λ none′. let (is′, all′) = none′ in inl (turn-idle n s (round n s none is is′), λ e b. from-false 0 e _ (omega arith) (all′ e b)))
+        (λ none′. let (is′, all′) = none′ in inl (turn-idle n s (waiting-round n s is ∙ is′), λ e b. from-false 0 e _ (omega arith) (all′ e b)))
         (from-cases n s 0)
 
 -- ---- what is pending of the others

@@ -9,17 +9,11 @@ use lib.Dec.{eqb}
 use lib.ListN.{length, getD, take, drop, set, length-take, length-drop}
 use lib.Seq.{length-take-le, getD-take, getD-drop}
 use borrow.Rule.Slice.PartMut.{put-same, same-len-mid}
-use Rattle.machine.specs.Table.{domains}
 use Rattle.turn_order.specs.Turns.{mostPending, waits}
 use Rattle.cutting.specs.declared.Second.the-variants.{Nothing}
 use Rattle.pending.specs.Pending.{blockLength, count, enqueuable, enqueued, leftByEnqueue, dequeuable, leftByDequeue, secondOfOldest}
 use Rattle.pending.proofs.Laws.{pending-length, not-dequeued, dequeued-there}
 use Rattle.turn_state.specs.State.{stateLength, blockAt, block, setBlock, turnsIn, stateHandedIn, stateServed, addedTo, firstOfOldest, removedFrom}
-
--- n has eight bits in a table's first word
-pub domains-few : (t : List ℕ) → domains t < 256
-unfolding domains
-domains-few t = omega arith
 
 module _ (ws : List ℕ) (n d : ℕ) (size : length ws ≡ stateLength n) (below : d < n) where
   -- a domain's words are all there

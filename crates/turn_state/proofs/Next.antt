@@ -3,7 +3,7 @@ use mathlib.Core.Path.{_≡_, refl, sym, ap, _∙_}
 use mathlib.Core.Bool.{Bool, true, false}
 use mathlib.Core.Logic.{_⊎_, ⊎-elim, _⊎_.inl, _⊎_.inr}
 use mathlib.Core.List.{List}
-use mathlib.Core.Option.{Option, none, some}
+use mathlib.Core.Option.{none, some}
 use Prim.Native.Nat.{ℕ, _<_, _≤_}
 use native.Mathlib.Decide.{decLt}
 use native.Mathlib.Omega.{arith}
@@ -11,18 +11,9 @@ use borrow.Author.Tests.{eqb-true, eqb-false, eq-eqb, ne-eqb, le-leb, lt-leb}
 use lib.Dec.{eqb, leb}
 use lib.ListN.{length}
 use Rattle.machine.proofs.Bools.{and-right}
-use Rattle.turn_order.specs.Turns.{Turns, waits, firstFrom, orElse, firstWaiting}
-use Rattle.turn_order.proofs.Pending.{from-cases}
+use Rattle.turn_order.specs.Turns.{Turns, waits, firstFrom, firstWaiting}
+use Rattle.turn_order.proofs.Pending.{waiting-up, waiting-round, from-cases}
 use Rattle.turn_state.specs.State.{stateLength, turnsIn, orNone, nextToServe}
-
--- what is first, from the place on or, where nobody is there, from 0
-pub waiting-up : (n : ℕ) (s : Turns) (d : ℕ) → firstFrom n s (s .place) ≡ some d → firstWaiting n s ≡ some d
-unfolding firstWaiting orElse
-waiting-up n s d is = ap (λ (o : Option ℕ). orElse o (firstFrom n s 0)) is
-
-pub waiting-round : (n : ℕ) (s : Turns) → firstFrom n s (s .place) ≡ none → firstWaiting n s ≡ firstFrom n s 0
-unfolding firstWaiting orElse
-waiting-round n s is = ap (λ (o : Option ℕ). orElse o (firstFrom n s 0)) is
 
 -- the first that is found is a domain with a call
 pub record Found (n : ℕ) (s : Turns) (d : ℕ) : Type 0 where

@@ -1,8 +1,8 @@
 -- The oldest call of the domain that is next: it is what a turn serves, and its words are there to go (specs/State). Assumes nothing.
 use mathlib.Core.Path.{_≡_, sym, ap, ap₂, subst, _∙_}
-use mathlib.Core.Bool.{Bool, true, false, not, true≢false, false≢true}
+use mathlib.Core.Bool.{true, not, false≢true}
 use mathlib.Core.List.{List, [], _∷_}
-use mathlib.Core.Option.{Option, none, some}
+use mathlib.Core.Option.{some, Option·none-ne-some, Option·some-injective}
 use mathlib.Core.Logic.{⊎-elim}
 use Prim.Native.Nat.{ℕ, zero, suc, _<_, _≤_}
 use native.Mathlib.Omega.{arith}
@@ -24,16 +24,6 @@ use Rattle.turn_state.proofs.Blocks.{block-length, removed-there}
 use Rattle.turn_state.proofs.Words.{width-of, second-oldest}
 use Rattle.turn_state.proofs.Next.{waiting-found, Found}
 
-some-is : {x y : ℕ} → _≡_ {A = Option ℕ} (some x) (some y) → x ≡ y
-some-is p = cc
-
-no-some : {x : ℕ} → _≡_ {A = Option ℕ} none (some x) → ⊥
-no-some p = true≢false (ap isNone p)
-  where
-    isNone : Option ℕ → Bool
-    isNone none = true
-    isNone (some x) = false
-
 -- the oldest call of words that are there, by their first and what comes second
 oldest-served : (d : ℕ) (ps : List ℕ) → not (eqb (length ps) 0) ≡ true → servesOldest d (cut ps) ≡ serves d (callOf (getD ps 0 0) (secondAt ps 0))
 unfolding servesOldest
@@ -52,7 +42,7 @@ module _ (t ws : List ℕ) (d : ℕ) (size : length ws ≡ stateLength (domains 
   -- the domain that is next has a call
   pub found : Found (domains t) (turnsIn ws) d
   found =
-      ⊎-elim (λ f. let (e, is, it) = f in subst (Found (domains t) (turnsIn ws)) (some-is (sym is ∙ next)) it) (λ is. absurd (no-some (sym is ∙ next)))
+      ⊎-elim (λ f. let (e, is, it) = f in subst (Found (domains t) (turnsIn ws)) (Option·some-injective _ _ (sym is ∙ next)) it) (λ is. absurd (Option·none-ne-some _ (sym is ∙ next)))
       (waiting-found (domains t) (turnsIn ws))
 
   whole : length (block ws d) ≡ blockLength

@@ -1,9 +1,9 @@
 -- What is taken in of an accepted table stands for it, and what is put out after a run is the table at its end.
 -- Assumes nothing.
-use mathlib.Core.Path.{_≡_, refl, sym, ap, ap₂, subst, subst₂, _∙_}
+use mathlib.Core.Path.{_≡_, refl, sym, ap, ap₂, _∙_}
 use mathlib.Core.Bool.{true, cond}
 use mathlib.Core.List.{List}
-use Prim.Native.Nat.{ℕ, _*_, _%_, _≤_}
+use Prim.Native.Nat.{ℕ, _*_, _%_}
 use native.Mathlib.Nat.{mod-eq-of-lt}
 use native.Mathlib.Omega.{arith}
 use lib.ListN.{length}
@@ -17,7 +17,6 @@ use Rattle.machine.proofs.Bools.{and-intro}
 use Rattle.rows.specs.Rows.{rowsOf, rowsOut, hasRights}
 use Rattle.kernel.specs.Run.{AllRun}
 use Rattle.working_state.specs.State.{Rights, rightsOf}
-use Rattle.working_state.specs.Represents.{Represents}
 use Rattle.working_layout.specs.Layout.{hasQueues, ringsOf, queuesOut, namesOf, ownedOf, packedOf}
 use Rattle.working_layout.proofs.Stands.{taken-in-stands-for}
 use Rattle.working_layout.proofs.PutOut.{put-out-is-table}

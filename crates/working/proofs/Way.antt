@@ -4,10 +4,8 @@ use mathlib.Core.Path.{_≡_, refl, sym, ap, ap₂, subst₂, _∙_}
 use mathlib.Core.List.{List}
 use Prim.Native.Nat.{ℕ, _+_, _*_, _<_, _≤_}
 use lib.ListN.{length, getD}
-use Rattle.machine.specs.Check.{Accepted}
 use Rattle.machine.specs.Machine as machine
 use Rattle.machine.specs.Machine.{Decision}
-use Rattle.machine.specs.Holders.{holdersOf}
 use Rattle.machine.specs.SameParts.{SameFrame}
 use Rattle.machine.proofs.Frame.{frame-refl, frame-trans}
 use Rattle.machine.proofs.Step.{stays-accepted}

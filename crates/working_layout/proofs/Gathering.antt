@@ -2,8 +2,8 @@
 use mathlib.Core.Path.{_≡_, refl, sym, ap, ap₂, _∙_}
 use mathlib.Core.Bool.{cond}
 use mathlib.Core.List.{List}
-use Prim.Native.Nat.{ℕ, suc, _+_, _*_, _%_, _^_, _<_, _≤_, min}
-use native.Mathlib.Nat.{one-mul, pow-suc}
+use Prim.Native.Nat.{ℕ, suc, _+_, _%_, _^_, _<_, _≤_, min}
+use native.Mathlib.Nat.{pow-suc}
 use native.Mathlib.Decide.{decLt, ℕ-discrete}
 use native.Mathlib.Numerals.{add-one}
 use native.Mathlib.Omega.{arith}
@@ -11,7 +11,7 @@ use mir.Syntax.{w32}
 use mir.Val.{Fits}
 use lib.Dec.{eqb, ltb}
 use lib.ListN.{length, getD, set, length-set, replicate, getD-replicate}
-use lib.Pow.{shl-exact, pow-mono}
+use lib.Pow.{pow-mono}
 use lib.Seq.{ext-getD, getD-set-same, getD-set-other}
 use borrow.Author.Tests.{lt-ltb, le-ltb, eq-eqb, ne-eqb}
 use Rattle.machine.specs.Below.{sumBelow, wordsBelow, bitsBelow}
@@ -20,10 +20,6 @@ use Rattle.machine.specs.Table.{endpointAt}
 use Rattle.machine.proofs.Below.{words-length, words-at, bits-lt}
 use Rattle.rows.proofs.Filling.{Filling}
 use Rattle.working_layout.specs.Layout.{namesOf, ownedOf}
-
--- a bit moved up by less than 32 places stays in a word
-pub shifted : (e : ℕ) → e < 32 → 1 * 2 ^ e % 2 ^ 32 ≡ 2 ^ e
-shifted e l = shl-exact 1 e 32 (omega arith) (omega arith) ∙ one-mul (2 ^ e)
 
 -- ---- the names
 pub names-filled :

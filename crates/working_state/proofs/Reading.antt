@@ -23,9 +23,9 @@ use Rattle.cutting.specs.Cutting.{callOf}
 use Rattle.cutting.specs.declared.Second.{Second}
 use Rattle.calls.specs.Apart.{apart}
 use Rattle.calls.proofs.Decide.{decided}
-use Rattle.rules.specs.Access.{readingOf, decidedBy}
+use Rattle.rules.specs.Access.{decidedBy}
 use Rattle.rules.specs.Readings.{SameReading}
-use Rattle.rules.proofs.Places.{decide-places}
+use Rattle.rules.proofs.Places.{readingOf, decide-places}
 use Rattle.rules.proofs.Readings.{same-decision}
 use Rattle.rings.specs.Ring.{ringOwner}
 use Rattle.rings.specs.Claims.{Stands}

@@ -1,22 +1,14 @@
--- The rings of m endpoints, side by side: one is another's words as little as it is the rest. Assumes nothing.
+-- The rings of m endpoints, side by side: one put in its place leaves the others as they are. Assumes nothing.
 use mathlib.Core.Path.{_≡_, sym, _∙_}
-use mathlib.Core.Logic.{_⊎_, _⊎_.inl, _⊎_.inr, ⊎-elim}
+use mathlib.Core.Logic.{_⊎_, ⊎-elim}
 use mathlib.Core.List.{List}
 use Prim.Native.Nat.{ℕ, _+_, _*_, _<_, _≤_}
-use native.Mathlib.Decide.{decLt}
 use native.Mathlib.Omega.{arith}
 use lib.ListN.{length}
 use lib.Seq.{ext-getD}
+use Rattle.machine.proofs.Table.{apart}
 use Rattle.rows.proofs.Parts.{part-at, part-length, put-length, put-before, put-in, put-behind}
 use Rattle.working_state.specs.State.{ringAt, withRing}
-
--- two numbers that differ are one below the other
-apart : (f e : ℕ) → (f ≡ e → ⊥) → (f < e) ⊎ (e < f)
-apart f e ne = go (decLt f e)
-  where
-    go : Dec (f < e) → (f < e) ⊎ (e < f)
-    go (yes l) = inl l
-    go (no n) = inr (omega arith)
 
 module _ (rings : List ℕ) (m : ℕ) (size : length rings ≡ 12 * m) (e : ℕ) (l : e < m) where
   there : 12 * e + 12 ≤ length rings

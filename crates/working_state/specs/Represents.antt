@@ -20,8 +20,8 @@ use Rattle.rows.specs.Claims.{SameRights}
 use Rattle.rings.specs.Claims.{Stands}
 use Rattle.working_state.specs.State.{Rights, ringAt, packedRow, namedIn, readingFrom, answerFrom, rowsAfter, ringsAfter}
 
--- The state stands for the table t of n domains and m endpoints: the rows for its rights, packed too, each ring for its endpoint's queue, the
--- names for theirs, and the bits for what each domain owns.
+-- The state stands for the table t of n domains and m endpoints: the rows for its rights, packed too, each ring for its endpoint's
+-- queue, the names for theirs, and the bits for what each domain owns.
 pub record Represents (n m : ℕ) (rows : Rights) (rings names owned t : List ℕ) : Type 0 where
   pub domains : n ≡ machine.domains t
   pub endpoints : m ≡ machine.endpoints t
@@ -33,8 +33,9 @@ pub record Represents (n m : ℕ) (rows : Rights) (rings names owned t : List �
   pub sameNames : (e : ℕ) → e < m → getD names e 0 ≡ name (endpoint t e)
   pub sameOwned : (u : ℕ) → u < n → getD owned u 0 ≡ ownedBits t u
 
--- A call of the first word w and what comes second, on a state, whatever the hints to its names, and on the table t: it comes to the same, it is answered the same,
--- what it leaves stands for the table after it, and the holders of the one are noted to be those of the other.
+-- A call of the first word w and what comes second, on a state, whatever the hints to its names, and on the table t: it comes to the
+-- same, it is answered the same, what it leaves stands for the table after it, and noting its effect makes of the holders those of
+-- the table after it.
 pub record GoesAlong (w : ℕ) (s : Second) (n m : ℕ) (rows : Rights) (rings names hints owned t : List ℕ) : Type 0 where
   pub decided : decidedBy n m (readingFrom (rows .rows) rings (namedIn m names hints)) (apart w s) ≡ decide t (callOf w s)
   pub answer : answerFrom w rows rings owned (decide t (callOf w s)) ≡ answer t (callOf w s)

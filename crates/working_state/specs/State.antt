@@ -1,6 +1,6 @@
--- The working state of a run (document 02 (l)), part by part: the rights as rows (crate rows), each packed too, the queues as rings of twelve words
--- (crate rings), the endpoints' names side by side, and for each domain the endpoints that it owns as bits. What is read of it for
--- a call, what is answered, and what an effect leaves of it. Any numbers and words will do.
+-- The working state of a run (document 02 (l)), part by part: the rights as rows (crate rows), each packed too, the queues as rings of
+-- twelve words (crate rings), the endpoints' names side by side, and for each domain the endpoints that it owns as bits. What is read
+-- of it for a call, what is answered, and what an effect leaves of it. Any numbers and words will do.
 use Prim.Native.Nat.{ℕ, _+_, _-_, _*_, _/_, _%_, _^_}
 use mathlib.Core.Bool.{cond, _&&_}
 use mathlib.Core.Option.{Option, none, some}

@@ -18,11 +18,11 @@ use Rattle.machine.proofs.Decide.{kind-elim}
 use Rattle.cutting.specs.Cutting.{callOf}
 use Rattle.cutting.specs.declared.Second.{Second}
 use Rattle.cutting.specs.declared.Second.the-variants.{Nothing, Word}
+use Rattle.cutting.proofs.CutAt.{first-of}
 use Rattle.calls.specs.Apart.{whole, ofKind, apart}
 use Rattle.calls.specs.declared.Call.{Call}
 use Rattle.calls.specs.declared.Call.the-variants.{Refused}
 use Rattle.calls.specs.declared.Refusal.the-variants.{UnusedField, NoSecondWord}
-use Rattle.calls.proofs.Apart.{first-of}
 use Rattle.written_calls.specs.declared.Fields.{Fields}
 use Rattle.written_calls.specs.Words.{fieldsAt, fieldsOf, withinBits, firstWord, fieldWords, fits, wordsOf, allFit, written}
 use Rattle.written_calls.specs.Claims.{readFrom, past, allPast, ofTheFour, WritesBack}

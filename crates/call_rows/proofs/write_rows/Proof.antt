@@ -1,6 +1,5 @@
 -- `write_rows` meets its contract: each answer is the one that is due for what the first pass found. Assumes nothing.
 use mathlib.Core.Path.{_≡_, sym, _∙_}
-use mathlib.Core.Bool.{Bool}
 use borrow.Author.Needs.{needs}
 use denote.Ref.{now}
 use lib.ListN.{length}

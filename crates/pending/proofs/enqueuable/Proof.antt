@@ -1,11 +1,8 @@
 -- `enqueuable` is the specification's `enqueuable`. Assumes nothing.
-use mathlib.Core.Path.{_≡_, ap, _∙_}
-use mathlib.Core.Bool.{Bool}
-use Prim.Native.Nat.{ℕ, _+_, _-_, _≤_}
+use Prim.Native.Nat.{_-_}
 use native.Mathlib.Omega.{arith}
 use borrow.Author.Needs.{needs}
 use borrow.Author.Tests.{eq-eqb, ne-eqb}
-use lib.Dec.{leb}
 use denote.Ref.{now}
 use Rattle.pending.specs.Pending.{enqueuable}
 use Rattle.pending.proofs.Laws.{count-most, room-left}

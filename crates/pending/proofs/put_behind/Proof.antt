@@ -9,7 +9,7 @@ use borrow.Author.Needs.{needs}
 use lib.ListN.{length, getD, set, length-set}
 use lib.Seq.{paste, paste-zero, paste-suc}
 use Rattle.pending.specs.Pending.{count}
-use Rattle.pending.proofs.Laws.{count-most, enqueue-end}
+use Rattle.pending.proofs.Laws.{enqueue-end}
 use Rattle.pending.proofs.put_behind.Statement.{statement}
 use Rattle.pending.proofs.put_behind.Tie as tie
 

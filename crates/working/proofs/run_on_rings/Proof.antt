@@ -3,7 +3,6 @@
 use mathlib.Core.Path.{_∙_}
 use Rattle.holders.proofs.Filled.{filled-accepted}
 use Rattle.working.proofs.Taken.{taken-in, put-out}
-use borrow.Author.Needs.{needs}
 use Rattle.working.proofs.run_on_rings.Statement.{statement}
 use Rattle.working.proofs.run_on_rings.Tie as tie
 

@@ -1,5 +1,4 @@
 -- `look_up_call` meets its contract: the unused fields, and the look up. Assumes nothing.
-use native.Mathlib.Omega.{arith}
 use Rattle.working_calls.proofs.Whole.{served-refused, served-look-up}
 use Rattle.calls.proofs.ByWord.{look-up-unused, look-up-apart}
 use Rattle.working_calls.proofs.ByWord.{here}

@@ -1,5 +1,4 @@
 -- `send_call` meets its contract: the unused fields, and the send. Assumes nothing.
-use native.Mathlib.Omega.{arith}
 use Rattle.working_calls.proofs.Whole.{served-refused, served-send}
 use Rattle.calls.proofs.ByWord.{send-unused, send-apart}
 use Rattle.working_calls.proofs.ByWord.{here}

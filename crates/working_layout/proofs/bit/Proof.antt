@@ -1,5 +1,5 @@
 -- `bit` meets its contract. Assumes nothing.
-use Rattle.working_layout.proofs.Gathering.{shifted}
+use Rattle.machine.proofs.Below.{one-bit}
 use borrow.Author.Needs.{needs}
 use Rattle.working_layout.proofs.bit.Statement.{statement}
 use Rattle.working_layout.proofs.bit.Tie as tie
@@ -8,7 +8,7 @@ shl-result : tie.Need-shl-result
 shl-result c = search needs
 
 returns : tie.Need-returns
-returns c = shifted _ (c .pre)
+returns c = one-bit _ (c .pre)
 
 pub bit-spec : {M : Type 1} → statement M
 bit-spec = tie.close (tie.spec shl-result returns)

@@ -1,5 +1,5 @@
 -- `find_by` meets its contract: the hint is right, or the name is searched for. Assumes nothing.
-use mathlib.Core.Path.{sym, ap, _∙_}
+use mathlib.Core.Path.{ap, _∙_}
 use Prim.Native.Nat.{ℕ}
 use lib.ListN.{getD}
 use Rattle.rules.specs.Access.{foundOf}

@@ -1,6 +1,5 @@
 -- `alter` meets its contract: one place of the rows, one packed row, one bit of the holders. Assumes nothing.
 use mathlib.Core.Path.{ap, ap₂, _∙_}
-use mathlib.Core.List.{List}
 use Prim.Native.Nat.{ℕ, _%_}
 use lib.ListN.{getD, set}
 use Rattle.working_state.specs.State.{rightsOf, repacked, rowsAfter}

@@ -1,6 +1,7 @@
 -- `joins::bit` meets its contract. Assumes nothing.
+use native.Mathlib.Omega.{arith}
 use borrow.Author.Needs.{needs}
-use Rattle.components.proofs.Words.{shifted}
+use Rattle.machine.proofs.Below.{one-bit}
 use Rattle.components.proofs.joins.bit.Statement.{statement}
 use Rattle.components.proofs.joins.bit.Tie as tie
 
@@ -8,7 +9,7 @@ shl-result : tie.Need-shl-result
 shl-result c = search needs
 
 returns : tie.Need-returns
-returns c = shifted _ (c .pre)
+returns c = one-bit _ (omega (arith, c .pre))
 
 pub bit-spec : {M : Type 1} → statement M
 bit-spec = tie.close (tie.spec shl-result returns)

@@ -4,17 +4,12 @@ use Prim.Native.Nat.{ℕ, _+_, _*_, _-_, _≤_}
 use mathlib.Core.Path.{_≡_, ap, _∙_}
 use native.Mathlib.Omega.{arith}
 use lib.ListN.{length, getD}
-use borrow.Author.Needs.{needs}
 use Rattle.machine.specs.Counts.{isSend, isReceive}
 use Rattle.cutting.specs.Cutting.{secondAt, widthOf}
-use Rattle.cutting.specs.declared.Second.{Second}
-use Rattle.cutting.specs.declared.Second.the-variants.{Nothing, Word}
-use Rattle.cutting.proofs.CutAt.{cut-at}
+use Rattle.cutting.proofs.CutAt as cutting
 use Rattle.counting.proofs.CountLaws.{Counting, one, addsAt, counting-start, counting-next, counting-end, counted-few, sends-are, receives-are}
 use Rattle.counting.proofs.calls.count_calls.Statement.{statement}
 use Rattle.counting.proofs.calls.count_calls.Tie as tie
-use Rattle.counting.proofs.calls.count_calls.Reads as reads
-use Rattle.counting.proofs.calls.count_calls.Lts as lts
 
 abbrev Inv-loop : tie.InvT-loop
 Inv-loop list answers sent₀ received₀ at₀ i₀ sent received at i =
@@ -24,10 +19,6 @@ abbrev μ-loop : tie.MeasureT-loop
 μ-loop list answers sent₀ received₀ at₀ i₀ sent received at i = length list - i
 
 -- a call is one word at least
-wide-enough : (s : Second) → 1 ≤ widthOf s
-wide-enough Nothing = omega arith
-wide-enough (Word v) = omega arith
-
 -- what the two additions add
 sent-adds : (c : tie.After-done Inv-loop μ-loop)
     → let args = c .before .before .before .before .before .before .before .args in
@@ -54,9 +45,9 @@ next-place c =
     let second = c .before .second-at in
     let list = c .before .before .before .before .before .before .before .before .before .before .args .list .now in
     let i = c .before .before .before .before .before .before .before .loop .i in
-    let cut = cut-at list i (c .before .before .before .before .before .before .loop-test .taken) in
+    let cut = cutting.cut-at list i (c .before .before .before .before .before .before .loop-test .taken) in
     let wide : c .width .result ≡ widthOf (secondAt list i) = c .width .ensures ∙ ap widthOf (second .ensures) in
-    (omega (arith, cut .within, wide), omega (arith, wide, wide-enough (secondAt list i)))
+    (omega (arith, cut .within, wide), omega (arith, wide, cutting.wide (secondAt list i)))
 
 loop-holds : tie.Need-loop-holds Inv-loop μ-loop
 loop-holds c = (counting-start isSend _ _, counting-start isReceive _ _, omega arith, omega arith)

@@ -1,6 +1,5 @@
 -- `calls::done` meets its contract: each return rewrites by the tests that led there. Assumes nothing.
 use borrow.Author.Tests.{eq-eqb, ne-eqb}
-use mathlib.Core.Bool.{and-false}
 use Rattle.counting.proofs.calls.done.Statement.{statement}
 use Rattle.counting.proofs.calls.done.Tie as tie
 

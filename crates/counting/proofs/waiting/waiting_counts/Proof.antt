@@ -1,10 +1,9 @@
 -- `waiting::waiting_counts` meets its contract. Assumes nothing.
-use Prim.Native.Nat.{ℕ, _+_, _-_, _*_, _≤_, _<_, _%_}
+use Prim.Native.Nat.{_-_, _≤_, _%_}
 use mathlib.Core.Path.{_≡_, refl, sym, ap, _∙_}
 use native.Mathlib.Omega.{arith}
 use lib.ListN.{length, take, length-set}
 use lib.Seq.{take-all}
-use borrow.Author.Needs.{needs}
 use Rattle.machine.specs.Word.{payload}
 use Rattle.machine.specs.Below.{wordsBelow}
 use Rattle.machine.specs.Table.{endpoint}

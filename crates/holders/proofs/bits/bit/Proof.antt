@@ -1,6 +1,6 @@
 -- `bits::bit` meets its contract. Assumes nothing.
 use borrow.Author.Needs.{needs}
-use Rattle.holder_words.proofs.OneBit.{one-bit}
+use Rattle.machine.proofs.Below.{one-bit}
 use Rattle.holders.proofs.bits.bit.Statement.{statement}
 use Rattle.holders.proofs.bits.bit.Tie as tie
 

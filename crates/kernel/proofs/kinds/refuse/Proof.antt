@@ -1,13 +1,10 @@
 -- `kinds::refuse` meets its contract. Assumes nothing.
-use mathlib.Core.Path.{_≡_, refl, sym, ap, _∙_}
-use native.Mathlib.Omega.{arith}
-use borrow.Author.Needs.{needs}
-use Rattle.rules.specs.Decision.{decisionOf}
+use mathlib.Core.Path.{refl}
 use Rattle.rules.specs.Range.{callNumbers}
 use Rattle.rules.specs.Access.{accessBy}
 use Rattle.rules.proofs.Guards.{outside, within}
 use Rattle.rules.proofs.Places.{decided}
-use Rattle.kernel.proofs.Outcomes.{settled-refused, settled-endpoints, settled-rights}
+use Rattle.kernel.proofs.Outcomes.{settled-refused}
 use Rattle.kernel.proofs.kinds.refuse.Statement.{statement}
 use Rattle.kernel.proofs.kinds.refuse.Tie as tie
 

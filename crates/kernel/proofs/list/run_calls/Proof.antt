@@ -5,9 +5,8 @@ use native.Mathlib.Omega.{arith}
 use lib.ListN.{length}
 use Rattle.machine.proofs.Cut.{cut-few}
 use Rattle.holders.proofs.Filled.{filled-accepted}
-use Rattle.cutting.specs.Cutting.{secondAt, widthOf}
-use Rattle.cutting.specs.declared.Second.{Second}
-use Rattle.cutting.specs.declared.Second.the-variants.{Nothing, Word}
+use Rattle.cutting.specs.Cutting.{secondAt}
+use Rattle.cutting.proofs.CutAt.{wide}
 use Rattle.kernel.proofs.Underway.{underway-start, room, underway-end}
 use Rattle.kernel.proofs.Settled.{OnItsWay, way-next}
 use Rattle.kernel.proofs.list.run_calls.Statement.{statement}
@@ -40,10 +39,6 @@ next c =
     (call .serve-at .kept .1 .1 .1 .1 .1 .1 .0)
 
 -- a call is one word at least, and within the list
-wide : (s : Second) → 1 ≤ widthOf s
-wide Nothing = omega arith
-wide (Word v) = omega arith
-
 next-place : (c : tie.After-slice-known7 Inv-loop μ-loop)
     → (c .before .before .before .before .before .before .before .before .before .before .before .loop .i + c .before .before .before .before .before .before .serve-at .result ≤ length (c .before .before .before .before .before .before .before .before .before .before .before .before .before .before .before .before .before .before .before .before .before .before .before .before .before .args .list .now)) × (1 ≤ c .before .before .before .before .before .before .serve-at .result)
 next-place c =

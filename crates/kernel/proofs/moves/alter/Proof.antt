@@ -1,5 +1,4 @@
 -- `moves::alter` meets its contract: the rights fit, and their word is in the table. Assumes nothing.
-use mathlib.Core.Path.{_≡_}
 use Prim.Native.Nat.{_<_}
 use native.Mathlib.Omega.{arith}
 use lib.ListN.{length}

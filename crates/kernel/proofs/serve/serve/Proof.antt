@@ -1,7 +1,6 @@
 -- `serve::serve` meets its contract: what is decided is what the machine decides, and so are the answer and the table; and the
 -- holders that are kept by the effect are those of that table. Assumes nothing.
 use mathlib.Core.Path.{_≡_, sym, ap, ap₂, _∙_}
-use borrow.Author.Needs.{needs}
 use Rattle.machine.specs.Machine as machine
 use Rattle.cutting.specs.Cutting.{callOf}
 use Rattle.calls.specs.Decide.{decideCall}

@@ -5,7 +5,8 @@ use mathlib.Core.Path.{_≡_, sym, _∙_}
 use native.Mathlib.Omega.{arith}
 use lib.ListN.{length, take}
 use Rattle.linerun_input.specs.Input.{wanted, mostInput, Needed}
-use Rattle.linerun_input.proofs.InputLaws.{needed-none, stops-full, needed-step, stops-short}
+use Rattle.reading.proofs.Needed.{needed-none}
+use Rattle.linerun_input.proofs.InputLaws.{stops-full, needed-step, stops-short}
 use Rattle.linerun_input.proofs.stdin.read_all.Statement.{statement}
 use Rattle.linerun_input.proofs.stdin.read_all.Tie as tie
 
@@ -16,7 +17,7 @@ abbrev μ-loop : tie.MeasureT-loop
 μ-loop input₀ have₀ input have = mostInput - have
 
 loop-holds : tie.Need-loop-holds Inv-loop μ-loop
-loop-holds c = (omega arith, omega arith, needed-none)
+loop-holds c = (omega arith, omega arith, needed-none wanted)
 
 wanted-after-requires : tie.Need-wanted-after-requires Inv-loop μ-loop
 wanted-after-requires c κs = omega arith

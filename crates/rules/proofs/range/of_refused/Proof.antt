@@ -1,5 +1,5 @@
 -- `range::of_refused` meets its contract: 12 stands between 11 and 13. Assumes nothing.
-use mathlib.Core.Path.{refl, sym}
+use mathlib.Core.Path.{sym}
 use borrow.Author.Tests.{lt-ltb, le-ltb}
 use Rattle.rules.specs.Range.{followed, refusedNumbers}
 use Rattle.rules.proofs.range.of_refused.Statement.{statement}

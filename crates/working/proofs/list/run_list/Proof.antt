@@ -4,11 +4,9 @@ use mathlib.Core.List.{List}
 use Prim.Native.Nat.{ℕ, _+_, _*_, _-_, _≤_}
 use native.Mathlib.Omega.{arith}
 use lib.ListN.{length}
-use borrow.Author.Needs.{needs}
 use Rattle.machine.proofs.Cut.{cut-few}
-use Rattle.cutting.specs.Cutting.{secondAt, widthOf}
-use Rattle.cutting.specs.declared.Second.{Second}
-use Rattle.cutting.specs.declared.Second.the-variants.{Nothing, Word}
+use Rattle.cutting.specs.Cutting.{secondAt}
+use Rattle.cutting.proofs.CutAt.{wide}
 use Rattle.kernel.proofs.Underway.{room}
 use Rattle.working_state.specs.State.{rightsOf}
 use Rattle.working.specs.Run.{StandsFor}
@@ -45,10 +43,6 @@ next c t s =
     (call .serve-at .kept .1 .1 .1 .1 .1 .1 .1 .1 .1 .1 .1 .0)
 
 -- a call is one word at least, and within the list
-wide : (s : Second) → 1 ≤ widthOf s
-wide Nothing = omega arith
-wide (Word v) = omega arith
-
 next-place : (c : tie.After-slice-known6 Inv-loop μ-loop)
     → let call = c .before .before .before .before .before .before in
     (c .before .before .before .before .before .before .before .before .before .before .before .before .before .loop .i + call .serve-at .result ≤ length (c .before .before .before .before .before .before .before .before .before .before .before .before .before .before .before .before .before .before .args .list .now)) × (1 ≤ call .serve-at .result)

@@ -1,5 +1,4 @@
 -- `kinds::no_kind` meets its contract: both returns are refusals. Assumes nothing.
-use native.Mathlib.Omega.{arith}
 use Rattle.working_calls.proofs.Whole.{served-refused}
 use Rattle.calls.proofs.ByWord.{high-unknown, is-stray}
 use Rattle.working_calls.proofs.ByWord.{here}

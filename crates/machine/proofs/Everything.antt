@@ -1,4 +1,5 @@
 -- One name for the definitions of the machine and its counts, for a proof that computes with them: `unfolding everything`.
+-- Assumes nothing.
 use Rattle.machine.specs.Below.{allBelow, numbersBelow, firstBelow, sumBelow, wordsBelow, bitsBelow}
 use Rattle.machine.specs.Right.{isSet, holds, adds, without, hasAny}
 use Rattle.machine.specs.Table.{domains, endpoints, rightsWord, rights, endpoint, setRights, setEndpoint}
