@@ -8,10 +8,11 @@
 //! proved one. Each compiler's functions get a prefix of their own, so that all of them
 //! stand in one program.
 //!
-//! Where they are there, the archives of the crates step_export and queue_export are
-//! linked too: they have the kernel's public step for `bench step` and the queue's
-//! functions for `bench queue`, which the firmware's archive hasn't got. An archive of
-//! the kit shows its exported functions only, so they don't meet.
+//! Where they are there, the archives of the crates step_export, queue_export and
+//! check_export are linked too: they have the kernel's public step for `bench step`, the
+//! queue's functions for `bench queue` and the check of a table's words for `bench speed`,
+//! which the firmware's archive hasn't got. An archive of the kit shows its exported
+//! functions only, so they don't meet.
 //!
 //! For reports it tells the program the hash of the archive that it links, what the
 //! archive says of its own logic, and what the kit at hand says of itself.
@@ -62,7 +63,7 @@ struct TestArchive {
     told: &'static str,
 }
 
-const TEST_ARCHIVES: [TestArchive; 2] = [
+const TEST_ARCHIVES: [TestArchive; 3] = [
     TestArchive {
         archive: Archive {
             name: "step_export",
@@ -78,6 +79,14 @@ const TEST_ARCHIVES: [TestArchive; 2] = [
             exports: &["balkwizu_test_send", "balkwizu_test_receive"],
         },
         told: "queue",
+    },
+    TestArchive {
+        archive: Archive {
+            name: "check_export",
+            variable: "BALKWIZU_CHECK_ARCHIVE",
+            exports: &["balkwizu_test_check"],
+        },
+        told: "check",
     },
 ];
 

@@ -273,7 +273,7 @@ mod tests {
         }
     }
 
-    /// On either side of the lengths at which one run chooses between the other two.
+    /// On either side of the length at which one run chooses between the other two.
     #[test]
     fn lists_are_short_and_long_on_every_kind_of_table() {
         let cases: Vec<Case> = (0..4000).map(|number| run_case(6, number)).collect();
@@ -281,7 +281,8 @@ mod tests {
             let fits = |case: &&Case| case.table.len() <= table && list.contains(&case.list.len());
             cases.iter().filter(fits).count()
         };
-        assert!(of(641, 1..104) > 1000 && of(65, 110..4097) > 200 && of(641, 158..4097) > 100);
+        let (small, large) = (of(65, 128..4097), of(641, 128..4097) - of(65, 128..4097));
+        assert!(of(641, 1..128) > 1000 && small > 200 && large > 100);
     }
 
     #[test]

@@ -27,9 +27,9 @@ bench speed --merge RECORD.. [--svg OUT]
 
 Measures the proved kernel, by each of its runs, beside the plain C kernel of
 bench/c as gcc -O3 and, where there is one, clang -O3 make it, and prints a
-Markdown table: table checks, and calls on lists of 4,096 words of four mixes,
-sixty different lists of each in rotation and one list repeated, which the
-processor learns by heart.
+Markdown table: table checks over bytes and over words, and calls on lists of
+4,096 words of four mixes, sixty different lists of each in rotation and one
+list repeated, which the processor learns by heart.
 
   --by-kind     lists in rotation with one kind of call each, or two that undo
                 each other, on a small table and on the largest
@@ -55,7 +55,11 @@ rounds. A ratio is the median of the rounds' ratios, the proved kernel's time
 over that of the faster plain C kernel of the row: above 1 the proved kernel is
 slower. In brackets stand the ratios that a tenth of the rounds stay below and
 exceed. A goal is for the ratio of the check, or of the faster of the runs.
-Every kernel's runs are first compared with the separate machine's.
+Every kernel's runs are first compared with the separate machine's. The plain C
+checks words as the bytes that they are in memory; the proved check of words is
+in the archive of the crate check_export (`rt staticlib check_export`), which
+the program is built with where it is there, and its rows are left out where it
+isn't.
 
 Runs that are merged must be of one program, processor, seed and number of
 rounds, and made at different times.

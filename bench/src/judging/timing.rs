@@ -1,6 +1,7 @@
 //! How long kernels take for the same thing: each in its turn, in many rounds, and of
 //! these the median and the spread.
 
+use std::hint::black_box;
 use std::time::{Duration, Instant};
 
 use reference::example::TABLE_T;
@@ -8,7 +9,7 @@ use reference::table::domains;
 use reference::words::to_bytes;
 
 use crate::cases::workloads::{largest_table, Workload};
-use crate::kernels::boundary::{Kernel, KERNELS, PROVED};
+use crate::kernels::boundary::{Kernel, HAS_WORDS_CHECK, KERNELS, PROVED};
 use crate::line::explain::counted;
 
 /// How long one kernel is timed in one round, about: so short that it is seldom
@@ -43,17 +44,34 @@ pub struct Subject<'a> {
     pub act: Box<Act<'a>>,
 }
 
+impl Subject<'_> {
+    fn aiming_at(self, goal: f64) -> Self {
+        Subject {
+            goal: Some(goal),
+            ..self
+        }
+    }
+}
+
 /// The proved kernels of this program.
 pub fn proved() -> impl Iterator<Item = &'static Kernel> {
     KERNELS.iter().filter(|kernel| !kernel.is_plain())
 }
 
-/// All that is measured on the workloads, and the check of two tables.
+/// All that is measured on the workloads, and the check of two tables, over their bytes
+/// and, where the program has it, over their words.
 pub fn subjects(workloads: &[Workload]) -> Vec<Subject<'_>> {
-    let mut subjects = vec![
-        checks("table check, table T", to_bytes(&TABLE_T), 0.95),
-        checks("table check, n 16, m 32", to_bytes(&largest_table()), 1.05),
+    let tables = [
+        ("table T", TABLE_T.to_vec(), 0.95),
+        ("n 16, m 32", largest_table(), 1.05),
     ];
+    let over_bytes = tables.iter().map(|(name, table, goal)| {
+        checks_of(&format!("table check, {name}"), to_bytes(table)).aiming_at(*goal)
+    });
+    let with_words = tables.iter().filter(|_| HAS_WORDS_CHECK);
+    let over_words =
+        with_words.map(|(name, table, goal)| words_checks(name, table.clone()).aiming_at(*goal));
+    let mut subjects: Vec<Subject> = over_bytes.chain(over_words).collect();
     for workload in workloads {
         subjects.push(rotating(workload));
         subjects.push(repeated(workload));
@@ -62,12 +80,24 @@ pub fn subjects(workloads: &[Workload]) -> Vec<Subject<'_>> {
     subjects
 }
 
-/// The check of a table image. Nothing is written, so nothing is reset. There is one
-/// check for all proved runs.
+/// The check of a table image.
 pub fn checks_of(name: &str, bytes: Vec<u8>) -> Subject<'static> {
+    let name = format!("{name} ({} bytes)", bytes.len());
+    checks(name, move |kernel| kernel.table_check(black_box(&bytes)))
+}
+
+/// The check of a table's words, which every run begins with.
+fn words_checks(name: &str, table: Vec<u32>) -> Subject<'static> {
+    let name = format!("table check, {name} ({} words)", table.len());
+    checks(name, move |kernel| kernel.words_check(black_box(&table)))
+}
+
+/// Checks that accept. Nothing is written, so nothing is reset. There is one check for all
+/// proved runs.
+fn checks(name: String, code: impl Fn(&Kernel) -> u32 + 'static) -> Subject<'static> {
     let own = |kernel: &&Kernel| kernel.is_plain() || kernel.name == PROVED.name;
     Subject {
-        name: format!("{name} ({} bytes)", bytes.len()),
+        name,
         goal: None,
         unit: "checks",
         units: vec![1],
@@ -75,27 +105,17 @@ pub fn checks_of(name: &str, bytes: Vec<u8>) -> Subject<'static> {
         act: Box::new(move |kernel, part| {
             let start = Instant::now();
             for _ in 0..part.count {
-                assert_eq!(kernel.table_check(std::hint::black_box(&bytes)), 0);
+                assert_eq!(code(kernel), 0);
             }
             start.elapsed()
         }),
     }
 }
 
-fn checks(name: &str, bytes: Vec<u8>, goal: f64) -> Subject<'static> {
-    Subject {
-        goal: Some(goal),
-        ..checks_of(name, bytes)
-    }
-}
-
 /// Whole runs of all lists of a workload, one after another.
 pub fn rotating(workload: &Workload) -> Subject<'_> {
     let how = format!("{} in rotation", counted(workload.lists.len(), "list"));
-    Subject {
-        goal: Some(workload.goal),
-        ..runs(workload, &workload.lists, &how)
-    }
+    runs(workload, &workload.lists, &how).aiming_at(workload.goal)
 }
 
 /// Whole runs of its first list, again and again.

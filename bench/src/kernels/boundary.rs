@@ -1,6 +1,6 @@
 //! The C boundary: the kernel's exported functions as include/balkwizu.h
-//! declares them, those of the plain C kernel, the kernel's public step as the crate
-//! step_export has it for tests, and safe wrappers over all of them.
+//! declares them, those of the plain C kernel, the kernel's public step, its queue and its
+//! check of words as crates have them for tests, and safe wrappers over all of them.
 //!
 //! The caller's duties of the header are what Rust's references say of
 //! themselves: a slice is valid for its length, aligned and never null, two
@@ -12,6 +12,9 @@ use reference::Call;
 
 /// The check of bytes that are valid for reads.
 type TableCheck = unsafe fn(bytes: *const [u8]) -> u32;
+
+/// The check of a table's words that are valid for reads.
+type WordsCheck = unsafe fn(table: *const [u32]) -> u32;
 
 /// A run on words that are valid for reads, all but those of the list for writes too, and
 /// that don't overlap.
@@ -30,6 +33,7 @@ pub struct Kernel {
     /// What it is, for the head of a table.
     pub title: &'static str,
     table_check: TableCheck,
+    words_check: WordsCheck,
     run: Run,
 }
 
@@ -46,6 +50,13 @@ impl Kernel {
     pub fn table_check(&self, bytes: &[u8]) -> u32 {
         // SAFETY: a slice is valid for reads of its length, and nobody writes it.
         unsafe { (self.table_check)(bytes) }
+    }
+
+    /// The check of a table's words: 0, or 2 to 5. Where a kernel has none of its own it is
+    /// the check of the image that they are in memory.
+    pub fn words_check(&self, table: &[u32]) -> u32 {
+        // SAFETY: a slice is valid for reads of its length, and nobody writes it.
+        unsafe { (self.words_check)(table) }
     }
 
     /// Runs a list on a table, writes the answers and sets the holders' words.
@@ -114,8 +125,10 @@ macro_rules! kernel {
         Kernel {
             name: $name,
             title: $title,
-            // SAFETY: in both, the caller's duties are those of the C function.
+            // SAFETY: in all three, the caller's duties are those of the C function; a word
+            // is four bytes.
             table_check: |bytes| unsafe { $table_check(bytes.cast(), bytes.len()) },
+            words_check: |table| unsafe { $table_check(table.cast(), 4 * table.len()) },
             run: |table, list, answers, holders| unsafe {
                 $run(
                     table.cast(),
@@ -133,12 +146,25 @@ macro_rules! kernel {
 }
 
 /// The proved kernel, or what the program was built over in its place.
-pub const PROVED: Kernel = kernel!(
-    "balkwizu",
-    env!("ARCHIVE_TITLE"),
-    balkwizu_table_check,
-    balkwizu_run
-);
+pub const PROVED: Kernel = Kernel {
+    #[cfg(check)]
+    words_check: |table| {
+        extern "C" {
+            fn balkwizu_test_check(table: *const u32, table_len: usize) -> u32;
+        }
+        // SAFETY: the caller's duties are those of the C function.
+        unsafe { balkwizu_test_check(table.cast(), table.len()) }
+    },
+    ..kernel!(
+        "balkwizu",
+        env!("ARCHIVE_TITLE"),
+        balkwizu_table_check,
+        balkwizu_run
+    )
+};
+
+/// Whether the proved check of words is in this program: an archive for tests has it.
+pub const HAS_WORDS_CHECK: bool = cfg!(check);
 
 /// The same with the run that works in a layout of its own. The check is that of the
 /// other.
@@ -402,6 +428,20 @@ mod tests {
             assert_eq!(kernel.table_check(&bytes[1..]), 2, "{}", kernel.name);
             assert_eq!(kernel.table_check(&bytes[..135]), 3, "{}", kernel.name);
             assert_eq!(kernel.table_check(&[]), 2, "{}", kernel.name);
+        }
+    }
+
+    #[test]
+    fn every_kernel_checks_words() {
+        let (mut rights, mut slot) = (TABLE_T, TABLE_T);
+        rights[1] ^= 1 << 4;
+        slot[33] ^= 1;
+        for kernel in KERNELS {
+            assert_eq!(kernel.words_check(&TABLE_T), 0, "{}", kernel.name);
+            assert_eq!(kernel.words_check(&[]), 2, "{}", kernel.name);
+            assert_eq!(kernel.words_check(&TABLE_T[..33]), 3, "{}", kernel.name);
+            assert_eq!(kernel.words_check(&rights), 4, "{}", kernel.name);
+            assert_eq!(kernel.words_check(&slot), 5, "{}", kernel.name);
         }
     }
 

@@ -4,11 +4,9 @@ use entry::Ran;
 ghost use Rattle.machine.specs.Promise.{RunPromise};
 ghost use Rattle.entry.specs.Entry.{ranCode, ranCalls};
 
-// The first list that is long enough for the working layout has so many words, and one more for so many words of the table, which
-// are what it costs to take in and to put out (docs/BENCHMARKS.md, `bench speed --lengths`).
-const CROSSING_WORDS: usize = 104;
-
-const TABLE_WORDS_FOR_ONE: usize = 12;
+// So many words make a list long enough for the working layout (docs/BENCHMARKS.md, `bench speed --lengths`). No number is right for
+// all calls: here a list of sends that is just long enough and one of look ups that is just too short lose about as much.
+const LONG_WORDS: usize = 128;
 
 // A list of calls on any table, with any answer space and any words for the holders: what `kernel::run` and `working::run_working`
 // promise.
@@ -20,8 +18,7 @@ pub fn run_by_length(
 ) -> Ran
     ensures { λ r. ⌜ RunPromise (now (table .entry)) (now (list .entry)) (now (answers .entry)) (now (holders .entry)) (ranCode r) (ranCalls r) (now (answers .exit)) (now (table .exit)) (now (holders .exit)) ⌝ }
 {
-    let crossing = CROSSING_WORDS + table.len() / TABLE_WORDS_FOR_ONE;
-    if list.len() < crossing {
+    if list.len() < LONG_WORDS {
         return kernel::run(table, list, answers, holders);
     }
     working::run_working(table, list, answers, holders)

@@ -7,3 +7,4 @@ pub mod Outcomes
 pub mod SameCall
 pub mod Pairs
 pub mod Settled
+pub mod Backwards

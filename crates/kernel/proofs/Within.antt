@@ -5,16 +5,18 @@ use mathlib.Core.List.{List}
 use Prim.Native.Nat.{ℕ, _+_, _%_, _<_, _≤_}
 use native.Mathlib.Omega.{arith}
 use lib.Dec.{ltb, leb}
-use lib.ListN.{length}
+use lib.ListN.{length, getD}
 use borrow.Author.Tests.{ltb-true, leb-true}
+use Rattle.machine.specs.Word.{kind}
 use Rattle.machine.specs.Right.{isSet, adds, without}
 use Rattle.machine.specs.Table.{domains, endpoints, rightsAt, endpointAt, rights, endpoint}
 use Rattle.machine.specs.Queue.{owner}
-use Rattle.machine.specs.Check.{Accepted}
+use Rattle.machine.specs.Check.{Accepted, identityOk, queueOk, endpointOk}
 use Rattle.machine.specs.Machine as machine
 use Rattle.machine.specs.Machine.{Decision, place}
 use Rattle.machine.proofs.Accepted.{accepted-sized, accepted-endpoint, info-of}
 use Rattle.machine.proofs.Bools.{and-left, and-right}
+use Rattle.machine.proofs.Queue.{sound-of}
 use Rattle.machine.proofs.Right.{adds-within, without-le}
 use Rattle.machine.proofs.Step.{rights-held}
 use Rattle.machine.proofs.Table.{rights-below, endpoint-fits}
@@ -99,6 +101,14 @@ module _ (t : List ℕ) (a : Accepted t) (n : ℕ) (is : n ≡ domains t) where
   owner-in e m w all l own =
       let q : e < endpoints t = omega (arith, l, all) in
       omega (arith, info-of (domains t) (endpoint t e) (accepted-endpoint t a e q) .0, own, is)
+
+  -- the lost word bears its kind
+  pub lost-in : (e m w : ℕ) → m ≡ endpoints t → e < m → w ≡ getD (endpoint t e) 3 0 → kind w ≡ 6
+  unfolding endpointOk
+  lost-in e m w all l same =
+      let q : e < endpoints t = omega (arith, l, all) in
+      let ok = and-right (identityOk (domains t) (endpoint t e)) (queueOk (endpoint t e)) (accepted-endpoint t a e q) in
+      ap kind same ∙ sound-of (endpoint t e) ok .isLost
 
   -- rights that are added to and taken from what is held
   right-small : (h g : ℕ) → h < n → g < n → rights t h g ≤ 15

@@ -25,8 +25,33 @@ ghost use Rattle.calls.specs.declared.Call.the-variants.{LookUp, Send, Receive}
 ghost use Rattle.rules.specs.Access.{foundOf};
 ghost use Rattle.kernel.specs.Settled.{Settled};
 
-// The first endpoint that has the name.
-fn find(table: &[u32], n: u32, m: u32, name: u32) -> Found
+// So many endpoints are a few: up to these all names are looked at in a fixed time.
+const FEW: u32 = 8;
+
+// The first endpoint that has the name, of a few: all are looked at, from the last to the first. Which of them has it is as good as
+// random to the processor, and a jump that is foretold wrongly costs more than the names behind it.
+fn find_among_few(table: &[u32], n: u32, m: u32, name: u32) -> Found
+    requires { ⌜ Accepted (now table) ⌝ }
+    requires { ⌜ n ≡ domains (now table) ⌝ }
+    requires { ⌜ m ≡ endpoints (now table) ⌝ }
+    ensures { λ r. ⌜ foundOf r ≡ named (now (table .entry)) name ⌝ }
+{
+    let mut found = m;
+    let mut e = m;
+    while 0 < e {
+        e -= 1;
+        let at = endpoint_at(n, e);
+        let word = table[at];
+        found = if word % KIND == name { e } else { found };
+    }
+    if found < m {
+        return Found::At(found);
+    }
+    Found::Nothing
+}
+
+// The first endpoint that has the name, of many: it ends where one has it.
+fn find_among_many(table: &[u32], n: u32, m: u32, name: u32) -> Found
     requires { ⌜ Accepted (now table) ⌝ }
     requires { ⌜ n ≡ domains (now table) ⌝ }
     requires { ⌜ m ≡ endpoints (now table) ⌝ }
@@ -42,6 +67,19 @@ fn find(table: &[u32], n: u32, m: u32, name: u32) -> Found
         e += 1;
     }
     Found::Nothing
+}
+
+// The first endpoint that has the name.
+fn find(table: &[u32], n: u32, m: u32, name: u32) -> Found
+    requires { ⌜ Accepted (now table) ⌝ }
+    requires { ⌜ n ≡ domains (now table) ⌝ }
+    requires { ⌜ m ≡ endpoints (now table) ⌝ }
+    ensures { λ r. ⌜ foundOf r ≡ named (now (table .entry)) name ⌝ }
+{
+    if m <= FEW {
+        return find_among_few(table, n, m, name);
+    }
+    find_among_many(table, n, m, name)
 }
 
 // A name is looked up.
@@ -115,5 +153,7 @@ pub fn receive(table: &mut [u32], n: u32, m: u32, first: u32, caller: u32, e: u3
     let lost = table[start + 3];
     let end = start + 12;
     queue::receive(&mut table[start..end]);
-    done(first, message % KIND, lost % KIND)
+    // Taken off its kind, and not cut like the message: two words side by side that are cut alike become one read of 64 bits, which waits
+    // for the write of the message's 32.
+    done(first, message % KIND, lost - 0x6000_0000)
 }

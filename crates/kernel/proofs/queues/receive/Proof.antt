@@ -4,7 +4,7 @@ use Prim.Native.Nat.{ℕ, _+_, _≤_, _<_}
 use native.Mathlib.Omega.{arith}
 use lib.ListN.{length, getD}
 use borrow.Author.Needs.{needs}
-use Rattle.machine.specs.Word.{fieldB, payload}
+use Rattle.machine.specs.Word.{kind, fieldB, payload}
 use Rattle.machine.specs.Table.{endpoint}
 use Rattle.machine.specs.Queue.{owner, waiting, oldest, lost}
 use Rattle.calls.specs.Decide.{decideCall}
@@ -18,7 +18,7 @@ use Rattle.layout.proofs.Places.{endpoint-read}
 use Rattle.answers.proofs.AnswerWords.{shows, payload-fits, endpoint-there}
 use Rattle.effects.proofs.Words.{received-back}
 use Rattle.rules.proofs.Passed.{passed}
-use Rattle.kernel.proofs.Within.{in-endpoint, endpoint-in}
+use Rattle.kernel.proofs.Within.{in-endpoint, endpoint-in, lost-in}
 use Rattle.kernel.proofs.Outcomes.{settled-refused, settled-received}
 use Rattle.kernel.proofs.queues.receive.Statement.{statement}
 use Rattle.kernel.proofs.queues.receive.Tie as tie
@@ -61,6 +61,14 @@ read : (c : tie.After-endpoint-at) (j : ℕ)
 read c j l =
     let s = c .before .before .before .before .before in
     ap (λ (k : ℕ). getD (s .args .table .now) (k + j) 0) (c .endpoint-at .ensures) ∙ endpoint-read _ _ (s .pre .1 .0) _ j l
+
+-- the lost word bears its kind
+lost-kind : (c : tie.After-endpoint-at) → kind (getD (c .before .before .before .before .before .args .table .now) (c .endpoint-at .result + 3) 0) ≡ 6
+lost-kind c =
+    let s = c .before .before .before .before .before in
+    lost-in _ (s .pre .0) _ (s .pre .1 .0) _ _ _ (s .pre .1 .1)
+    (in-endpoint _ (c .before .enum-told .given .1) _ _ _ _ (c .before .before .before .of-endpoint .ensures) .1)
+    (read c 3 (omega arith))
 
 add-info : tie.Need-add-info
 add-info c = omega (arith, there c)
@@ -143,6 +151,9 @@ part-receive-end c = there (c .before .before .before .before .before .before)
 receive-requires-2 : tie.Need-receive-requires-2
 receive-requires-2 c κs = tt
 
+sub-done : tie.Need-sub-done
+sub-done c = omega (arith, lost-kind (c .before .before .before .before .before .before .before .before .before .before))
+
 done-requires : tie.Need-done-requires
 done-requires c κs = tt
 
@@ -161,7 +172,7 @@ returns-3 c p =
     let is = endpoint-there _ _ (start .pre .1 .0) (start .args .e) _ (at .endpoint-at .ensures) (there at) in
     settled-received _ _ _ _ _ _ _ _ _ (sym (passed x _ 19 _ told (passed x _ 18 _ told (s .receive .ensures))) ∙ reached s) (c .done .ensures)
     (shows _ is (payload-fits _ _ (read at 4 (omega arith))))
-    (shows _ is (payload-fits _ _ (read at 3 (omega arith))))
+    (shows _ is (omega (arith, lost-kind at) ∙ payload-fits _ _ (read at 3 (omega arith))))
     (received-back _ _ (start .pre .1 .0) _ _ (at .endpoint-at .ensures) _ (take .receive2 .ensures .1))
 
 pub receive-spec : {M : Type 1} → statement M
@@ -196,6 +207,7 @@ receive-spec =
     part-receive-start
     part-receive-end
     receive-requires-2
+    sub-done
     done-requires
     same-length
     returns-3)

@@ -1,4 +1,4 @@
--- `queues::find` meets its contract. The loop's invariant: no endpoint passed has the name. Assumes nothing.
+-- `queues::find_among_many` meets its contract. The loop's invariant: no endpoint passed has the name. Assumes nothing.
 use mathlib.Core.Path.{_≡_, refl, sym, ap, _∙_}
 use mathlib.Core.Bool.{Bool}
 use mathlib.Core.List.{List}
@@ -18,8 +18,8 @@ use Rattle.rules.specs.Access.{foundOf}
 use Rattle.decide.proofs.Reading.{name-is}
 use Rattle.decide.proofs.Scans.{none-more, found}
 use Rattle.kernel.proofs.Within.{endpoint-in}
-use Rattle.kernel.proofs.queues.find.Statement.{statement}
-use Rattle.kernel.proofs.queues.find.Tie as tie
+use Rattle.kernel.proofs.queues.find_among_many.Statement.{statement}
+use Rattle.kernel.proofs.queues.find_among_many.Tie as tie
 
 abbrev has : List ℕ → ℕ → ℕ → Bool
 has t x e = eqb (queue.name (endpoint t e)) x
@@ -86,8 +86,8 @@ returns-2 c =
     let all : at .loop .e ≡ endpoints t = omega (arith, at .loop .inv .0, c .loop-test .left, start .pre .1 .1) in
     sym (ap (λ (e : ℕ). firstBelow e (has t (start .args .name))) (sym all) ∙ at .loop .inv .1)
 
-pub find-spec : {M : Type 1} → statement M
-find-spec =
+pub find-among-many-spec : {M : Type 1} → statement M
+find-among-many-spec =
     tie.close
     (tie.spec
     Inv-loop
