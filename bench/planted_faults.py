@@ -12,7 +12,8 @@ words that no check accepts must be reported by the same seeded queues, one of a
 or of potential rights by the same seeded tables, one of turns by the same seeded
 histories, one of the writer by the fuzz's lists alone, and one of a set that leaves
 every view equal by the roads of an example. With none switched on all must pass. A
-panic, a run that doesn't end and a code never met are no reported difference.
+panic, a run that doesn't end and a code never met are no reported difference, and
+none may be told as one that is right when it is tried by itself.
 
     python3 bench/planted_faults.py            all faults
     python3 bench/planted_faults.py NAME...    some of them
@@ -47,6 +48,11 @@ HISTORIES = ["histories", "--seed", "20", "--cases", "1000"]
 ROADS = ["roads", str(ROOT / "bench" / "examples" / "roads.txt")]
 LEAST = 20
 AGAIN = "To see it again: bench "
+
+# What a report of a fault may not say: that it comes only behind what was tried before,
+# since neither side keeps anything, or that the separate machine panics.
+BEHIND = "Only behind the "
+PANICS = "the separate machine panics"
 
 # Faults that no comparison with the kernel can show, by name, each with why. They
 # are caught by the tests of the separate implementation itself.
@@ -137,6 +143,10 @@ def reports(bench, command, fault):
     if ran.returncode != 1 or not found:
         status = f"exit status {ran.returncode}"
         raise Wrong(f"{' '.join(command)} reports no difference ({status})")
+    if any(line.startswith(BEHIND) for line in lines):
+        raise Wrong(f"{' '.join(command)} says that it is right by itself")
+    if PANICS in lines[found[0] + 1]:
+        raise Wrong(f"{' '.join(command)} reports a panic, and no difference")
     return lines[found[0] :]
 
 

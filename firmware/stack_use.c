@@ -5,8 +5,8 @@
  * address of memmove. It is called on a stack of its own that was filled
  * beforehand; what is no longer the filling was used.
  *
- * The figure is the archive's alone. A few instructions here call the function, so
- * that no frame of a C function is counted; and it is called once before it is
+ * The figure is the archive's alone. A few instructions of measured.h call the function,
+ * so that no frame of a C function is counted; and it is called once before it is
  * measured, since the loader may look up memmove on the same stack at its first
  * call. (The memmove of glibc takes no stack of its own.)
  *
@@ -16,8 +16,7 @@
 #include <stdio.h>
 
 #include "balkwizu.h"
-
-enum { STACK_WORDS = 8192, DOMAINS = 16, ENDPOINTS = 32 };
+#include "measured.h"
 
 static const uint64_t untouched = 0xA5A5A5A5A5A5A5A5u;
 
@@ -33,57 +32,6 @@ static uint32_t calls[BALKWIZU_LIST_WORDS_MAX][BALKWIZU_CALL_COLUMNS];
 static uint32_t holders[DOMAINS];
 static uint32_t state[BALKWIZU_TURNS_WORDS(DOMAINS)];
 static uint32_t pending[2]; /* the words of the call that a turn serves */
-
-/* One of the kernel's functions, and up to eight pointers and lengths for it. */
-struct call {
-    void (*function)(void);
-    uintptr_t given[8];
-};
-
-/* Makes the call with the last two of what is given pushed from top on, a multiple of
-   16. In struct call the function stands at 0 and what is given from 8 on. */
-uint32_t call_on_stack(const struct call *call, uint64_t *top);
-
-__asm__(".text\n"
-        ".globl call_on_stack\n"
-        ".type call_on_stack, @function\n"
-        "call_on_stack:\n"
-        "    push %rbp\n"
-        "    mov %rsp, %rbp\n"
-        "    mov %rsi, %rsp\n"
-        "    mov %rdi, %rax\n"
-        "    push 64(%rax)\n"
-        "    push 56(%rax)\n"
-        "    mov 8(%rax), %rdi\n"
-        "    mov 16(%rax), %rsi\n"
-        "    mov 24(%rax), %rdx\n"
-        "    mov 32(%rax), %rcx\n"
-        "    mov 40(%rax), %r8\n"
-        "    mov 48(%rax), %r9\n"
-        "    call *(%rax)\n"
-        "    mov %rbp, %rsp\n"
-        "    pop %rbp\n"
-        "    ret\n");
-
-/* The largest table: every right for everybody, and empty queues of eight. */
-static void make_table(void)
-{
-    table[0] = BALKWIZU_TABLE_HEADER(DOMAINS, ENDPOINTS);
-    for (int holder = 0; holder < DOMAINS; holder++)
-        for (int target = 0; target < DOMAINS; target++)
-            table[BALKWIZU_RIGHTS_AT(DOMAINS, holder, target)] =
-                BALKWIZU_TABLE_RIGHTS(BALKWIZU_RIGHTS_ALL);
-    for (int e = 0; e < ENDPOINTS; e++) {
-        uint32_t *word = table + BALKWIZU_ENDPOINT_AT(DOMAINS, e);
-        word[BALKWIZU_PLACE_NAME] = BALKWIZU_TABLE_NAME(1 + e);
-        word[BALKWIZU_PLACE_INFO] =
-            BALKWIZU_TABLE_INFO(e % DOMAINS, BALKWIZU_SLOTS);
-        word[BALKWIZU_PLACE_WAITING] = BALKWIZU_TABLE_WAITING(0);
-        word[BALKWIZU_PLACE_LOST] = BALKWIZU_TABLE_LOST(0);
-        for (int slot = 0; slot < BALKWIZU_SLOTS; slot++)
-            word[BALKWIZU_PLACE_SLOTS + slot] = BALKWIZU_EMPTY_SLOT;
-    }
-}
 
 /* Sends that fill queues and more, receives that move them up, and every other
  * kind; the last words are of none. */
@@ -146,9 +94,9 @@ static size_t bytes_taken(const struct call *call, uint32_t *result)
     size_t lowest = 0;
     for (size_t i = 0; i < STACK_WORDS; i++)
         stack[i] = untouched;
-    make_table();
+    make_largest_table(table);
     make_state();
-    *result = call_on_stack(call, stack + STACK_WORDS + 2);
+    *result = call_on_stack(call, stack + STACK_WORDS + 2, 0);
     while (lowest < STACK_WORDS && stack[lowest] == untouched)
         lowest++;
     return sizeof *stack * (STACK_WORDS - lowest);

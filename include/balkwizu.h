@@ -558,9 +558,10 @@ uint32_t balkwizu_run(uint32_t *table, size_t table_len,
  *
  * Each call is cheaper here, taking in and putting out come on top, so that this run is
  * for long lists. From which length on it is the faster one depends on the table, the
- * calls and the processor: 32 to 72 words for a small table, 48 to 160 for the largest,
- * and most where nearly all calls are sends and receives. `bench speed --lengths`
- * measures it, and docs/BENCHMARKS.md has what was measured.
+ * calls and the processor. Measured were 42 to 663 words for a small table and 55 to
+ * 1,648 for the largest: least where all calls are look ups and my rights, most where
+ * they are sends and receives. `bench speed --lengths` measures it, and
+ * docs/BENCHMARKS.md has what was measured.
  *
  * Example:
  *

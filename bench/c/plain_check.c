@@ -28,7 +28,7 @@ static int header_is_right(uint32_t word)
     return word >> 16 == 0x1000u && n - 1u < 16u && (word & 255u) <= 32u;
 }
 
-/* Whether count words are all of kind 2 with bits 27-3 zero. */
+/* Whether count words are all of kind 2 with bits 27-4 zero. */
 static int rights_are_right(const uint8_t *image, size_t count)
 {
     uint32_t wrong = 0;

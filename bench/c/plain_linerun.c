@@ -3,16 +3,13 @@
  * list from standard input, a line for each call on standard output. `bench linerun
  * PROGRAM --speed` measures linerun against it. Numbers are written by hand, without
  * printf, and all lines by one write.
- *
- * Words are read as they stand, so it is for a little-endian machine.
  */
 #define _POSIX_C_SOURCE 200809L
 #include "plain.h"
+#include "plain_input.h"
 
 #include <string.h>
-#include <unistd.h>
 
-enum { TABLE_WORDS_MAX = 641, LIST_WORDS_MAX = 4096, DOMAINS_MAX = 16 };
 enum { LINE_BYTES_MAX = 80 };
 
 static uint32_t table[TABLE_WORDS_MAX];
@@ -20,19 +17,6 @@ static uint32_t list[LIST_WORDS_MAX + 1]; /* and one word too many */
 static uint32_t answers[3 * LIST_WORDS_MAX];
 static uint32_t holders[DOMAINS_MAX];
 static char lines[LINE_BYTES_MAX * (LIST_WORDS_MAX + 1)];
-
-/* So many bytes, fewer where the input ends; a read that fails counts as its end. */
-static size_t read_bytes(void *to, size_t count)
-{
-    size_t have = 0;
-    while (have < count) {
-        ssize_t got = read(STDIN_FILENO, (char *)to + have, count - have);
-        if (got <= 0)
-            break;
-        have += (size_t)got;
-    }
-    return have;
-}
 
 static char *put_text(char *to, const char *text)
 {
@@ -75,12 +59,9 @@ static char *put_call(char *to, uint32_t number, const uint32_t *answer)
 /* The length of the table and of the list in words; 7 or 1 where they can't be had. */
 static uint32_t read_input(uint32_t *table_len, size_t *list_len)
 {
-    if (read_bytes(table_len, 4) < 4 || *table_len > TABLE_WORDS_MAX)
+    if (read_table(table, table_len) != 0)
         return 7;
-    size_t bytes = 4 * (size_t)*table_len;
-    if (read_bytes(table, bytes) < bytes)
-        return 7;
-    bytes = read_bytes(list, sizeof list);
+    size_t bytes = read_bytes(list, sizeof list);
     *list_len = bytes / 4;
     if (*list_len > LIST_WORDS_MAX)
         return 1;

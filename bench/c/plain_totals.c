@@ -2,39 +2,23 @@
  * plain_totals.c: the job of linetotals on the plain C kernel, with no proof: a table and
  * lists from standard input, the totals of its endpoints over all of them on standard
  * output. `bench totals PROGRAM --speed` measures linetotals against it.
- *
- * Words are read as they stand, so it is for a little-endian machine.
  */
 #define _POSIX_C_SOURCE 200809L
 #include "plain.h"
+#include "plain_input.h"
 
 #include <inttypes.h>
 #include <stdio.h>
-#include <unistd.h>
 
 enum { SEND = 2, RECEIVE = 3 };
 enum { WAITING = 2, ENDPOINT_WORDS = 12 };
-enum { TABLE_WORDS_MAX = 641, LIST_WORDS_MAX = 4096, LISTS_MAX = 65536 };
-enum { DOMAINS_MAX = 16, ENDPOINTS_MAX = 32 };
+enum { LISTS_MAX = 65536, ENDPOINTS_MAX = 32 };
 
 static uint32_t table[TABLE_WORDS_MAX];
 static uint32_t list[LIST_WORDS_MAX + 1]; /* and the next one's length word */
 static uint32_t answers[3 * LIST_WORDS_MAX];
 static uint32_t holders[DOMAINS_MAX];
 static uint64_t sent[256], received[256]; /* by field B, which has eight bits */
-
-/* So many bytes, fewer where the input ends; a read that fails counts as its end. */
-static size_t read_bytes(void *to, size_t count)
-{
-    size_t have = 0;
-    while (have < count) {
-        ssize_t got = read(STDIN_FILENO, (char *)to + have, count - have);
-        if (got <= 0)
-            break;
-        have += (size_t)got;
-    }
-    return have;
-}
 
 static uint32_t waiting(uint32_t n, uint32_t e)
 {
@@ -82,20 +66,11 @@ static uint32_t run_lists(size_t table_len, uint32_t n, uint32_t *ran)
     }
 }
 
-/* The table's length in words; 7 or 2 to 5 where it is refused. */
-static uint32_t read_table(uint32_t *length)
-{
-    if (read_bytes(length, 4) < 4 || *length > TABLE_WORDS_MAX)
-        return 7;
-    size_t bytes = 4 * (size_t)*length;
-    if (read_bytes(table, bytes) < bytes)
-        return 7;
-    return plain_table_check((const uint8_t *)table, bytes);
-}
-
 int main(void)
 {
-    uint32_t length, ran = 0, code = read_table(&length);
+    uint32_t length, ran = 0, code = read_table(table, &length);
+    if (code == 0)
+        code = plain_table_check((const uint8_t *)table, 4 * (size_t)length);
     if (code == 0) {
         uint32_t n = (table[0] >> 8) & 255u, m = table[0] & 255u;
         uint32_t start[ENDPOINTS_MAX];

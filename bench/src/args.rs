@@ -16,6 +16,9 @@ pub struct Options {
     flags: Vec<String>,
 }
 
+/// The longest time that can be given, in seconds: a day.
+const TIME_MAX: u64 = 86_400;
+
 /// The value of an option: as it was given, for it may name a file, and as text.
 #[derive(Debug, Clone, PartialEq, Eq)]
 struct Value {
@@ -122,7 +125,28 @@ impl Options {
     pub fn time(&self, seconds: u64) -> Result<Duration, String> {
         match self.number("--time")?.unwrap_or(seconds) {
             0 => Err("--time 0 leaves no time".to_string()),
-            seconds => Ok(Duration::from_secs(seconds)),
+            seconds @ ..=TIME_MAX => Ok(Duration::from_secs(seconds)),
+            seconds => Err(format!(
+                "--time {seconds} is too long: a day has {TIME_MAX} seconds"
+            )),
+        }
+    }
+
+    /// A number from 1 on that an option gives, or else the usual one.
+    pub fn within(&self, name: &str, usual: u64, most: u64) -> Result<usize, String> {
+        match self.number(name)?.unwrap_or(usual) {
+            number if (1..=most).contains(&number) => Ok(number as usize),
+            other => Err(format!("{name} takes 1 to {most}, not {other}")),
+        }
+    }
+
+    /// That no other options are given than `what` is told with, which may be one itself.
+    pub fn only(&self, what: &str, options: &[&str]) -> Result<(), String> {
+        let values = self.values.iter().map(|value| &value.option);
+        let mut given = values.chain(&self.flags);
+        match given.find(|given| *given != what && !options.contains(&given.as_str())) {
+            Some(other) => Err(format!("{other} is not for {what}")),
+            None => Ok(()),
         }
     }
 
@@ -240,6 +264,28 @@ mod tests {
         assert_eq!(time(""), Ok(Duration::from_secs(10)));
         assert_eq!(time("--time 3"), Ok(Duration::from_secs(3)));
         assert_eq!(time("--time 0"), Err("--time 0 leaves no time".into()));
+        assert_eq!(time("--time 86400"), Ok(Duration::from_secs(86_400)));
+        let long = time("--time 18446744073709551615").unwrap_err();
+        assert!(long.ends_with("is too long: a day has 86400 seconds"));
+    }
+
+    #[test]
+    fn a_number_is_within_what_there_can_be() {
+        let within = |line: &str| parsed(line).unwrap().within("--cases", 5, 100);
+        assert_eq!((within(""), within("--cases 100")), (Ok(5), Ok(100)));
+        let wrong = Err("--cases takes 1 to 100, not 0".to_string());
+        assert_eq!(within("--cases 0"), wrong);
+        assert!(within("--cases 101").is_err());
+    }
+
+    #[test]
+    fn an_option_that_is_for_something_else_is_told() {
+        let only = |line: &str| parsed(line).unwrap().only("--quiet", &["--seed"]);
+        assert_eq!(only("file --quiet --seed 7"), Ok(()));
+        let wrong = Err("--cases is not for --quiet".to_string());
+        assert_eq!(only("--quiet --seed 7 --cases 3"), wrong);
+        let flag = parsed("--quiet").unwrap().only("--seed", &[]);
+        assert_eq!(flag, Err("--quiet is not for --seed".to_string()));
     }
 
     #[test]

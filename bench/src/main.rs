@@ -251,7 +251,8 @@ fn is_help(word: &OsString) -> bool {
 
 /// Prints the help of a command, or of all where none is named.
 fn helped(named: &[OsString]) -> Result<bool, String> {
-    match named.first().filter(|word| !is_help(word)) {
+    let asks_again = |word: &&OsString| is_help(word) || *word == "help";
+    match named.first().filter(|word| !asks_again(word)) {
         None => output::write(help().as_bytes()),
         Some(command) => output::write(found(command)?.help.as_bytes()),
     }

@@ -55,15 +55,11 @@ pub fn may_write(option: &str, out: &Path, read: &[&Path]) -> Result<(), String>
     if let Some(folder) = no_folder(out) {
         return Err(format!("{option} {shown}: there is no folder {folder}"));
     }
-    let identity = |path: &Path| fs::metadata(path).map(|file| (file.dev(), file.ino())).ok();
-    let opened = |path: &Path| match path == Path::new("-") {
-        true => identity(Path::new("/dev/stdin")),
-        false => identity(path),
+    let opened = |path| match path == Path::new("-") {
+        true => Path::new("/dev/stdin"),
+        false => path,
     };
-    match read
-        .iter()
-        .any(|read| *read == out || opened(read).is_some() && opened(read) == identity(out))
-    {
+    match read.iter().any(|read| are_one(opened(read), out)) {
         true => Err(format!(
             "{option} {shown} is the input, which it would overwrite"
         )),
@@ -71,17 +67,54 @@ pub fn may_write(option: &str, out: &Path, read: &[&Path]) -> Result<(), String>
     }
 }
 
+/// That two options name a file each, where both are given: the second would overwrite what
+/// the first wrote.
+pub fn may_write_both(one: Named, other: Named) -> Result<(), String> {
+    match (one, other) {
+        ((one, Some(first)), (other, Some(second))) if are_one(first, second) => {
+            Err(format!("{one} and {other} need a file each"))
+        }
+        _ => Ok(()),
+    }
+}
+
+/// An option, and the file that it names.
+pub type Named<'a> = (&'a str, Option<&'a Path>);
+
+/// Whether two paths lead to one file, which need not be there yet.
+fn are_one(one: &Path, other: &Path) -> bool {
+    let identity = |path: &Path| fs::metadata(path).map(|file| (file.dev(), file.ino())).ok();
+    let place = |path: &Path| {
+        Some(
+            folder_of(path)?
+                .canonicalize()
+                .ok()?
+                .join(path.file_name()?),
+        )
+    };
+    one == other
+        || identity(one).is_some() && identity(one) == identity(other)
+        || place(one).is_some() && place(one) == place(other)
+}
+
+/// The folder that a file stands in, or should.
+fn folder_of(file: &Path) -> Option<&Path> {
+    let folder = file.parent()?;
+    match folder.as_os_str().is_empty() {
+        true => Some(Path::new(".")),
+        false => Some(folder),
+    }
+}
+
 /// The folder that a file should stand in, where there is none.
-pub fn no_folder(out: &Path) -> Option<String> {
-    let folder = out
-        .parent()
-        .filter(|folder| !folder.as_os_str().is_empty())?;
+fn no_folder(out: &Path) -> Option<String> {
+    let folder = folder_of(out)?;
     (!folder.is_dir()).then(|| folder.display().to_string())
 }
 
 /// Writes a file.
-pub fn write_file(out: &Path, text: &str) -> Result<(), String> {
-    fs::write(out, text).map_err(|why| format!("cannot write {}: {why}", out.display()))
+pub fn write_file(out: &Path, bytes: &(impl AsRef<[u8]> + ?Sized)) -> Result<(), String> {
+    fs::write(out, bytes).map_err(|why| format!("cannot write {}: {why}", out.display()))
 }
 
 /// Prints a line, put together as by `format!`.
@@ -93,3 +126,30 @@ macro_rules! say {
 
 pub(crate) use complain;
 pub(crate) use say;
+
+#[cfg(test)]
+mod tests {
+    use super::*;
+    use crate::scratch::Folder;
+
+    #[test]
+    fn two_options_need_a_file_each_however_it_is_called() {
+        let folder = Folder::make("outputs").unwrap();
+        let at = |name: &str| folder.path().join(name);
+        let both = |one: &str, other: &str| {
+            let (one, other) = (at(one), at(other));
+            may_write_both(("--a", Some(&one)), ("--b", Some(&other)))
+        };
+        let twice = Err("--a and --b need a file each".to_string());
+        assert_eq!(both("x", "y"), Ok(()));
+        assert_eq!(both("x", "x"), twice);
+        assert_eq!(both("x", "./x"), twice, "neither is there yet");
+        fs::write(at("x"), "").unwrap();
+        fs::hard_link(at("x"), at("z")).unwrap();
+        assert_eq!(both("x", "z"), twice);
+        assert_eq!(
+            may_write_both(("--a", None), ("--b", Some(&at("x")))),
+            Ok(())
+        );
+    }
+}

@@ -28,8 +28,7 @@ impl Progress {
     pub fn step(&mut self) {
         self.done += 1;
         if self.shown.is_some_and(|shown| shown.elapsed() >= EVERY) {
-            eprint!("\r{} of {} {} ", self.done, self.of, self.what);
-            let _ = io::stderr().flush();
+            show(&format!("\r{} of {} {} ", self.done, self.of, self.what));
             self.shown = Some(Instant::now());
         }
     }
@@ -37,7 +36,13 @@ impl Progress {
     /// Takes the line away.
     pub fn clear(&mut self) {
         if self.shown.is_some() {
-            eprint!("\r{:60}\r", "");
+            show(&format!("\r{:60}\r", ""));
         }
     }
+}
+
+/// Where the terminal has gone there is nobody to show it to.
+fn show(line: &str) {
+    let mut out = io::stderr();
+    let _ = out.write_all(line.as_bytes()).and_then(|()| out.flush());
 }

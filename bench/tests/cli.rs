@@ -6,6 +6,7 @@ use std::os::unix::ffi::OsStrExt;
 use std::os::unix::fs::PermissionsExt;
 use std::path::PathBuf;
 use std::process::{Command, Output, Stdio};
+use std::thread;
 
 use reference::example::{LIST_L, PRINTED, TABLE_T};
 use reference::generate::{values_of_words, Rng};
@@ -30,11 +31,19 @@ fn told(line: &[&str]) -> String {
     String::from_utf8(bench(line).stderr).expect("text")
 }
 
+/// A path for a file, in a folder of its own for each test: a test's thread has its name.
+fn path(name: &str) -> String {
+    let test = thread::current().name().unwrap_or("main").to_string();
+    let folder = PathBuf::from(env!("CARGO_TARGET_TMPDIR")).join(test);
+    fs::create_dir_all(&folder).expect("a folder can be made");
+    let path = folder.join(name);
+    path.to_str().expect("a plain path").to_string()
+}
+
 /// A file of its own for each test.
 fn file(name: &str, bytes: &[u8]) -> String {
-    let path = PathBuf::from(env!("CARGO_TARGET_TMPDIR")).join(name);
-    fs::write(&path, bytes).expect("a file can be written");
-    path.to_str().expect("a plain path").to_string()
+    fs::write(path(name), bytes).expect("a file can be written");
+    path(name)
 }
 
 fn example() -> Vec<u8> {
@@ -91,7 +100,9 @@ fn help_fits_80_columns() {
 #[test]
 fn help_and_the_version_are_asked_for_in_any_way() {
     assert_eq!(printed(&["help", "show"]), printed(&["show", "--help"]));
-    assert_eq!(printed(&["help"]), printed(&["--help"]));
+    for again in [&["help"][..], &["help", "help"], &["--help", "--help"]] {
+        assert_eq!(printed(again), printed(&["--help"]));
+    }
     assert_eq!(status(&["help", "frobnicate"]), 2);
     assert!(told(&["help", "frobnicate"]).contains("no such command as `frobnicate`"));
     let version = concat!("bench ", env!("CARGO_PKG_VERSION"), "\n");
@@ -114,12 +125,8 @@ fn an_option_that_there_is_not_is_no_file() {
 
 #[test]
 fn a_file_can_be_called_anything() {
-    let folder = PathBuf::from(env!("CARGO_TARGET_TMPDIR"));
-    let (odd, out) = (
-        OsStr::from_bytes(b"odd-\xFF.bin"),
-        OsStr::from_bytes(b"odd-\xFF.svg"),
-    );
-    let (odd, out) = (folder.join(odd), folder.join(out));
+    let named = |name| PathBuf::from(path("")).join(OsStr::from_bytes(name));
+    let (odd, out) = (named(b"odd-\xFF.bin"), named(b"odd-\xFF.svg"));
     fs::write(&odd, example()).expect("a file can be written");
     let ran = |line: &[&OsStr]| {
         let mut command = Command::new(env!("CARGO_BIN_EXE_bench"));
@@ -267,7 +274,20 @@ fn the_worked_example_is_commissioned() {
         "{list}"
     );
     assert_eq!(status(&["commission", &input]), 0);
-    assert_eq!(status(&["commission", &input, "--struck", "3"]), 2);
+    let beyond = ["commission", &input, "--struck", "3"];
+    assert_eq!(status(&beyond), 2);
+    let none = "--struck: there is no domain 3: the table has 0 to 2\n";
+    assert!(told(&beyond).ends_with(none), "{}", told(&beyond));
+}
+
+#[test]
+fn struck_calls_are_listed_for_a_domain_by_its_name() {
+    let four = in_examples("four.txt");
+    let struck = |domain: &str| printed(&["commission", &four, "--struck", domain]);
+    assert_eq!(struck("drives"), struck("3"));
+    assert!(struck("drives").contains("struck for domain 3 (drives): "));
+    let nobody = told(&["commission", &four, "--struck", "nobody"]);
+    assert!(nobody.contains("no domain is called `nobody`: there are link,"));
 }
 
 #[test]
@@ -302,6 +322,12 @@ fn a_text_stands_for_its_input() {
     }
     assert!(told(&["words", "--back", typed]).contains("is this a text?"));
     assert_eq!(status(&["words", "--back", typed]), 1);
+    let latin = file("latin.txt", b"# F\xF6rderer\ntable 10000100 20000000\n");
+    for command in ["commission", "show", "words", "read", "write", "turns"] {
+        let line = [command, &latin];
+        assert!(told(&line).contains("line 1 has a letter that is not UTF-8"));
+        assert_eq!(status(&line), 2, "{command}");
+    }
 }
 
 #[test]
@@ -436,6 +462,9 @@ fn a_graph_is_written_that_other_tools_take() {
     let input = file("not-overwritten.txt", b"table 10000100 20000000");
     assert!(told(&["show", &input, "--dot", &input]).contains("--dot"));
     assert_eq!(status(&["show", &input, "--dot", &input]), 2);
+    let both = ["show", &input, "--svg", &out, "--dot", &out];
+    assert!(told(&both).contains("--svg and --dot need a file each"));
+    assert_eq!(status(&both), 2);
 }
 
 #[test]
@@ -508,7 +537,7 @@ fn what_roads_are_not_told_of_is_said() {
         (vec!["roads", &input, "0"], "FROM is given without TO"),
         (
             vec!["roads", &input, "0", "3"],
-            "there is no domain 3: the table has 3",
+            "there is no domain 3: the table has 0 to 2",
         ),
         (
             vec!["roads", &input, "0", "link"],
@@ -897,6 +926,35 @@ fn a_mistake_in_calls_is_told_by_line_and_field() {
 }
 
 #[test]
+fn calls_take_the_names_that_the_table_gives() {
+    let four = in_examples("four.txt");
+    let named = file("named.txt", b"send caller link endpoint routes message 5\n");
+    let plain = file("plain.txt", b"send caller 0 endpoint 1 message 5\n");
+    let written = |calls: &str| bench(&["write", calls, "--table", &four]).stdout;
+    assert_eq!(written(&named), written(&plain));
+    assert_eq!(status(&["write", &named, "--table", &four]), 0);
+    let other = file("other.txt", b"\nmy-rights caller belts\n");
+    let line = ["write", &other, "--table", &four];
+    assert!(
+        told(&line).contains("line 2: caller is `belts`"),
+        "{}",
+        told(&line)
+    );
+    assert_eq!(status(&line), 2);
+}
+
+#[test]
+fn calls_behind_a_damaged_table_are_written_with_a_warning() {
+    let (calls, damaged) = (in_examples("calls.txt"), in_examples("damaged.txt"));
+    let ran = bench(&["write", &calls, "--table", &damaged]);
+    assert_eq!(ran.status.code(), Some(0));
+    assert!(!ran.stdout.is_empty());
+    let told = String::from_utf8(ran.stderr).expect("text");
+    let wanted = "damaged.txt is written, and will be refused with 4 (a rights word";
+    assert!(told.contains(wanted), "{told}");
+}
+
+#[test]
 fn calls_are_read_with_names_in_comments() {
     let text = format!("domain 0 link\nlist {}\n", "20000100 F0000005");
     let named = file("read-named.txt", text.as_bytes());
@@ -963,7 +1021,7 @@ fn runs_that_are_kept_are_merged_and_drawn() {
         let line = ["speed", "--growth", "--rounds", "1", "--record", file];
         assert_eq!(status(&line), 0);
         // Runs are told apart by the second that they began in.
-        std::thread::sleep(std::time::Duration::from_millis(1100));
+        thread::sleep(std::time::Duration::from_millis(1100));
     }
     let text = printed(&["speed", "--merge", &files[0], &files[1], "--svg", &picture]);
     assert!(text.starts_with("Medians over 2 runs, begun 20"), "{text}");
@@ -992,12 +1050,6 @@ fn speed_tells_by_the_length_of_a_list_where_the_runs_cross() {
     let crossings = table.matches("balkwizu-working is the faster of the two");
     assert_eq!(crossings.count(), 8, "{table}");
     assert!(table.contains("Lists drawn from seed 2."), "{table}");
-}
-
-/// A path for a file that a command writes.
-fn path(name: &str) -> String {
-    let path = PathBuf::from(env!("CARGO_TARGET_TMPDIR")).join(name);
-    path.to_str().expect("a plain path").to_string()
 }
 
 #[test]
@@ -1043,6 +1095,75 @@ fn a_worn_table_may_be_a_text_with_names() {
 }
 
 #[test]
+fn a_repaired_text_keeps_its_names_where_a_text_is_asked_for() {
+    let damaged = in_examples("damaged.txt");
+    let (out, text) = (path("fit.bin"), path("fit.txt"));
+    let told_ = printed(&["repair", &damaged, &out]);
+    let without = format!("{out} is an input of linerun, which has no names: --text writes");
+    assert!(told_.contains(&without), "{told_}");
+    let told_ = printed(&["repair", &damaged, &text, "--text"]);
+    assert!(!told_.contains("has no names"), "{told_}");
+    let written = fs::read_to_string(&text).unwrap();
+    assert!(written.starts_with("domain 0 link\n"), "{written}");
+    assert_eq!(bench(&["words", &text]).stdout, fs::read(&out).unwrap());
+    assert!(printed(&["show", &text]).contains("domain 0 (link)"));
+    // What has no names to lose says nothing of them.
+    let again = printed(&["repair", &out, &path("again.bin")]);
+    assert_eq!(again, "nothing to repair: the table is sound\n");
+    let both = ["repair", &out, &text, "--image", "--text"];
+    assert!(told(&both).contains("--text is not for --image"));
+    assert_eq!(status(&both), 2);
+}
+
+#[test]
+fn a_repair_writes_over_nothing_that_it_reads_or_wrote() {
+    let damaged = file(
+        "damaged.txt",
+        &fs::read(in_examples("damaged.txt")).unwrap(),
+    );
+    let (out, list) = (path("fit.bin"), path("changes"));
+    let kept = |path: &str| fs::read(path).expect("it is there");
+    assert_eq!(status(&["repair", &damaged, &out, "--changes", &list]), 0);
+    let before = [&damaged, &out, &list].map(|path| kept(path));
+    let dotted = format!("{}/./fit.bin", path(""));
+    for (line, why) in [
+        (
+            ["repair", &damaged, &out, "--changes", &damaged],
+            "is the input",
+        ),
+        (
+            ["repair", &damaged, &out, "--changes", &out],
+            "need a file each",
+        ),
+        (
+            ["repair", &damaged, &out, "--changes", &dotted],
+            "need a file each",
+        ),
+        (["repair", &out, &list, "--undo", &list], "is the input"),
+        (["repair", &damaged, "-", "--changes", &list], "write ./-"),
+        (
+            ["repair", "-", &out, "--undo", "-"],
+            "can be read once only",
+        ),
+    ] {
+        assert_eq!(status(&line), 2, "{line:?}");
+        assert!(told(&line).contains(why), "{}", told(&line));
+    }
+    assert_eq!([&damaged, &out, &list].map(|path| kept(path)), before);
+    // A list with a word or a byte too many is none.
+    for more in [1, 4] {
+        let odd = [kept(&list), vec![0; more]].concat();
+        let odd = file("odd", &odd);
+        let line = ["repair", &out, &path("back.bin"), "--undo", &odd];
+        assert_eq!(status(&line), 1);
+        assert!(printed(&line).contains("is no list of changes of this table"));
+    }
+    let one = file("one", &kept(&list)[..8]);
+    let line = ["repair", &out, &path("back.bin"), "--undo", &one];
+    assert_eq!(printed(&line), "1 old word put back\n");
+}
+
+#[test]
 fn what_cannot_be_repaired_is_told_and_nothing_is_written() {
     let mut worn = TABLE_T;
     worn[10] = 0x3000_0000;
@@ -1063,8 +1184,9 @@ fn what_cannot_be_repaired_is_told_and_nothing_is_written() {
 
 #[test]
 fn a_page_has_the_names_that_a_text_gives() {
-    let sheet = b"endpoint 1 sent 0 received 0 lost 0 start 0 end 0\nlists 1 code 0\n";
-    let sheet = file("named-sheet.txt", sheet);
+    let row = |e| format!("endpoint {e} sent 0 received 0 lost 0 start 0 end 0\n");
+    let sheet = format!("{}{}lists 1 code 0\n", row(0), row(1));
+    let sheet = file("named-sheet.txt", sheet.as_bytes());
     let page = |names: &str| printed(&["totals", "--html", &sheet, "--names", names]);
     let alone = page(&file("names.txt", b"endpoint 1 drives\n"));
     assert!(alone.contains("<td>1 drives</td><td>0</td>"), "{alone}");
@@ -1073,6 +1195,54 @@ fn a_page_has_the_names_that_a_text_gives() {
     let input = file("names.bin", &example());
     assert!(told(&["totals", "--html", &sheet, "--names", &input]).contains("is no text"));
     assert_eq!(status(&["totals", "/bin/true", "--names", four]), 2);
+}
+
+#[test]
+fn an_option_that_is_for_something_else_is_not_passed_over() {
+    let four = in_examples("four.txt");
+    for (line, why) in [
+        (
+            &["totals", "--join", &four, "--html", &four][..],
+            "--html is not for --join",
+        ),
+        (
+            &["totals", "--join", &four, "--names", &four],
+            "--names is not for --join",
+        ),
+        (
+            &["totals", "--html", &four, "--speed"],
+            "--speed is not for --html",
+        ),
+        (
+            &["totals", "/bin/true", "--rounds", "3"],
+            "--rounds is not for a comparison",
+        ),
+        (
+            &["totals", "/bin/true", "--speed", "--cases", "3"],
+            "--cases is not for --speed",
+        ),
+        (
+            &["linerun", "/bin/true", "--rounds", "3"],
+            "--rounds is not for a comparison",
+        ),
+        (
+            &["linerun", "/bin/true", "--speed", "--seed", "3"],
+            "--seed is not for --speed",
+        ),
+    ] {
+        assert_eq!(status(line), 2, "{line:?}");
+        assert!(told(line).contains(why), "{}", told(line));
+    }
+    for line in [
+        ["totals", "--join", "-", "-"].as_slice(),
+        &["totals", "--html", "-", "--names", "-"],
+    ] {
+        assert_eq!(status(line), 2, "{line:?}");
+        assert!(told(line).contains("standard input can be read once only"));
+    }
+    let long = ["linerun", "/bin/true", "--time", "18446744073709551615"];
+    assert_eq!(status(&long), 2);
+    assert!(told(&long).contains("is too long"));
 }
 
 #[test]
@@ -1085,6 +1255,9 @@ fn lines_as_text_are_joined() {
     assert!(wanted.len() > example().len());
     assert_eq!(joined(&[typed, &list]), wanted);
     assert_eq!(status(&["totals", "--join", &list]), 2);
+    let nothing = ["totals", "--join", &file("joined-none.bin", b"")];
+    assert_eq!(status(&nothing), 1);
+    assert!(told(&nothing).contains("is refused with 7 (the input is cut short"));
 }
 
 #[test]
@@ -1124,6 +1297,20 @@ fn the_example_of_turns_is_played_and_told() {
     }
     assert!(told.ends_with("they get the same answers and leave the same words.\n"));
     assert_eq!(status(&line), 0);
+}
+
+#[test]
+fn a_damaged_table_of_turns_is_told_with_what_mends_it() {
+    let damaged = in_examples("damaged.txt");
+    let turns = file(
+        "damaged-turns.txt",
+        format!("table {damaged}\nturn\n").as_bytes(),
+    );
+    let told = printed(&["turns", &turns]);
+    assert!(told.starts_with("table refused with 4 ("), "{told}");
+    let mend = format!("`bench repair {damaged} OUT` may make it fit again\n");
+    assert!(told.ends_with(&mend), "{told}");
+    assert_eq!(status(&["turns", &turns]), 1);
 }
 
 #[test]
@@ -1199,7 +1386,7 @@ fn a_text_of_another_kind_is_told_with_the_command_for_it() {
     let words = file("words-for-calls.txt", b"20000100 F0000005\n");
     assert!(told(&["write", &words]).contains("of words `bench read` makes the calls"));
     let named = file("named-caller.txt", b"my-rights caller link\n");
-    assert!(told(&["write", &named]).contains("a call takes no names"));
+    assert!(told(&["write", &named]).contains("takes the names that INPUT gives"));
     let right = file("named-right.txt", b"remove caller 1 target 2 rights SEND\n");
     assert!(told(&["write", &right]).contains("a sum of SEND 1, GRANT 2, REMOVE 4 and REVOKE 8"));
     let lines = file("printed-lines.txt", PRINTED.as_bytes());
@@ -1213,6 +1400,7 @@ fn a_folder_that_there_is_not_is_told_before_anything_is_done() {
         ["commission", &four, "--report", "/no/such/x.html"],
         ["commission", &four, "--json", "/no/such/x.json"],
         ["show", &four, "--svg", "/no/such/x.svg"],
+        ["instructions", "--write", "--file", "/no/such/x.txt"],
     ] {
         let ran = bench(&line);
         assert_eq!(ran.status.code(), Some(2), "{line:?}");

@@ -4,6 +4,7 @@
 use std::fs;
 use std::path::{Path, PathBuf};
 use std::process::{Command, Output};
+use std::thread;
 
 use reference::example::{LIST_L, TABLE_T};
 use reference::words::{hex, to_bytes};
@@ -23,8 +24,12 @@ fn ran(line: &[&str]) -> (i32, String, String) {
     (status, text(output.stdout), text(output.stderr))
 }
 
+/// A path in a folder of its own for each test: a test's thread has its name.
 fn place(name: &str) -> String {
-    let path = PathBuf::from(env!("CARGO_TARGET_TMPDIR")).join(name);
+    let test = thread::current().name().unwrap_or("main").to_string();
+    let folder = PathBuf::from(env!("CARGO_TARGET_TMPDIR")).join(test);
+    fs::create_dir_all(&folder).expect("a folder can be made");
+    let path = folder.join(name);
     path.to_str().expect("a plain path").to_string()
 }
 
@@ -242,8 +247,13 @@ fn wrong_words_that_were_read_back_fail_and_are_reported() {
     assert!(printed.contains("line 1 passed, "), "{printed}");
     let lost = "line 4 failed  counts: endpoint 1: the lost count should be 1; the table says 0";
     assert!(printed.contains(lost), "{printed}");
+    let leaves = "lost count, was 60000000: the line leaves 60000000, the separate machine";
+    assert!(printed.contains(leaves), "{printed}");
     let page = fs::read_to_string(&page).expect("the page is there");
     assert!(page.contains("words of a run on a line; no kernel was run here"));
+    // No kernel ran, so that none is told of.
+    assert!(!printed.contains("the kernel"), "{printed}");
+    assert!(!page.contains("the kernel"), "{page}");
 }
 
 #[test]

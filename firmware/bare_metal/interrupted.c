@@ -22,15 +22,18 @@
 #include <signal.h>
 #include <stdio.h>
 #include <string.h>
+#include <sys/resource.h>
 #include <sys/wait.h>
 #include <ucontext.h>
 #include <unistd.h>
 
+#include "../measured.h"
 #include "balkwizu.h"
 
-enum { DOMAINS = 16, ENDPOINTS = 32, LIST_WORDS = 16, STACK_WORDS = 8192 };
-enum { BELOW = 4096, LIMIT_SECONDS = 60 };
-enum { TRAP_FLAG = 0x100, JUNK = 0x5A };
+enum { LIST_WORDS = 16, BELOW = 4096, JUNK = 0x5A };
+
+/* How long a call may take, of a processor's time. */
+enum { LIMIT_SECONDS = 60 };
 
 /* Everything that is lent to the functions, so that it is copied and compared whole. */
 static struct lent {
@@ -46,13 +49,10 @@ static struct lent {
 /* What a function returns: a code in bits 15-0, which is to be 0, a number, or nothing. */
 enum returns { CODE, NUMBER, NOTHING };
 
-/* One of the kernel's functions, and up to eight pointers, lengths and numbers for it;
-   the flag that is set while it runs. */
-struct call {
+/* One of the kernel's functions by its name, with what it is called with. */
+struct tried {
     const char *name;
-    void (*function)(void);
-    uintptr_t given[8];
-    uint64_t flag;
+    struct call call;
     enum returns returns;
 };
 
@@ -60,38 +60,6 @@ static _Alignas(16) uint64_t stack[STACK_WORDS];
 static _Alignas(16) unsigned char interrupt_stack[65536];
 static volatile sig_atomic_t below_too = 1, registers_too = 1;
 static unsigned long interrupts;
-
-/* Calls on the stack that ends at top, with the flag set from just before the call
-   instruction to just behind it. No word below the stack pointer is used. */
-uint32_t call_with_flag(const struct call *call, uint64_t *top);
-
-__asm__(".text\n"
-        ".globl call_with_flag\n"
-        ".type call_with_flag, @function\n"
-        "call_with_flag:\n"
-        "    push %rbp\n"
-        "    mov %rsp, %rbp\n"
-        "    mov %rsi, %rsp\n"
-        "    mov %rdi, %rax\n"
-        "    mov 80(%rax), %r10\n"
-        "    push 72(%rax)\n"
-        "    push 64(%rax)\n"
-        "    mov 16(%rax), %rdi\n"
-        "    mov 24(%rax), %rsi\n"
-        "    mov 32(%rax), %rdx\n"
-        "    mov 40(%rax), %rcx\n"
-        "    mov 48(%rax), %r8\n"
-        "    mov 56(%rax), %r9\n"
-        "    pushfq\n"
-        "    or %r10, (%rsp)\n"
-        "    popfq\n"
-        "    call *8(%rax)\n"
-        "    pushfq\n"
-        "    andq $~0x100, (%rsp)\n"
-        "    popfq\n"
-        "    mov %rbp, %rsp\n"
-        "    pop %rbp\n"
-        "    ret\n");
 
 /* The interrupt. */
 static void interrupt(int number, siginfo_t *info, void *context)
@@ -117,23 +85,14 @@ static void begin_interrupts(void)
     sigaction(SIGTRAP, &trap, NULL);
 }
 
-/* The largest table: every right for everybody, and queues with one message. */
+/* The largest table, with one message in each queue. */
 static void make_table(uint32_t *table)
 {
-    table[0] = BALKWIZU_TABLE_HEADER(DOMAINS, ENDPOINTS);
-    for (int holder = 0; holder < DOMAINS; holder++)
-        for (int target = 0; target < DOMAINS; target++)
-            table[BALKWIZU_RIGHTS_AT(DOMAINS, holder, target)] =
-                BALKWIZU_TABLE_RIGHTS(BALKWIZU_RIGHTS_ALL);
+    make_largest_table(table);
     for (int e = 0; e < ENDPOINTS; e++) {
         uint32_t *word = table + BALKWIZU_ENDPOINT_AT(DOMAINS, e);
-        word[BALKWIZU_PLACE_NAME] = BALKWIZU_TABLE_NAME(1 + e);
-        word[BALKWIZU_PLACE_INFO] = BALKWIZU_TABLE_INFO(e % DOMAINS, BALKWIZU_SLOTS);
         word[BALKWIZU_PLACE_WAITING] = BALKWIZU_TABLE_WAITING(1);
-        word[BALKWIZU_PLACE_LOST] = BALKWIZU_TABLE_LOST(0);
         word[BALKWIZU_PLACE_SLOTS] = BALKWIZU_SECOND(e);
-        for (int slot = 1; slot < BALKWIZU_SLOTS; slot++)
-            word[BALKWIZU_PLACE_SLOTS + slot] = BALKWIZU_EMPTY_SLOT;
     }
 }
 
@@ -171,9 +130,9 @@ static void make_lent(void)
 #define COUNT(words) (sizeof(words) / sizeof *(words))
 #define WORDS(words) (uintptr_t)(words), COUNT(words)
 #define CALL(returns, function, ...)                                                   \
-    { #function, (void (*)(void))function, { __VA_ARGS__ }, 0, returns }
+    { #function, { (void (*)(void))function, { __VA_ARGS__ } }, returns }
 
-static const struct call calls[] = {
+static const struct tried all[] = {
     CALL(CODE, balkwizu_table_check, (uintptr_t)lent.table, sizeof lent.table),
     CALL(CODE, balkwizu_run, WORDS(lent.table), WORDS(lent.list),
          WORDS(lent.answers), WORDS(lent.holders)),
@@ -196,37 +155,37 @@ static const struct call calls[] = {
 
 /* In a process of its own, since a call that is disturbed may fault or not end: 0 where
  * it comes to the same with interrupts as without. */
-static int try(struct call call)
+static int try(const struct tried *tried)
 {
-    alarm(LIMIT_SECONDS);
+    const struct rlimit limit = { LIMIT_SECONDS, LIMIT_SECONDS + 1 };
+    setrlimit(RLIMIT_CPU, &limit);
     make_lent();
-    uint32_t result = call_with_flag(&call, stack + STACK_WORDS);
+    uint32_t result = call_on_stack(&tried->call, stack + STACK_WORDS, 0);
     wanted = lent;
     make_lent();
     begin_interrupts();
-    call.flag = TRAP_FLAG;
-    uint32_t interrupted = call_with_flag(&call, stack + STACK_WORDS);
-    int same = (call.returns == NOTHING || interrupted == result)
+    uint32_t interrupted = call_on_stack(&tried->call, stack + STACK_WORDS, TRAP_FLAG);
+    int same = (tried->returns == NOTHING || interrupted == result)
                && memcmp(&lent, &wanted, sizeof lent) == 0;
-    int refused = call.returns == CODE && BALKWIZU_RUN_CODE(result) != BALKWIZU_OK;
-    printf("%s: %lu interrupts, %s%s\n", call.name, interrupts,
+    int refused = tried->returns == CODE && BALKWIZU_RUN_CODE(result) != BALKWIZU_OK;
+    printf("%s: %lu interrupts, %s%s\n", tried->name, interrupts,
            same ? "as without" : "not as without", refused ? ", refused" : "");
     fflush(stdout);
     return !same || refused;
 }
 
 /* 0 where the call came to the same. */
-static int tell(const struct call *call)
+static int tell(const struct tried *tried)
 {
     int status = 0;
     fflush(stdout);
     pid_t child = fork();
     if (child == 0)
-        _exit(try(*call));
+        _exit(try(tried));
     if (child < 0 || waitpid(child, &status, 0) != child)
         return 1;
     if (WIFSIGNALED(status))
-        printf("%s: ended by signal %d\n", call->name, WTERMSIG(status));
+        printf("%s: ended by signal %d\n", tried->name, WTERMSIG(status));
     return !WIFEXITED(status) || WEXITSTATUS(status) != 0;
 }
 
@@ -237,7 +196,7 @@ int main(int count, char **words)
         below_too = strcmp(words[1], "stack") == 0;
         registers_too = strcmp(words[1], "registers") == 0;
     }
-    for (size_t i = 0; i < COUNT(calls); i++)
-        different |= tell(&calls[i]);
+    for (size_t i = 0; i < COUNT(all); i++)
+        different |= tell(&all[i]);
     return different;
 }

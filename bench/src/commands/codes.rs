@@ -4,7 +4,7 @@ use std::ffi::OsString;
 
 use crate::args::Options;
 use crate::line::explain::{is_code, meaning};
-use crate::output::say;
+use crate::output;
 
 pub const HELP: &str = "\
 bench codes [CODE]..
@@ -38,18 +38,24 @@ pub fn command(line: &[OsString]) -> Result<bool, String> {
         .iter()
         .map(|word| code(&word.to_string_lossy()));
     let asked: Vec<u32> = asked.collect::<Result<_, _>>()?;
-    for &code in &asked {
-        say!("{code:>2}  {}", meaning(code));
-    }
-    if asked.is_empty() {
-        for code in (0..=LARGEST).filter(|&code| is_code(code)) {
-            if let Some((_, heading)) = HEADINGS.iter().find(|(first, _)| *first == code) {
-                say!("{heading}");
-            }
-            say!("  {code:>2}  {}", meaning(code));
-        }
-    }
+    let told = |code: &u32| format!("{code:>2}  {}\n", meaning(*code));
+    let told: String = match asked.is_empty() {
+        false => asked.iter().map(told).collect(),
+        true => all(),
+    };
+    output::write(told.as_bytes());
     Ok(true)
+}
+
+/// All numbers, with their headings.
+fn all() -> String {
+    let codes = (0..=LARGEST).filter(|&code| is_code(code));
+    let each = codes.map(|code| {
+        let heading = HEADINGS.iter().find(|(first, _)| *first == code);
+        let heading = heading.map_or(String::new(), |(_, heading)| format!("{heading}\n"));
+        format!("{heading}  {code:>2}  {}\n", meaning(code))
+    });
+    each.collect()
 }
 
 /// The number that a word is, if something answers it.

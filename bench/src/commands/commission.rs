@@ -8,20 +8,19 @@ use std::ffi::OsString;
 use std::path::Path;
 use std::time::SystemTime;
 
-use reference::table::domains;
-
 use crate::args::Options;
 use crate::cases::Case;
 use crate::clock::in_utc;
 use crate::commands::commission::asked::{Asked, On, VALUED};
+use crate::commands::refused;
 use crate::judging::checklist::read_back::ReadBack;
 use crate::judging::checklist::{Checklist, Line, Summary, Verdicts};
 use crate::judging::compare::kept_calls;
 use crate::judging::variants::case_of;
 use crate::kernels::boundary::Kernel;
 use crate::line::dump::{read_dump, Dump};
-use crate::line::explain::{call_on_table, counted, meaning, mended_by, table_fault};
-use crate::line::given::{read_given, Given};
+use crate::line::explain::{call_on_table, counted};
+use crate::line::given::read_given;
 use crate::line::input::{shown, Input};
 use crate::line::names::Names;
 use crate::output::{self, say};
@@ -65,7 +64,7 @@ answers to the list, three words a call, and the table behind it, each as
 little-endian bytes or as a text of hexadecimal words. No kernel is run and no
 exercise; what one run can't show is said as `not shown`.
 
-  --struck D     list the calls that are struck for domain D
+  --struck D     list the calls that are struck for domain D, a number or a name
   --seed S       the seed that the variants are drawn from (default 1)
   --kernel NAME  balkwizu (default), balkwizu-working, balkwizu-by-length,
                  plain-gcc, plain-clang, or wrong-NAME, which has the fault of
@@ -88,25 +87,22 @@ pub fn command(options: &[OsString]) -> Result<bool, String> {
     let options = Options::parse(options, &VALUED, &[])?;
     let asked = Asked::of(&options)?;
     let given = read_given(asked.file)?;
-    let input = match commissionable(&given) {
+    let input = match given.accepted() {
         Ok(input) => input,
         Err(refusal) => {
-            tell_refusal(asked.file, refusal);
+            let (file, told) = (shown(asked.file), refused::in_words(&refusal));
+            say!("{file} cannot be commissioned: {told}");
+            refused::tell_mending(asked.file, &refusal);
             return Ok(false);
         }
     };
-    let n = domains(&input.table);
-    if let Some(domain) = asked.struck.filter(|&domain| domain >= n as u64) {
-        return Err(format!("no domain {domain}: the table has 0 to {}", n - 1));
-    }
-    let found = match &asked.on {
-        On::Kernel(kernel, seed) => Ok(by_kernel(&asked, *kernel, *seed, &input, &given.names)),
-        On::ReadBack { answers, left } => {
-            let dumps = [read_dump(answers)?, read_dump(left)?];
-            by_words(&asked, [answers, left], dumps, &input, &given.names)
-        }
+    let line = Commissioned {
+        file: asked.file,
+        struck: asked.struck_in(&input.table, &given.names)?,
+        input: &input,
+        names: &given.names,
     };
-    let (judged, verdicts) = match found {
+    let (judged, verdicts) = match line.judged(&asked.on)? {
         Ok(found) => found,
         Err(why) => {
             say!("{} cannot be judged: {why}", shown(asked.file));
@@ -126,53 +122,80 @@ pub fn command(options: &[OsString]) -> Result<bool, String> {
     Ok(well)
 }
 
-fn tell_refusal(file: &Path, (code, fault): (u32, String)) {
-    say!(
-        "{} cannot be commissioned: refused with {code} ({}): {fault}",
-        shown(file),
-        meaning(code)
-    );
-    if let Some(told) = mended_by(code, file) {
-        say!("{told}");
+/// An input that is commissioned: an accepted table, its list and its names.
+struct Commissioned<'a> {
+    file: &'a Path,
+    input: &'a Input,
+    names: &'a Names,
+    /// The domain whose struck calls are to be listed.
+    struck: Option<usize>,
+}
+
+/// Verdicts, with what they are about for the report; or why words can't be judged.
+type Found = Result<(Judged, Verdicts), String>;
+
+impl Commissioned<'_> {
+    fn judged(&self, on: &On) -> Result<Found, String> {
+        Ok(match on {
+            On::Kernel(kernel, seed) => Ok(self.by_kernel(*kernel, *seed)),
+            On::ReadBack { answers, left } => {
+                let dumps = [read_dump(answers)?, read_dump(left)?];
+                self.by_words([answers, left], dumps)
+            }
+        })
+    }
+
+    /// A kernel's verdicts.
+    fn by_kernel(&self, kernel: Kernel, seed: u64) -> (Judged, Verdicts) {
+        self.tell_head(kernel.title);
+        let list = Checklist::new(kernel, self.input, self.names, seed);
+        say!("exercise made from this table: {}", list.size());
+        let judged = Judged::Kernel {
+            name: kernel.name,
+            title: kernel.title,
+            seed,
+            exercise: list.size(),
+        };
+        (judged, list.verdicts())
+    }
+
+    /// The same of words that were read back; what is wrong with their number.
+    fn by_words(&self, files: [&Path; 2], dumps: [Dump; 2]) -> Found {
+        let [answers, left] = dumps;
+        let judged = Judged::ReadBack {
+            answers: source(files[0], &answers.bytes),
+            left: source(files[1], &left.bytes),
+        };
+        let read = ReadBack::new(self.input, self.names, answers.words, left.words)?;
+        self.tell_head("what was read back from a line");
+        Ok((judged, of_a_line(read.verdicts())))
+    }
+
+    /// Says what is commissioned, and what can be said of its table and list before.
+    fn tell_head(&self, on: &str) {
+        let (file, size) = (shown(self.file), self.input.size());
+        say!("commissioning {file} on {on}: {size}");
+        if let Some(domain) = self.struck {
+            let told = struck_calls(&case_of(self.input), domain, self.names);
+            output::write(told.as_bytes());
+        }
+        output::write(potential_in_words(&self.input.table, self.names).as_bytes());
     }
 }
 
-/// A kernel's verdicts, with what they are about for the report.
-fn by_kernel(
-    asked: &Asked,
-    kernel: Kernel,
-    seed: u64,
-    input: &Input,
-    names: &Names,
-) -> (Judged, Verdicts) {
-    tell_head(asked, kernel.title, input, names);
-    let list = Checklist::new(kernel, input, names, seed);
-    say!("exercise made from this table: {}", list.size());
-    let judged = Judged::Kernel {
-        name: kernel.name,
-        title: kernel.title,
-        seed,
-        exercise: list.size(),
+/// Verdicts on words that were read back. The judges tell them as a kernel's, as which they
+/// compare them; no kernel was run, and they are the line's.
+fn of_a_line(verdicts: Verdicts) -> Verdicts {
+    let told = |line: Line| Line {
+        judged: line
+            .judged
+            .map_err(|why| why.replace("the kernel ", "the line ")),
+        ..line
     };
-    (judged, list.verdicts())
-}
-
-/// The same of words that were read back; what is wrong with their number.
-fn by_words(
-    asked: &Asked,
-    files: [&Path; 2],
-    dumps: [Dump; 2],
-    input: &Input,
-    names: &Names,
-) -> Result<(Judged, Verdicts), String> {
-    let [answers, left] = dumps;
-    let judged = Judged::ReadBack {
-        answers: source(files[0], &answers.bytes),
-        left: source(files[1], &left.bytes),
-    };
-    let read = ReadBack::new(input, names, answers.words, left.words)?;
-    tell_head(asked, "what was read back from a line", input, names);
-    Ok((judged, read.verdicts()))
+    Verdicts {
+        lines: verdicts.lines.map(told),
+        ..verdicts
+    }
 }
 
 /// A file with the hash of what was read of it.
@@ -180,28 +203,6 @@ fn source(file: &Path, bytes: &[u8]) -> Source {
     Source {
         file: shown(file),
         sha256: sha256(bytes),
-    }
-}
-
-/// Says what is commissioned, and what can be said of its table and list before.
-fn tell_head(asked: &Asked, on: &str, input: &Input, names: &Names) {
-    say!(
-        "commissioning {} on {on}: {}",
-        shown(asked.file),
-        input.size()
-    );
-    if let Some(domain) = asked.struck {
-        output::write(struck_calls(&case_of(input), domain as usize, names).as_bytes());
-    }
-    output::write(potential_in_words(&input.table, names).as_bytes());
-}
-
-/// An input that runs, or the number that refuses it and what is wrong.
-fn commissionable(given: &Given) -> Result<Input, (u32, String)> {
-    let input = Input::parse(&given.bytes)?;
-    match table_fault(&input.table, &given.names) {
-        Some(fault) => Err(fault),
-        None => Ok(input),
     }
 }
 

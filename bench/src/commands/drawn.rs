@@ -1,5 +1,6 @@
 //! What the commands have in common that try random things by their numbers, beside the
-//! separate machine: `bench step`, `bench queue` and `bench tables`.
+//! separate machine: `bench step`, `bench queue`, `bench tables` and `bench histories`; and
+//! how a line asks for it, which is the same for programs that are tried.
 
 use std::ffi::OsString;
 
@@ -7,6 +8,9 @@ use crate::args::Options;
 use crate::judging::trying::{Draws, Summary};
 use crate::line::explain::counted;
 use crate::output::say;
+
+/// The options that say what is tried.
+pub const TRIED: [&str; 4] = ["--cases", "--seed", "--from", "--time"];
 
 /// The seconds that one of them may take where nothing else is asked for.
 const TIME: u64 = 10;
@@ -41,17 +45,9 @@ impl Drawn {
     }
 
     fn draws(&self, line: &[OsString]) -> Result<Draws, String> {
-        let options = Options::parse(line, &["--cases", "--seed", "--from", "--time"], &[])?;
+        let options = Options::parse(line, &TRIED, &[])?;
         options.no_file()?;
-        let cases = options.number("--cases")?.unwrap_or(self.cases);
-        if cases == 0 {
-            return Err("--cases 0 leaves nothing to compare".to_string());
-        }
-        Ok(Draws {
-            seed: options.number("--seed")?.unwrap_or(1),
-            numbers: options.numbers("--cases", cases)?,
-            limit: options.time(TIME)?,
-        })
+        draws_of(&options, self.cases)
     }
 
     /// Prints what was met; whether that is all that is asked.
@@ -72,6 +68,19 @@ impl Drawn {
         );
         few || missing.is_empty()
     }
+}
+
+/// What a line asks for, with so many where no number is given.
+pub fn draws_of(options: &Options, usual: u64) -> Result<Draws, String> {
+    let cases = options.number("--cases")?.unwrap_or(usual);
+    if cases == 0 {
+        return Err("--cases 0 leaves nothing to compare".to_string());
+    }
+    Ok(Draws {
+        seed: options.number("--seed")?.unwrap_or(1),
+        numbers: options.numbers("--cases", cases)?,
+        limit: options.time(TIME)?,
+    })
 }
 
 #[cfg(test)]

@@ -69,8 +69,9 @@ fn read_file(file: &Path) -> Result<Vec<Figure>, String> {
     read_written(&text)
 }
 
-/// Counts, and writes the figures to a file.
+/// Counts, and writes the figures to a file; whether that can be is known before.
 fn write_anew(file: &Path) -> Result<bool, String> {
+    output::may_write("--file", file, &[])?;
     let figures = counted_now()?;
     output::write_file(file, &written(&figures))?;
     let figures = counted(figures.len(), "figure");
@@ -120,6 +121,11 @@ fn counted_now() -> Result<Vec<Figure>, String> {
 #[cfg(test)]
 mod tests {
     use super::*;
+
+    #[test]
+    fn the_help_tells_how_much_a_figure_may_rise() {
+        assert!(HELP.contains(&format!("by more than {PERCENT} % fails")));
+    }
 
     #[test]
     fn the_figures_of_the_repository_are_those_of_the_jobs() {

@@ -4,6 +4,7 @@
 mod speed;
 
 use std::ffi::OsString;
+use std::path::Path;
 
 use reference::calls::LIST_WORDS_MAX;
 use reference::check_table;
@@ -11,12 +12,13 @@ use reference::words::from_bytes;
 
 use crate::args::Options;
 use crate::cases::inputs::{apart, due, given, Given};
+use crate::commands::compared::{none_differs, Met, Wanted};
+use crate::commands::drawn::{draws_of, TRIED};
 use crate::judging::printed::{difference, shorter};
+use crate::judging::trying::Draws;
 use crate::kernels::program::{run, Feed};
 use crate::line::explain::counted;
 use crate::line::input::shown;
-use crate::output::{self, say};
-use crate::progress::Progress;
 
 pub const HELP: &str = "\
 bench linerun PROGRAM [--cases N] [--seed S] [--from K] [--time T]
@@ -43,119 +45,80 @@ a way to give an input that was never used.
 
 With --speed, measures PROGRAM on lists of 4,096 words beside the same job in
 plain C (bench/c/plain_linerun.c, gcc -O3): the processor time of a run. They
-take turns in N rounds (default 31), and a figure is the median of the rounds.
+take turns, and a figure is the median of the rounds.
 
-Exit status: 0 nothing differs, and every code was met where that is asked; 1
-otherwise; 2 bad usage, or a program that can't be started.
+  --rounds N  rounds, 1 to 1,000 (default 31)
+
+Exit status: 0 nothing differs, and every code was met where that is asked; or
+the speed was measured; 1 otherwise; 2 bad usage, or a program that can't be
+started.
 ";
 
-/// The codes of the first line that must be met, and from how many inputs on.
-const CODES: [u32; 7] = [0, 1, 2, 3, 4, 5, 7];
-const ENOUGH: u64 = 1000;
-
-/// The ways to give an input that must be met too.
-const WAYS: [&str; 6] = [
-    "byte by byte",
-    "in odd parts",
-    "held open at a length word above 641",
-    "held open at list word 4,097",
-    "held open at list word 4,097 with bytes left over",
-    "held open at list word 4,097 behind a bad table",
-];
+/// What must be met.
+const WANTED: Wanted<6> = Wanted {
+    ways: [
+        "byte by byte",
+        "in odd parts",
+        "held open at a length word above 641",
+        "held open at list word 4,097",
+        "held open at list word 4,097 with bytes left over",
+        "held open at list word 4,097 behind a bad table",
+    ],
+    enough: 1000,
+};
 
 /// The command: whether nothing differs.
 pub fn command(line: &[OsString]) -> Result<bool, String> {
-    let valued = ["--cases", "--seed", "--from", "--time", "--rounds"];
+    let valued = [&TRIED[..], &["--rounds"]].concat();
     let options = Options::parse(line, &valued, &["--speed"])?;
     let program = options.file().map_err(|why| format!("PROGRAM: {why}"))?;
     if options.has("--speed") {
-        return speed::measure(program, rounds(&options)?);
+        options.only("--speed", &["--rounds"])?;
+        return speed::measure(program, options.within("--rounds", 31, 1000)?);
     }
-    let cases = options.number("--cases")?.unwrap_or(2000);
-    let seed = options.number("--seed")?.unwrap_or(1);
-    let time = options.time(10)?;
-    if cases == 0 {
-        return Err("--cases 0 leaves nothing to compare".to_string());
-    }
-    let numbers = options.numbers("--cases", cases)?;
-    let mut met = Met::default();
-    let mut progress = Progress::new("inputs", &numbers);
-    for number in numbers {
-        let Given { input, feed } = given(seed, number, time);
+    options.only("a comparison", &TRIED)?;
+    compare(program, &draws_of(&options, 2000)?)
+}
+
+/// Holds a program to the separate one.
+fn compare(program: &Path, draws: &Draws) -> Result<bool, String> {
+    let mut met = Met::nothing();
+    let one = |number| {
+        let Given { input, feed } = given(draws.seed, number, draws.limit);
         let expected = reference::linerun(&input);
         let ran = run(program, &input, feed)?;
-        if let Some(told) = difference(&ran, &expected) {
-            progress.clear();
-            say!("DIFFERENCE in input {number} of seed {seed}:\n  {told}");
-            output::write(way_in_words(&input, feed).as_bytes());
-            say!(
-                "To see it again: bench linerun {} --seed {seed} --from {number} --cases 1",
-                shown(program)
-            );
-            output::write(shorter(program, &input, feed, &ran).as_bytes());
-            return Ok(false);
-        }
-        met.add(&input, feed, &expected);
-        progress.step();
-    }
-    progress.clear();
-    Ok(ended(&shown(program), cases, &met))
-}
-
-/// The rounds of a measurement.
-fn rounds(options: &Options) -> Result<usize, String> {
-    match options.number("--rounds")?.unwrap_or(31) {
-        rounds @ 1..=1000 => Ok(rounds as usize),
-        other => Err(format!("--rounds takes 1 to 1,000, not {other}")),
-    }
-}
-
-/// How often each code and each way to give an input was met.
-#[derive(Debug, Default)]
-struct Met {
-    codes: [u64; 8],
-    ways: [u64; WAYS.len()],
-}
-
-impl Met {
-    fn add(&mut self, input: &[u8], feed: Feed, expected: &[u8]) {
-        self.codes[code_of(expected)] += 1;
-        let (head, list, left_over) = apart(input);
-        let at_the_list = feed.held && list.len() > LIST_WORDS_MAX;
-        let used = [
-            feed.parts == Some(1),
-            feed.parts > Some(1),
-            feed.held && !at_the_list,
-            at_the_list && left_over.is_empty(),
-            at_the_list && !left_over.is_empty(),
-            at_the_list && check_table(&from_bytes(&head[4..])) != 0,
-        ];
-        for (count, used) in self.ways.iter_mut().zip(used) {
-            *count += u64::from(used);
-        }
-    }
-
-    fn all(&self) -> bool {
-        let codes = CODES.iter().all(|&code| self.codes[code as usize] > 0);
-        codes && self.ways.iter().all(|&count| count > 0)
-    }
-}
-
-/// Prints what was met; whether that is all that is asked.
-fn ended(program: &str, cases: u64, met: &Met) -> bool {
-    for code in CODES {
-        say!("  code {code} {:>8}", met.codes[code as usize]);
-    }
-    for (way, count) in WAYS.iter().zip(met.ways) {
-        say!("  {count:>15}  {way}");
-    }
-    let verdict = match cases {
-        ..ENOUGH => "nothing differs; too few to ask that every code and way is met",
-        _ if met.all() => "passed",
-        _ => "FAILED: a code or a way was never met",
+        add(&mut met, &input, feed, &expected);
+        let told = difference(&ran, &expected).map(|told| {
+            let (seed, again) = (draws.seed, shown(program));
+            format!(
+                "DIFFERENCE in input {number} of seed {seed}:\n  {told}\n{}To see it again: bench \
+                 linerun {again} --seed {seed} --from {number} --cases 1\n{}",
+                way_in_words(&input, feed),
+                shorter(program, &input, feed, &ran)
+            )
+        });
+        Ok(told)
     };
-    say!("{} of {program}: {verdict}", counted(cases, "input"));
-    cases < ENOUGH || met.all()
+    if !none_differs(draws, one)? {
+        return Ok(false);
+    }
+    let what = format!("{} of {}", counted(draws.count(), "input"), shown(program));
+    Ok(WANTED.is_met(&met, draws.count(), &what))
+}
+
+/// Counts an input, with how it was given and what is expected.
+fn add(met: &mut Met<6>, input: &[u8], feed: Feed, expected: &[u8]) {
+    let (head, list, left_over) = apart(input);
+    let at_the_list = feed.held && list.len() > LIST_WORDS_MAX;
+    let used = [
+        feed.parts == Some(1),
+        feed.parts > Some(1),
+        feed.held && !at_the_list,
+        at_the_list && left_over.is_empty(),
+        at_the_list && !left_over.is_empty(),
+        at_the_list && check_table(&from_bytes(&head[4..])) != 0,
+    ];
+    met.add(code_of(expected), used);
 }
 
 /// How an input was given, where it wasn't at once and with its end.
@@ -176,13 +139,12 @@ fn way_in_words(input: &[u8], feed: Feed) -> String {
     format!("{parts}The pipe was held open behind {bytes}: {what} the answer was due.\n")
 }
 
-/// The code of the first line.
+/// The code of the first line, or one that there isn't.
 fn code_of(printed: &[u8]) -> usize {
     let text = String::from_utf8_lossy(printed);
     let first = text.lines().next().unwrap_or("");
     let code = first.rsplit(' ').next().and_then(|code| code.parse().ok());
-    // What is no code counts as 6, which no input has: an answer space is never too small here.
-    code.filter(|&code: &usize| code < 8).unwrap_or(6)
+    code.unwrap_or(usize::MAX)
 }
 
 #[cfg(test)]
@@ -192,28 +154,17 @@ mod tests {
 
     #[test]
     fn inputs_meet_every_code_and_every_way() {
-        let mut met = Met::default();
-        for number in 0..ENOUGH {
+        assert!(HELP.contains("From 1,000 inputs on") && WANTED.enough == 1000);
+        let mut met = Met::nothing();
+        for number in 0..WANTED.enough {
             let Given { input, feed } = given(1, number, Duration::from_secs(10));
-            met.add(&input, feed, &reference::linerun(&input));
+            add(&mut met, &input, feed, &reference::linerun(&input));
         }
-        assert!(ended("the separate one", ENOUGH, &met), "{met:?}");
+        assert!(
+            WANTED.is_met(&met, WANTED.enough, "the separate one"),
+            "{met:?}"
+        );
         assert_eq!(code_of(b"calls 0 code 7\n"), 7);
-    }
-
-    #[test]
-    fn a_code_never_met_is_a_failure_only_where_enough_was_tried() {
-        assert!(HELP.contains("From 1,000 inputs on"));
-        let mut met = Met {
-            codes: [1; 8],
-            ways: [1; WAYS.len()],
-        };
-        assert!(ended("everything", ENOUGH, &met));
-        met.ways[3] = 0;
-        assert!(!ended("a way is missing", ENOUGH, &met));
-        met.ways[3] = 1;
-        met.codes[7] = 0;
-        assert!(!ended("a code is missing", ENOUGH, &met));
-        assert!(ended("one input", 1, &met));
+        assert_eq!(code_of(b"nothing"), usize::MAX);
     }
 }

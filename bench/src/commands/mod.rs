@@ -1,8 +1,9 @@
 //! The commands of the program, one file each: what is given on the line, what is
-//! done with it, and the help.
+//! done with it, and the help. And what several of them have in common.
 
 pub mod codes;
 pub mod commission;
+mod compared;
 mod drawn;
 pub mod fuzz;
 pub mod histories;
@@ -10,6 +11,7 @@ pub mod instructions;
 pub mod linerun;
 pub mod queue;
 pub mod read;
+mod refused;
 pub mod repair;
 pub mod roads;
 pub mod show;

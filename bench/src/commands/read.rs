@@ -6,11 +6,12 @@ use reference::writer::{to_columns, COLUMNS};
 use reference::Value;
 
 use crate::args::Options;
+use crate::commands::refused;
 use crate::kernels::boundary::PROVED_WRITER;
 use crate::line::calls;
 use crate::line::explain::{call_in_words, counted, meaning};
 use crate::line::given::{read_given_list, Given};
-use crate::line::input::{shown, Input};
+use crate::line::input::Input;
 use crate::line::names::Names;
 use crate::output::{self, complain};
 
@@ -43,9 +44,8 @@ pub fn command(line: &[OsString]) -> Result<bool, String> {
     let Given { bytes, names } = read_given_list(file)?;
     let list = match Input::parse(&bytes) {
         Ok(Input { list, .. }) => list,
-        Err((code, why)) => {
-            let (file, meaning) = (shown(file), meaning(code));
-            complain!("bench read: {file} is refused with {code} ({meaning}): {why}");
+        Err(refusal) => {
+            refused::complain_of("read", file, &refusal);
             return Ok(false);
         }
     };

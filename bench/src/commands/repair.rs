@@ -2,7 +2,6 @@
 //! in words; and the other way round.
 
 use std::ffi::OsString;
-use std::fs;
 use std::path::Path;
 
 use reference::repair::PAIR_WORDS;
@@ -13,16 +12,18 @@ use reference::table::{
 use reference::words::{content, from_bytes, kind, to_bytes};
 
 use crate::args::Options;
+use crate::commands::refused::{self, Refusal};
 use crate::kernels::boundary::repair;
 use crate::line::explain::{counted, endpoint_in_words, meaning, place_in_words, table_fault};
 use crate::line::given::{read_given, Given};
-use crate::line::input::{read_at_most, shown, Input, INPUT_BYTES_MAX};
+use crate::line::input::{read_at_most, read_once, shown, Input, INPUT_BYTES_MAX};
 use crate::line::names::Names;
-use crate::output::{no_folder, say};
+use crate::line::text;
+use crate::output::{may_write, may_write_both, say, write_file};
 
 pub const HELP: &str = "\
-bench repair IN OUT [--image] [--changes FILE]
-bench repair IN OUT [--image] --undo FILE
+bench repair IN OUT [--image | --text] [--changes FILE]
+bench repair IN OUT [--image | --text] --undo FILE
 
 Makes a table that is refused with 4 or 5 fit again, without ever adding a
 right, by the proved function: a broken rights word becomes an empty set, and an
@@ -34,9 +35,11 @@ IN may be a text as `bench words` takes it, OUT is an input of linerun.
   --image         IN and OUT are a table's bytes alone, as a card has them.
                   Without it they are inputs of linerun, and the list stays as
                   it is
+  --text          OUT is a text too, with the names that IN gives, which an
+                  input of linerun has not
   --changes FILE  write what was altered to FILE: two words for each, its place
                   and its old content
-  --undo FILE     put the old contents back that such a FILE has
+  --undo FILE     put the old words back that such a FILE has
 
 Exit status: 0 written, also where there was nothing to repair; 1 refused, with
 what is wrong, and nothing written; 2 bad usage, or a file that can't be read or
@@ -47,54 +50,78 @@ written.
 struct Asked<'a> {
     from: &'a Path,
     to: &'a Path,
-    image: bool,
+    form: Form,
     changes: Option<&'a Path>,
+    undo: Option<&'a Path>,
+}
+
+/// What IN is, and OUT.
+#[derive(Debug, Clone, Copy, PartialEq, Eq)]
+enum Form {
+    /// A table's bytes alone.
+    Image,
+    /// An input of linerun, or a text that stands for one; OUT is an input.
+    Input,
+    /// The same, and OUT is a text.
+    Text,
 }
 
 /// What IN holds, with the names that it gives; or the number and what is wrong.
-type Held = Result<(Input, Names), (u32, String)>;
+type Held = Result<(Input, Names), Refusal>;
 
 /// The command: whether OUT was written.
 pub fn command(line: &[OsString]) -> Result<bool, String> {
-    let options = Options::parse(line, &["--changes", "--undo"], &["--image"])?;
-    let (from, to) = options.two_files()?;
-    if same_file(from, to) {
-        let to = to.display();
-        return Err(format!("{to} is the input, which would be overwritten"));
-    }
-    let written = [Some(to), options.path("--changes")];
-    if let Some(folder) = written.into_iter().flatten().find_map(no_folder) {
-        return Err(format!("there is no folder {folder} to write into"));
-    }
-    let asked = Asked {
-        from,
-        to,
-        image: options.has("--image"),
-        changes: options.path("--changes"),
-    };
+    let options = Options::parse(line, &["--changes", "--undo"], &["--image", "--text"])?;
+    let asked = Asked::of(&options)?;
     let (mut input, names) = match asked.read()? {
         Ok(read) => read,
-        Err((code, why)) => {
-            say!("refused with {code} ({}): {why}", meaning(code));
+        Err(refusal) => {
+            say!("{}", refused::in_words(&refusal));
             return Ok(false);
         }
     };
-    match options.path("--undo") {
-        None => asked.repaired(&mut input, &names),
-        Some(_) if asked.changes.is_some() => Err("--undo alters nothing to list".to_string()),
-        Some(list) => asked.undone(&mut input, list),
+    let done = match asked.undo {
+        None => asked.repaired(&mut input, &names)?,
+        Some(list) => asked.undone(&mut input, &names, list)?,
+    };
+    if done && asked.form == Form::Input && !names.is_empty() {
+        let to = asked.to.display();
+        say!("{to} is an input of linerun, which has no names: --text writes a text with them");
     }
-}
-
-fn same_file(from: &Path, to: &Path) -> bool {
-    let place = |path: &Path| path.canonicalize().ok();
-    from != Path::new("-") && place(from).is_some() && place(from) == place(to)
+    Ok(done)
 }
 
 impl Asked<'_> {
+    /// What a line asks for, where nothing is written over what is read, and nothing twice.
+    fn of(options: &Options) -> Result<Asked<'_>, String> {
+        let (from, to) = options.two_files()?;
+        let (changes, undo) = (options.path("--changes"), options.path("--undo"));
+        let form = match (options.has("--image"), options.has("--text")) {
+            (true, true) => return Err("--text is not for --image".to_string()),
+            (true, false) => Form::Image,
+            (false, true) => Form::Text,
+            (false, false) => Form::Input,
+        };
+        if undo.is_some() && changes.is_some() {
+            return Err("--undo alters nothing to list".to_string());
+        }
+        let read: Vec<&Path> = [from].into_iter().chain(undo).collect();
+        read_once(&read)?;
+        may_write("OUT", to, &read)?;
+        changes.map_or(Ok(()), |list| may_write("--changes", list, &read))?;
+        may_write_both(("OUT", Some(to)), ("--changes", changes))?;
+        Ok(Asked {
+            from,
+            to,
+            form,
+            changes,
+            undo,
+        })
+    }
+
     /// Reads IN; it may hold no words.
     fn read(&self) -> Result<Held, String> {
-        if !self.image {
+        if self.form != Form::Image {
             let Given { bytes, names } = read_given(self.from)?;
             return Ok(Input::parse(&bytes).map(|input| (input, names)));
         }
@@ -109,10 +136,11 @@ impl Asked<'_> {
         })
     }
 
-    fn write(&self, input: &Input) -> Result<(), String> {
-        match self.image {
-            true => written(self.to, &to_bytes(&input.table)),
-            false => written(self.to, &input.to_bytes()),
+    fn write(&self, input: &Input, names: &Names) -> Result<(), String> {
+        match self.form {
+            Form::Image => write_file(self.to, &to_bytes(&input.table)),
+            Form::Input => write_file(self.to, &input.to_bytes()),
+            Form::Text => write_file(self.to, &(names.lines() + &text::write(input))),
         }
     }
 
@@ -127,34 +155,34 @@ impl Asked<'_> {
             return Ok(false);
         }
         changes.truncate(PAIR_WORDS * altered as usize);
-        self.write(input)?;
+        self.write(input, names)?;
         if let Some(file) = self.changes {
-            written(file, &to_bytes(&changes))?;
+            write_file(file, &to_bytes(&changes))?;
         }
         say!("{}", in_words(&old, &input.table, &changes, names));
         Ok(true)
     }
 
-    fn undone(&self, input: &mut Input, list: &Path) -> Result<bool, String> {
-        let changes = from_bytes(&read_at_most(list, INPUT_BYTES_MAX)?);
-        let places = changes.chunks(PAIR_WORDS);
-        let bad = |pair: &[u32]| pair.len() < 2 || pair[0] as usize >= input.table.len();
-        if places.clone().any(bad) {
+    fn undone(&self, input: &mut Input, names: &Names, list: &Path) -> Result<bool, String> {
+        let bytes = read_at_most(list, INPUT_BYTES_MAX)?;
+        let changes = from_bytes(&bytes);
+        let places = changes.chunks_exact(PAIR_WORDS);
+        let whole = bytes.len() % (4 * PAIR_WORDS) == 0;
+        let there = |pair: &[u32]| (pair[0] as usize) < input.table.len();
+        if !whole || !places.clone().all(there) {
             say!("{} is no list of changes of this table", shown(list));
             return Ok(false);
         }
         for pair in places {
             input.table[pair[0] as usize] = pair[1];
         }
-        self.write(input)?;
-        let words = counted(changes.len() / PAIR_WORDS, "word");
-        say!("{words} put back to what they were");
+        self.write(input, names)?;
+        say!(
+            "{} put back",
+            counted(changes.len() / PAIR_WORDS, "old word")
+        );
         Ok(true)
     }
-}
-
-fn written(path: &Path, bytes: &[u8]) -> Result<(), String> {
-    fs::write(path, bytes).map_err(|why| format!("cannot write {}: {why}", path.display()))
 }
 
 /// What was altered, and what it means for the line.
@@ -162,22 +190,22 @@ fn in_words(old: &[u32], new: &[u32], changes: &[u32], names: &Names) -> String 
     if changes.is_empty() {
         return "nothing to repair: the table is sound".to_string();
     }
-    let places: Vec<usize> = changes
-        .chunks_exact(2)
-        .map(|pair| pair[0] as usize)
-        .collect();
-    let mut text = format!("{} altered\n", counted(places.len(), "word"));
-    for &place in &places {
+    let pairs = changes.chunks_exact(PAIR_WORDS);
+    let places: Vec<usize> = pairs.map(|pair| pair[0] as usize).collect();
+    let altered = places.iter().map(|&place| {
         let (was, is) = (old[place], new[place]);
         let what = place_in_words(new, place, names);
-        text += &format!("  {what}: was {was:08X}, is {is:08X}\n");
-    }
-    text += "For the line this means";
+        format!("  {what}: was {was:08X}, is {is:08X}\n")
+    });
     let rights = rights_gone(new, &places, names);
-    for told in rights.chain(queues_emptied(old, new, &places, names)) {
-        text += &format!("\n  {told}");
-    }
-    text
+    let means = rights.chain(queues_emptied(old, new, &places, names));
+    let means = means.map(|told| format!("\n  {told}"));
+    format!(
+        "{} altered\n{}For the line this means{}",
+        counted(places.len(), "word"),
+        altered.collect::<String>(),
+        means.collect::<String>()
+    )
 }
 
 fn rights_gone<'a>(

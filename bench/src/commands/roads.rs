@@ -6,8 +6,8 @@ use std::path::Path;
 use reference::table::domains;
 
 use crate::args::Options;
-use crate::line::explain::{meaning, mended_by, table_fault};
-use crate::line::given::{read_given, Given};
+use crate::commands::refused;
+use crate::line::given::read_given;
 use crate::line::input::Input;
 use crate::line::names::Names;
 use crate::output::{self, say};
@@ -54,33 +54,27 @@ pub fn command(line: &[OsString]) -> Result<bool, String> {
         [_, _, _, more, ..] => return Err(format!("`{}` is not expected here", more.display())),
     };
     let calls = options.number("--calls")?.unwrap_or(u64::MAX) as usize;
-    let Given { bytes, names } = read_given(file).map_err(|why| match pair {
+    let given = read_given(file).map_err(|why| match pair {
         Some(_) if why.starts_with("cannot read") && !file.exists() => {
             format!("{why}; FILE comes first, then FROM and TO")
         }
         _ => why,
     })?;
-    let input = match Input::parse(&bytes) {
+    let input = match given.accepted() {
         Ok(input) => input,
-        Err((code, why)) => {
-            say!("refused with {code} ({}): {why}", meaning(code));
+        Err(refusal) => {
+            refused::tell(file, &refusal, "");
             return Ok(false);
         }
     };
-    if let Some((code, fault)) = table_fault(&input.table, &names) {
-        say!("table refused with {code} ({}): {fault}", meaning(code));
-        if let Some(told) = mended_by(code, file) {
-            say!("{told}");
-        }
-        return Ok(false);
-    }
     let pair = pair.map(|(from, to)| {
-        let n = domains(&input.table);
-        let found = |word: &Path| domain_of(&word.to_string_lossy(), n, &names);
+        let found = |word: &Path| {
+            let word = word.to_string_lossy();
+            given.names.domain_of(&word, domains(&input.table))
+        };
         Ok::<_, String>((found(from)?, found(to)?))
     });
-    let pair = pair.transpose()?;
-    Ok(told(&input, &names, pair, calls))
+    Ok(told(&input, &given.names, pair.transpose()?, calls))
 }
 
 fn told(input: &Input, names: &Names, pair: Option<(usize, usize)>, calls: usize) -> bool {
@@ -93,23 +87,4 @@ fn told(input: &Input, names: &Names, pair: Option<(usize, usize)>, calls: usize
         Err(differs) => say!("{differs}"),
     }
     told.is_ok()
-}
-
-/// The domain that a word names, by its number or its name.
-fn domain_of(word: &str, n: usize, names: &Names) -> Result<usize, String> {
-    let named = || (0..n).find(|&domain| names.domain_name(domain) == Some(word));
-    match word.parse::<usize>() {
-        Ok(number) if number < n => Ok(number),
-        Ok(number) => Err(format!("there is no domain {number}: the table has {n}")),
-        Err(_) => named().ok_or_else(|| {
-            let known: Vec<&str> = (0..n).filter_map(|d| names.domain_name(d)).collect();
-            match known.is_empty() {
-                true => format!("no domain is called `{word}`: the input gives no names"),
-                false => format!(
-                    "no domain is called `{word}`: there are {}",
-                    known.join(", ")
-                ),
-            }
-        }),
-    }
 }

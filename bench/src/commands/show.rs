@@ -10,12 +10,14 @@ use reference::table::domains;
 
 use crate::args::Options;
 use crate::cases::Case;
+use crate::commands::refused;
 use crate::kernels::boundary::PROVED;
 use crate::kernels::child;
 use crate::kernels::lent::Ran;
-use crate::line::explain::{meaning, mended_by, table_fault};
-use crate::line::given::{read_given, Given};
+use crate::line::explain::meaning;
+use crate::line::given::read_given;
 use crate::line::input::Input;
+use crate::line::text;
 use crate::output::{self, say};
 use crate::pictures::diagram::in_words;
 use crate::pictures::{dot, picture};
@@ -51,22 +53,17 @@ pub fn command(line: &[OsString]) -> Result<bool, String> {
     let calls = options.number("--calls")?.map(|calls| calls as usize);
     let svg = picture_file(&options, "--svg", file)?;
     let dot = picture_file(&options, "--dot", file)?;
-    let Given { bytes, names } = read_given(file)?;
-    let input = match Input::parse(&bytes) {
+    output::may_write_both(("--svg", svg), ("--dot", dot))?;
+    let given = read_given(file)?;
+    let input = match given.accepted() {
         Ok(input) => input,
-        Err((code, why)) => {
-            say!("refused with {code} ({}): {why}", meaning(code));
+        Err(refusal) => {
+            let words = Input::parse(&given.bytes).map(|input| text::write(&input));
+            refused::tell(file, &refusal, &words.unwrap_or_default());
             return Ok(false);
         }
     };
-    if let Some((code, fault)) = table_fault(&input.table, &names) {
-        say!("table refused with {code} ({}): {fault}", meaning(code));
-        output::write(crate::line::text::write(&input).as_bytes());
-        if let Some(told) = mended_by(code, file) {
-            say!("{told}");
-        }
-        return Ok(false);
-    }
+    let names = given.names;
     let left = options.has("--run").then(|| ran(&input)).transpose()?;
     let table = left.as_ref().map(|left| left.table.as_slice());
     if let Some(out) = svg {

@@ -9,7 +9,7 @@ use crate::judging::trying::Summary;
 use crate::kernels::boundary::{potential, repair};
 
 pub const HELP: &str = "\
-bench tables [--cases N] [--seed S] [--from N] [--time SECONDS]
+bench tables [--cases N] [--seed S] [--from K] [--time T]
 
 Tries the proved kernel's functions of a table alone on random tables, beside
 the separate ones: repairs of worn tables, damaged by one bit, by runs of words
@@ -18,10 +18,10 @@ table's check, and the list of what was altered must put the old table back. And
 potential rights: lists by the actors must give nobody more, and a list is built
 for each table that gives them all.
 
-  --cases N    how many tables (default 20,000)
-  --seed S     the seed that they are drawn from (default 1)
-  --from N     the number of the first (default 0)
-  --time S     the seconds that one may take (default 10)
+  --cases N  tables to try (default 20,000)
+  --seed S   the seed that they are drawn from (default 1)
+  --from K   the number of the first one (default 0)
+  --time T   the seconds that one may take (default 10)
 
 From 10,000 on everything that is tried for must be met.
 

@@ -1,5 +1,5 @@
 //! `bench totals`: the program `linetotals` beside the separate one, on random inputs; its
-//! speed; and its sheet as a page for the shift leader.
+//! speed; its input out of lines; and its sheet as a page for the shift leader.
 
 mod speed;
 
@@ -11,15 +11,18 @@ use reference::words::to_bytes;
 use crate::args::Options;
 use crate::cases::inputs::Given;
 use crate::cases::sheets::{given, most_lists};
+use crate::commands::compared::{none_differs, Met, Wanted};
+use crate::commands::drawn::{draws_of, TRIED};
+use crate::commands::refused;
 use crate::judging::printed::difference;
+use crate::judging::trying::Draws;
 use crate::kernels::program::{run, Feed};
 use crate::line::explain::counted;
 use crate::line::given::{read_given, read_given_list, read_names};
-use crate::line::input::{read_at_most, shown, Input};
+use crate::line::input::{read_at_most, read_once, shown, Input};
 use crate::line::names::Names;
 use crate::output::{self, complain, say};
 use crate::pictures::sheet;
-use crate::progress::Progress;
 
 pub const HELP: &str = "\
 bench totals --join LINE.. > INPUT
@@ -74,12 +77,11 @@ the page or the input was made, or the speed was measured; 1 otherwise; 2 bad
 usage, or a program that can't be started.
 ";
 
-/// The codes of the last line that must be met, and from how many inputs on.
-const CODES: [u32; 7] = [0, 1, 2, 3, 4, 5, 7];
-const ENOUGH: u64 = 500;
-
-/// The ways to give an input that must be met too.
-const WAYS: [&str; 3] = ["byte by byte", "in odd parts", "held open where it is due"];
+/// What must be met.
+const WANTED: Wanted<3> = Wanted {
+    ways: ["byte by byte", "in odd parts", "held open where it is due"],
+    enough: 500,
+};
 
 /// What is said where no program is given, perhaps for lines that were meant to be joined.
 const LINES: &str =
@@ -90,30 +92,31 @@ const SHEET_BYTES_MAX: usize = 100_000;
 
 /// The command: whether nothing differs, or the page was made.
 pub fn command(line: &[OsString]) -> Result<bool, String> {
-    let valued = [
-        "--cases", "--seed", "--from", "--time", "--html", "--names", "--lists", "--rounds",
-    ];
+    let valued = ["--html", "--names", "--lists", "--rounds"];
+    let valued = [&TRIED[..], &valued].concat();
     let options = Options::parse(line, &valued, &["--speed", "--join"])?;
     if options.has("--join") {
+        options.only("--join", &[])?;
         return join(&options.files);
     }
-    let names = options.path("--names");
     if let Some(file) = options.path("--html") {
+        options.only("--html", &["--names"])?;
         options.no_file()?;
+        let names = options.path("--names");
+        read_once(&[file, names.unwrap_or(Path::new(""))])?;
         return page(file, &names.map_or(Ok(Names::none()), read_names)?);
-    }
-    if names.is_some() {
-        return Err("--names is for --html".to_string());
     }
     let program = options
         .file()
         .map_err(|why| format!("PROGRAM: {why}{LINES}"))?;
     if options.has("--speed") {
-        let lists = within(&options, "--lists", 65_536, 65_536)?;
-        let rounds = within(&options, "--rounds", 5, 100)?;
-        return speed::measure(program, lists, rounds);
+        options.only("--speed", &["--lists", "--rounds"])?;
+        let lists = options.within("--lists", 65_536, 65_536)?;
+        return speed::measure(program, lists, options.within("--rounds", 5, 100)?);
     }
-    compare(program, &options).map_err(|why| match why.starts_with("cannot start") {
+    options.only("a comparison", &TRIED)?;
+    let compared = compare(program, &draws_of(&options, 1000)?);
+    compared.map_err(|why| match why.starts_with("cannot start") {
         true => why + LINES,
         false => why,
     })
@@ -121,46 +124,34 @@ pub fn command(line: &[OsString]) -> Result<bool, String> {
 
 /// Holds a program to the separate one: on random inputs, and first on as many lists as
 /// there can be where the numbers start at 0.
-fn compare(program: &Path, options: &Options) -> Result<bool, String> {
-    let cases = options.number("--cases")?.unwrap_or(1000);
-    let seed = options.number("--seed")?.unwrap_or(1);
-    let time = options.time(10)?;
-    if cases == 0 {
-        return Err("--cases 0 leaves nothing to compare".to_string());
-    }
-    let numbers = options.numbers("--cases", cases)?;
-    let mut met = Met::default();
-    if numbers.start == 0 {
-        for input in most_lists(time) {
+fn compare(program: &Path, draws: &Draws) -> Result<bool, String> {
+    let mut met = Tally::new();
+    if draws.numbers.start == 0 {
+        for input in most_lists(draws.limit) {
             if let Some(told) = met.differs(program, &input)? {
                 say!("DIFFERENCE in an input of 65,536 lists:\n  {told}");
                 return Ok(false);
             }
         }
     }
-    let mut progress = Progress::new("inputs", &numbers);
-    for number in numbers {
-        let input = given(seed, number, time);
-        if let Some(told) = met.differs(program, &input)? {
-            progress.clear();
+    let one = |number| {
+        let (seed, again) = (draws.seed, shown(program));
+        let input = given(seed, number, draws.limit);
+        let told = met.differs(program, &input)?.map(|told| {
             let bytes = counted(input.input.len(), "byte");
-            say!("DIFFERENCE in input {number} of seed {seed}, {bytes}:\n  {told}");
-            let program = shown(program);
-            say!("To see it again: bench totals {program} --seed {seed} --from {number} --cases 1");
-            return Ok(false);
-        }
-        progress.step();
+            format!(
+                "DIFFERENCE in input {number} of seed {seed}, {bytes}:\n  {told}\nTo see it again: \
+                 bench totals {again} --seed {seed} --from {number} --cases 1\n"
+            )
+        });
+        Ok(told)
+    };
+    if !none_differs(draws, one)? {
+        return Ok(false);
     }
-    progress.clear();
-    Ok(ended(&shown(program), cases, &met))
-}
-
-/// A number from 1 on that an option gives, or else the usual one.
-fn within(options: &Options, name: &str, usual: u64, most: u64) -> Result<usize, String> {
-    match options.number(name)?.unwrap_or(usual) {
-        number if (1..=most).contains(&number) => Ok(number as usize),
-        other => Err(format!("{name} takes 1 to {most}, not {other}")),
-    }
+    let (inputs, lists) = (counted(draws.count(), "input"), counted(met.lists, "list"));
+    let what = format!("{inputs} of {}, {lists} run", shown(program));
+    Ok(WANTED.is_met(&met.met, draws.count(), &what))
 }
 
 /// Makes an input out of inputs of linerun.
@@ -168,6 +159,7 @@ fn join(files: &[PathBuf]) -> Result<bool, String> {
     if files.is_empty() {
         return Err("--join needs an input of linerun".to_string());
     }
+    read_once(&files.iter().map(PathBuf::as_path).collect::<Vec<_>>())?;
     let mut inputs = Vec::new();
     for (place, file) in files.iter().enumerate() {
         let given = match place {
@@ -176,11 +168,8 @@ fn join(files: &[PathBuf]) -> Result<bool, String> {
         };
         match Input::parse(&given.bytes) {
             Ok(input) => inputs.push(input),
-            Err((code, why)) => {
-                complain!(
-                    "bench totals: {} is refused with {code}: {why}",
-                    shown(file)
-                );
+            Err(refusal) => {
+                refused::complain_of("totals", file, &refusal);
                 return Ok(false);
             }
         }
@@ -216,15 +205,21 @@ fn page(file: &Path, names: &Names) -> Result<bool, String> {
     Ok(true)
 }
 
-/// How often each code and each way to give an input was met, and how many lists ran.
-#[derive(Debug, Default)]
-struct Met {
-    codes: [u64; 8],
-    ways: [u64; WAYS.len()],
+/// What was met, and how many lists ran.
+#[derive(Debug)]
+struct Tally {
+    met: Met<3>,
     lists: u64,
 }
 
-impl Met {
+impl Tally {
+    fn new() -> Tally {
+        Tally {
+            met: Met::nothing(),
+            lists: 0,
+        }
+    }
+
     /// What a program prints otherwise than the separate one for an input, if anything.
     fn differs(&mut self, program: &Path, given: &Given) -> Result<Option<String>, String> {
         let expected = reference::totals(&given.input);
@@ -236,38 +231,11 @@ impl Met {
     fn add(&mut self, feed: Feed, expected: &[u8]) {
         let text = String::from_utf8_lossy(expected);
         let last = text.lines().last().and_then(sheet::last_line);
-        let (lists, code) = last.unwrap_or_default();
+        let (lists, code) = last.unwrap_or((0, u32::MAX));
         self.lists += lists;
-        self.codes[(code as usize).min(6)] += u64::from(code != 7);
-        self.codes[7] += u64::from(code == 7);
         let used = [feed.parts == Some(1), feed.parts > Some(1), feed.held];
-        for (count, used) in self.ways.iter_mut().zip(used) {
-            *count += u64::from(used);
-        }
+        self.met.add(code as usize, used);
     }
-
-    fn all(&self) -> bool {
-        let codes = CODES.iter().all(|&code| self.codes[code as usize] > 0);
-        codes && self.ways.iter().all(|&count| count > 0) && self.lists > 0
-    }
-}
-
-/// Prints what was met; whether that is all that is asked.
-fn ended(program: &str, cases: u64, met: &Met) -> bool {
-    for code in CODES {
-        say!("  code {code} {:>8}", met.codes[code as usize]);
-    }
-    for (way, count) in WAYS.iter().zip(met.ways) {
-        say!("  {count:>15}  {way}");
-    }
-    let verdict = match cases {
-        ..ENOUGH => "nothing differs; too few to ask that every code and way is met",
-        _ if met.all() => "passed",
-        _ => "FAILED: a code or a way was never met",
-    };
-    let (inputs, lists) = (counted(cases, "input"), counted(met.lists, "list"));
-    say!("{inputs} of {program}, {lists} run: {verdict}");
-    cases < ENOUGH || met.all()
 }
 
 #[cfg(test)]
@@ -286,15 +254,13 @@ mod tests {
 
     #[test]
     fn inputs_meet_every_code_and_every_way() {
-        assert!(HELP.contains("From 500 inputs on"));
-        let mut met = Met::default();
-        for number in 0..ENOUGH {
+        assert!(HELP.contains("From 500 inputs on") && WANTED.enough == 500);
+        let mut met = Tally::new();
+        for number in 0..WANTED.enough {
             let Given { input, feed } = given(1, number, Duration::from_secs(10));
             met.add(feed, &reference::totals(&input));
         }
-        assert!(ended("the separate one", ENOUGH, &met), "{met:?}");
-        met.codes[7] = 0;
-        assert!(!ended("a code is missing", ENOUGH, &met));
-        assert!(ended("one input", 1, &met));
+        let all = WANTED.is_met(&met.met, WANTED.enough, "the separate one");
+        assert!(all && met.lists > 0, "{met:?}");
     }
 }

@@ -4,11 +4,10 @@ use std::ffi::OsString;
 use std::path::Path;
 
 use crate::args::Options;
-use crate::line::explain::{meaning, table_fault};
-use crate::line::given::Given;
+use crate::commands::refused::{self, Refusal};
 use crate::line::input::{read_input, read_text, shown, Input};
 use crate::line::text;
-use crate::output::{self, complain};
+use crate::output;
 
 pub const HELP: &str = "\
 bench words FILE > INPUT
@@ -69,37 +68,17 @@ pub fn command(line: &[OsString]) -> Result<bool, String> {
     let written = text::read(&read_text(file, NO_TEXT)?);
     let given = written.map_err(|why| format!("{}: {why}", shown(file)))?;
     output::write(&given.bytes);
-    if let Some(warning) = will_be_refused(&given) {
-        complain!("bench words: {} {warning}", shown(file));
+    if let Err(refusal) = given.accepted() {
+        refused::warn_of("words", file, &refusal);
     }
     Ok(true)
 }
 
-/// What is said of an input that was written and that will be refused.
-fn will_be_refused(given: &Given) -> Option<String> {
-    let (code, why) = match Input::parse(&given.bytes) {
-        Ok(input) => table_fault(&input.table, &given.names)?,
-        Err(refused) => refused,
-    };
-    let meaning = meaning(code);
-    Some(format!(
-        "is written, and will be refused with {code} ({meaning}): {why}"
-    ))
-}
-
 /// Writes the text of an input, unless the input is refused.
-fn back(file: &Path, read: Result<Input, (u32, String)>) -> bool {
-    match read {
-        Ok(input) => output::write(text::write(&input).as_bytes()),
-        Err((code, why)) => {
-            // Standard output is for the text alone.
-            complain!(
-                "bench words: {} is refused with {code} ({}): {why}",
-                shown(file),
-                meaning(code)
-            );
-            return false;
-        }
+fn back(file: &Path, read: Result<Input, Refusal>) -> bool {
+    match &read {
+        Ok(input) => output::write(text::write(input).as_bytes()),
+        Err(refusal) => refused::complain_of("words", file, refusal),
     }
-    true
+    read.is_ok()
 }

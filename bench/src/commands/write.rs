@@ -6,13 +6,14 @@ use std::path::Path;
 use reference::calls::LIST_WORDS_MAX;
 
 use crate::args::Options;
+use crate::commands::refused::{self, Refusal};
 use crate::kernels::boundary::PROVED_WRITER;
 use crate::line::calls::{self, Typed};
-use crate::line::explain::meaning;
 use crate::line::given::{read_given, Given};
-use crate::line::input::{read_text, shown, Input};
+use crate::line::input::{read_once, read_text, shown, Input};
+use crate::line::names::Names;
 use crate::line::text;
-use crate::output::{self, complain};
+use crate::output;
 
 pub const HELP: &str = "\
 bench write FILE
@@ -41,11 +42,12 @@ The list is written as the text that `bench words` takes behind a table:
 
 With --table the whole input of linerun is written: the table of INPUT, and this
 list in the place of INPUT's own. INPUT is an input of linerun, or a text as
-`bench words` takes it. With --text what is written is such a text too, with the
-names that INPUT gives.
+`bench words` takes it, whose names may then stand for the numbers of domains
+and endpoints: `send caller link endpoint routes message 5`. With --text what is
+written is such a text too, with the names that INPUT gives.
 
-A mistake is told by its line and field. `bench read` makes the text of a list
-again.
+A mistake is told by its line and field, and a table that will be refused is
+written with a warning. `bench read` makes the text of a list again.
 
 Exit status: 0 written; 1 the writer refuses a call with 30 or the list with 31,
 or INPUT is refused; 2 bad usage, or what is given is no such text.
@@ -59,42 +61,49 @@ pub fn command(line: &[OsString]) -> Result<bool, String> {
     if options.has("--text") && input.is_none() {
         return Err("--text is for --table: without it a text is written".to_string());
     }
-    if input == Some(file) && file == Path::new("-") {
-        return Err("the calls and the table can't both be standard input".to_string());
-    }
+    read_once(&[file, input.unwrap_or(Path::new(""))])?;
+    let given = input.map(read_given).transpose()?;
+    let names = given.as_ref().map(|given| &given.names);
     let typed = read_text(file, "calls as text, one a line, are wanted")?;
-    let typed = calls::read(&typed).map_err(|why| format!("{}: {why}", shown(file)))?;
+    let typed = calls::read(&typed, names.unwrap_or(&Names::none()));
+    let typed = typed.map_err(|why| format!("{}: {why}", shown(file)))?;
     let list = match written(&typed) {
         Ok(list) => list,
-        Err((code, why)) => return Ok(refused(file, code, &why)),
+        Err(refusal) => {
+            refused::complain_of("write", file, &refusal);
+            return Ok(false);
+        }
     };
-    let Some(path) = input else {
-        output::write(text::write_list(&list).as_bytes());
-        return Ok(true);
-    };
-    let Given { bytes, names } = read_given(path)?;
-    match Input::parse(&bytes) {
-        Ok(Input { table, .. }) => {
-            let input = Input { table, list };
-            match options.has("--text") {
-                true => output::write((names.lines() + &text::write(&input)).as_bytes()),
-                false => output::write(&input.to_bytes()),
-            }
+    match (input, &given) {
+        (Some(path), Some(given)) => Ok(write_input(path, given, list, options.has("--text"))),
+        _ => {
+            output::write(text::write_list(&list).as_bytes());
             Ok(true)
         }
-        Err((code, why)) => Ok(refused(path, code, &why)),
     }
 }
 
-/// Tells what is refused; standard output is for the list alone.
-fn refused(file: &Path, code: u32, why: &str) -> bool {
-    let (file, meaning) = (shown(file), meaning(code));
-    complain!("bench write: {file} is refused with {code} ({meaning}): {why}");
-    false
+/// Writes the table that was given with another list, unless it has none.
+fn write_input(path: &Path, given: &Given, list: Vec<u32>, as_text: bool) -> bool {
+    let input = match Input::parse(&given.bytes) {
+        Ok(Input { table, .. }) => Input { table, list },
+        Err(refusal) => {
+            refused::complain_of("write", path, &refusal);
+            return false;
+        }
+    };
+    match as_text {
+        true => output::write((given.names.lines() + &text::write(&input)).as_bytes()),
+        false => output::write(&input.to_bytes()),
+    }
+    if let Err(refusal) = given.accepted() {
+        refused::warn_of("write", path, &refusal);
+    }
+    true
 }
 
 /// The words of calls, or the writer's refusal and why.
-fn written(typed: &[Typed]) -> Result<Vec<u32>, (u32, String)> {
+fn written(typed: &[Typed]) -> Result<Vec<u32>, Refusal> {
     let columns: Vec<u32> = typed.iter().flat_map(|call| call.columns).collect();
     let mut list = vec![0; LIST_WORDS_MAX];
     let (code, number) = PROVED_WRITER(&columns, &mut list);

@@ -281,6 +281,10 @@ fn same(
 pub fn read_as_answered(writer: Writer, list: &[u32], answers: &[u32]) -> Result<bool, String> {
     let calls = read(list);
     let told = answers.chunks_exact(ANSWER_WORDS);
+    if told.len() < calls.len() {
+        let calls = counted(calls.len(), "call");
+        return Err(format!("{calls} have {} words of answers", answers.len()));
+    }
     for (number, (call, answer)) in calls.iter().zip(told).enumerate() {
         let code = bits(answer[0], 15, 0);
         let refused = match call {
@@ -400,9 +404,12 @@ mod tests {
     fn a_list_without_such_calls_is_written_as_it_came() {
         let mut list = LIST_L.to_vec();
         assert_eq!(list.remove(9), 0xF000_0009);
-        assert_eq!(read_as_answered(PROVED_WRITER, &list, &[]), Ok(true));
+        let done = [0; 3 * 8];
+        assert_eq!(read_as_answered(PROVED_WRITER, &list, &done), Ok(true));
+        let short = read_as_answered(PROVED_WRITER, &list, &done[1..]);
+        assert_eq!(short, Err("8 calls have 23 words of answers".to_string()));
         let cut = |calls: &[u32], list: &mut [u32]| PROVED_WRITER(&calls[5..], list);
-        let told = read_as_answered(cut, &list, &[]).unwrap_err();
+        let told = read_as_answered(cut, &list, &done).unwrap_err();
         assert!(
             told.starts_with("the list is read and written as "),
             "{told}"

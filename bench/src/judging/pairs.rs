@@ -2,7 +2,7 @@
 //! tables that agree on each member of the set for a domain shows that domain the same
 //! of both runs. The second table is drawn: all that isn't a member's is drawn anew.
 
-use reference::calls::cut;
+use reference::calls::{cut, Call};
 use reference::generate::{redrawn_but_for, Rng};
 use reference::table::domains;
 use reference::{agree, members, view};
@@ -35,20 +35,10 @@ pub fn pair(
     if ran.outcome.code != 0 || calls.len() > CALLS_MAX {
         return Ok(None);
     }
-    let rng: &mut Rng = &mut rng_for(seed.rotate_left(16), number);
-    let n = domains(&case.table);
-    let domain = rng.below(n);
-    let set = members(&case.table, &calls, domain);
-    if set.len() == n {
+    let rng = &mut rng_for(seed.rotate_left(16), number);
+    let Some((domain, other)) = second_line(rng, case, &calls)? else {
         return Ok(None);
-    }
-    let other = Case {
-        table: redrawn_but_for(rng, &case.table, &set),
-        ..case.clone()
     };
-    if !agree(&case.table, &other.table, &calls, domain) {
-        return Err("the drawn table doesn't agree on the members: a fault of the bench".into());
-    }
     let second = run(&other)?;
     let seen = |table: &[u32], answers: &[u32], d| view(table, &calls, answers, d);
     let both = |d| {
@@ -62,7 +52,7 @@ pub fn pair(
              where domain {domain} can't be reached: first {first:X?}, then {other_view:X?}"
         ));
     }
-    let answers_differ = (0..n).any(|d| {
+    let answers_differ = (0..domains(&case.table)).any(|d| {
         let (first, second) = both(d);
         first.answers != second.answers
     });
@@ -70,6 +60,29 @@ pub fn pair(
         parts_differ: other.table != case.table,
         answers_differ,
     }))
+}
+
+/// A domain, and the case from a second table that agrees with the first on each member of
+/// the set for it; nothing where every domain is a member.
+fn second_line(
+    rng: &mut Rng,
+    case: &Case,
+    calls: &[Call],
+) -> Result<Option<(usize, Case)>, String> {
+    let n = domains(&case.table);
+    let domain = rng.below(n);
+    let set = members(&case.table, calls, domain);
+    if set.len() == n {
+        return Ok(None);
+    }
+    let other = Case {
+        table: redrawn_but_for(rng, &case.table, &set),
+        ..case.clone()
+    };
+    match agree(&case.table, &other.table, calls, domain) {
+        true => Ok(Some((domain, other))),
+        false => Err("the drawn table doesn't agree on the members: a fault of the bench".into()),
+    }
 }
 
 #[cfg(test)]

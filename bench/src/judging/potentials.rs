@@ -3,7 +3,6 @@
 //! nobody more, and the list that is built gives everything.
 
 use reference::calls::cut;
-use reference::entry::ANSWER_WORDS;
 use reference::generate::{list_by, potential_case, PotentialCase, Rng};
 use reference::table::{domains, rights};
 use reference::words::hex;
@@ -14,7 +13,7 @@ use crate::judging::compare::first_unequal;
 use crate::judging::panics::or_panic;
 use crate::judging::trying::{try_all, Counted, Draws, Found, Summary};
 use crate::kernels::boundary::{Potential, PROVED};
-use crate::kernels::lent::words_here;
+use crate::kernels::lent::{table_left, words_here};
 use crate::line::explain::counted;
 
 /// The codes of the function.
@@ -137,7 +136,7 @@ fn bounds_runs(
 ) -> Result<(), String> {
     let held = sets(&case.table);
     let list = list_by(rng, &case.table, case.members, WORDS_MAX);
-    let after = sets(&left(&case.table, &list)?);
+    let after = sets(&table_left(&PROVED, &case.table, &list)?);
     if let Some(place) = (0..after.len()).find(|&place| after[place] & !told[place] != 0) {
         return Err(format!(
             "a list by the actors gives the set {:X} at {place}, above {:X}: {}",
@@ -147,7 +146,7 @@ fn bounds_runs(
         ));
     }
     let built = grants_for_all(&case.table, case.members);
-    if sets(&left(&case.table, &built)?) != told {
+    if sets(&table_left(&PROVED, &case.table, &built)?) != told {
         return Err(format!("the built list doesn't give all: {}", hex(&built)));
     }
     met.built += cut(&built).len() as u64;
@@ -173,20 +172,6 @@ fn sets(table: &[u32]) -> Vec<u32> {
     let n = domains(table);
     let pairs = (0..n * n).map(|pair| rights(table, pair / n, pair % n));
     pairs.collect()
-}
-
-/// The table that the proved kernel leaves.
-fn left(table: &[u32], list: &[u32]) -> Result<Vec<u32>, String> {
-    let mut after = table.to_vec();
-    let mut answers = vec![0; ANSWER_WORDS * cut(list).len()];
-    let mut holders = vec![0; domains(table)];
-    match PROVED
-        .run(&mut after, list, &mut answers, &mut holders)
-        .code
-    {
-        0 => Ok(after),
-        code => Err(format!("the kernel refuses a list with {code}")),
-    }
 }
 
 fn with_words(case: &PotentialCase, told: &str) -> String {

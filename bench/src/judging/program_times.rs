@@ -20,9 +20,11 @@ pub const FLAGS: [&str; 6] = [
     "-pedantic",
 ];
 
-/// The plain C kernel, which this program carries with it: it knows no folder.
-const KERNEL: [(&str, &str); 3] = [
+/// The plain C kernel and what its programs share, which this program carries with it: it
+/// knows no folder.
+const KERNEL: [(&str, &str); 4] = [
     ("plain.h", include_str!("../../c/plain.h")),
+    ("plain_input.h", include_str!("../../c/plain_input.h")),
     ("plain_run.c", include_str!("../../c/plain_run.c")),
     ("plain_check.c", include_str!("../../c/plain_check.c")),
 ];
@@ -52,7 +54,7 @@ pub fn compiled(folder: &Path, (name, source): Plain) -> Result<PathBuf, String>
 }
 
 /// Runs a program on a file; the processor seconds that it took, and what it printed where
-/// that is kept.
+/// that is kept. One that fails has no time: it may not have done its work.
 pub fn timed(program: &Path, file: &Path, kept: bool) -> Result<(f64, Vec<u8>), String> {
     let wrong = |why: io::Error| format!("cannot run {}: {why}", program.display());
     let input = File::open(file).map_err(wrong)?;
@@ -62,6 +64,9 @@ pub fn timed(program: &Path, file: &Path, kept: bool) -> Result<(f64, Vec<u8>), 
     let ran = child
         .and_then(|child| child.wait_with_output())
         .map_err(wrong)?;
+    if !ran.status.success() {
+        return Err(format!("{} ended with {}", program.display(), ran.status));
+    }
     Ok((children_seconds() - before, ran.stdout))
 }
 
@@ -97,6 +102,14 @@ pub fn median(mut values: Vec<f64>) -> f64 {
 mod tests {
     use super::*;
     use std::time::Instant;
+
+    #[test]
+    fn a_program_that_fails_has_no_time() {
+        let run = |program| timed(Path::new(program), Path::new("/dev/null"), true);
+        assert_eq!(run("/bin/true").unwrap().1, b"");
+        let told = run("/bin/false").unwrap_err();
+        assert!(told.starts_with("/bin/false ended with"), "{told}");
+    }
 
     #[test]
     fn the_time_of_a_program_that_was_run_counts() {

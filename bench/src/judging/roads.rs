@@ -4,11 +4,11 @@
 //! functions and to the separate machine, and a difference is told.
 
 use reference::calls::Call;
-use reference::entry::ANSWER_WORDS;
 use reference::table::{domains, rights};
 use reference::{cut, grants_for_all, purge, sources, step};
 
 use crate::kernels::boundary::{component, potential, who_reaches, PROVED};
+use crate::kernels::lent::table_left;
 
 /// A right, or several, of one domain on another: a step of a road.
 #[derive(Debug, Clone, Copy, PartialEq, Eq)]
@@ -178,7 +178,7 @@ pub fn could_ever(table: &[u32], from: usize, to: usize) -> Result<Ever, String>
         )),
         (Some(_), false) => {
             let list = list_for(table, from, to);
-            match Roads::now(&left(table, &list)?)?.road(from, to)? {
+            match Roads::now(&table_left(&PROVED, table, &list)?)?.road(from, to)? {
                 Some(road) => Ok(Ever::Could { list, road }),
                 None => Err(format!(
                     "DIFFERENCE\n  domain {from} could ever have a road to domain {to}, and the list \
@@ -212,17 +212,6 @@ fn list_for(table: &[u32], from: usize, to: usize) -> Vec<u32> {
     list
 }
 
-/// The table that the proved kernel leaves.
-fn left(table: &[u32], list: &[u32]) -> Result<Vec<u32>, String> {
-    let mut after = table.to_vec();
-    let mut answers = vec![0; ANSWER_WORDS * cut(list).len()];
-    let mut holders = vec![0; domains(table)];
-    match PROVED.run(&mut after, list, &mut answers, &mut holders) {
-        ran if ran.code == 0 => Ok(after),
-        ran => Err(format!("the kernel refuses a list with {}", ran.code)),
-    }
-}
-
 /// A run of a list, to be asked for the set of each domain.
 pub struct Run {
     pub calls: Vec<Call>,
@@ -248,9 +237,9 @@ impl Run {
         let calls = cut(list);
         let mut tables = vec![table.to_vec()];
         for (number, call) in calls.iter().enumerate() {
-            tables.push(left(&tables[number], &call.words())?);
+            tables.push(table_left(&PROVED, &tables[number], &call.words())?);
         }
-        match left(table, list)? == tables[calls.len()] {
+        match table_left(&PROVED, table, list)? == tables[calls.len()] {
             true => Ok(Run { calls, tables }),
             false => Err(
                 "DIFFERENCE\n  the kernel leaves another table by the list than by its calls one \

@@ -12,7 +12,7 @@ use crate::cases::Case;
 use crate::judging::compare::{difference, isolation, separate_run};
 use crate::judging::counts;
 use crate::judging::groups;
-use crate::judging::holders::{after_each_call, ask_anything};
+use crate::judging::holders::{after_each_call, ask_anything, Asked};
 use crate::judging::lists::read_as_answered;
 use crate::judging::pairs::pair;
 use crate::judging::report::{cut_down, Cut};
@@ -20,7 +20,7 @@ use crate::judging::tally::{Revokes, Tally, Tried};
 use crate::judging::trying::{try_all, Draws, Found};
 use crate::kernels::boundary::{Kernel, PROVED_WRITER};
 use crate::kernels::child::{self, LIMIT};
-use crate::kernels::lent::{run_here, Ran};
+use crate::kernels::lent::{run_here, Failure, Ran};
 
 /// Runs with no more words to look at than this are looked at for every domain,
 /// others for one of them.
@@ -36,9 +36,7 @@ pub fn try_runs(kernel: &Kernel, draws: &Draws, tally: &mut Tally) -> Result<(),
         if let Some(pair) = pair(&case, &tried.ran, (draws.seed, number), second)? {
             tally.add_pair(pair);
         }
-        if is_looked_at_call_by_call(&tried.ran, number) {
-            let mut asked = after_each_call(&case, number, second)?;
-            ask_anything(&mut rng_for(draws.seed.rotate_left(48), number), &mut asked)?;
+        if let Some(asked) = call_by_call(&case, &tried.ran, (draws.seed, number), second)? {
             tally.add_asked(asked);
         }
         Ok(())
@@ -46,10 +44,20 @@ pub fn try_runs(kernel: &Kernel, draws: &Draws, tally: &mut Tally) -> Result<(),
     found.map_err(|found| report(kernel, draws, &found))
 }
 
-/// Whether the holders' words of a run are looked at after each call: of one in eight, of
-/// each kind of case.
-fn is_looked_at_call_by_call(ran: &Ran, number: u64) -> bool {
-    ran.outcome.code == 0 && number / 8 % 8 == 0
+/// The holders' words of a run after each call, and a question about any words; of one run
+/// in eight, of each kind of case.
+fn call_by_call(
+    case: &Case,
+    ran: &Ran,
+    (seed, number): (u64, u64),
+    run: impl Fn(&Case) -> Result<Ran, Failure>,
+) -> Result<Option<Asked>, String> {
+    if ran.outcome.code != 0 || number / 8 % 8 != 0 {
+        return Ok(None);
+    }
+    let mut asked = after_each_call(case, number, run)?;
+    ask_anything(&mut rng_for(seed.rotate_left(48), number), &mut asked)?;
+    Ok(Some(asked))
 }
 
 /// What a run came to, or what is wrong with it. `pick` chooses the domain whose view
@@ -133,10 +141,7 @@ fn report(kernel: &Kernel, draws: &Draws, found: &Found) -> String {
         let tried = tried.and_then(|ran| judged(case, ran, *number));
         let tried = tried.and_then(|tried| {
             pair(case, &tried.ran, (seed, *number), run)?;
-            match is_looked_at_call_by_call(&tried.ran, *number) {
-                true => after_each_call(case, *number, run).map(drop),
-                false => Ok(()),
-            }
+            call_by_call(case, &tried.ran, (seed, *number), run).map(drop)
         });
         tried.err()
     };

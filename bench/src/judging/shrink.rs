@@ -7,8 +7,9 @@ use reference::calls::{cut, Call};
 use crate::cases::Case;
 use crate::judging::smaller::smaller;
 
-/// How long fewer parts are tried.
-const TIME: Duration = Duration::from_secs(5);
+/// How long fewer parts are tried; in tests, which want the fewest on a busy machine too,
+/// longer.
+const TIME: Duration = Duration::from_secs(if cfg!(test) { 120 } else { 5 });
 
 /// A run with as few calls as still differ.
 pub fn shrink(case: &Case, differs: impl Fn(&Case) -> bool) -> Case {

@@ -18,9 +18,12 @@ use crate::kernels::boundary::{Kernel, Outcome, Step};
 use crate::kernels::lent::{run_here, step_here, Failure, Forbidden, Ran, Stopped};
 use crate::kernels::process::{Child, Shared};
 
-/// How long a kernel may take for one run or one check: thousands of times what the
-/// longest list takes.
+/// How long a kernel may take for one run or one check, of a processor's time: thousands
+/// of times what the longest list takes.
 pub const LIMIT: Duration = Duration::from_secs(2);
+
+/// So many times as long it may wait, where no processor works on it.
+const PATIENCE: u32 = 10;
 
 /// How long the parent sleeps before it looks at the child again, at first and at most.
 const LOOK_AGAIN: Duration = Duration::from_micros(50);
@@ -88,25 +91,27 @@ pub fn watch(board: &Board, limit: Duration, act: impl FnOnce() -> bool) -> Resu
     }
 }
 
-/// Waits for a child to end, or to take too long for what it announced last.
+/// Waits for a child to end, or to take too long for what it announced last: more of a
+/// processor's time than the limit, so that a program that is stopped for a while and a
+/// machine that has no time for it are not taken for a loop. One that only waits gets more;
+/// of its time the pauses alone are counted.
 fn end_of(child: &mut Child, board: &Board, limit: Duration) -> Result<ExitStatus, Stopped> {
-    let mut number = board.announced();
-    // The pauses alone are counted, so that a program that is stopped for a while or a
-    // machine that has no time for it is not taken for a loop.
+    let (mut number, mut before) = (board.announced(), child.processor_time());
     let (mut waited, mut pause) = (Duration::ZERO, LOOK_AGAIN);
-    while waited < limit {
+    loop {
         if let Some(status) = child.ended() {
             return Ok(status);
         }
         thread::sleep(pause);
         waited += pause;
         pause = (2 * pause).min(LOOK_AGAIN_AT_LATEST);
-        let now = board.announced();
+        let (now, worked) = (board.announced(), child.processor_time());
         if now != number {
-            (number, waited) = (now, Duration::ZERO);
+            (number, before, waited) = (now, worked, Duration::ZERO);
+        } else if worked.saturating_sub(before) > limit || waited > PATIENCE * limit {
+            return Err(Stopped::Loop(limit));
         }
     }
-    Err(Stopped::Loop(limit))
 }
 
 /// What the system gives, or the end of the program with 2.
@@ -188,7 +193,8 @@ fn leave_run(board: &Board, place: usize, ran: &Result<Ran, Failure>) {
         }
         Err(Failure::Wrote(forbidden)) => {
             let which = FORBIDDEN.iter().position(|known| known == forbidden);
-            board.leave(place, which.map(|which| WROTE + which as u64));
+            let which = which.expect("something that a run is lent");
+            board.leave(place, [WROTE + which as u64]);
         }
         // It would have stopped this process.
         Err(Failure::Stopped(_)) => {}
@@ -313,14 +319,30 @@ mod tests {
         assert_eq!(ran[2..], [fault]);
     }
 
+    /// A kernel that waits twice as long as it may work, and one that waits for ever.
+    const LITTLE: Duration = Duration::from_millis(100);
+    const WAITS: Kernel = PROVED.with_run("waits", |_, _, _, _| {
+        thread::sleep(2 * LITTLE);
+        0
+    });
+    const SLEEPS: Kernel = PROVED.with_run("sleeps", |_, _, _, _| loop {
+        thread::sleep(SOON);
+    });
+
+    #[test]
+    fn a_kernel_that_no_processor_works_on_is_waited_for_and_not_for_ever() {
+        let case = &cases()[1];
+        assert!(run(&WAITS, case, LITTLE).is_ok());
+        let asleep = run(&SLEEPS, case, LITTLE).unwrap_err();
+        assert_eq!(asleep, Failure::Stopped(Stopped::Loop(LITTLE)));
+    }
+
     #[test]
     fn each_run_has_the_whole_time() {
-        let slow = PROVED.with_run("slow", |_, _, _, _| {
-            thread::sleep(SOON / 4);
-            0
-        });
-        let case = &cases()[1];
-        assert!(runs(&slow, &[case; 6], SOON).iter().all(Result::is_ok));
+        let count = PATIENCE as usize / 2 + 1;
+        let ran = runs(&WAITS, &vec![&cases()[1]; count], LITTLE);
+        assert_eq!(ran.len(), count);
+        assert!(ran.iter().all(Result::is_ok), "{ran:?}");
     }
 
     #[test]

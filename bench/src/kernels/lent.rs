@@ -4,6 +4,9 @@
 use std::fmt::{self, Display};
 use std::time::Duration;
 
+use reference::calls::cut;
+use reference::entry::ANSWER_WORDS;
+use reference::table::domains;
 use reference::Call;
 
 use crate::cases::Case;
@@ -188,4 +191,16 @@ pub fn step_here(step: Step, case: &Case, call: &Call) -> Result<Ran, Failure> {
         answers: answers.words(Forbidden::AroundAnswers)?,
         holders: holders.words(Forbidden::AroundHolders)?,
     })
+}
+
+/// The table that a kernel leaves of a list, lent as much as it needs; an error where it
+/// refuses the list.
+pub fn table_left(kernel: &Kernel, table: &[u32], list: &[u32]) -> Result<Vec<u32>, String> {
+    let mut left = table.to_vec();
+    let mut answers = vec![0; ANSWER_WORDS * cut(list).len()];
+    let mut holders = vec![0; domains(table)];
+    match kernel.run(&mut left, list, &mut answers, &mut holders).code {
+        0 => Ok(left),
+        code => Err(format!("the kernel refuses a list with {code}")),
+    }
 }

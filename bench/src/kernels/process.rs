@@ -1,6 +1,6 @@
 //! What the system is asked for beyond Rust's library: a child process that does part
-//! of this program's work, memory that both see, an end put to a program, and what a
-//! pipe holds. This file and the boundary have all of the bench's `unsafe` but its tests'.
+//! of this program's work, how long processors worked on it, memory that both see, an end
+//! put to a program, and what a pipe holds. This file and the boundary have all of the bench's `unsafe` but its tests'.
 
 use std::ffi::{c_int, c_long, c_uint, c_ulong, c_void};
 use std::ops::Deref;
@@ -10,6 +10,7 @@ use std::panic::{catch_unwind, AssertUnwindSafe};
 use std::process::ExitStatus;
 use std::ptr;
 use std::sync::atomic::AtomicU64;
+use std::time::Duration;
 use std::{io, slice};
 
 extern "C" {
@@ -22,6 +23,8 @@ extern "C" {
     fn signal(signal: c_int, handler: usize) -> usize;
     fn setrlimit(resource: c_int, limits: *const [c_ulong; 2]) -> c_int;
     fn close_range(first: c_uint, last: c_uint, flags: c_uint) -> c_int;
+    fn clock_getcpuclockid(process: c_int, clock: *mut c_int) -> c_int;
+    fn clock_gettime(clock: c_int, seconds_and_nanoseconds: *mut [c_long; 2]) -> c_int;
     fn mmap(
         address: *mut c_void,
         length: usize,
@@ -134,6 +137,19 @@ impl Child {
             self.ended = Some(ExitStatus::from_raw(status));
         }
         self.ended
+    }
+
+    /// How long processors have worked on it; none where the system doesn't tell.
+    pub fn processor_time(&self) -> Duration {
+        let (mut clock, mut time) = (0, [0; 2]);
+        // SAFETY: the number of a clock and a time are written where they are told to be.
+        let told = unsafe {
+            clock_getcpuclockid(self.id, &mut clock) == 0 && clock_gettime(clock, &mut time) == 0
+        };
+        match told {
+            true => Duration::new(time[0] as u64, time[1] as u32),
+            false => Duration::ZERO,
+        }
     }
 }
 

@@ -22,7 +22,7 @@ const PRINTED_MAX: usize = 270_364;
 /// How many bytes of standard error are kept, and how long to wait for them once
 /// the program has ended: something that it started may still hold it open.
 const SAID_MAX: u64 = 500;
-const WAIT_FOR_SAID: Duration = Duration::from_millis(200);
+const WAIT_FOR_SAID: Duration = Duration::from_secs(2);
 
 /// What a program did with an input.
 #[derive(Debug, Clone, PartialEq, Eq)]
@@ -234,8 +234,10 @@ fn ended(status: ExitStatus) -> End {
 mod tests {
     use super::*;
 
-    const SOON: Duration = Duration::from_secs(1);
-    const LATE: Duration = Duration::from_secs(10);
+    /// Long enough for what a shell does at once, and longer than anything here takes that
+    /// comes to its end.
+    const SOON: Duration = Duration::from_secs(2);
+    const LATE: Duration = Duration::from_secs(120);
 
     /// The input at once, and the pipe closed behind it.
     fn at_once_for(time: Duration) -> Feed {
@@ -336,23 +338,23 @@ mod tests {
 
     #[test]
     fn what_waits_without_end_is_stopped() {
-        let waits = endless("echo abc; exec sleep 30");
+        let waits = endless("echo abc; exec sleep 600");
         assert_eq!(waits.end, End::TooLong(SOON));
         assert_eq!(waits.printed, b"abc\n");
-        let closes = endless("echo abc; exec sleep 30 >&- 2>&-");
+        let closes = endless("echo abc; exec sleep 600 >&- 2>&-");
         let told = closes.end.fault().unwrap();
-        assert_eq!(told, "it was stopped: it had not ended after 1 s");
+        assert_eq!(told, "it was stopped: it had not ended after 2 s");
     }
 
     #[test]
     fn what_a_program_started_ends_with_it() {
         let began = Instant::now();
-        assert_eq!(endless("sleep 20; echo late").end, End::TooLong(SOON));
+        assert_eq!(endless("sleep 600; echo late").end, End::TooLong(SOON));
         // It ends by itself, and leaves another that holds its output open.
-        let ran = endless("echo abc; sleep 20 &");
+        let ran = endless("echo abc; sleep 600 &");
         assert_eq!(ran.end, End::Status(0));
         assert_eq!(ran.printed, b"abc\n");
-        assert!(began.elapsed() < Duration::from_secs(15));
+        assert!(began.elapsed() < Duration::from_secs(300));
     }
 
     #[test]

@@ -7,6 +7,9 @@
 use reference::calls::{GRANT, LOOK_UP, MY_ENDPOINTS, MY_RIGHTS, RECEIVE, REMOVE, REVOKE, SEND};
 use reference::writer::COLUMNS;
 
+use crate::line::names::Names;
+use crate::line::text::lines_of;
+
 /// A kind of call: its name and number, and its fields in the order that they are
 /// written in.
 struct Kind {
@@ -28,12 +31,26 @@ impl Field {
         Field { name, column, bits }
     }
 
+    /// The number that is typed: as one, or by the name of what it is the number of.
+    fn number(&self, typed: &str, names: &Names) -> Result<u32, String> {
+        let named = || match self.name {
+            "caller" | "target" | "recipient" | "holder" => names.domain_called(typed),
+            "endpoint" => names.endpoint_called(typed),
+            _ => None,
+        };
+        let number = number(typed).or_else(|| named().map(|number| number as u32));
+        number.ok_or_else(|| self.no_number(typed, names))
+    }
+
     /// What is said where no number is given.
-    fn no_number(&self, typed: &str) -> String {
+    fn no_number(&self, typed: &str, names: &Names) -> String {
         let wanted = match self.name {
             "rights" => "rights are a sum of SEND 1, GRANT 2, REMOVE 4 and REVOKE 8",
             "name" | "message" => "17 or 0x11 is one",
-            _ => "17 or 0x11 is one, and a call takes no names",
+            _ if names.is_empty() => {
+                "17 or 0x11 is one; `bench write --table INPUT` takes the names that INPUT gives"
+            }
+            _ => "17 or 0x11 is one, and nothing has this name",
         };
         format!("{} is `{typed}`, which is no number: {wanted}", self.name)
     }
@@ -88,14 +105,13 @@ impl Typed {
     }
 }
 
-/// The calls of a text, or what is wrong with it and in which line.
-pub fn read(text: &str) -> Result<Vec<Typed>, String> {
-    // Some editors put a byte-order mark before a text.
-    let text = text.strip_prefix('\u{FEFF}').unwrap_or(text);
+/// The calls of a text, or what is wrong with it and in which line. Names may stand for
+/// the numbers of domains and endpoints.
+pub fn read(text: &str, names: &Names) -> Result<Vec<Typed>, String> {
     let mut calls = Vec::new();
-    for (before, line) in text.lines().enumerate() {
-        let call = read_line(line, before + 1);
-        calls.extend(call.map_err(|why| format!("line {}: {why}", before + 1))?);
+    for (number, line) in lines_of(text) {
+        let call = read_line(line, number, names);
+        calls.extend(call.map_err(|why| format!("line {number}: {why}"))?);
     }
     Ok(calls)
 }
@@ -118,8 +134,8 @@ fn meant(word: &str) -> &'static str {
 }
 
 /// The call of a line, where there is one, or what is wrong with it.
-pub fn read_line(line: &str, at: usize) -> Result<Option<Typed>, String> {
-    let mut words = line.split('#').next().unwrap_or("").split_whitespace();
+pub fn read_line(line: &str, at: usize, names: &Names) -> Result<Option<Typed>, String> {
+    let mut words = line.split_whitespace();
     let Some(name) = words.next() else {
         return Ok(None);
     };
@@ -139,7 +155,7 @@ pub fn read_line(line: &str, at: usize) -> Result<Option<Typed>, String> {
         let typed = words
             .next()
             .ok_or_else(|| format!("{word} has no number"))?;
-        columns[field.column] = number(typed).ok_or_else(|| field.no_number(typed))?;
+        columns[field.column] = field.number(typed, names)?;
         fields.push((field, typed.to_string()));
     }
     let missing = kind
@@ -218,12 +234,12 @@ revoke caller 1 target 2 holder 3 rights 8
 ";
 
     fn columns(text: &str) -> Vec<[u32; COLUMNS]> {
-        let calls = read(text).unwrap();
+        let calls = read(text, &Names::none()).unwrap();
         calls.iter().map(|call| call.columns).collect()
     }
 
     fn wrong(text: &str) -> String {
-        read(text).unwrap_err()
+        read(text, &Names::none()).unwrap_err()
     }
 
     #[test]
@@ -249,10 +265,27 @@ revoke caller 1 target 2 holder 3 rights 8
     fn a_text_may_have_comments_other_orders_and_hexadecimal_numbers() {
         let text =
             "\u{FEFF}# a comment\r\n\r\n  send message 0x0F caller 0 endpoint 1 # and one more\r\n";
-        let calls = read(text).unwrap();
+        let calls = read(text, &Names::none()).unwrap();
         assert_eq!(calls.len(), 1);
         assert_eq!((calls[0].line, calls[0].columns), (3, [2, 0, 0, 1, 15]));
-        assert_eq!(read("# nothing\n\n"), Ok(Vec::new()));
+        assert_eq!(read("# nothing\n\n", &Names::none()), Ok(Vec::new()));
+    }
+
+    #[test]
+    fn names_stand_for_the_numbers_of_domains_and_endpoints() {
+        let given = "domain 0 link\ndomain 1 loader\ndomain 2 7\nendpoint 3 loader";
+        let names = Names::given(given);
+        let columns = |line: &str| read(line, &names).map(|calls| calls[0].columns);
+        let send = columns("send caller loader endpoint loader message 5");
+        assert_eq!(send, Ok([2, 1, 0, 3, 5]));
+        let grant = columns("grant caller link target loader recipient link rights 1");
+        assert_eq!(grant, Ok([6, 0, 1, 0, 1]));
+        // A number is taken as one, also where it is a name.
+        assert_eq!(columns("my-rights caller 7"), Ok([5, 7, 0, 0, 0]));
+        let told = columns("my-rights caller belts").unwrap_err();
+        assert!(told.ends_with("no number: 17 or 0x11 is one, and nothing has this name"));
+        assert!(columns("look-up caller link name loader").is_err());
+        assert!(columns("send caller link endpoint link message 5").is_err());
     }
 
     #[test]
@@ -280,7 +313,7 @@ revoke caller 1 target 2 holder 3 rights 8
 
     #[test]
     fn a_field_that_exceeds_its_bits_is_told_as_it_is_written() {
-        let told = |line: &str| read(line).unwrap()[0].too_large();
+        let told = |line: &str| read(line, &Names::none()).unwrap()[0].too_large();
         assert_eq!(
             told("send caller 0 endpoint 256 message 5").unwrap(),
             "endpoint 256 exceeds its 8 bits: 255 is the largest"

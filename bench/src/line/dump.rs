@@ -6,8 +6,8 @@ use std::path::Path;
 use reference::words::from_bytes;
 
 use crate::line::explain::counted;
-use crate::line::input::{is_text, read_at_most, shown, TEXT_BYTES_MAX};
-use crate::line::text::words_of;
+use crate::line::input::{read_typed, typed};
+use crate::line::text::{items_of, lines_of, words_of};
 
 /// The most words that are taken: far more than the answers of the longest list, so that
 /// a few repetitions too many can't take all memory.
@@ -21,41 +21,36 @@ pub struct Dump {
 
 /// The words of a file, or what is wrong with it.
 pub fn read_dump(path: impl AsRef<Path>) -> Result<Dump, String> {
-    let path = path.as_ref();
-    let bytes = read_at_most(path, TEXT_BYTES_MAX + 1)?;
-    let words = match bytes.len() {
-        0..=TEXT_BYTES_MAX => words_in(&bytes),
-        _ => Err("it is above 1,000,000 bytes".to_string()),
-    };
-    match words {
-        Ok(words) => Ok(Dump { bytes, words }),
-        Err(why) => Err(format!("{}: {why}", shown(path))),
-    }
+    read_typed(path.as_ref(), |bytes| {
+        let words = words_in(&bytes)?;
+        Ok(Dump { bytes, words })
+    })
 }
 
 fn words_in(bytes: &[u8]) -> Result<Vec<u32>, String> {
-    match std::str::from_utf8(bytes) {
-        Ok(text) if is_text(bytes) => words_of_text(text),
-        _ => match bytes.len() % 4 {
-            0 => Ok(from_bytes(bytes)),
-            left => {
-                let left = counted(left, "byte");
-                Err(format!("{left} left over after the last whole word"))
-            }
-        },
+    if let Some(text) = typed(bytes)? {
+        return words_of_text(text);
+    }
+    if bytes.len() > 4 * WORDS_MAX {
+        return Err("more than 100,000 words".to_string());
+    }
+    match bytes.len() % 4 {
+        0 => Ok(from_bytes(bytes)),
+        left => {
+            let left = counted(left, "byte");
+            Err(format!("{left} left over after the last whole word"))
+        }
     }
 }
 
 /// The words of a text: `#` starts a comment, `F0000000*8` is a word eight times.
 fn words_of_text(text: &str) -> Result<Vec<u32>, String> {
-    let text = text.strip_prefix('\u{FEFF}').unwrap_or(text);
-    let numbered = text.lines().enumerate().flat_map(|(number, line)| {
-        let code = line.split('#').next().unwrap_or("");
-        let items = code.split(|c: char| c.is_whitespace() || c == ';' || c == ',');
-        items.map(move |item| (number + 1, item))
+    let numbered = lines_of(text).flat_map(|(number, line)| {
+        let items = items_of(line).into_iter();
+        items.map(move |item| (number, item))
     });
     let mut words = Vec::new();
-    for (number, item) in numbered.filter(|(_, item)| !item.is_empty()) {
+    for (number, item) in numbered {
         words.extend(words_of(item).map_err(|why| format!("line {number}: {why}"))?);
         if words.len() > WORDS_MAX {
             return Err(format!("line {number}: more than 100,000 words"));
@@ -86,6 +81,8 @@ mod tests {
         assert_eq!(wrong(&[0; 7]), left);
         assert!(wrong(b"10000302\n2000000").starts_with("line 2: `2000000` is no word"));
         assert!(wrong(b"table 10000302").starts_with("line 1: `table` is no word"));
+        assert_eq!(wrong(&[0; 400_001]), "more than 100,000 words");
+        assert!(wrong(b"10000302\n# \xFC").starts_with("line 2 has a letter"));
         let many = "F0000000*4097 ".repeat(25);
         assert_eq!(wrong(many.as_bytes()), "line 1: more than 100,000 words");
     }

@@ -2,7 +2,6 @@
 //! what stands at a place of a table, and what is wrong with a refused one.
 
 use std::fmt::Display;
-use std::path::Path;
 
 use reference::calls::{
     Call, GRANT, LOOK_UP, MY_ENDPOINTS, MY_RIGHTS, RECEIVE, REMOVE, REVOKE, SEND, STRAY,
@@ -66,12 +65,6 @@ const NO_CODE: &str = "not a number of the kernel";
 /// Whether a number is one that means something.
 pub fn is_code(code: u32) -> bool {
     meaning(code) != NO_CODE
-}
-
-/// What can be done about a table that is refused, where something can.
-pub fn mended_by(code: u32, file: &Path) -> Option<String> {
-    let file = file.display();
-    matches!(code, 4 | 5).then(|| format!("`bench repair {file} OUT` may make it fit again"))
 }
 
 /// The domains that may send to an endpoint: those with SEND on its owner.

@@ -2,9 +2,8 @@
 
 use std::path::Path;
 
-use crate::line::input::{
-    is_text, read_at_most, read_text, shown, INPUT_BYTES_MAX, TEXT_BYTES_MAX,
-};
+use crate::line::explain::table_fault;
+use crate::line::input::{read_text, read_typed, shown, typed, Input, INPUT_BYTES_MAX};
 use crate::line::names::Names;
 use crate::line::text;
 
@@ -13,6 +12,18 @@ use crate::line::text;
 pub struct Given {
     pub bytes: Vec<u8>,
     pub names: Names,
+}
+
+impl Given {
+    /// The table and the list where the table is accepted; otherwise the number that
+    /// refuses them, and what is wrong.
+    pub fn accepted(&self) -> Result<Input, (u32, String)> {
+        let input = Input::parse(&self.bytes)?;
+        match table_fault(&input.table, &self.names) {
+            Some(fault) => Err(fault),
+            None => Ok(input),
+        }
+    }
 }
 
 /// A file that is an input of linerun or a text that stands for one (`-` is standard
@@ -34,21 +45,23 @@ pub fn read_names(path: impl AsRef<Path>) -> Result<Names, String> {
 }
 
 fn read_by(path: &Path, read: fn(&str) -> Result<Given, String>) -> Result<Given, String> {
-    let mut bytes = read_at_most(path, TEXT_BYTES_MAX)?;
-    if let Some(text) = std::str::from_utf8(&bytes).ok().filter(|_| is_text(&bytes)) {
-        return read(text).map_err(|why| format!("{}: {why}", shown(path)));
-    }
-    bytes.truncate(INPUT_BYTES_MAX);
-    Ok(Given {
-        bytes,
-        names: Names::none(),
+    read_typed(path, |mut bytes| {
+        if let Some(text) = typed(&bytes)? {
+            return read(text);
+        }
+        bytes.truncate(INPUT_BYTES_MAX);
+        Ok(Given {
+            bytes,
+            names: Names::none(),
+        })
     })
 }
 
 #[cfg(test)]
 mod tests {
     use super::*;
-    use crate::line::input::Input;
+    use crate::scratch::Folder;
+    use std::fs;
 
     fn example(name: &str) -> String {
         format!("{}/{name}", env!("CARGO_MANIFEST_DIR"))
@@ -63,6 +76,29 @@ mod tests {
         assert!(wrong.contains("Cargo.toml: line 1: "), "{wrong}");
         let list = read_given_list(example("example.txt")).unwrap();
         assert_eq!(list, given);
+    }
+
+    #[test]
+    fn nothing_of_a_text_is_left_out() {
+        let folder = Folder::make("given").unwrap();
+        let file = folder.path().join("long.txt");
+        let comment = "#".repeat(1_000_000);
+        fs::write(
+            &file,
+            format!("table 10000100 20000000\n{comment}\nlist 50000000"),
+        )
+        .unwrap();
+        let told = read_given(&file).unwrap_err();
+        assert!(
+            told.ends_with("long.txt: it is above 1,000,000 bytes"),
+            "{told}"
+        );
+        fs::write(&file, b"table 10000100\n20000000 # \xE9\n").unwrap();
+        let told = read_given(&file).unwrap_err();
+        assert!(
+            told.contains("long.txt: line 2 has a letter that is not UTF-8"),
+            "{told}"
+        );
     }
 
     #[test]

@@ -134,16 +134,47 @@ pub fn read_input(path: impl AsRef<Path>) -> Result<Vec<u8>, String> {
     read_at_most(path, INPUT_BYTES_MAX)
 }
 
+/// The text that bytes are, where they could be typed: nothing of it may be left out, and
+/// its letters must be known.
+pub fn typed(bytes: &[u8]) -> Result<Option<&str>, String> {
+    if !is_text(bytes) {
+        return Ok(None);
+    }
+    is_no_longer(bytes)?;
+    std::str::from_utf8(bytes).map(Some).map_err(|wrong| {
+        let before = bytes[..wrong.valid_up_to()].iter();
+        let line = 1 + before.filter(|&&byte| byte == b'\n').count();
+        format!("line {line} has a letter that is not UTF-8: save the text as UTF-8")
+    })
+}
+
+/// That bytes are no more than the longest text has.
+fn is_no_longer(bytes: &[u8]) -> Result<(), String> {
+    match bytes.len() {
+        0..=TEXT_BYTES_MAX => Ok(()),
+        _ => Err("it is above 1,000,000 bytes".to_string()),
+    }
+}
+
+/// What `take` makes of a file's bytes, as many as a text may have and one more, by which a
+/// longer one is known; what is wrong is told with the file's name.
+pub fn read_typed<T>(
+    path: &Path,
+    take: impl FnOnce(Vec<u8>) -> Result<T, String>,
+) -> Result<T, String> {
+    let bytes = read_at_most(path, TEXT_BYTES_MAX + 1)?;
+    take(bytes).map_err(|why| format!("{}: {why}", shown(path)))
+}
+
 /// The text of a file; `otherwise` is said where it is none.
 pub fn read_text(path: impl AsRef<Path>, otherwise: &str) -> Result<String, String> {
-    let path = path.as_ref();
-    let bytes = read_at_most(path, TEXT_BYTES_MAX + 1)?;
-    if bytes.len() > TEXT_BYTES_MAX {
-        return Err(format!("{} is above 1,000,000 bytes", shown(path)));
-    }
-    let text = String::from_utf8(bytes).ok();
-    text.filter(|text| !text.contains('\0'))
-        .ok_or_else(|| format!("{} is no text; {otherwise}", shown(path)))
+    read_typed(path.as_ref(), |bytes| {
+        is_no_longer(&bytes)?;
+        typed(&bytes)?;
+        let text = String::from_utf8(bytes).ok();
+        text.filter(|text| !text.contains('\0'))
+            .ok_or_else(|| format!("it is no text; {otherwise}"))
+    })
 }
 
 /// The first bytes of a file, or of standard input where the path is `-`. What
@@ -159,6 +190,15 @@ pub fn read_at_most(path: impl AsRef<Path>, most: usize) -> Result<Vec<u8>, Stri
     match read {
         Ok(_) => Ok(bytes),
         Err(wrong) => Err(format!("cannot read {}: {wrong}", shown(path))),
+    }
+}
+
+/// That no two of the files that are to be read are standard input, which the first takes
+/// whole.
+pub fn read_once(paths: &[&Path]) -> Result<(), String> {
+    match paths.iter().filter(|path| **path == Path::new("-")).count() {
+        0 | 1 => Ok(()),
+        _ => Err("standard input can be read once only".to_string()),
     }
 }
 
@@ -220,6 +260,18 @@ mod tests {
         assert!(why(b"ab").contains("is this a text?"));
         assert!(!why(b"").contains("text"));
         assert!(!why(b"table\0").contains("text"));
+    }
+
+    #[test]
+    fn a_text_is_taken_whole_or_told_by_the_line_that_cannot_be_read() {
+        assert_eq!(typed(b"table # \xC3\xA9\n"), Ok(Some("table # \u{E9}\n")));
+        assert_eq!(typed(&[34, 0, 0, 0]), Ok(None));
+        let latin = typed(b"table\n# F\xF6rderer\n").unwrap_err();
+        assert!(latin.starts_with("line 2 has a letter that is not UTF-8"));
+        let mut long = vec![b' '; TEXT_BYTES_MAX];
+        assert!(typed(&long).is_ok());
+        long.push(b' ');
+        assert_eq!(typed(&long), Err("it is above 1,000,000 bytes".into()));
     }
 
     #[test]

@@ -2,6 +2,7 @@
 //! numbers wherever these are told.
 
 use std::collections::BTreeMap;
+use std::fmt::Display;
 
 use reference::table::{domains, endpoints, header_is_right, DOMAINS_MAX, ENDPOINTS_MAX};
 
@@ -66,6 +67,35 @@ impl Names {
         self.endpoints.get(&endpoint).map(String::as_str)
     }
 
+    /// The domain that a word stands for, of so many: a number is taken as one, what is none
+    /// as a name.
+    pub fn domain_of(&self, word: &str, n: usize) -> Result<usize, String> {
+        match word.parse::<usize>() {
+            Ok(number) if number < n => Ok(number),
+            Ok(number) => Err(not_there("domain", number, n)),
+            Err(_) => self.domain_called(word).ok_or_else(|| {
+                let known: Vec<&str> = self.domains.values().map(String::as_str).collect();
+                match known.is_empty() {
+                    true => format!("no domain is called `{word}`: the input gives no names"),
+                    false => format!(
+                        "no domain is called `{word}`: there are {}",
+                        known.join(", ")
+                    ),
+                }
+            }),
+        }
+    }
+
+    /// The domain of a name, where there is one.
+    pub fn domain_called(&self, name: &str) -> Option<usize> {
+        called(&self.domains, name)
+    }
+
+    /// The endpoint of a name, where there is one.
+    pub fn endpoint_called(&self, name: &str) -> Option<usize> {
+        called(&self.endpoints, name)
+    }
+
     /// What is told by numbers alone, with the names beside them: for what those put
     /// together who know none, as the judges of a kernel.
     pub fn beside(&self, told: &str) -> String {
@@ -99,7 +129,7 @@ impl Names {
         if names.contains_key(&number) {
             return Err(format!("{what} {number} has a name already"));
         }
-        if let Some((other, _)) = names.iter().find(|(_, given)| *given == name) {
+        if let Some(other) = called(names, name) {
             return Err(format!("`{name}` is the name of {what} {other} already"));
         }
         names.insert(number, name.to_string());
@@ -181,14 +211,22 @@ fn number_of(what: &str, number: &str, size: usize) -> Result<usize, String> {
     match number.parse() {
         Ok(number) if digits && number < size => Ok(number),
         _ if !digits => Err(format!("`{number}` is no number of {what}s")),
-        _ => Err(match size {
-            0 => format!("there is no {what} {number}: the table has no {what}s"),
-            _ => format!(
-                "there is no {what} {number}: the table has 0 to {}",
-                size - 1
-            ),
-        }),
+        _ => Err(not_there(what, number, size)),
     }
+}
+
+/// What is told of a number that a table hasn't.
+fn not_there(what: &str, number: impl Display, size: usize) -> String {
+    match size.checked_sub(1) {
+        None => format!("there is no {what} {number}: the table has no {what}s"),
+        Some(last) => format!("there is no {what} {number}: the table has 0 to {last}"),
+    }
+}
+
+/// The number that has a name.
+fn called(names: &BTreeMap<usize, String>, name: &str) -> Option<usize> {
+    let found = names.iter().find(|(_, given)| *given == name);
+    found.map(|(number, _)| *number)
 }
 
 fn check_name(name: &str) -> Result<(), String> {

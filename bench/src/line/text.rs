@@ -114,26 +114,31 @@ pub fn read_names(text: &str) -> Result<Names, String> {
 }
 
 fn parts_of(text: &str, list_alone: bool) -> Result<Parts<'_>, String> {
-    // Some editors put a byte-order mark before a text.
-    let text = text.strip_prefix('\u{FEFF}').unwrap_or(text);
     let mut parts = Parts {
         list_alone,
         ..Parts::default()
     };
-    for (number, line) in text.lines().enumerate() {
+    for (number, line) in lines_of(text) {
         let items = items_of(line);
-        if !parts.namings.take(number + 1, &items) {
+        if !parts.namings.take(number, &items) {
             let read = parts.read_line(&items);
-            read.map_err(|why| format!("line {}: {why}", number + 1))?;
+            read.map_err(|why| format!("line {number}: {why}"))?;
         }
     }
     Ok(parts)
 }
 
-/// The words of a line that are no comment.
-fn items_of(line: &str) -> Vec<&str> {
-    let code = line.split('#').next().unwrap_or("");
-    let items = code.split(|c: char| c.is_whitespace() || c == ';' || c == ',');
+/// The lines of any text that is typed in, counted from 1, each up to its comment.
+pub fn lines_of(text: &str) -> impl Iterator<Item = (usize, &str)> {
+    // Some editors put a byte-order mark before a text.
+    let text = text.strip_prefix('\u{FEFF}').unwrap_or(text);
+    let told = |line: &'_ str| line.find('#').unwrap_or(line.len());
+    (1..).zip(text.lines().map(move |line| &line[..told(line)]))
+}
+
+/// What stands in a line, between spaces, `;` and `,`.
+pub fn items_of(line: &str) -> Vec<&str> {
+    let items = line.split(|c: char| c.is_whitespace() || c == ';' || c == ',');
     items.filter(|item| !item.is_empty()).collect()
 }
 
@@ -434,7 +439,7 @@ mod tests {
     }
 
     fn names_something(line: &str) -> bool {
-        Namings::default().take(1, &items_of(line))
+        lines_of(line).any(|(number, line)| Namings::default().take(number, &items_of(line)))
     }
 
     #[test]

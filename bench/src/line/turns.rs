@@ -4,11 +4,16 @@
 //! The help of `bench turns` says what a text looks like.
 
 use crate::line::calls::{self, number, Typed};
-use crate::line::names::Namings;
-use crate::line::text::{self, words_of};
+use crate::line::names::{Names, Namings};
+use crate::line::text::{self, lines_of, words_of};
 
-/// The most turns that one line can ask for.
+/// The most turns that one line can ask for, and all lines together: each is told, so that
+/// a few lines too many can't take all memory.
 const TURNS_MAX: u32 = 10_000;
+const ALL_TURNS_MAX: u64 = 100_000;
+
+/// The most words that are handed in at once: any number that no list may have.
+const WORDS_MAX: usize = 4097;
 
 /// A text taken apart.
 #[derive(Debug, PartialEq, Eq)]
@@ -45,12 +50,10 @@ pub enum Given {
 
 /// Takes a text apart; or what is wrong with it and in which line.
 pub fn read(text: &str) -> Result<Script<'_>, String> {
-    // Some editors put a byte-order mark before a text.
-    let text = text.strip_prefix('\u{FEFF}').unwrap_or(text);
     let mut namings = Namings::default();
     // A line that gives a name leaves an empty one: lines are told by their number.
-    let left = text.lines().enumerate().map(|(at, line)| {
-        let names = namings.take(at + 1, &items(line).collect::<Vec<&str>>());
+    let left = lines_of(text).map(|(number, line)| {
+        let names = namings.take(number, &items(line).collect::<Vec<&str>>());
         if names {
             ""
         } else {
@@ -66,6 +69,13 @@ pub fn read(text: &str) -> Result<Script<'_>, String> {
         let event = read_event(line, number).map_err(|why| format!("line {number}: {why}"))?;
         events.extend(event.map(|event| (number, event)));
     }
+    let turns = events.iter().map(|(_, happens)| match happens {
+        Happens::Turns(count) => *count,
+        Happens::HandIn { .. } => 0,
+    });
+    if turns.map(u64::from).sum::<u64>() > ALL_TURNS_MAX {
+        return Err("it asks for more than 100,000 turns".to_string());
+    }
     Ok(Script {
         table: read_table(head)?,
         namings,
@@ -73,10 +83,9 @@ pub fn read(text: &str) -> Result<Script<'_>, String> {
     })
 }
 
-/// The words of a line that are no comment.
+/// What stands in a line.
 fn items(line: &str) -> impl Iterator<Item = &str> {
-    let told = line.split('#').next().unwrap_or("");
-    told.split_whitespace()
+    line.split_whitespace()
 }
 
 fn is_event(line: &str) -> bool {
@@ -100,7 +109,7 @@ fn read_table(head: &[&str]) -> Result<Table, String> {
     }
     if let Some(at) = head
         .iter()
-        .position(|line| items(line).any(|item| item.starts_with("list")))
+        .position(|line| items(line).any(|item| matches!(item, "list" | "list:")))
     {
         return wrong(at, "a list has no place here: calls are handed in");
     }
@@ -109,7 +118,9 @@ fn read_table(head: &[&str]) -> Result<Table, String> {
         .iter()
         .all(|line| items(line).count() == 0);
     match named[..] {
-        ["table", file] if alone && words_of(file).is_err() => Ok(Table::File(file.to_string())),
+        ["table" | "table:", file] if alone && words_of(file).is_err() => {
+            Ok(Table::File(file.to_string()))
+        }
         _ => Ok(Table::Here(text::read(&head.join("\n"))?.bytes)),
     }
 }
@@ -151,19 +162,28 @@ fn read_event(line: &str, at: usize) -> Result<Option<Happens>, String> {
 /// The call that is handed in, or any words.
 fn read_given(words: &[&str], at: usize) -> Result<Given, String> {
     if let Some((&"words", given)) = words.split_first() {
-        let given: Result<Vec<Vec<u32>>, String> =
-            given.iter().map(|item| words_of(item)).collect();
-        return Ok(Given::Words(given?.concat()));
+        return read_words(given).map(Given::Words);
     }
-    let call = calls::read_line(&words.join(" "), at)?;
+    // Names are those of a table that is yet to be read.
+    let call = calls::read_line(&words.join(" "), at, &Names::none())?;
     call.map(Given::Call)
         .ok_or_else(|| "what is handed in is missing".to_string())
+}
+
+fn read_words(items: &[&str]) -> Result<Vec<u32>, String> {
+    let mut words = Vec::new();
+    for item in items {
+        words.extend(words_of(item)?);
+        if words.len() > WORDS_MAX {
+            return Err("more than 4,097 words are handed in at once".to_string());
+        }
+    }
+    Ok(words)
 }
 
 #[cfg(test)]
 mod tests {
     use super::*;
-    use crate::line::names::Names;
 
     const TEXT: &str = "
 table                 # one domain
@@ -211,6 +231,22 @@ turns 3
         assert_eq!(script.table, Table::File("four.txt".to_string()));
         assert_eq!(script.events, [(3, Happens::Turns(1))]);
         assert_eq!(read("table T").unwrap().events, []);
+        for file in ["list-of-line.txt", "table.txt"] {
+            let named = Table::File(file.to_string());
+            assert_eq!(read(&format!("table {file}\nturn")).unwrap().table, named);
+            assert_eq!(read(&format!("table: {file}\nturn")).unwrap().table, named);
+        }
+    }
+
+    #[test]
+    fn few_lines_take_no_more_memory_than_there_should_be() {
+        let most = "turns 10000\n".repeat(10);
+        assert_eq!(events(&most).len(), 10);
+        let told = wrong(&format!("table T\n{most}turn"));
+        assert_eq!(told, "it asks for more than 100,000 turns");
+        assert_eq!(events("hand in 0 words 50000000*4097").len(), 1);
+        let told = wrong("table T\nhand in 0 words 50000000*4097 50000000");
+        assert_eq!(told, "line 2: more than 4,097 words are handed in at once");
     }
 
     #[test]

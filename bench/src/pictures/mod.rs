@@ -1,6 +1,7 @@
-//! A line to look at: in words with a small diagram, as a picture with the shapes that it
-//! is drawn with, and as a graph for other tools. And measured speeds as tables, over
-//! several runs too, and as a plot.
+//! A line to look at: in words with a small diagram, its roads and what could ever come
+//! about, as a picture with the shapes that it is drawn with, and as a graph for other
+//! tools; the sheet of a shift as a page. And measured speeds as tables, over several runs
+//! too, and as a plot.
 
 mod arrows;
 pub mod diagram;

@@ -10,7 +10,7 @@ use reference::table::{
 use reference::words::{content, hex};
 
 use crate::kernels::lent::Ran;
-use crate::line::explain::{call_in_words, counted, senders};
+use crate::line::explain::{call_on_table, counted, senders};
 use crate::line::input::Input;
 use crate::line::names::Names;
 use crate::pictures::diagram::told_answers;
@@ -65,7 +65,7 @@ pub fn svg(input: &Input, names: &Names, left: Option<&Ran>, calls: usize) -> St
     let answers = left.map_or(vec![], |left| {
         told_answers(input, names, &left.answers, calls)
     });
-    page.calls(&cut(&input.list), &answers, calls);
+    page.calls(input, &answers, calls);
     let height = page.y - GAP + MARGIN;
     let title = format!("Capability table: {told}");
     page.drawing.finish(WIDTH, height, &title)
@@ -157,21 +157,22 @@ impl Page<'_> {
     }
 
     /// A call in lines, with its answer in one of its own where there is one.
-    fn told(&self, call: &Call, answer: Option<&String>) -> Vec<String> {
-        let mut lines = lines_of(&call_in_words(call, self.names), CALL_LETTERS);
+    fn told(&self, call: &Call, table: &[u32], answer: Option<&String>) -> Vec<String> {
+        let mut lines = lines_of(&call_on_table(call, table, self.names), CALL_LETTERS);
         if let Some(answer) = answer {
             lines.extend(lines_of(&format!("-> {answer}"), CALL_LETTERS));
         }
         lines
     }
 
-    fn calls(&mut self, calls: &[Call], answers: &[String], most: usize) {
+    fn calls(&mut self, input: &Input, answers: &[String], most: usize) {
+        let calls = cut(&input.list);
         let fixed = PANEL_HEAD + 8.0 + CALL_ROW;
         let rows: Vec<Vec<String>> = calls
             .iter()
             .enumerate()
             .take(most)
-            .map(|(number, call)| self.told(call, answers.get(number)))
+            .map(|(number, call)| self.told(call, &input.table, answers.get(number)))
             .collect();
         let room = HIGHEST - MARGIN - self.y - fixed;
         let shown = fitting(&rows, room);
@@ -371,6 +372,16 @@ mod tests {
         assert!(picture.contains(">0 routes<"));
         assert!(picture.contains(">domain 0 (link) asks for its rights<"));
         assert!(!drawn(&input, 24).contains("link"));
+    }
+
+    #[test]
+    fn a_caller_that_the_table_has_not_is_told_as_such() {
+        let input = Input {
+            list: vec![0x5B40_0000],
+            ..Input::example()
+        };
+        let told = ">domain 45, which the table hasn't, asks for its rights<";
+        assert!(drawn(&input, 24).contains(told));
     }
 
     #[test]

@@ -201,6 +201,7 @@ fn arrows_panel(
         }
     }
     draw_arrows(drawing, &layout.arrows);
+    draw_labels(drawing, &layout.arrows);
     draw_discs(drawing, layout, texts);
     drawing.end_part();
 }
@@ -212,13 +213,17 @@ fn heading(layout: &Layout) -> &'static str {
     }
 }
 
-/// The arrows in their holders' colours, and over all of them the labels.
+/// The arrows in their holders' colours.
 fn draw_arrows(drawing: &mut Drawing, arrows: &[Arrow]) {
     for arrow in arrows {
         let curve = &arrow.curve;
         let from = curve.at(0.9);
         drawing.arrow(&curve.path(), from, curve.end(), colour(arrow.holder));
     }
+}
+
+/// The labels, which stand over all arrows.
+fn draw_labels(drawing: &mut Drawing, arrows: &[Arrow]) {
     for (arrow, label) in arrows
         .iter()
         .filter_map(|arrow| Some((arrow, arrow.label?)))

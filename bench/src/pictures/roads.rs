@@ -267,12 +267,14 @@ impl<'a> Told<'a> {
         let mut text = String::new();
         for to in 0..domains(&self.input.table) {
             let kept = self.run.kept_for(to)?;
+            let joins = kept.iter().enumerate().rev().filter_map(|(call, why)| {
+                let Some(Kept::Joins(hold)) = why else {
+                    return None;
+                };
+                Some(format!("  at call {call}: {}\n", self.hold(hold)))
+            });
             text += &self.set_for(to, &kept);
-            for (call, why) in kept.iter().enumerate().rev() {
-                if let Some(Kept::Joins(hold)) = why {
-                    text += &format!("  at call {call}: {}\n", self.hold(hold));
-                }
-            }
+            text.extend(joins);
         }
         Ok(text)
     }

@@ -1,6 +1,6 @@
 //! The end-of-shift sheet as a page to read and to print, out of what `linetotals` prints.
 
-use crate::line::explain::meaning;
+use crate::line::explain::{is_code, meaning};
 use crate::line::names::Names;
 
 /// What one endpoint's line says.
@@ -23,6 +23,13 @@ pub fn page(printed: &str, names: &Names) -> Result<String, String> {
         .into_iter()
         .map(|line| row(line).ok_or_else(|| format!("a line is {}", shown(line))));
     let rows: Vec<Row> = rows.collect::<Result<_, _>>()?;
+    let mut numbered = rows.iter().enumerate();
+    if let Some((wanted, row)) = numbered.find(|(at, row)| row.endpoint != *at as u64) {
+        let there = row.endpoint;
+        return Err(format!(
+            "a line is of endpoint {there} where that of endpoint {wanted} should be"
+        ));
+    }
     if let Some(wrong) = rows.iter().find(|row| !row.is_borne_out()) {
         let endpoint = names.endpoint(wrong.endpoint as usize);
         return Err(format!("{endpoint} isn't borne out"));
@@ -31,8 +38,9 @@ pub fn page(printed: &str, names: &Names) -> Result<String, String> {
 }
 
 /// The number of lists and the code of the last line.
-pub fn last_line(line: &str) -> Option<(u64, u64)> {
+pub fn last_line(line: &str) -> Option<(u64, u32)> {
     let [lists, code] = numbers(line, ["lists", "code"])?;
+    let code = u32::try_from(code).ok().filter(|&code| is_code(code))?;
     Some((lists, code))
 }
 
@@ -63,7 +71,8 @@ fn numbers<const N: usize>(line: &str, names: [&str; N]) -> Option<[u64; N]> {
 impl Row {
     /// What was sent and what waited is what was received, what was lost and what waits.
     fn is_borne_out(&self) -> bool {
-        self.sent.checked_add(self.start) == self.received.checked_add(self.lost + self.end)
+        let sum = |counts: &[u64]| counts.iter().map(|&count| u128::from(count)).sum::<u128>();
+        sum(&[self.sent, self.start]) == sum(&[self.received, self.lost, self.end])
     }
 
     fn cells(&self, names: &Names) -> String {
@@ -75,8 +84,8 @@ impl Row {
 }
 
 /// A number with its digits in threes.
-fn grouped(number: u64) -> String {
-    let digits = number.to_string();
+fn grouped(number: impl Into<u128>) -> String {
+    let digits = number.into().to_string();
     let mut text = String::new();
     for (place, digit) in digits.chars().enumerate() {
         if place > 0 && (digits.len() - place) % 3 == 0 {
@@ -105,18 +114,21 @@ fn shown(line: &str) -> String {
     }
 }
 
-fn with_rows(rows: &[Row], names: &Names, lists: u64, code: u64) -> String {
+fn with_rows(rows: &[Row], names: &Names, lists: u64, code: u32) -> String {
     let body: String = rows
         .iter()
         .map(|row| format!("<tr>{}</tr>\n", row.cells(names)))
         .collect();
-    let all = |of: fn(&Row) -> u64| grouped(rows.iter().map(of).sum());
+    let all = |of: fn(&Row) -> u64| {
+        let each = rows.iter().map(of).map(u128::from);
+        grouped(each.sum::<u128>())
+    };
     let ended = match code {
         0 => format!("<p>{} ran, all there were.</p>", lists_in_words(lists)),
         _ => format!(
             "<p class=\"refused\">{} ran; what came then was refused with {code}: {}.</p>",
             lists_in_words(lists),
-            meaning(code as u32)
+            meaning(code)
         ),
     };
     format!(
@@ -143,6 +155,7 @@ table { border-collapse: collapse; width: 100% }
 th, td { border: 1px solid #999; padding: .25em .6em; text-align: right }
 th { background: #eee }
 th:first-child, td:first-child { text-align: left }
+tfoot { display: table-row-group }
 tfoot td { font-weight: bold }
 thead { display: table-header-group }
 tr { break-inside: avoid }
@@ -182,6 +195,41 @@ mod tests {
     fn a_refused_list_and_a_refused_table_are_told() {
         let refused = page("lists 0 code 4\n", &Names::none()).unwrap();
         assert!(refused.contains("0 lists ran; what came then was refused with 4"));
+    }
+
+    #[test]
+    fn the_head_stands_on_each_printed_page_and_the_sum_on_the_last_alone() {
+        let page = page(SHEET, &Names::none()).unwrap();
+        assert!(page.contains("thead { display: table-header-group }"));
+        assert!(page.contains("tfoot { display: table-row-group }"));
+    }
+
+    #[test]
+    fn a_sheet_that_lacks_a_line_is_refused() {
+        let without = |gone: usize| {
+            let lines = SHEET.lines().enumerate().filter(|(at, _)| *at != gone);
+            let left: String = lines.map(|(_, line)| format!("{line}\n")).collect();
+            page(&left, &Names::none())
+        };
+        let told = "a line is of endpoint 1 where that of endpoint 0 should be";
+        assert_eq!(without(0), Err(told.to_string()));
+        assert!(without(2)
+            .unwrap_err()
+            .starts_with("its last line is `endpoint 1"));
+    }
+
+    #[test]
+    fn no_number_is_too_large_for_a_sheet() {
+        let most = u64::MAX;
+        let line = |end| format!("endpoint 0 sent 1 received 1 lost {most} start 0 end {end}\n");
+        let told = page(&(line(1) + "lists 1 code 0\n"), &Names::none());
+        assert_eq!(told, Err("endpoint 0 isn't borne out".to_string()));
+        let line = |e| format!("endpoint {e} sent {most} received {most} lost 1 start 1 end 0\n");
+        let page = |last| page(&format!("{}{}{last}", line(0), line(1)), &Names::none());
+        let sum = "<td>36,893,488,147,419,103,230</td>";
+        assert!(page("lists 1 code 0\n").unwrap().contains(sum));
+        assert!(page("lists 1 code 4294967300\n").is_err());
+        assert!(page("lists 1 code 98\n").is_err());
     }
 
     #[test]

@@ -6,7 +6,8 @@ use reference::words::{content, kind};
 use crate::judging::checklist::{Line, Verdicts};
 use crate::line::explain::{letters, rights_in_words};
 use crate::reports::facts::{
-    archive_logic, kit, EndpointRow, Judged, Report, RightsCell, ARCHIVE, ARCHIVE_SHA256, VERSION,
+    archive_logic, kit, EndpointRow, Judged, Report, RightsCell, Source, ARCHIVE, ARCHIVE_SHA256,
+    VERSION,
 };
 use crate::reports::page::escaped;
 
@@ -62,35 +63,7 @@ pub fn about(report: &Report) -> String {
             hash(&report.input.sha256) + "<br>of the words as linerun reads them",
         ),
     ];
-    match &report.judged {
-        Judged::Kernel {
-            name,
-            title,
-            seed,
-            exercise,
-        } => rows.extend([
-            ("Kernel", escaped(&format!("{name}: {title}"))),
-            ("Seed", seed.to_string()),
-            (
-                "Exercise",
-                format!("{}, made from this table", escaped(exercise)),
-            ),
-        ]),
-        Judged::ReadBack { answers, left } => rows.extend([
-            (
-                "Read back",
-                "words of a run on a line; no kernel was run here".to_string(),
-            ),
-            (
-                "Answers",
-                escaped(&answers.file) + "<br>" + &hash(&answers.sha256),
-            ),
-            (
-                "Table left",
-                escaped(&left.file) + "<br>" + &hash(&left.sha256),
-            ),
-        ]),
-    }
+    rows.extend(judged(&report.judged));
     rows.extend(built());
     let rows = rows
         .iter()
@@ -99,6 +72,34 @@ pub fn about(report: &Report) -> String {
         "<h2>What was commissioned</h2>\n<table class=\"about\">\n{}</table>\n",
         rows.collect::<String>()
     )
+}
+
+/// What the verdicts are about.
+fn judged(judged: &Judged) -> [(&'static str, String); 3] {
+    let read = |source: &Source| escaped(&source.file) + "<br>" + &hash(&source.sha256);
+    match judged {
+        Judged::Kernel {
+            name,
+            title,
+            seed,
+            exercise,
+        } => [
+            ("Kernel", escaped(&format!("{name}: {title}"))),
+            ("Seed", seed.to_string()),
+            (
+                "Exercise",
+                format!("{}, made from this table", escaped(exercise)),
+            ),
+        ],
+        Judged::ReadBack { answers, left } => [
+            (
+                "Read back",
+                "words of a run on a line; no kernel was run here".to_string(),
+            ),
+            ("Answers", read(answers)),
+            ("Table left", read(left)),
+        ],
+    }
 }
 
 /// What this program is built of.

@@ -3,9 +3,13 @@
 
 use std::path::Path;
 
+use reference::table::domains;
+
 use crate::args::Options;
 use crate::kernels::boundary::{kernel, Kernel};
-use crate::output::{may_write, write_file};
+use crate::line::input::read_once;
+use crate::line::names::Names;
+use crate::output::{may_write, may_write_both, write_file};
 use crate::reports::facts::Report;
 use crate::reports::json_facts::json;
 use crate::reports::page::page;
@@ -13,8 +17,8 @@ use crate::reports::page::page;
 pub struct Asked<'a> {
     pub file: &'a Path,
     pub on: On<'a>,
-    /// The domain whose struck calls are to be listed.
-    pub struck: Option<u64>,
+    /// The domain whose struck calls are to be listed, by its number or its name.
+    struck: Option<&'a str>,
     report: Option<&'a Path>,
     json: Option<&'a Path>,
 }
@@ -43,7 +47,7 @@ impl Asked<'_> {
         let asked = Asked {
             file: options.file()?,
             on: on(options)?,
-            struck: options.number("--struck")?,
+            struck: options.text("--struck"),
             report: options.path("--report"),
             json: options.path("--json"),
         };
@@ -57,18 +61,19 @@ impl Asked<'_> {
         if let On::ReadBack { answers, left } = &self.on {
             read.extend([answers, left]);
         }
-        if read.iter().filter(|path| **path == Path::new("-")).count() > 1 {
-            return Err("standard input can be read once only".to_string());
-        }
+        read_once(&read)?;
         for (option, out) in [("--report", self.report), ("--json", self.json)] {
             out.map_or(Ok(()), |out| may_write(option, out, &read))?;
         }
-        match (self.report, self.json) {
-            (Some(report), Some(json)) if report == json => {
-                Err("--report and --json need a file each".to_string())
-            }
-            _ => Ok(()),
-        }
+        may_write_both(("--report", self.report), ("--json", self.json))
+    }
+
+    /// The domain of a table whose struck calls are to be listed.
+    pub fn struck_in(&self, table: &[u32], names: &Names) -> Result<Option<usize>, String> {
+        let found = self
+            .struck
+            .map(|word| names.domain_of(word, domains(table)));
+        found.transpose().map_err(|why| format!("--struck: {why}"))
     }
 
     /// Writes what is to be filed; tells what was written, or what couldn't be.
@@ -141,6 +146,7 @@ mod tests {
     fn nothing_is_written_over_what_is_read_nor_twice() {
         let twice = "--report and --json need a file each";
         assert_eq!(wrong("line --report r --json r"), twice);
+        assert_eq!(wrong("line --report r --json ./r"), twice);
         for read in ["line", "a", "t"] {
             let told = wrong(&format!("line --answers a --left t --json {read}"));
             assert_eq!(

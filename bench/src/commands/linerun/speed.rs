@@ -63,16 +63,10 @@ pub fn measure(program: &Path, rounds: usize) -> Result<bool, String> {
     for (number, input) in inputs().iter().enumerate() {
         let file = folder.path().join("input");
         fs::write(&file, &input.bytes).map_err(|why| format!("cannot write: {why}"))?;
-        let wanted = reference::linerun(&input.bytes);
-        for program in programs {
-            if timed(program, &file, true)?.1 != wanted {
-                say!(
-                    "DIFFERENCE on {}: {} prints other lines",
-                    input.name,
-                    program.display()
-                );
-                return Ok(false);
-            }
+        if let Some(program) = first_wrong(programs, &file, &input.bytes)? {
+            let (name, program) = (&input.name, program.display());
+            say!("DIFFERENCE on {name}: {program} prints other lines");
+            return Ok(false);
         }
         let times = times(programs, &file, rounds)?;
         say!("{}", row(input, &times, (number > 0).then_some(none)));
@@ -83,19 +77,39 @@ pub fn measure(program: &Path, rounds: usize) -> Result<bool, String> {
     Ok(true)
 }
 
+/// The first of the programs that prints other lines for an input than the separate one.
+fn first_wrong<'a>(
+    programs: [&'a Path; 2],
+    file: &Path,
+    input: &[u8],
+) -> Result<Option<&'a Path>, String> {
+    let wanted = reference::linerun(input);
+    for program in programs {
+        if timed(program, file, true)?.1 != wanted {
+            return Ok(Some(program));
+        }
+    }
+    Ok(None)
+}
+
 /// The seconds of one run of the plain C and of the program, round by round.
 fn times(programs: [&Path; 2], file: &Path, rounds: usize) -> Result<[Vec<f64>; 2], String> {
     let mut times = [Vec::new(), Vec::new()];
     for _ in 0..rounds {
         for (seconds, program) in times.iter_mut().zip(programs) {
-            let mut all = 0.0;
-            for _ in 0..RUNS {
-                all += timed(program, file, false)?.0;
-            }
-            seconds.push(all / RUNS as f64);
+            seconds.push(seconds_of_one(program, file)?);
         }
     }
     Ok(times)
+}
+
+/// The seconds of one run of a program, out of those that are timed in its turn.
+fn seconds_of_one(program: &Path, file: &Path) -> Result<f64, String> {
+    let mut all = 0.0;
+    for _ in 0..RUNS {
+        all += timed(program, file, false)?.0;
+    }
+    Ok(all / RUNS as f64)
 }
 
 /// A row of the table. The last cell is the ratio of what is left where the time of no call
