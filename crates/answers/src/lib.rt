@@ -10,8 +10,11 @@ use layout::endpoints;
 use layout::rights_at;
 use lists::owned_bits;
 use lists::rights_bits;
+use machine::KIND;
+use machine::of_calls::CALLER;
+use machine::of_calls::LEAST_SECOND;
+use machine::of_tables::ENDPOINT_WORDS;
 use rules::Decision;
-use words::KIND;
 ghost use mathlib.Core.Path.{_≡_};
 ghost use mathlib.Core.List.{[], _∷_};
 ghost use Prim.Native.Nat.{_+_, _^_, _%_, _<_, _≤_};
@@ -35,10 +38,10 @@ pub struct Answer {
 fn head(first: u32) -> u32
     ensures { λ r. ⌜ r ≡ headOf first ⌝ }
 {
-    if 0xF000_0000 <= first {
-        return 0xF000_0000;
+    if LEAST_SECOND <= first {
+        return LEAST_SECOND;
     }
-    first - first % 0x40_0000
+    first - first % CALLER
 }
 
 // No data.
@@ -78,7 +81,7 @@ fn received(table: &[u32], head: u32, e: u32) -> Answer
 {
     let n = domains(table);
     let start = endpoint_at(n, e);
-    let end = start + 12;
+    let end = start + ENDPOINT_WORDS;
     if end <= table.len() {
         return Answer {
             head,

@@ -2,7 +2,7 @@
 // the first, so each step moves up what is there; what goes past 32 bits is cut off. The callers have seen that the words are in the table.
 use layout::endpoint_at;
 use layout::rights_at;
-use words::KIND;
+use machine::KIND;
 ghost use mathlib.Core.Path.{_≡_};
 ghost use Prim.Native.Nat.{_%_, _^_, _≤_};
 ghost use lib.ListN.{length};

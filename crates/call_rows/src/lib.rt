@@ -5,6 +5,14 @@ use call_words::put;
 use call_words::width;
 use calls::Call;
 use calls::Refusal;
+use machine::of_calls::GRANT;
+use machine::of_calls::LOOK_UP;
+use machine::of_calls::MY_ENDPOINTS;
+use machine::of_calls::MY_RIGHTS;
+use machine::of_calls::RECEIVE;
+use machine::of_calls::REMOVE;
+use machine::of_calls::REVOKE;
+use machine::of_calls::SEND;
 use writer::Measured;
 use writer::Written;
 use writer::too_long;
@@ -42,8 +50,8 @@ fn endpoint_row(kind: u32, caller: u32, a: u32, b: u32, c: u32) -> Call
     ensures { λ r. ⌜ r ≡ rowCall kind caller a b c ⌝ }
 {
     match kind {
-        1 => where_zero(a, b, 0, Call::LookUp { caller, name: c }),
-        2 => where_zero(
+        LOOK_UP => where_zero(a, b, 0, Call::LookUp { caller, name: c }),
+        SEND => where_zero(
             a,
             0,
             0,
@@ -53,7 +61,7 @@ fn endpoint_row(kind: u32, caller: u32, a: u32, b: u32, c: u32) -> Call
                 message: c,
             },
         ),
-        3 => where_zero(
+        RECEIVE => where_zero(
             a,
             0,
             c,
@@ -72,15 +80,15 @@ fn rights_row(kind: u32, caller: u32, a: u32, b: u32, c: u32) -> Call
     ensures { λ r. ⌜ r ≡ rowCall kind caller a b c ⌝ }
 {
     match kind {
-        4 => where_zero(a, b, c, Call::MyEndpoints { caller }),
-        5 => where_zero(a, b, c, Call::MyRights { caller }),
-        6 => Call::Grant {
+        MY_ENDPOINTS => where_zero(a, b, c, Call::MyEndpoints { caller }),
+        MY_RIGHTS => where_zero(a, b, c, Call::MyRights { caller }),
+        GRANT => Call::Grant {
             caller,
             target: a,
             recipient: b,
             rights: c,
         },
-        7 => where_zero(
+        REMOVE => where_zero(
             0,
             b,
             0,
@@ -90,7 +98,7 @@ fn rights_row(kind: u32, caller: u32, a: u32, b: u32, c: u32) -> Call
                 rights: c,
             },
         ),
-        8 => Call::Revoke {
+        REVOKE => Call::Revoke {
             caller,
             target: a,
             holder: b,
@@ -104,7 +112,7 @@ fn rights_row(kind: u32, caller: u32, a: u32, b: u32, c: u32) -> Call
 fn row_call(kind: u32, caller: u32, a: u32, b: u32, c: u32) -> Call
     ensures { λ r. ⌜ r ≡ rowCall kind caller a b c ⌝ }
 {
-    if kind < 4 {
+    if kind < MY_ENDPOINTS {
         endpoint_row(kind, caller, a, b, c)
     } else {
         rights_row(kind, caller, a, b, c)

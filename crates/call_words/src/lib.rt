@@ -1,6 +1,19 @@
 // A call as a value and the words that it is written in (document 02, (c)): the other way round from crate calls, which takes
 // words apart. No table is lent: what is asked of a call is that it is no refused one and that its fields are within their bits.
 use calls::Call;
+use machine::KIND;
+use machine::of_calls::A;
+use machine::of_calls::B;
+use machine::of_calls::CALLER;
+use machine::of_calls::GRANT;
+use machine::of_calls::LEAST_SECOND;
+use machine::of_calls::LOOK_UP;
+use machine::of_calls::MY_ENDPOINTS;
+use machine::of_calls::MY_RIGHTS;
+use machine::of_calls::RECEIVE;
+use machine::of_calls::REMOVE;
+use machine::of_calls::REVOKE;
+use machine::of_calls::SEND;
 use written_calls::Fields;
 ghost use mathlib.Core.Path.{_≡_};
 ghost use mathlib.Core.Bool.{true};
@@ -29,32 +42,32 @@ pub fn fields_of(call: Call) -> Fields
     ensures { λ r. ⌜ r ≡ fieldsOf call ⌝ }
 {
     match call {
-        Call::LookUp { caller, name } => fields_at(1, caller, 0, 0, 0, name),
+        Call::LookUp { caller, name } => fields_at(LOOK_UP, caller, 0, 0, 0, name),
         Call::Send {
             caller,
             endpoint,
             message,
-        } => fields_at(2, caller, 0, endpoint, 0, message),
-        Call::Receive { caller, endpoint } => fields_at(3, caller, 0, endpoint, 0, 0),
-        Call::MyEndpoints { caller } => fields_at(4, caller, 0, 0, 0, 0),
-        Call::MyRights { caller } => fields_at(5, caller, 0, 0, 0, 0),
+        } => fields_at(SEND, caller, 0, endpoint, 0, message),
+        Call::Receive { caller, endpoint } => fields_at(RECEIVE, caller, 0, endpoint, 0, 0),
+        Call::MyEndpoints { caller } => fields_at(MY_ENDPOINTS, caller, 0, 0, 0, 0),
+        Call::MyRights { caller } => fields_at(MY_RIGHTS, caller, 0, 0, 0, 0),
         Call::Grant {
             caller,
             target,
             recipient,
             rights,
-        } => fields_at(6, caller, target, recipient, rights, 0),
+        } => fields_at(GRANT, caller, target, recipient, rights, 0),
         Call::Remove {
             caller,
             target,
             rights,
-        } => fields_at(7, caller, target, 0, rights, 0),
+        } => fields_at(REMOVE, caller, target, 0, rights, 0),
         Call::Revoke {
             caller,
             target,
             holder,
             rights,
-        } => fields_at(8, caller, target, holder, rights, 0),
+        } => fields_at(REVOKE, caller, target, holder, rights, 0),
         Call::Refused { caller, refusal: _ } => fields_at(0, caller, 0, 0, 0, 0),
     }
 }
@@ -63,12 +76,7 @@ pub fn fields_of(call: Call) -> Fields
 fn within_bits(f: Fields) -> bool
     ensures { λ r. ⌜ r ≡ withinBits f ⌝ }
 {
-    (f.kind != 0)
-        & (f.caller < 64)
-        & (f.a < 64)
-        & (f.b < 256)
-        & (f.c < 256)
-        & (f.second < 0x1000_0000)
+    (f.kind != 0) & (f.caller < 64) & (f.a < 64) & (f.b < 256) & (f.c < 256) & (f.second < KIND)
 }
 
 // The call can be written.
@@ -83,7 +91,7 @@ pub fn fits(call: Call) -> bool
 fn wants_second(kind: u32) -> bool
     ensures { λ r. ⌜ r ≡ wantsSecond kind ⌝ }
 {
-    (kind == 1) | (kind == 2)
+    (kind == LOOK_UP) | (kind == SEND)
 }
 
 // How many words the call is written in.
@@ -101,7 +109,7 @@ fn first_word(f: Fields) -> u32
     requires { ⌜ f .kind < 16 ⌝ }
     ensures { λ r. ⌜ r ≡ firstWord f ⌝ }
 {
-    f.kind * 0x1000_0000 + (f.caller * 4194304 + f.a * 65536 + f.b * 256 + f.c)
+    f.kind * KIND + (f.caller * CALLER + f.a * A + f.b * B + f.c)
 }
 
 // The words of fields that are within their bits, from a place of the list on.
@@ -114,7 +122,7 @@ fn put_fields(list: &mut [u32], at: usize, f: Fields)
     list[at] = first_word(f);
     let kind = f.kind;
     if wants_second(kind) {
-        list[at + 1] = 0xF000_0000 + f.second;
+        list[at + 1] = LEAST_SECOND + f.second;
     }
 }
 

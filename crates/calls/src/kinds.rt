@@ -4,6 +4,10 @@
 use crate::Call;
 use crate::Refusal;
 use cutting::Second;
+use machine::KIND;
+use machine::of_calls::A;
+use machine::of_calls::B;
+use machine::of_calls::CALLER;
 ghost use mathlib.Core.Path.{_≡_};
 ghost use Rattle.machine.specs.Word.{kind};
 ghost use Rattle.machine.specs.Call.{Kind.lookUp, Kind.send, Kind.receive, Kind.myEndpoints, Kind.myRights, Kind.grant, Kind.remove, Kind.revoke};
@@ -14,8 +18,8 @@ pub fn look_up(first: u32, second: Second) -> Call
     requires { ⌜ kind first ≡ 1 ⌝ }
     ensures { λ r. ⌜ r ≡ ofKind first second lookUp ⌝ }
 {
-    let caller = first / 4194304 % 64;
-    if first % 4194304 != 0 {
+    let caller = first / CALLER % 64;
+    if first % CALLER != 0 {
         return Call::Refused {
             caller,
             refusal: Refusal::UnusedField,
@@ -24,7 +28,7 @@ pub fn look_up(first: u32, second: Second) -> Call
     match second {
         Second::Word(word) => Call::LookUp {
             caller,
-            name: word % 0x1000_0000,
+            name: word % KIND,
         },
         Second::Nothing => Call::Refused {
             caller,
@@ -37,10 +41,10 @@ pub fn send(first: u32, second: Second) -> Call
     requires { ⌜ kind first ≡ 2 ⌝ }
     ensures { λ r. ⌜ r ≡ ofKind first second send ⌝ }
 {
-    let caller = first / 4194304 % 64;
-    let a = first / 65536 % 64;
-    let endpoint = first / 256 % 256;
-    let c = first % 256;
+    let caller = first / CALLER % 64;
+    let a = first / A % 64;
+    let endpoint = first / B % 256;
+    let c = first % B;
     if a + c != 0 {
         return Call::Refused {
             caller,
@@ -51,7 +55,7 @@ pub fn send(first: u32, second: Second) -> Call
         Second::Word(word) => Call::Send {
             caller,
             endpoint,
-            message: word % 0x1000_0000,
+            message: word % KIND,
         },
         Second::Nothing => Call::Refused {
             caller,
@@ -65,10 +69,10 @@ pub fn receive(first: u32) -> Call
     requires { ⌜ kind first ≡ 3 ⌝ }
     ensures { λ r. ⌜ ((second : AnySecond) → r ≡ ofKind first second receive) ⌝ }
 {
-    let caller = first / 4194304 % 64;
-    let a = first / 65536 % 64;
-    let endpoint = first / 256 % 256;
-    let c = first % 256;
+    let caller = first / CALLER % 64;
+    let a = first / A % 64;
+    let endpoint = first / B % 256;
+    let c = first % B;
     if a + c != 0 {
         return Call::Refused {
             caller,
@@ -82,8 +86,8 @@ pub fn my_endpoints(first: u32) -> Call
     requires { ⌜ kind first ≡ 4 ⌝ }
     ensures { λ r. ⌜ ((second : AnySecond) → r ≡ ofKind first second myEndpoints) ⌝ }
 {
-    let caller = first / 4194304 % 64;
-    if first % 4194304 != 0 {
+    let caller = first / CALLER % 64;
+    if first % CALLER != 0 {
         return Call::Refused {
             caller,
             refusal: Refusal::UnusedField,
@@ -96,8 +100,8 @@ pub fn my_rights(first: u32) -> Call
     requires { ⌜ kind first ≡ 5 ⌝ }
     ensures { λ r. ⌜ ((second : AnySecond) → r ≡ ofKind first second myRights) ⌝ }
 {
-    let caller = first / 4194304 % 64;
-    if first % 4194304 != 0 {
+    let caller = first / CALLER % 64;
+    if first % CALLER != 0 {
         return Call::Refused {
             caller,
             refusal: Refusal::UnusedField,
@@ -111,10 +115,10 @@ pub fn grant(first: u32) -> Call
     ensures { λ r. ⌜ ((second : AnySecond) → r ≡ ofKind first second grant) ⌝ }
 {
     Call::Grant {
-        caller: first / 4194304 % 64,
-        target: first / 65536 % 64,
-        recipient: first / 256 % 256,
-        rights: first % 256,
+        caller: first / CALLER % 64,
+        target: first / A % 64,
+        recipient: first / B % 256,
+        rights: first % B,
     }
 }
 
@@ -122,10 +126,10 @@ pub fn remove(first: u32) -> Call
     requires { ⌜ kind first ≡ 7 ⌝ }
     ensures { λ r. ⌜ ((second : AnySecond) → r ≡ ofKind first second remove) ⌝ }
 {
-    let caller = first / 4194304 % 64;
-    let target = first / 65536 % 64;
-    let b = first / 256 % 256;
-    let rights = first % 256;
+    let caller = first / CALLER % 64;
+    let target = first / A % 64;
+    let b = first / B % 256;
+    let rights = first % B;
     if b != 0 {
         return Call::Refused {
             caller,
@@ -144,9 +148,9 @@ pub fn revoke(first: u32) -> Call
     ensures { λ r. ⌜ ((second : AnySecond) → r ≡ ofKind first second revoke) ⌝ }
 {
     Call::Revoke {
-        caller: first / 4194304 % 64,
-        target: first / 65536 % 64,
-        holder: first / 256 % 256,
-        rights: first % 256,
+        caller: first / CALLER % 64,
+        target: first / A % 64,
+        holder: first / B % 256,
+        rights: first % B,
     }
 }

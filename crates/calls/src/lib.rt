@@ -11,6 +11,16 @@ use kinds::receive;
 use kinds::remove;
 use kinds::revoke;
 use kinds::send;
+use machine::KIND;
+use machine::of_calls::CALLER;
+use machine::of_calls::GRANT;
+use machine::of_calls::LOOK_UP;
+use machine::of_calls::MY_ENDPOINTS;
+use machine::of_calls::MY_RIGHTS;
+use machine::of_calls::RECEIVE;
+use machine::of_calls::REMOVE;
+use machine::of_calls::SECOND;
+use machine::of_calls::SEND;
 ghost use mathlib.Core.Path.{_≡_};
 ghost use Rattle.calls.specs.Number.{numberOf};
 ghost use Rattle.calls.specs.Apart.{apart};
@@ -105,10 +115,10 @@ pub fn number(refusal: Refusal) -> u32
 pub fn take_apart(first: u32, second: Second) -> Call
     ensures { λ r. ⌜ r ≡ apart first second ⌝ }
 {
-    let kind = first / 0x1000_0000;
-    let caller = first / 4194304 % 64;
+    let kind = first / KIND;
+    let caller = first / CALLER % 64;
     match kind {
-        15 => Call::Refused {
+        SECOND => Call::Refused {
             caller: 0,
             refusal: Refusal::Stray,
         },
@@ -116,13 +126,13 @@ pub fn take_apart(first: u32, second: Second) -> Call
             caller,
             refusal: Refusal::UnknownKind,
         },
-        1 => look_up(first, second),
-        2 => send(first, second),
-        3 => receive(first),
-        4 => my_endpoints(first),
-        5 => my_rights(first),
-        6 => grant(first),
-        7 => remove(first),
+        LOOK_UP => look_up(first, second),
+        SEND => send(first, second),
+        RECEIVE => receive(first),
+        MY_ENDPOINTS => my_endpoints(first),
+        MY_RIGHTS => my_rights(first),
+        GRANT => grant(first),
+        REMOVE => remove(first),
         _ => revoke(first),
     }
 }

@@ -2,6 +2,11 @@
 use cutting::second_at;
 use cutting::width;
 use layout::word;
+use machine::KIND;
+use machine::of_answers::CODE;
+use machine::of_calls::B;
+use machine::of_calls::RECEIVE;
+use machine::of_calls::SEND;
 ghost use mathlib.Core.Path.{_≡_};
 ghost use mathlib.Core.Bool.{cond, _&&_};
 ghost use lib.Dec.{eqb};
@@ -18,8 +23,8 @@ pub struct Counted {
 fn done(first: u32, answer: u32, kind: u32) -> u64
     ensures { λ r. ⌜ r ≡ cond (eqb (kindOf first) kind && eqb (answerCode answer) 0) 1 0 ⌝ }
 {
-    if first / 268435456 == kind {
-        if answer % 65536 == 0 {
+    if first / KIND == kind {
+        if answer % CODE == 0 {
             return 1;
         }
     }
@@ -37,9 +42,9 @@ pub fn count_calls(list: &[u32], answers: &[u32]) -> Counted
     while i < list.len() {
         let first = list[i];
         let answer = word(answers, at);
-        let e = (first / 256 % 256) as usize;
-        sent[e] += done(first, answer, 2);
-        received[e] += done(first, answer, 3);
+        let e = (first / B % 256) as usize;
+        sent[e] += done(first, answer, SEND);
+        received[e] += done(first, answer, RECEIVE);
         at += 3;
         i += width(second_at(list, i));
     }

@@ -1,7 +1,7 @@
 // What waits at the endpoints of a table.
 use layout::domains;
 use layout::endpoint_word;
-use words::KIND;
+use machine::KIND;
 ghost use mathlib.Core.Path.{_≡_};
 ghost use Rattle.machine.specs.Below.{wordsBelow};
 ghost use Rattle.machine.specs.Table.{endpoint};

@@ -1,4 +1,8 @@
 // The cutting of a list into calls. It looks at kinds only, so it can't depend on a table: no function here is lent one.
+use machine::KIND;
+use machine::of_calls::LOOK_UP;
+use machine::of_calls::SECOND;
+use machine::of_calls::SEND;
 ghost use mathlib.Core.Path.{_≡_};
 ghost use mathlib.Core.Bool.{cond};
 ghost use lib.ListN.{length};
@@ -15,16 +19,16 @@ pub enum Second {
 fn wants_second(kind: u32) -> bool
     ensures { λ r. ⌜ r ≡ wantsSecond kind ⌝ }
 {
-    kind == 1 || kind == 2
+    kind == LOOK_UP || kind == SEND
 }
 
 // The words first and next, one directly after the other, make one call of both.
 pub fn make_one_call(first: u32, next: u32) -> bool
     ensures { λ r. ⌜ r ≡ pairs first next ⌝ }
 {
-    let kind = next / 268435456;
-    if kind == 15 {
-        wants_second(first / 268435456)
+    let kind = next / KIND;
+    if kind == SECOND {
+        wants_second(first / KIND)
     } else {
         false
     }

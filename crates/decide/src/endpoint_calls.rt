@@ -1,13 +1,13 @@
 // The calls that name an endpoint: their numbers are tested, then what the table holds.
 use layout::endpoint_word;
 use layout::rights;
+use machine::KIND;
 use rules::Decision;
 use rules::access;
 use rules::access::Found;
 use rules::range::Range;
 use rules::range::of_caller;
 use rules::range::of_endpoint;
-use words::KIND;
 ghost use mathlib.Core.Path.{_≡_};
 ghost use Rattle.machine.specs.Table.{domains, endpoints};
 ghost use Rattle.machine.specs.Machine.{named};

@@ -3,6 +3,8 @@
 use layout::domains;
 use layout::endpoint_at;
 use layout::rights_at;
+use machine::of_tables::ENDPOINT_WORDS;
+use machine::of_tables::NO_RIGHT;
 use right::Rights;
 ghost use mathlib.Core.Path.{_≡_};
 ghost use Rattle.effects.specs.Effect.{performed};
@@ -17,7 +19,7 @@ pub fn new_rights(table: &mut [u32], holder: u32, target: u32, rights: u32)
         return;
     }
     if at < table.len() {
-        table[at] = 0x2000_0000 + rights;
+        table[at] = NO_RIGHT + rights;
     }
 }
 
@@ -26,7 +28,7 @@ pub fn send(table: &mut [u32], e: u32, message: u32)
 {
     let n = domains(table);
     let start = endpoint_at(n, e);
-    let end = start + 12;
+    let end = start + ENDPOINT_WORDS;
     if end <= table.len() {
         queue::send(&mut table[start..end], message);
     }
@@ -37,7 +39,7 @@ pub fn receive(table: &mut [u32], e: u32)
 {
     let n = domains(table);
     let start = endpoint_at(n, e);
-    let end = start + 12;
+    let end = start + ENDPOINT_WORDS;
     if end <= table.len() {
         queue::receive(&mut table[start..end]);
     }

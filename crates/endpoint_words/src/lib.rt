@@ -1,5 +1,7 @@
 // An endpoint's twelve words: its identity (name, info), which never changes, and its queue (waiting, lost, slots).
 // The words are lent as a part of the table. A part that is too short reads as zeros past its end, and no such word is right.
+use machine::of_tables::ENDPOINT_WORDS;
+use machine::of_tables::SLOTS;
 use words::info_word_ok;
 use words::lost_word_ok;
 use words::name_word_ok;
@@ -31,7 +33,7 @@ fn slots_ok(waiting: u32, q: &[u32]) -> bool
 {
     let mut wrong: u32 = 0;
     let mut i: u32 = 0;
-    while i < 8 {
+    while i < SLOTS {
         let slot = slot_wrong(waiting, i, q[4 + i as usize]);
         wrong = wrong | slot;
         i += 1;
@@ -55,7 +57,7 @@ fn whole_queue_ok(q: &[u32]) -> bool
 pub fn queue_ok(q: &[u32]) -> bool
     ensures { λ b. ⌜ b ≡ queueOk (now (q .entry)) ⌝ }
 {
-    if q.len() < 12 {
+    if q.len() < ENDPOINT_WORDS {
         return false;
     }
     whole_queue_ok(q)
@@ -65,7 +67,7 @@ pub fn queue_ok(q: &[u32]) -> bool
 pub fn endpoint_ok(n: u32, q: &[u32]) -> bool
     ensures { λ b. ⌜ b ≡ endpointOk n (now (q .entry)) ⌝ }
 {
-    if q.len() < 12 {
+    if q.len() < ENDPOINT_WORDS {
         return false;
     }
     let identity = identity_ok(n, q);

@@ -1,5 +1,6 @@
 // When words can be asked about a domain.
 use crate::bits::bit;
+use machine::of_tables::DOMAIN_PLACES;
 ghost use mathlib.Core.Path.{_≡_};
 ghost use Prim.Native.Nat.{_≤_};
 ghost use lib.ListN.{length};
@@ -25,7 +26,7 @@ fn bits_within(words: &[u32]) -> bool
 pub fn askable(words: &[u32], domain: u32) -> bool
     ensures { λ b. ⌜ b ≡ askable (now (words .entry)) domain ⌝ }
 {
-    if 16 < words.len() {
+    if DOMAIN_PLACES < words.len() {
         return false;
     }
     if words.len() <= domain as usize {

@@ -1,5 +1,5 @@
 // Sets of domains as words, with a bit for each member.
-use words::KIND;
+use machine::KIND;
 ghost use mathlib.Core.Path.{_≡_};
 ghost use mathlib.Core.Bool.{cond};
 ghost use Prim.Native.Nat.{_<_, _^_};

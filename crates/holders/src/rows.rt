@@ -2,6 +2,7 @@
 use crate::bits::bit;
 use crate::bits::held;
 use layout::rights_at;
+use machine::of_tables::MOST_DOMAINS;
 ghost use mathlib.Core.Path.{_≡_};
 ghost use Prim.Native.Nat.{_<_};
 ghost use lib.ListN.{length};
@@ -15,7 +16,7 @@ ghost use Rattle.holders.specs.Rows.{HasRoom, withRow};
 pub fn fillable(n: u32, size: usize, lent: usize) -> bool
     ensures { λ b. ⌜ b ≡ roomFor n size lent ⌝ }
 {
-    if 16 < n {
+    if MOST_DOMAINS < n {
         return false;
     }
     let count = n as usize;

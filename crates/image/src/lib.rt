@@ -1,11 +1,14 @@
 // A table's check over its image, its words as little-endian bytes. The words are taken out of the bytes where they stand: only
 // the loops are here, and every test of a word is crate words'.
+use machine::KIND;
+use machine::of_tables::ENDPOINT_PLACES;
+use machine::of_tables::ENDPOINT_WORDS;
+use machine::of_tables::SLOTS;
 use reading::words::word;
 use right::Rights;
 use table::Checked;
 use table::TableRefusal;
 use table::names::all_different;
-use words::KIND;
 use words::header_word_ok;
 use words::info_word_ok;
 use words::lost_word_ok;
@@ -53,7 +56,7 @@ fn length_ok(bytes: &[u8]) -> bool
     let header = nth_word(bytes, 0);
     let n = (header / 256 % 256) as usize;
     let m = (header % 256) as usize;
-    bytes.len() == 4 * (1 + n * n + 12 * m)
+    bytes.len() == 4 * (1 + n * n + ENDPOINT_WORDS * m)
 }
 
 // Place 4: every rights word is right. What is wrong is gathered in one pass without a way out, so that it takes several words at a time.
@@ -81,7 +84,7 @@ fn slots_ok(bytes: &[u8], start: usize, waiting: u32) -> bool
 {
     let mut wrong: u32 = 0;
     let mut i: u32 = 0;
-    while i < 8 {
+    while i < SLOTS {
         let slot = slot_wrong(waiting, i, nth_word(bytes, start + i as usize));
         wrong = wrong | slot;
         i += 1;
@@ -113,10 +116,10 @@ fn endpoints_ok(bytes: &[u8]) -> bool
     let n = header / 256 % 256;
     let m = (header % 256) as usize;
     let from = 1 + n as usize * n as usize;
-    let mut names = [0u32; 32];
+    let mut names = [0u32; ENDPOINT_PLACES];
     let mut e: usize = 0;
     while e < m {
-        let start = from + 12 * e;
+        let start = from + ENDPOINT_WORDS * e;
         if !endpoint_ok(bytes, start, n) {
             return false;
         }

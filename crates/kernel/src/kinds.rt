@@ -10,6 +10,20 @@ use answers::Answer;
 use answers::answer_to;
 use answers::given::refusal;
 use calls::Refusal;
+use machine::KIND;
+use machine::of_calls::A;
+use machine::of_calls::B;
+use machine::of_calls::CALLER;
+use machine::of_calls::LEAST_GRANT;
+use machine::of_calls::LEAST_LOOK_UP;
+use machine::of_calls::LEAST_MY_ENDPOINTS;
+use machine::of_calls::LEAST_MY_RIGHTS;
+use machine::of_calls::LEAST_RECEIVE;
+use machine::of_calls::LEAST_REMOVE;
+use machine::of_calls::LEAST_REVOKE;
+use machine::of_calls::LEAST_SECOND;
+use machine::of_calls::LEAST_SEND;
+use machine::of_calls::LEAST_UNKNOWN;
 use rules::Decision;
 use rules::range::Range;
 use rules::range::of_caller;
@@ -47,20 +61,20 @@ pub fn serve_two(table: &mut [u32], n: u32, m: u32, first: u32, next: u32) -> An
     requires { ⌜ pairs first next ≡ true ⌝ }
     ensures { λ a. ⌜ ((p : List ℕ) → Settled (now (table .entry)) p first (decideCall (now (table .entry)) (apart first (second.Word next))) (answerWords a) (now (table .exit)) p) ⌝ }
 {
-    let caller = first / 4194304 % 64;
-    if first < 0x2000_0000 {
-        if first % 4194304 != 0 {
+    let caller = first / CALLER % 64;
+    if first < LEAST_SEND {
+        if first % CALLER != 0 {
             return refuse(n, first, caller, Refusal::UnusedField);
         }
-        return look_up(table, n, m, first, caller, next % 0x1000_0000);
+        return look_up(table, n, m, first, caller, next % KIND);
     }
-    let a = first / 65536 % 64;
-    let e = first / 256 % 256;
-    let c = first % 256;
+    let a = first / A % 64;
+    let e = first / B % 256;
+    let c = first % B;
     if a + c != 0 {
         return refuse(n, first, caller, Refusal::UnusedField);
     }
-    send(table, n, m, first, caller, e, next % 0x1000_0000)
+    send(table, n, m, first, caller, e, next % KIND)
 }
 
 // Kinds 0 to 2: an unknown one, and those that want a second word and have none.
@@ -68,18 +82,18 @@ fn alone(n: u32, first: u32) -> Answer
     requires { ⌜ first < 805306368 ⌝ }
     ensures { λ a. ⌜ ((t p : List ℕ) → n ≡ domains t → Settled t p first (decideCall t (apart first second.Nothing)) (answerWords a) t p) ⌝ }
 {
-    let caller = first / 4194304 % 64;
-    if first < 0x1000_0000 {
+    let caller = first / CALLER % 64;
+    if first < LEAST_LOOK_UP {
         return refuse(n, first, caller, Refusal::UnknownKind);
     }
-    if first < 0x2000_0000 {
-        if first % 4194304 != 0 {
+    if first < LEAST_SEND {
+        if first % CALLER != 0 {
             return refuse(n, first, caller, Refusal::UnusedField);
         }
         return refuse(n, first, caller, Refusal::NoSecondWord);
     }
-    let a = first / 65536 % 64;
-    let c = first % 256;
+    let a = first / A % 64;
+    let c = first % B;
     if a + c != 0 {
         return refuse(n, first, caller, Refusal::UnusedField);
     }
@@ -119,17 +133,17 @@ fn on_queues(table: &mut [u32], n: u32, m: u32, first: u32) -> Answer
     requires { ⌜ first < 1342177280 ⌝ }
     ensures { λ a. ⌜ ((p : List ℕ) → Settled (now (table .entry)) p first (decideCall (now (table .entry)) (apart first second.Nothing)) (answerWords a) (now (table .exit)) p) ⌝ }
 {
-    let caller = first / 4194304 % 64;
-    if first < 0x4000_0000 {
-        let a = first / 65536 % 64;
-        let e = first / 256 % 256;
-        let c = first % 256;
+    let caller = first / CALLER % 64;
+    if first < LEAST_MY_ENDPOINTS {
+        let a = first / A % 64;
+        let e = first / B % 256;
+        let c = first % B;
         if a + c != 0 {
             return refuse(n, first, caller, Refusal::UnusedField);
         }
         return receive(table, n, m, first, caller, e);
     }
-    if first % 4194304 != 0 {
+    if first % CALLER != 0 {
         return refuse(n, first, caller, Refusal::UnusedField);
     }
     my_endpoints(table, n, first, caller)
@@ -143,20 +157,20 @@ fn on_rights(table: &mut [u32], n: u32, holders: &mut [u32], first: u32) -> Answ
     requires { ⌜ first < 2415919104 ⌝ }
     ensures { λ x. ⌜ Settled (now (table .entry)) (now (holders .entry)) first (decideCall (now (table .entry)) (apart first second.Nothing)) (answerWords x) (now (table .exit)) (now (holders .exit)) ⌝ }
 {
-    let caller = first / 4194304 % 64;
-    let a = first / 65536 % 64;
-    let b = first / 256 % 256;
-    let c = first % 256;
-    if first < 0x6000_0000 {
-        if first % 4194304 != 0 {
+    let caller = first / CALLER % 64;
+    let a = first / A % 64;
+    let b = first / B % 256;
+    let c = first % B;
+    if first < LEAST_GRANT {
+        if first % CALLER != 0 {
             return refuse(n, first, caller, Refusal::UnusedField);
         }
         return my_rights(table, n, first, caller);
     }
-    if first < 0x7000_0000 {
+    if first < LEAST_REMOVE {
         return grant(table, n, holders, first, caller, a, b, c);
     }
-    if first < 0x8000_0000 {
+    if first < LEAST_REVOKE {
         if b != 0 {
             return refuse(n, first, caller, Refusal::UnusedField);
         }
@@ -170,8 +184,8 @@ fn no_kind(n: u32, first: u32) -> Answer
     requires { ⌜ 2415919104 ≤ first ⌝ }
     ensures { λ a. ⌜ ((t p : List ℕ) → n ≡ domains t → Settled t p first (decideCall t (apart first second.Nothing)) (answerWords a) t p) ⌝ }
 {
-    if first < 0xF000_0000 {
-        let caller = first / 4194304 % 64;
+    if first < LEAST_SECOND {
+        let caller = first / CALLER % 64;
         return refuse(n, first, caller, Refusal::UnknownKind);
     }
     refuse(n, first, 0, Refusal::Stray)
@@ -184,13 +198,13 @@ pub fn serve_one(table: &mut [u32], n: u32, m: u32, holders: &mut [u32], first: 
     requires { ⌜ m ≡ endpoints (now table) ⌝ }
     ensures { λ a. ⌜ Settled (now (table .entry)) (now (holders .entry)) first (decideCall (now (table .entry)) (apart first second.Nothing)) (answerWords a) (now (table .exit)) (now (holders .exit)) ⌝ }
 {
-    if first < 0x3000_0000 {
+    if first < LEAST_RECEIVE {
         return alone(n, first);
     }
-    if first < 0x5000_0000 {
+    if first < LEAST_MY_RIGHTS {
         return on_queues(table, n, m, first);
     }
-    if first < 0x9000_0000 {
+    if first < LEAST_UNKNOWN {
         return on_rights(table, n, holders, first);
     }
     no_kind(n, first)

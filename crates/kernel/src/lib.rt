@@ -13,6 +13,7 @@ use entry::EntryRefusal;
 use entry::Ran;
 use holders::fill;
 use list::run_calls;
+use machine::of_calls::LONGEST_LIST;
 use serve::serve;
 use space::has_space;
 use space::one_a_domain;
@@ -66,7 +67,7 @@ pub enum Entered {
 pub fn enter(table: &[u32], list: &[u32], space: usize, lent: usize) -> Entered
     ensures { λ r. ⌜ enteredCode r ≡ entryCode (now (table .entry)) (now (list .entry)) space lent ⌝ }
 {
-    if 4096 < list.len() {
+    if LONGEST_LIST < list.len() {
         return Entered::Refused(EntryRefusal::ListTooLong);
     }
     let checked = check(table);

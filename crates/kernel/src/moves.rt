@@ -5,13 +5,14 @@ use answers::given::done;
 use answers::given::refusal;
 use holders::note;
 use layout::rights_at;
+use machine::KIND;
+use machine::of_tables::NO_RIGHT;
 use right::Rights;
 use rules::Decision;
 use rules::access;
 use rules::range::Range;
 use rules::range::of_grant;
 use rules::range::of_remove;
-use words::KIND;
 ghost use mathlib.Core.Path.{_≡_};
 ghost use Prim.Native.Nat.{_<_, _≤_};
 ghost use Rattle.machine.specs.Table.{domains, rights};
@@ -48,7 +49,7 @@ fn alter(table: &mut [u32], n: u32, holders: &mut [u32], holder: u32, target: u3
     ensures { λ _. ⌜ now (holders .exit) ≡ notedBy (now (holders .entry)) (NewRights holder target rights) ⌝ }
 {
     let at = rights_at(n, holder, target);
-    table[at] = 0x2000_0000 + rights;
+    table[at] = NO_RIGHT + rights;
     note(holders, holder, target, rights);
 }
 

@@ -6,13 +6,14 @@ use answers::given::done;
 use answers::given::refusal;
 use calls::Refusal;
 use layout::endpoint_at;
+use machine::KIND;
+use machine::of_tables::ENDPOINT_WORDS;
 use rules::Decision;
 use rules::access;
 use rules::access::Found;
 use rules::range::Range;
 use rules::range::of_caller;
 use rules::range::of_endpoint;
-use words::KIND;
 ghost use mathlib.Core.Path.{_≡_};
 ghost use mathlib.Core.List.{List};
 ghost use Prim.Native.Nat.{ℕ};
@@ -126,7 +127,7 @@ pub fn send(
     if let Decision::Refused(refused) = decision {
         return refusal(first, refused);
     }
-    let end = start + 12;
+    let end = start + ENDPOINT_WORDS;
     queue::send(&mut table[start..end], message);
     done(first, 0, 0)
 }
@@ -151,7 +152,7 @@ pub fn receive(table: &mut [u32], n: u32, m: u32, first: u32, caller: u32, e: u3
     }
     let message = table[start + 4];
     let lost = table[start + 3];
-    let end = start + 12;
+    let end = start + ENDPOINT_WORDS;
     queue::receive(&mut table[start..end]);
     // Taken off its kind, and not cut like the message: two words side by side that are cut alike become one read of 64 bits, which waits
     // for the write of the message's 32.

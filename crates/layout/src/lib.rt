@@ -1,8 +1,9 @@
 // Where a table's words stand, and reading them: any words will do as a table, and a word past the end reads as 0. Whoever reads
 // often reads n, the number of domains, once and hands it on. It has eight bits in a table's first word, so only eight are
 // looked at where a square of it is taken.
+use machine::KIND;
+use machine::of_tables::ENDPOINT_WORDS;
 use right::Rights;
-use words::KIND;
 ghost use mathlib.Core.Path.{_≡_};
 ghost use Prim.Native.Nat.{_+_, _%_};
 ghost use lib.ListN.{getD};
@@ -47,7 +48,7 @@ pub fn endpoint_at(n: u32, e: u32) -> usize
     ensures { λ at. ⌜ at ≡ endpointAt (n % 256) e ⌝ }
 {
     let few = (n % 256) as usize;
-    1 + few * few + 12 * e as usize
+    1 + few * few + ENDPOINT_WORDS * e as usize
 }
 
 // The rights of a holder on a target.

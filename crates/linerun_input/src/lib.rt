@@ -2,6 +2,7 @@
 // the reading of standard input by it.
 pub mod stdin;
 
+use machine::of_calls::LONGEST_LIST;
 use reading::table_input::after_table;
 use reading::table_input::no_table;
 use reading::table_input::table_wanted;
@@ -9,7 +10,7 @@ ghost use mathlib.Core.Path.{_≡_};
 ghost use Rattle.linerun_input.specs.Input.{unreadable, wanted};
 
 // The bytes of 4,097 list words: where the reading stops.
-const LIST_BYTES: usize = 16388;
+const LIST_BYTES: usize = 4 * (LONGEST_LIST + 1);
 
 // Whether the input is one of those that code 7 refuses.
 pub fn unreadable(bytes: &[u8]) -> bool

@@ -2,6 +2,8 @@
 // and for no byte more, so that the program never waits for one that can't matter.
 use crate::wanted;
 use libc::STDIN_FILENO;
+use machine::of_calls::LONGEST_LIST;
+use machine::of_tables::LONGEST_TABLE;
 ghost use Prim.Native.Nat.{_+_, _≤_};
 ghost use mathlib.Core.Path.{_≡_};
 ghost use lib.ListN.{length, take};
@@ -53,7 +55,7 @@ fn read_all(input: &mut [u8]) -> Input
 }
 
 // The most bytes that are read: the length word, 641 table words and 4,097 list words.
-pub const MOST_INPUT: usize = 18956;
+pub const MOST_INPUT: usize = 4 * (1 + LONGEST_TABLE + LONGEST_LIST + 1);
 
 // Reads standard input into a buffer of that length. Into any other nothing is read, and the answer is that more is wanted.
 // Free: which bytes come, and what stands in the buffer behind them.

@@ -6,6 +6,10 @@ use layout::domains;
 use linerun_input::unreadable;
 use linerun_text::lines::first_line;
 use lines::all_lines;
+use machine::of_answers::MOST_ANSWER_WORDS;
+use machine::of_calls::LONGEST_LIST;
+use machine::of_tables::DOMAIN_PLACES;
+use machine::of_tables::LONGEST_TABLE;
 use reading::table_input::after_table;
 use reading::table_input::read_table;
 use reading::words::fill;
@@ -21,8 +25,8 @@ fn holders_lent(table: &[u32]) -> usize
     ensures { λ k. ⌜ k ≡ min (domains (now (table .entry))) 16 ⌝ }
 {
     let n = domains(table) as usize;
-    if 16 < n {
-        return 16;
+    if DOMAIN_PLACES < n {
+        return DOMAIN_PLACES;
     }
     n
 }
@@ -36,15 +40,15 @@ pub fn report(bytes: &[u8], out: &mut [u8]) -> usize
     if unreadable(bytes) {
         return first_line(0, 7, out, 0);
     }
-    let mut table = [0u32; 641];
+    let mut table = [0u32; LONGEST_TABLE];
     let words = read_table(bytes, &mut table);
     // the longest list and one word more
-    let mut list = [0u32; 4097];
+    let mut list = [0u32; LONGEST_LIST + 1];
     let listed = fill(after_table(bytes), &mut list);
     // three words for each call of the longest list
-    let mut answers = [0u32; 12288];
+    let mut answers = [0u32; MOST_ANSWER_WORDS];
     // one word for each domain of an accepted table
-    let mut holders = [0u32; 16];
+    let mut holders = [0u32; DOMAIN_PLACES];
     let lent = holders_lent(&table[0..words]);
     let ran = run(
         &mut table[0..words],

@@ -1,6 +1,12 @@
 // A table's broken words put right in place, without ever adding a right (document 02 (k)): a broken rights word becomes one with no
 // right, and the queue of an endpoint with a broken waiting, lost or slot word is emptied. Any words will do as a table.
 use endpoint_words::queue_ok;
+use machine::of_tables::EMPTY_SLOT;
+use machine::of_tables::ENDPOINT_WORDS;
+use machine::of_tables::NO_RIGHT;
+use machine::of_tables::NONE_LOST;
+use machine::of_tables::NONE_WAITING;
+use machine::of_tables::SLOT_PLACES;
 use table::check;
 use words::rights_word_ok;
 ghost use mathlib.Core.Path.{_≡_};
@@ -10,15 +16,6 @@ ghost use Rattle.machine.specs.Table.{domains, endpoints};
 ghost use Rattle.table.specs.Checked.{Headed};
 ghost use Rattle.mended.specs.Mend.{mendedRights, mendedEndpoint, mended};
 ghost use Rattle.mending.specs.Passes.{RightsMended, EndpointsMended};
-
-// A rights word with no right, and the words of an empty queue: nothing waits, nothing was lost, a slot has no message.
-const NO_RIGHT: u32 = 0x2000_0000;
-
-const NONE_WAITING: u32 = 0x5000_0000;
-
-const NONE_LOST: u32 = 0x6000_0000;
-
-const EMPTY_SLOT: u32 = 0xF000_0000;
 
 // What becomes of a rights word.
 fn mended_rights(word: u32) -> u32
@@ -53,7 +50,7 @@ fn mend_endpoint(q: &mut [u32])
     q[2] = NONE_WAITING;
     q[3] = NONE_LOST;
     let mut i: usize = 0;
-    while i < 8 {
+    while i < SLOT_PLACES {
         q[4 + i] = EMPTY_SLOT;
         i += 1;
     }
@@ -70,8 +67,8 @@ fn mend_endpoints(table: &mut [u32])
     let from = 1 + n * n;
     let mut e: usize = 0;
     while e < m {
-        let start = from + 12 * e;
-        let end = start + 12;
+        let start = from + ENDPOINT_WORDS * e;
+        let end = start + ENDPOINT_WORDS;
         mend_endpoint(&mut table[start..end]);
         e += 1;
     }

@@ -1,6 +1,6 @@
 // An access matrix in lent words: the rights of a holder on a target among n domains, n × n sets, holder by holder.
 use layout::word;
-use words::KIND;
+use machine::KIND;
 ghost use mathlib.Core.Path.{_≡_};
 ghost use Prim.Native.Nat.{_*_, _^_, _<_, _≤_};
 ghost use lib.ListN.{length};

@@ -1,26 +1,29 @@
 // An endpoint's twelve words, lent as a part of the table: what a send and a receive make of them. Nothing here sees the
 // rest of the table. Each tests the words first: other words stay as they are, and the answer is false.
 // A word of kind k that holds p is k × KIND + p.
-use words::KIND;
+use machine::KIND;
+use machine::of_tables::EMPTY_SLOT;
+use machine::of_tables::ENDPOINT_WORDS;
+use machine::of_tables::MOST_LOST;
+use machine::of_tables::NONE_LOST;
+use machine::of_tables::NONE_WAITING;
+use machine::of_tables::SLOTS;
 ghost use mathlib.Core.Path.{_≡_};
 ghost use Prim.Native.Nat.{_+_, min};
 ghost use Rattle.machine.specs.Queue.{mostLost, sendWithSpace, sendToFull, received};
 ghost use Rattle.queue.specs.Queue.{sendable, leftBySend, receivable, leftByReceive, HasRoom, MayPushOut, MayReceive};
-
-// The largest lost count, and the largest message.
-const MOST_LOST: u32 = 268435455;
 
 // Twelve words with a capacity of 1 to 8 and at most 8 messages waiting, and a message of 28 bits. So a full queue has a
 // message to push out, and its messages stand in slots.
 fn sendable(q: &[u32], message: u32) -> bool
     ensures { λ b. ⌜ b ≡ sendable (now (q .entry)) message ⌝ }
 {
-    if q.len() != 12 {
+    if q.len() != ENDPOINT_WORDS {
         return false;
     }
     let most = q[1] % 256;
     let count = q[2] % KIND;
-    (1 <= most) & (most <= 8) & (count <= 8) & (message <= MOST_LOST)
+    (1 <= most) & (most <= SLOTS) & (count <= SLOTS) & (message <= MOST_LOST)
 }
 
 // The message fills the slot at the waiting count, and waiting rises by 1.
@@ -30,8 +33,8 @@ fn send_with_space(q: &mut [u32], message: u32)
 {
     let count = q[2] % KIND;
     let slot = 4 + count as usize;
-    q[slot] = 0xF000_0000 + message;
-    q[2] = 0x5000_0000 + (count + 1);
+    q[slot] = EMPTY_SLOT + message;
+    q[2] = NONE_WAITING + (count + 1);
 }
 
 // What a lost count rises to: one more, staying at its largest.
@@ -53,7 +56,7 @@ fn send_to_full(q: &mut [u32], message: u32)
     let lost = lost_after(count);
     take_oldest(q);
     send_with_space(q, message);
-    q[3] = 0x6000_0000 + lost;
+    q[3] = NONE_LOST + lost;
 }
 
 // A send: the waiting count and the capacity say whether there is space. The answer is the same either way.
@@ -78,11 +81,11 @@ pub fn send(q: &mut [u32], message: u32) -> bool
 fn receivable(q: &[u32]) -> bool
     ensures { λ b. ⌜ b ≡ receivable (now (q .entry)) ⌝ }
 {
-    if q.len() != 12 {
+    if q.len() != ENDPOINT_WORDS {
         return false;
     }
     let count = q[2] % KIND;
-    (1 <= count) & (count <= 8)
+    (1 <= count) & (count <= SLOTS)
 }
 
 // The oldest message goes out: the others move up, the slot that comes free is cleared, and waiting falls by 1. Slots from
@@ -98,8 +101,8 @@ fn take_oldest(q: &mut [u32])
         q[4 + i] = q[5 + i];
         i += 1;
     }
-    q[4 + last] = 0xF000_0000;
-    q[2] = 0x5000_0000 + left;
+    q[4 + last] = EMPTY_SLOT;
+    q[2] = NONE_WAITING + left;
 }
 
 // A receive: done where a message waits.

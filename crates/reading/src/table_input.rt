@@ -2,14 +2,12 @@
 use crate::bounds::least;
 use crate::words::fill;
 use crate::words::word_at;
+use machine::of_tables::LONGEST_TABLE;
 ghost use Prim.Native.Nat.{min};
 ghost use mathlib.Core.Path.{_≡_};
 ghost use lib.ListN.{length};
 ghost use Rattle.reading.specs.TableInput.{noTable, tableEnd, tableOf, afterTable, tableWanted};
 ghost use Rattle.text.specs.Write.{Fills};
-
-// The most words that a table has.
-const LONGEST_TABLE: usize = 641;
 
 // Where the table's bytes end: by the length word, or where the input ends before that.
 fn table_end(bytes: &[u8]) -> usize

@@ -1,6 +1,7 @@
 // The repair of a table from a worn card (document 02 (k)). The table is mended in a copy; where the check accepts that and the lent
 // list has room for what is altered, the words that differ go into the table, and two words for each into the list: its place and its
 // old content, from which the old table can be had back. A refusal alters nothing.
+use machine::of_tables::LONGEST_TABLE;
 use mending::mend;
 use table::check;
 ghost use mathlib.Core.Path.{_≡_};
@@ -11,9 +12,6 @@ ghost use Rattle.mended.specs.Mend.{mended, mendable};
 ghost use Rattle.repaired.specs.Changes.{differing, changes};
 ghost use Rattle.repaired.specs.Repair.{RepairPromise};
 ghost use Rattle.repair.specs.Answer.{repairedCode, repairedCount};
-
-// The most words that a table has: those of 16 domains and 32 endpoints.
-const LONGEST: usize = 641;
 
 // What a repair came to.
 pub enum Repaired {
@@ -126,9 +124,9 @@ pub fn repair(table: &mut [u32], list: &mut [u32]) -> Repaired
     ensures { λ r. ⌜ RepairPromise (now (table .entry)) (now (list .entry)) (repairedCode r) (repairedCount r) (now (table .exit)) (now (list .exit)) ⌝ }
 {
     let size = table.len();
-    if LONGEST < size {
+    if LONGEST_TABLE < size {
         return Repaired::BadFrame;
     }
-    let mut copy = [0u32; LONGEST];
+    let mut copy = [0u32; LONGEST_TABLE];
     repair_by_copy(table, &mut copy[0..size], list)
 }

@@ -1,7 +1,13 @@
 // A queue as a ring, in twelve lent words: eight places with a first place and a count, going round, so that a send and a receive
 // move no other message. Nothing here sees a table. Other than twelve words are left as they are.
+use machine::KIND;
+use machine::of_tables::EMPTY_SLOT;
+use machine::of_tables::ENDPOINT_WORDS;
+use machine::of_tables::NONE_LOST;
+use machine::of_tables::NONE_WAITING;
+use machine::of_tables::SLOT_PLACES;
+use machine::of_tables::SLOTS;
 use queue::lost_after;
-use words::KIND;
 ghost use mathlib.Core.Path.{_≡_};
 ghost use Prim.Native.Nat.{_+_, _-_, _%_};
 ghost use lib.ListN.{length};
@@ -12,21 +18,21 @@ ghost use Rattle.rings.specs.Taken.{Taken};
 fn place_from(first: u32, i: u32) -> usize
     ensures { λ at. ⌜ at ≡ placeFrom first i ⌝ }
 {
-    4 + ((first % 8 + i % 8) % 8) as usize
+    4 + ((first % SLOTS + i % SLOTS) % SLOTS) as usize
 }
 
 // The place behind a first one, going round.
 fn next_place(first: u32) -> u32
     ensures { λ r. ⌜ r ≡ (first + 1) % 8 ⌝ }
 {
-    (first % 8 + 1) % 8
+    (first % SLOTS + 1) % SLOTS
 }
 
 // The message goes behind the last; a full ring's oldest message is pushed out.
 pub fn send(ring: &mut [u32], message: u32)
     ensures { λ _. ⌜ now (ring .exit) ≡ ofTwelve (now (ring .entry)) (ringSent (now (ring .entry)) message) (now (ring .entry)) ⌝ }
 {
-    if ring.len() != 12 {
+    if ring.len() != ENDPOINT_WORDS {
         return;
     }
     let first = ring[0];
@@ -62,7 +68,7 @@ fn one_less(count: u32) -> u32
 pub fn receive(ring: &mut [u32]) -> Received
     ensures { λ r. ⌜ Taken (now (ring .entry)) r (now (ring .exit)) ⌝ }
 {
-    if ring.len() != 12 {
+    if ring.len() != ENDPOINT_WORDS {
         return Received {
             message: 0,
             lost: 0,
@@ -82,10 +88,10 @@ pub fn receive(ring: &mut [u32]) -> Received
 pub fn take_in(q: &[u32], ring: &mut [u32])
     ensures { λ _. ⌜ now (ring .exit) ≡ ofTwelve (now (q .entry)) (ofTwelve (now (ring .entry)) (ringOf (now (q .entry))) (now (ring .entry))) (now (ring .entry)) ⌝ }
 {
-    if q.len() != 12 {
+    if q.len() != ENDPOINT_WORDS {
         return;
     }
-    if ring.len() != 12 {
+    if ring.len() != ENDPOINT_WORDS {
         return;
     }
     ring[0] = 0;
@@ -93,7 +99,7 @@ pub fn take_in(q: &[u32], ring: &mut [u32])
     ring[2] = q[3] % KIND;
     ring[3] = q[1];
     let mut i: usize = 0;
-    while i < 8 {
+    while i < SLOT_PLACES {
         ring[4 + i] = q[4 + i] % KIND;
         i += 1;
     }
@@ -108,27 +114,27 @@ fn slot_out(ring: &[u32], first: u32, waits: u32, i: u32) -> u32
 {
     if i < waits {
         let at = place_from(first, i);
-        return 0xF000_0000 + ring[at] % KIND;
+        return EMPTY_SLOT + ring[at] % KIND;
     }
-    0xF000_0000
+    EMPTY_SLOT
 }
 
 // A ring is put out to an endpoint's words: the name and the info are left.
 pub fn put_out(ring: &[u32], q: &mut [u32])
     ensures { λ _. ⌜ now (q .exit) ≡ ofTwelve (now (ring .entry)) (ofTwelve (now (q .entry)) (putOutQueue (now (ring .entry)) (now (q .entry))) (now (q .entry))) (now (q .entry)) ⌝ }
 {
-    if ring.len() != 12 {
+    if ring.len() != ENDPOINT_WORDS {
         return;
     }
-    if q.len() != 12 {
+    if q.len() != ENDPOINT_WORDS {
         return;
     }
     let first = ring[0];
     let count = ring[1];
-    q[2] = 0x5000_0000 + count % KIND;
-    q[3] = 0x6000_0000 + ring[2] % KIND;
+    q[2] = NONE_WAITING + count % KIND;
+    q[3] = NONE_LOST + ring[2] % KIND;
     let mut i: u32 = 0;
-    while i < 8 {
+    while i < SLOTS {
         let slot = 4 + i as usize;
         q[slot] = slot_out(ring, first, count, i);
         i += 1;

@@ -1,6 +1,8 @@
 // The rights of up to sixteen domains as sixteen rows of sixteen small numbers, by value: row h has what the domain h holds, and
 // place g of it the rights on g. Any words will do as a table.
 use layout::rights_at;
+use machine::of_tables::MOST_DOMAINS;
+use machine::of_tables::NO_RIGHT;
 use right::Rights;
 ghost use mathlib.Core.Path.{_≡_};
 ghost use mathlib.Core.Bool.{cond};
@@ -40,7 +42,7 @@ pub fn put(rows: &mut [[u8; 16]; 16], holder: u32, target: u32, rights: u32)
 fn has_rights(n: u32, size: usize) -> bool
     ensures { λ b. ⌜ b ≡ hasRights n size ⌝ }
 {
-    if 16 < n {
+    if MOST_DOMAINS < n {
         return false;
     }
     let count = n as usize;
@@ -89,7 +91,7 @@ fn row_out(rows: &[[u8; 16]; 16], holder: u32, words: &mut [u32])
     let row = rows[h];
     let mut g: usize = 0;
     while g < words.len() {
-        words[g] = 0x2000_0000 + wide(row[g]);
+        words[g] = NO_RIGHT + wide(row[g]);
         g += 1;
     }
 }

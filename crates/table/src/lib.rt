@@ -1,8 +1,10 @@
 // The table check: it accepts or refuses a lent table, place by place.
 use crate::names::all_different;
 use endpoint_words::endpoint_ok;
+use machine::KIND;
+use machine::of_tables::ENDPOINT_PLACES;
+use machine::of_tables::ENDPOINT_WORDS;
 use right::Rights;
-use words::KIND;
 use words::header_word_ok;
 use words::rights_wrong;
 
@@ -76,7 +78,7 @@ fn length_ok(table: &[u32]) -> bool
     let header = table[0];
     let n = (header / 256 % 256) as usize;
     let m = (header % 256) as usize;
-    table.len() == 1 + n * n + 12 * m
+    table.len() == 1 + n * n + ENDPOINT_WORDS * m
 }
 
 // Place 4: every rights word is right. What is wrong is gathered in one pass without a way out, so that it takes several words at a time.
@@ -106,11 +108,11 @@ fn endpoints_ok(table: &[u32]) -> bool
     let n = header / 256 % 256;
     let m = (header % 256) as usize;
     let from = 1 + n as usize * n as usize;
-    let mut names = [0u32; 32];
+    let mut names = [0u32; ENDPOINT_PLACES];
     let mut e: usize = 0;
     while e < m {
-        let start = from + 12 * e;
-        let end = start + 12;
+        let start = from + ENDPOINT_WORDS * e;
+        let end = start + ENDPOINT_WORDS;
         if !endpoint_ok(n, &table[start..end]) {
             return false;
         }

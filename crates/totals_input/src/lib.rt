@@ -2,6 +2,7 @@
 // reading of standard input.
 pub mod stdin;
 
+use machine::of_calls::LONGEST_LIST;
 use reading::words::word_at;
 ghost use mathlib.Core.Path.{_≡_};
 ghost use Rattle.totals_input.specs.Next.{nextOf};
@@ -26,7 +27,7 @@ pub fn next_list(left: usize, bytes: &[u8]) -> Next
         return Next::Ends(7);
     }
     let words = word_at(bytes, 0) as usize;
-    if 4096 < words {
+    if LONGEST_LIST < words {
         return Next::Ends(1);
     }
     Next::Words(words)

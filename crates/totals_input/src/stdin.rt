@@ -1,6 +1,7 @@
 // Standard input, read in steps: the length word, the table, then each list together with what stands before the next. Each step
 // asks for what can't but be wanted and for no byte more, so that the program never waits for one that can't matter.
 use libc::STDIN_FILENO;
+use machine::of_calls::LONGEST_LIST;
 use reading::table_input::table_wanted;
 ghost use Prim.Native.Nat.{_+_, _≤_};
 ghost use mathlib.Core.Path.{_≡_};
@@ -9,7 +10,7 @@ ghost use Rattle.totals_input.specs.Input.{headWanted};
 ghost use Rattle.totals_input.specs.Read.{ListRead, TableRead};
 
 // The most bytes that a step reads: those of a list of 4,096 words and a length word.
-pub const MOST_READ: usize = 16388;
+pub const MOST_READ: usize = 4 * (LONGEST_LIST + 1);
 
 // What a step read: how many bytes, and whether that is fewer than were asked for, which is so where the input ended.
 pub struct Read {
@@ -38,7 +39,7 @@ fn head_wanted(left: usize) -> usize
 pub fn read_list(input: &mut [u8], words: usize, left: usize) -> Read
     ensures { λ r. ⌜ ListRead words left (now (input .exit)) r ⌝ }
 {
-    if 4096 < words {
+    if LONGEST_LIST < words {
         return Read {
             got: 0,
             short: true,

@@ -3,6 +3,7 @@ mod lines;
 
 use counting::waiting::waiting_counts;
 use lines::endpoint_lines;
+use machine::of_tables::LONGEST_TABLE;
 use reading::table_input::no_table;
 use reading::table_input::read_table;
 use totals_input::stdin::MOST_READ;
@@ -37,7 +38,7 @@ pub fn report(out: &mut [u8]) -> usize
     if no_table(&input[0..got]) {
         return last_line(0, 7, out, 0);
     }
-    let mut table = [0u32; 641];
+    let mut table = [0u32; LONGEST_TABLE];
     let words = read_table(&input[0..got], &mut table);
     report_table(&mut table[0..words], out)
 }

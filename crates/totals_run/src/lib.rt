@@ -6,6 +6,9 @@ use kernel::check;
 use layout::domains;
 use layout::endpoints;
 use list::add_words;
+use machine::of_answers::MOST_ANSWER_WORDS;
+use machine::of_calls::LONGEST_LIST;
+use machine::of_tables::DOMAIN_PLACES;
 use tally::Tally;
 use totals_input::Next;
 use totals_input::next_list;
@@ -43,9 +46,9 @@ fn run_all(table: &mut [u32], holders: &mut [u32]) -> Ran
     ensures { λ r. ⌜ AllRan (now (table .entry)) (r .count) (r .code) (r .tally) (now (table .exit)) ⌝ }
 {
     let mut input = [0u8; MOST_READ];
-    let mut list = [0u32; 4096];
+    let mut list = [0u32; LONGEST_LIST];
     // three words for each call of the longest list
-    let mut answers = [0u32; 12288];
+    let mut answers = [0u32; MOST_ANSWER_WORDS];
     let mut tally = Tally::new();
     let mut count: usize = 0;
     // the words of the list that was run last: what stands before the next one was read behind them
@@ -93,7 +96,7 @@ pub fn run_lists(table: &mut [u32]) -> Lists
     let m = endpoints(table) as usize;
     let n = domains(table) as usize;
     // one word for each domain of an accepted table
-    let mut holders = [0u32; 16];
+    let mut holders = [0u32; DOMAIN_PLACES];
     let ran = run_all(table, &mut holders[0..n]);
     let tally = ran.tally;
     Lists {

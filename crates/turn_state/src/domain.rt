@@ -1,6 +1,9 @@
 // The domains of a table and what one of them hands in. Any words will do as a table.
 use cutting::second_at;
 use cutting::width;
+use machine::KIND;
+use machine::of_calls::CALLER;
+use machine::of_calls::SECOND;
 ghost use mathlib.Core.Path.{_≡_};
 ghost use lib.Dec.{eqb};
 ghost use Rattle.machine.specs.Table as machine;
@@ -31,11 +34,11 @@ pub fn fits(table: &[u32], size: usize) -> bool
 fn is_call_of(first: u32, domain: u32) -> bool
     ensures { λ b. ⌜ b ≡ isCallOf first domain ⌝ }
 {
-    let kind = first / 268435456;
-    if kind == 15 {
+    let kind = first / KIND;
+    if kind == SECOND {
         return false;
     }
-    first / 4194304 % 64 == domain
+    first / CALLER % 64 == domain
 }
 
 // The words are exactly one call, no stray, with the domain as its caller.

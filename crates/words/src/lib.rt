@@ -1,6 +1,18 @@
 // The test of each kind of word of a table (document 01, 'The table'). Each is total, and told by the machine's definition of its
 // name. Most answer whether the word is right, and join by `&`, which leaves no branch in the loops above them; `rights_wrong` and
 // `slot_wrong` answer with the bits that are wrong, for the loops that gather them.
+use machine::KIND;
+use machine::of_tables::EMPTY_SLOT;
+use machine::of_tables::HEADER;
+use machine::of_tables::INFO;
+use machine::of_tables::LOST;
+use machine::of_tables::MOST_DOMAINS;
+use machine::of_tables::MOST_ENDPOINTS;
+use machine::of_tables::NAME;
+use machine::of_tables::NO_RIGHT;
+use machine::of_tables::RIGHTS;
+use machine::of_tables::SLOTS;
+use machine::of_tables::WAITING;
 use right::Rights;
 ghost use mathlib.Core.Path.{_≡_};
 ghost use mathlib.Core.Bool.{cond};
@@ -10,31 +22,26 @@ ghost use Rattle.machine.specs.Word.{word};
 ghost use Rattle.machine.specs.Right.{allRights};
 ghost use Rattle.machine.specs.Check.{headerWordOk, rightsWordOk, nameWordOk, infoWordOk, waitingWordOk, lostWordOk, slotWordOk};
 
-// A word's kind, bits 31–28, is its quotient by this, and what it holds besides, bits 27–0, the remainder.
-pub const KIND: u32 = 0x1000_0000;
-
-// A rights word with no right.
-const NO_RIGHT: u32 = 0x2000_0000;
-
-// A slot with no message in it.
-const EMPTY_SLOT: u32 = 0xF000_0000;
-
-// The waiting word where no message waits.
-const NONE_WAITING: u64 = 0x5000_0000;
+// The waiting word where no message waits, in 64 bits.
+const NONE_WAITING: u64 = machine::of_tables::NONE_WAITING as u64;
 
 // Word 0: kind 1, bits 27–16 zero, 1 to 16 domains, at most 32 endpoints.
 pub fn header_word_ok(w: u32) -> bool
     ensures { λ b. ⌜ b ≡ headerWordOk w ⌝ }
 {
     let n = w / 256 % 256;
-    (w / KIND == 1) & (w / 65536 % 4096 == 0) & (1 <= n) & (n <= 16) & (w % 256 <= 32)
+    (w / KIND == HEADER)
+        & (w / 65536 % 4096 == 0)
+        & (1 <= n)
+        & (n <= MOST_DOMAINS)
+        & (w % 256 <= MOST_ENDPOINTS)
 }
 
 // A rights word: kind 2, no bit set above the rights.
 pub fn rights_word_ok(w: u32) -> bool
     ensures { λ b. ⌜ b ≡ rightsWordOk w ⌝ }
 {
-    (w / KIND == 2) & (w % KIND <= Rights::ALL.bits)
+    (w / KIND == RIGHTS) & (w % KIND <= Rights::ALL.bits)
 }
 
 // The bits in which a rights word differs from one that has no right: rights alone where it is right. A loop gathers the bits of all
@@ -49,7 +56,7 @@ pub fn rights_wrong(w: u32) -> u32
 pub fn name_word_ok(w: u32) -> bool
     ensures { λ b. ⌜ b ≡ nameWordOk w ⌝ }
 {
-    (w / KIND == 3) & (w % KIND != 0)
+    (w / KIND == NAME) & (w % KIND != 0)
 }
 
 // An endpoint's info, among n domains: kind 4, bits 27–16 zero, the owner below n, the capacity 1 to 8.
@@ -57,32 +64,32 @@ pub fn info_word_ok(n: u32, w: u32) -> bool
     ensures { λ b. ⌜ b ≡ infoWordOk n w ⌝ }
 {
     let capacity = w % 256;
-    (w / KIND == 4)
+    (w / KIND == INFO)
         & (w / 65536 % 4096 == 0)
         & (w / 256 % 256 < n)
         & (1 <= capacity)
-        & (capacity <= 8)
+        & (capacity <= SLOTS)
 }
 
 // An endpoint's waiting count, at a capacity: kind 5, at most the capacity.
 pub fn waiting_word_ok(capacity: u32, w: u32) -> bool
     ensures { λ b. ⌜ b ≡ waitingWordOk capacity w ⌝ }
 {
-    (w / KIND == 5) & (w % KIND <= capacity)
+    (w / KIND == WAITING) & (w % KIND <= capacity)
 }
 
 // An endpoint's lost count: kind 6.
 pub fn lost_word_ok(w: u32) -> bool
     ensures { λ b. ⌜ b ≡ lostWordOk w ⌝ }
 {
-    w / KIND == 6
+    w / KIND == LOST
 }
 
 // The bits of a slot that have to be those of an empty one: where a message waits in it those of the kind, else all.
 fn bits_asked(waits: bool) -> u32
     ensures { λ r. ⌜ r ≡ cond waits 4026531840 4294967295 ⌝ }
 {
-    if waits { 0xF000_0000 } else { 0xFFFF_FFFF }
+    if waits { EMPTY_SLOT } else { 0xFFFF_FFFF }
 }
 
 // The bits that are wrong in slot i of an endpoint with this waiting word, none where the slot is right: of kind 15, and empty from

@@ -10,6 +10,8 @@ use kernel::enter;
 use layout::domains;
 use layout::endpoints;
 use list::run_list;
+use machine::of_tables::ENDPOINT_PLACES;
+use machine::of_tables::ENDPOINT_WORDS;
 use working_layout::names_in;
 use working_layout::owned_in;
 use working_layout::packed_in;
@@ -90,8 +92,8 @@ fn run_calls(table: &mut [u32], list: &[u32], answers: &mut [u32], holders: &mut
     requires { ⌜ length (now holders) ≡ machine.domains (now table) ⌝ }
     ensures { λ k. ⌜ AllRun (now (table .entry)) (now (list .entry)) (now (answers .entry)) k (now (answers .exit)) (now (table .exit)) (now (holders .exit)) ⌝ }
 {
-    let mut words = [0u32; 384];
-    let end = 12 * endpoints(table) as usize;
+    let mut words = [0u32; ENDPOINT_WORDS * ENDPOINT_PLACES];
+    let end = ENDPOINT_WORDS * endpoints(table) as usize;
     run_on_rings(table, &mut words[0..end], list, answers, holders)
 }
 

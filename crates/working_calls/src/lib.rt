@@ -4,6 +4,14 @@ mod kinds;
 
 use answers::Answer;
 use calls::Refusal;
+use machine::KIND;
+use machine::of_calls::A;
+use machine::of_calls::B;
+use machine::of_calls::CALLER;
+use machine::of_calls::LEAST_MY_RIGHTS;
+use machine::of_calls::LEAST_RECEIVE;
+use machine::of_calls::LEAST_SEND;
+use machine::of_calls::LEAST_UNKNOWN;
 use working_queues::look_up;
 use working_queues::refuse;
 use working_queues::send;
@@ -28,11 +36,11 @@ fn look_up_call(
 ) -> Answer
     ensures { λ a. ⌜ ((rows : Rights) (rings owned holders : List ℕ) → Served n m rows rings (namedIn m (now (names .entry)) (now (hints .entry))) owned holders first (ofKind first (second.Word next) lookUp) (answerWords a) rows rings holders) ⌝ }
 {
-    let caller = first / 4194304 % 64;
-    if first % 4194304 != 0 {
+    let caller = first / CALLER % 64;
+    if first % CALLER != 0 {
         return refuse(n, first, caller, Refusal::UnusedField);
     }
-    look_up(n, m, names, hints, first, caller, next % 0x1000_0000)
+    look_up(n, m, names, hints, first, caller, next % KIND)
 }
 
 // A send, by its two words.
@@ -46,14 +54,14 @@ fn send_call(
 ) -> Answer
     ensures { λ a. ⌜ ((packed : List ℕ) (named : ℕ → Option ℕ) (owned holders : List ℕ) → Served n m (rightsOf (now (rows .entry)) packed) (now (rings .entry)) named owned holders first (ofKind first (second.Word next) send) (answerWords a) (rightsOf (now (rows .entry)) packed) (now (rings .exit)) holders) ⌝ }
 {
-    let caller = first / 4194304 % 64;
-    let a = first / 65536 % 64;
-    let e = first / 256 % 256;
-    let c = first % 256;
+    let caller = first / CALLER % 64;
+    let a = first / A % 64;
+    let e = first / B % 256;
+    let c = first % B;
     if a + c != 0 {
         return refuse(n, first, caller, Refusal::UnusedField);
     }
-    send(n, m, rows, rings, first, caller, e, next % 0x1000_0000)
+    send(n, m, rows, rings, first, caller, e, next % KIND)
 }
 
 // A call of two words: a look up, or a send.
@@ -69,7 +77,7 @@ pub fn serve_two(
 ) -> Answer
     ensures { λ a. ⌜ ((packed owned holders : List ℕ) → Served n m (rightsOf (now (rows .entry)) packed) (now (rings .entry)) (namedIn m (now (names .entry)) (now (hints .entry))) owned holders first (ofKind first (second.Word next) (pairKind first)) (answerWords a) (rightsOf (now (rows .entry)) packed) (now (rings .exit)) holders) ⌝ }
 {
-    if first < 0x2000_0000 {
+    if first < LEAST_SEND {
         return look_up_call(n, m, names, hints, first, next);
     }
     send_call(n, m, rows, rings, first, next)
@@ -88,13 +96,13 @@ pub fn serve_one(
 ) -> Answer
     ensures { λ a. ⌜ ((named : ℕ → Option ℕ) → Served n m (rightsOf (now (rows .entry)) (now (packed .entry))) (now (rings .entry)) named (now (owned .entry)) (now (holders .entry)) first (apart first second.Nothing) (answerWords a) (rightsOf (now (rows .exit)) (now (packed .exit))) (now (rings .exit)) (now (holders .exit))) ⌝ }
 {
-    if first < 0x3000_0000 {
+    if first < LEAST_RECEIVE {
         return kinds::alone(n, first);
     }
-    if first < 0x5000_0000 {
+    if first < LEAST_MY_RIGHTS {
         return kinds::on_queues(n, m, rings, owned, first);
     }
-    if first < 0x9000_0000 {
+    if first < LEAST_UNKNOWN {
         return kinds::on_rights(n, rows, packed, holders, first);
     }
     kinds::no_kind(n, first)

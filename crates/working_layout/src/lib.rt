@@ -2,8 +2,11 @@
 // endpoints that it owns as bits; and the rows of the rights packed. Any words will do as a table.
 use layout::endpoint_at;
 use layout::endpoint_word;
+use machine::KIND;
+use machine::of_tables::ENDPOINT_WORDS;
+use machine::of_tables::MOST_DOMAINS;
+use machine::of_tables::MOST_ENDPOINTS;
 use rows::held;
-use words::KIND;
 ghost use mathlib.Core.Path.{_≡_};
 ghost use mathlib.Core.Bool.{cond};
 ghost use Prim.Native.Nat.{_%_, _^_, _<_, min};
@@ -15,11 +18,11 @@ ghost use Rattle.working_layout.specs.Layout.{hasQueues, ringsOf, queues
 fn has_queues(n: u32, m: u32, size: usize, lent: usize) -> bool
     ensures { λ b. ⌜ b ≡ hasQueues (n % 256) m size lent ⌝ }
 {
-    if 32 < m {
+    if MOST_ENDPOINTS < m {
         return false;
     }
     let end = endpoint_at(n, m);
-    (end <= size) & (lent == 12 * m as usize)
+    (end <= size) & (lent == ENDPOINT_WORDS * m as usize)
 }
 
 // The rings of the table's queues. They stay as they are where they or the table aren't of the right length.
@@ -32,9 +35,9 @@ pub fn rings_in(table: &[u32], n: u32, m: u32, rings: &mut [u32])
     let mut e: u32 = 0;
     while e < m {
         let start = endpoint_at(n, e);
-        let end = start + 12;
-        let from = 12 * e as usize;
-        let to = from + 12;
+        let end = start + ENDPOINT_WORDS;
+        let from = ENDPOINT_WORDS * e as usize;
+        let to = from + ENDPOINT_WORDS;
         rings::take_in(&table[start..end], &mut rings[from..to]);
         e += 1;
     }
@@ -49,10 +52,10 @@ pub fn rings_out(rings: &[u32], n: u32, m: u32, table: &mut [u32])
     }
     let mut e: u32 = 0;
     while e < m {
-        let place = 12 * e as usize;
-        let behind = place + 12;
+        let place = ENDPOINT_WORDS * e as usize;
+        let behind = place + ENDPOINT_WORDS;
         let first = endpoint_at(n, e);
-        let next = first + 12;
+        let next = first + ENDPOINT_WORDS;
         rings::put_out(&rings[place..behind], &mut table[first..next]);
         e += 1;
     }
@@ -62,10 +65,10 @@ pub fn rings_out(rings: &[u32], n: u32, m: u32, table: &mut [u32])
 fn at_most(m: u32) -> u32
     ensures { λ r. ⌜ r ≡ min m 32 ⌝ }
 {
-    if m < 32 {
+    if m < MOST_ENDPOINTS {
         return m;
     }
-    32
+    MOST_ENDPOINTS
 }
 
 // The endpoints' names, side by side; 0 where there is none.
@@ -130,7 +133,7 @@ pub fn packed_in(rows: &[[u8; 16]; 16]) -> [u64; 16]
 {
     let mut packed = [0u64; 16];
     let mut u: u32 = 0;
-    while u < 16 {
+    while u < MOST_DOMAINS {
         let at = u as usize;
         let low = bits(rows, u, 0);
         let high = bits(rows, u, 8);

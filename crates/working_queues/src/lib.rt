@@ -5,6 +5,7 @@ use answers::given::done;
 use answers::given::refusal;
 use calls::Refusal;
 use layout::word;
+use machine::of_tables::ENDPOINT_WORDS;
 use rows::held;
 use rules::Decision;
 use rules::access;
@@ -171,7 +172,7 @@ fn send_beyond(
     requires { ⌜ length (now rings) < 12 * e + 12 ⌝ }
     ensures { λ a. ⌜ QueueServed (sendAccess (heldIn (now (rows .entry)) caller (ringOwner (ringAt (now (rings .entry)) e))) e message) first (now (rings .entry)) (answerWords a) (now (rings .entry)) ⌝ }
 {
-    let read = word(rings, 12 * e as usize + 3);
+    let read = word(rings, ENDPOINT_WORDS * e as usize + 3);
     let held = held(rows, caller, read / 256 % 256);
     let decision = access::send(held, e, message);
     match decision {
@@ -197,8 +198,8 @@ pub fn send(
     if let Range::Outside(refused) = range {
         return refusal(first, refused);
     }
-    let start = 12 * e as usize;
-    let end = start + 12;
+    let start = ENDPOINT_WORDS * e as usize;
+    let end = start + ENDPOINT_WORDS;
     if rings.len() < end {
         return send_beyond(rings, rows, first, caller, e, message);
     }
@@ -225,7 +226,7 @@ fn receive_beyond(rings: &[u32], first: u32, caller: u32, e: u32) -> Answer
     requires { ⌜ length (now rings) < 12 * e + 12 ⌝ }
     ensures { λ a. ⌜ QueueServed (receiveAccess caller (ringOwner (ringAt (now (rings .entry)) e)) (count (ringAt (now (rings .entry)) e)) e) first (now (rings .entry)) (answerWords a) (now (rings .entry)) ⌝ }
 {
-    let start = 12 * e as usize;
+    let start = ENDPOINT_WORDS * e as usize;
     let count = word(rings, start + 1);
     let read = word(rings, start + 3);
     let decision = access::receive(caller, read / 256 % 256, count, e);
@@ -243,8 +244,8 @@ pub fn receive(n: u32, m: u32, rings: &mut [u32], first: u32, caller: u32, e: u3
     if let Range::Outside(refused) = range {
         return refusal(first, refused);
     }
-    let start = 12 * e as usize;
-    let end = start + 12;
+    let start = ENDPOINT_WORDS * e as usize;
+    let end = start + ENDPOINT_WORDS;
     if rings.len() < end {
         return receive_beyond(rings, first, caller, e);
     }

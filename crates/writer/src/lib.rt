@@ -5,6 +5,7 @@ use call_words::fits;
 use call_words::put;
 use call_words::width;
 use calls::Call;
+use machine::of_calls::LONGEST_LIST;
 ghost use mathlib.Core.Path.{_≡_};
 ghost use mathlib.Core.Bool.{true};
 ghost use mathlib.Core.List.{_++_};
@@ -58,7 +59,7 @@ pub enum Measured {
 }
 
 // The first pass, over the first n calls.
-fn measure(calls: [Call; 4096], n: usize) -> Measured
+fn measure(calls: [Call; LONGEST_LIST], n: usize) -> Measured
     requires { ⌜ n ≤ 4096 ⌝ }
     ensures { λ r. ⌜ r ≡ measured (take n calls) ⌝ }
 {
@@ -76,7 +77,7 @@ fn measure(calls: [Call; 4096], n: usize) -> Measured
 }
 
 // The second pass: the words of the first n calls, which fit and have space.
-fn put_all(calls: [Call; 4096], n: usize, list: &mut [u32])
+fn put_all(calls: [Call; LONGEST_LIST], n: usize, list: &mut [u32])
     requires { ⌜ n ≤ 4096 ⌝ }
     requires { ⌜ allFit (take n calls) ≡ true ⌝ }
     requires { ⌜ length (written (take n calls)) ≤ length (now list) ⌝ }
@@ -96,20 +97,24 @@ fn put_all(calls: [Call; 4096], n: usize, list: &mut [u32])
 fn held(count: usize) -> usize
     ensures { λ r. ⌜ r ≡ min count 4096 ⌝ }
 {
-    if count < 4096 { count } else { 4096 }
+    if count < LONGEST_LIST {
+        count
+    } else {
+        LONGEST_LIST
+    }
 }
 
 // 31: more calls than a list may have words, or words that pass that or the lent space.
 pub fn too_long(count: usize, words: usize, size: usize) -> bool
     ensures { λ r. ⌜ r ≡ tooLong count words size ⌝ }
 {
-    (4096 < count) | (4096 < words) | (size < words)
+    (LONGEST_LIST < count) | (LONGEST_LIST < words) | (size < words)
 }
 
 // The first count calls, written into the front of the list; its words past them are left. A refusal writes no word.
 // A count above 4,096 hands in calls that aren't there: 31, after 30 for a bad one among those that are. The array is 80 KB,
 // and goes by value.
-pub fn write(calls: [Call; 4096], count: usize, list: &mut [u32]) -> Written
+pub fn write(calls: [Call; LONGEST_LIST], count: usize, list: &mut [u32]) -> Written
     ensures { λ r. ⌜ WritePromise (take count calls) count (now (list .entry)) (writtenCode r) (writtenNumber r) (now (list .exit)) ⌝ }
 {
     let n = held(count);

@@ -1,0 +1,8 @@
+// Document 01, 'The calls': the answer words of a call.
+use crate::of_calls::LONGEST_LIST;
+
+// An answer's code, bits 15–0 of its first word, is the remainder by this.
+pub const CODE: u32 = 0x1_0000;
+
+// The most answer words that a list gets: three for each call.
+pub const MOST_ANSWER_WORDS: usize = 3 * LONGEST_LIST;
