@@ -8,6 +8,7 @@ use calls::Refusal;
 use layout::endpoint_at;
 use machine::KIND;
 use machine::of_tables::ENDPOINT_WORDS;
+use machine::of_tables::NONE_LOST;
 use rules::Decision;
 use rules::access;
 use rules::access::Found;
@@ -156,5 +157,5 @@ pub fn receive(table: &mut [u32], n: u32, m: u32, first: u32, caller: u32, e: u3
     queue::receive(&mut table[start..end]);
     // Taken off its kind, and not cut like the message: two words side by side that are cut alike become one read of 64 bits, which waits
     // for the write of the message's 32.
-    done(first, message % KIND, lost - 0x6000_0000)
+    done(first, message % KIND, lost - NONE_LOST)
 }

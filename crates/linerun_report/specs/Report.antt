@@ -1,5 +1,5 @@
 -- `linerun` as one definition: from the bytes read to the bytes written (document 01, 'Into firmware and onto the bench').
-use Prim.Native.Nat.{ℕ, _*_, min}
+use Prim.Native.Nat.{ℕ, _*_, _≤_, min}
 use mathlib.Core.Path.{_≡_}
 use mathlib.Core.Bool.{Bool, true, cond}
 use mathlib.Core.List.{List, [], _++_}
@@ -28,6 +28,12 @@ unfoldable pub report : List ℕ → List ℕ
 report bytes =
     cond (unreadable bytes) (firstLine 0 7)
     (outcomeLines (entry (tableOf bytes) (listOf bytes) answerSpace (holdersSpace (tableOf bytes))))
+
+-- What a run of the bytes tells, in lent words that were as the definition has them: the number of calls, of which there are no more
+-- than the longest list has words, the code and the answers, of which the lines are the report.
+pub record Tells (bytes space : List ℕ) (calls code : ℕ) (answers : List ℕ) : Type 0 where
+  pub few : calls ≤ longestList
+  pub lines : space ≡ answerSpace → report bytes ≡ allLines calls code answers
 
 -- Where no further byte is wanted, what follows alters nothing;
 abbrev pub NothingFollows : Type 0

@@ -2,10 +2,10 @@
 mod counts;
 mod sums;
 
+use choosing::run_by_length;
 use counting::waiting::waiting_counts;
 use counts::add_counts;
 use entry::Ran;
-use working::run_working;
 ghost use mathlib.Core.Path.{_≡_};
 ghost use Rattle.entry.specs.Entry.{ranCode, ranCalls};
 ghost use Rattle.tally.specs.Added.{nothing, ListAdded};
@@ -48,7 +48,7 @@ pub fn add_list(
     ensures { λ r. ⌜ ListAdded (now (table .entry)) (now (list .entry)) (now (answers .entry)) (now (holders .entry)) (ranCode (r .ran)) (ranCalls (r .ran)) (now (answers .exit)) (now (table .exit)) (now (holders .exit)) tally (r .tally) ⌝ }
 {
     let before = waiting_counts(table);
-    let ran = run_working(table, list, answers, holders);
+    let ran = run_by_length(table, list, answers, holders);
     if ran.code() != 0 {
         return Added { ran, tally };
     }

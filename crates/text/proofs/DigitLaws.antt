@@ -1,5 +1,5 @@
 -- The laws of decimal numbers: one digit at a time, and how many digits there are. Assumes nothing.
-use Prim.Native.Nat.{ℕ, zero, suc, _^_, _/_, _≤_, _<_}
+use Prim.Native.Nat.{ℕ, zero, suc, _+_, _^_, _/_, _%_, _≤_, _<_}
 use mathlib.Core.Path.{_≡_, refl, sym, ap}
 use mathlib.Core.List.{[], _∷_, _++_}
 use native.Mathlib.Nat.{pow-suc, div-lt-iff-lt-mul}
@@ -44,3 +44,11 @@ pub length-decimal : (n k : ℕ) → n < 10 ^ suc k → length (decimal n) ≤ s
 unfolding decimal
 length-decimal n k h =
     omega (arith, length-within (n / 10) (n / 10) k (tenth-lt n k h), length-append (digits (n / 10)) (lastDigit n ∷ []))
+
+-- a number below 10 is its one digit
+pub decimal-digit : (n : ℕ) → n < 10 → decimal n ≡ (48 + n) ∷ []
+unfolding decimal digitsWithin
+decimal-digit n h =
+    let none : n / 10 ≡ 0 = omega arith in
+    let itself : n % 10 ≡ n = omega arith in
+    rw (none, itself) refl

@@ -49,10 +49,25 @@ fn spell(x: u64, digits: &mut [u8]) -> usize
     at
 }
 
-// A number in decimal.
+// A number of one digit.
+fn put_digit(x: u64, out: &mut [u8], at: usize) -> usize
+    requires { ⌜ x < 10 ⌝ }
+    ensures { λ r. ⌜ Writes at (decimal x) (now (out .entry)) r (now (out .exit)) ⌝ }
+{
+    if out.len() <= at {
+        return out.len() + 1;
+    }
+    out[at] = 48 + x as u8;
+    at + 1
+}
+
+// A number in decimal. Most have one digit, which needs no array.
 pub fn put_decimal(x: u64, out: &mut [u8], at: usize) -> usize
     ensures { λ r. ⌜ Writes at (decimal x) (now (out .entry)) r (now (out .exit)) ⌝ }
 {
+    if x < 10 {
+        return put_digit(x, out, at);
+    }
     let mut digits = [0u8; 20];
     let first = spell(x, &mut digits);
     put(&digits[first..20], out, at)

@@ -13,33 +13,33 @@ use Rattle.tally.proofs.add_list.Tie as tie
 -- the list ran
 ran-list : (c : tie.Else1) → let run = c .before .before .before .before .before .before .before .before in
     let args = run .before .before .before .before .before .before .before .before .before .before .args in
-    RunOf (args .table .now) (args .list .now) (run .run-working .last .1 .1 .0) (run .run-working .last .0)
-ran-list c = run-of (c .before .before .before .before .before .before .before .before .run-working .ensures) (sym (c .before .code .ensures) ∙ c .if1 .left)
+    RunOf (args .table .now) (args .list .now) (run .run-by-length .last .1 .1 .0) (run .run-by-length .last .0)
+ran-list c = run-of (c .before .before .before .before .before .before .before .before .run-by-length .ensures) (sym (c .before .code .ensures) ∙ c .if1 .left)
 
 waiting-counts-requires : tie.Need-waiting-counts-requires
 waiting-counts-requires c κs = tt
 
-run-working-requires : tie.Need-run-working-requires
-run-working-requires c κs = tt
+run-by-length-requires : tie.Need-run-by-length-requires
+run-by-length-requires c κs = tt
 
 code-requires : tie.Need-code-requires
 code-requires c κs = tt
 
 same-length : tie.Need-same-length
-same-length c = c .before .before .before .before .before .before .before .before .run-working .kept .0
+same-length c = c .before .before .before .before .before .before .before .before .run-by-length .kept .0
 
 same-length-2 : tie.Need-same-length-2
-same-length-2 c = c .before .before .before .before .before .before .before .before .run-working .kept .1 .1 .0
+same-length-2 c = c .before .before .before .before .before .before .before .before .run-by-length .kept .1 .1 .0
 
 same-length-3 : tie.Need-same-length-3
-same-length-3 c = c .before .before .before .before .before .before .before .before .run-working .kept .1 .1 .1 .0
+same-length-3 c = c .before .before .before .before .before .before .before .before .run-by-length .kept .1 .1 .1 .0
 
 returns : tie.Need-returns
 returns c =
     let run = c .before .before .before .before .before .before .before .before in
-    let refused : ranCode (run .run-working .result) ≡ 0 → ⊥ = λ z. c .if1 .taken (c .before .code .ensures ∙ z) in
+    let refused : ranCode (run .run-by-length .result) ≡ 0 → ⊥ = λ z. c .if1 .taken (c .before .code .ensures ∙ z) in
     record {
-      run = run .run-working .ensures;
+      run = run .run-by-length .ensures;
       sentAdded = added-refused _ _ _ _ refused;
       receivedAdded = added-refused _ _ _ _ refused;
       lostAdded = added-refused _ _ _ _ refused;
@@ -49,13 +49,13 @@ add-counts-requires : tie.Need-add-counts-requires
 add-counts-requires c κs = countable (ran-list (c .before .before)) (c .before .before .before .before .before .before .before .before .before .before .before .before .before .before .waiting-counts .ensures)
 
 same-length-4 : tie.Need-same-length-4
-same-length-4 c = c .before .before .before .before .before .before .before .before .before .before .before .run-working .kept .0
+same-length-4 c = c .before .before .before .before .before .before .before .before .before .before .before .run-by-length .kept .0
 
 same-length-5 : tie.Need-same-length-5
-same-length-5 c = c .before .before .before .before .before .before .before .before .before .before .before .run-working .kept .1 .1 .0
+same-length-5 c = c .before .before .before .before .before .before .before .before .before .before .before .run-by-length .kept .1 .1 .0
 
 same-length-6 : tie.Need-same-length-6
-same-length-6 c = c .before .before .before .before .before .before .before .before .before .before .before .run-working .kept .1 .1 .1 .0
+same-length-6 c = c .before .before .before .before .before .before .before .before .before .before .before .run-by-length .kept .1 .1 .1 .0
 
 returns-2 : tie.Need-returns-2
 returns-2 c =
@@ -65,7 +65,7 @@ returns-2 c =
     let before-is = run .before .before .before .before .waiting-counts .ensures in
     let z = sym (else .before .code .ensures) ∙ else .if1 .left in
     record {
-      run = run .run-working .ensures;
+      run = run .run-by-length .ensures;
       sentAdded = added-ran r before-is _ _ _ z (λ e _. sent-is r e) (c .add-counts .ensures .sentAdded);
       receivedAdded = added-ran r before-is _ _ _ z (λ e _. received-is r e) (c .add-counts .ensures .receivedAdded);
       lostAdded = added-ran r before-is _ _ _ z (lost-is r before-is) (c .add-counts .ensures .lostAdded);
@@ -76,7 +76,7 @@ add-list-spec =
     tie.close
     (tie.spec
     waiting-counts-requires
-    run-working-requires
+    run-by-length-requires
     code-requires
     same-length
     same-length-2
