@@ -139,6 +139,7 @@ fn build() -> Result<(), Box<dyn Error>> {
         println!("cargo::rustc-cfg=clang");
         compilers.push(clang);
     }
+    println!("cargo::rustc-env=PLAIN_FLAGS={}", FLAGS.join(" "));
     println!(
         "cargo::rustc-env=PLAIN_COMPILERS={}",
         compilers.join(" and ")

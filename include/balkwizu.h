@@ -507,9 +507,7 @@ uint32_t balkwizu_table_check(const uint8_t *bytes, size_t len);
  * runs, an empty one too, leaves in word g the domains that have a right on domain g
  * now, bit h for domain h. They are kept call by call, so that whoever looks at them
  * after a run need not go through the table; balkwizu_who_reaches asks them.
- * (They came with request (h) of document 02. Calls with the six parameters of before
- * don't compile any more: a run that isn't lent these words would be one that doesn't
- * refuse them.)
+ * (They came with request (h) of document 02.)
  *
  * Codes 10 to 23 belong to single calls and stand in their answers; a call that
  * is refused doesn't end the run. 3 * list_len answer words are always enough.
@@ -558,10 +556,9 @@ uint32_t balkwizu_run(uint32_t *table, size_t table_len,
  *
  * Each call is cheaper here, taking in and putting out come on top, so that this run is
  * for long lists. From which length on it is the faster one depends on the table, the
- * calls and the processor. Measured were 42 to 663 words for a small table and 55 to
- * 1,648 for the largest: least where all calls are look ups and my rights, most where
- * they are sends and receives. `bench speed --lengths` measures it, and
- * docs/BENCHMARKS.md has what was measured.
+ * calls and the processor: from some tens of words where nearly all calls ask for
+ * rights and names to over a thousand where nearly all are sends and receives. `bench
+ * speed --lengths` measures it, and docs/BENCHMARKS.md has what was measured.
  *
  * Example:
  *

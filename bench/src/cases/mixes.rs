@@ -19,12 +19,15 @@ use crate::cases::workloads::{
 const WORDS: usize = 65_536;
 const LISTS_MAX: usize = 4096;
 
+/// Draws a few calls more, as words.
+type Calls = dyn Fn(&mut Rng) -> Vec<u32>;
+
 /// A table, and calls on it without end.
 pub struct Mix {
     pub name: String,
     pub table: Vec<u32>,
     seed: u64,
-    more: Box<dyn Fn(&mut Rng) -> Vec<u32>>,
+    more: Box<Calls>,
 }
 
 impl Mix {
@@ -57,7 +60,7 @@ fn list(words: usize, calls: &mut Peekable<impl Iterator<Item = Call>>) -> Vec<u
 
 /// The mixes on a table of n domains and m endpoints.
 pub fn mixes(seed: u64, n: usize, m: usize) -> Vec<Mix> {
-    let mix = |name: &str, table: &[u32], more: Box<dyn Fn(&mut Rng) -> Vec<u32>>| Mix {
+    let mix = |name: &str, table: &[u32], more: Box<Calls>| Mix {
         name: format!("{name}, n {n}, m {m}"),
         table: table.to_vec(),
         seed,

@@ -40,8 +40,8 @@ in spaces that are large enough, just so and too short, every word of them.
   --kernel NAME     balkwizu (default), balkwizu-working, balkwizu-by-length,
                     plain-gcc or plain-clang; or a wrong one of bench/c/wrong,
                     as wrong-faults
-  --time T          the seconds that one run, image or list may take (default
-                    10)
+  --time T          the processor seconds that one run, image or list may take
+                    (default 10)
 
 The first difference ends it, with the words that show it as `bench words` takes
 them: with as few calls and on as small a table as still differ. The kernel runs

@@ -25,7 +25,7 @@ was seen for each number of domains beside the bound.
   --cases N  histories to play (default 10,000)
   --seed S   the seed that everything is drawn from (default 1)
   --from K   the number of the first one (default 0)
-  --time T   the seconds that one may take (default 10)
+  --time T   the processor seconds that one may take (default 10)
 
 From 1,000 on every code, every kind of damage and, for each number of domains,
 a wait of as many turns must be met.

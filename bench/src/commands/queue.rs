@@ -18,7 +18,8 @@ the slots, also behind the waiting count.
   --cases N  words to try (default 100,000)
   --seed S   the seed that everything is drawn from (default 1)
   --from K   the number of the first ones (default 0)
-  --time T   the seconds that one send or receive may take (default 10)
+  --time T   the processor seconds that one send or receive may take (default
+             10)
 
 The first difference ends it. The functions run in a child process: one that
 faults, that takes longer or that ends the program is told as STOPPED.

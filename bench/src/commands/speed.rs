@@ -54,7 +54,8 @@ All kernels take turns in each of N rounds. A figure is the median of the
 rounds. A ratio is the median of the rounds' ratios, the proved kernel's time
 over that of the faster plain C kernel of the row: above 1 the proved kernel is
 slower. In brackets stand the ratios that a tenth of the rounds stay below and
-exceed. A goal is for the ratio of the check, or of the faster of the runs.
+exceed. A goal is for the check, or for the run that is meant for long lists,
+and is told of each proved run.
 Every kernel's runs are first compared with the separate machine's. The plain C
 checks words as the bytes that they are in memory; the proved check of words is
 in the archive of the crate check_export (`rt staticlib check_export`), which
@@ -68,6 +69,7 @@ Exit status: 0 measured; 1 a kernel's run or a turn differs; 2 bad usage, or a
 file that can't be read or written.
 ";
 
+const ROUNDS: u64 = 301;
 const ROUNDS_MAX: u64 = 100_000;
 
 /// The tables on which lengths are measured, by their domains and endpoints.
@@ -88,12 +90,9 @@ pub fn command(line: &[OsString]) -> Result<bool, String> {
     }
     options.no_file()?;
     let outs = ["--record", "--svg"].map(|name| options.path(name));
-    for out in outs.into_iter().flatten() {
-        // Known before all is measured.
-        output::write_file(out, "")?;
-    }
+    may_write(&options)?; // known before all is measured
     let mut session = Session {
-        rounds: rounds(options.number("--rounds")?)?,
+        rounds: options.within("--rounds", ROUNDS, ROUNDS_MAX)?,
         seed: options.number("--seed")?.unwrap_or(1),
         rows: Vec::new(),
     };
@@ -108,6 +107,22 @@ pub fn command(line: &[OsString]) -> Result<bool, String> {
         output::write_file(out, &session.run(time)?.to_string())?;
     }
     Ok(right)
+}
+
+/// That what is measured can be written where it is to go.
+fn may_write(options: &Options) -> Result<(), String> {
+    let (record, svg) = (options.path("--record"), options.path("--svg"));
+    let read: Vec<&Path> = options.files.iter().map(|file| &**file).collect();
+    for (option, out) in [("--record", record), ("--svg", svg)] {
+        out.map_or(Ok(()), |out| output::may_write(option, out, &read))?;
+    }
+    output::may_write_both(("--record", record), ("--svg", svg))?;
+    let with_rows = ["--all", "--by-kind", "--lengths", "--growth"];
+    let turns_alone = options.has("--turns") && !with_rows.iter().any(|flag| options.has(flag));
+    match record.is_some() && svg.is_none() && turns_alone {
+        true => Err("the table of turns alone can't be kept".to_string()),
+        false => Ok(()),
+    }
 }
 
 /// The picture of the rows that it is made of.
@@ -129,6 +144,7 @@ fn merge(options: &Options) -> Result<bool, String> {
     {
         return Err("--merge takes the files of runs and --svg, nothing else".to_string());
     }
+    may_write(options)?;
     let runs = options.files.iter().map(|file| read_run(file));
     let runs = runs.collect::<Result<Vec<Run>, String>>()?;
     let rows = side_by_side(&runs)?;
@@ -156,14 +172,6 @@ fn mark() -> Result<String, String> {
         "{:016x}",
         bytes.iter().fold(0xCBF2_9CE4_8422_2325, add)
     ))
-}
-
-/// The number of rounds that is asked for, where it is one that can be run.
-fn rounds(asked: Option<u64>) -> Result<usize, String> {
-    match asked.unwrap_or(301) {
-        rounds @ 1..=ROUNDS_MAX => Ok(rounds as usize),
-        other => Err(format!("--rounds takes 1 to 100,000, not {other}")),
-    }
 }
 
 /// What is wrong with the first lists of a length.
@@ -204,14 +212,11 @@ impl Session {
             ("seed", self.seed.to_string()),
         ];
         let made = made.map(|(name, what)| (name.to_string(), what)).to_vec();
-        match self.rows.is_empty() {
-            true => Err("the table of turns alone can't be kept".to_string()),
-            false => Ok(Run {
-                time,
-                made,
-                rows: self.rows,
-            }),
-        }
+        Ok(Run {
+            time,
+            made,
+            rows: self.rows,
+        })
     }
 
     /// The table of checks and of the four mixes.
@@ -325,12 +330,23 @@ impl Session {
 mod tests {
     use super::*;
 
+    /// Nothing is measured, and no file is emptied, where what is asked for can't be done.
     #[test]
-    fn rounds_that_cannot_be_run_are_refused() {
-        assert_eq!(rounds(None), Ok(301));
-        assert_eq!(rounds(Some(ROUNDS_MAX)), Ok(100_000));
-        assert!(rounds(Some(0)).unwrap_err().ends_with("not 0"));
-        assert!(rounds(Some(ROUNDS_MAX + 1)).is_err());
+    fn what_cannot_be_measured_or_kept_is_refused_first() {
+        let folder = crate::scratch::Folder::make("speed").unwrap();
+        let file = folder.path().join("run");
+        fs::write(&file, "kept").unwrap();
+        let told = |line: &[&str]| {
+            let line: Vec<OsString> = line.iter().map(OsString::from).collect();
+            command(&line).unwrap_err()
+        };
+        let run = file.to_str().unwrap();
+        assert!(told(&["--record", run, "--rounds", "0"]).ends_with("not 0"));
+        assert!(told(&["--rounds", "100001"]).contains("1 to 100000"));
+        assert!(told(&["--record", run, "--svg", run]).contains("a file each"));
+        assert!(told(&["--turns", "--record", run]).contains("turns alone"));
+        assert!(told(&["--merge", run, "--svg", run]).contains("overwrite"));
+        assert_eq!(fs::read_to_string(&file).unwrap(), "kept");
     }
 
     #[test]
@@ -345,7 +361,6 @@ mod tests {
         assert_eq!(run.made.len(), 6);
         assert!(run.made.contains(&("seed".to_string(), "7".to_string())));
         assert_eq!(read(&run.to_string()), Ok(run));
-        assert!(session(Vec::new()).run("now".to_string()).is_err());
     }
 
     #[test]

@@ -20,7 +20,7 @@ kind that takes none gets one, or it is of another kind than 15.
   --cases N  tables and lists to try (default 20,000)
   --seed S   the seed that everything is drawn from (default 1)
   --from K   the number of the first one (default 0)
-  --time T   the seconds that one list may take (default 10)
+  --time T   the processor seconds that one list may take (default 10)
 
 The first difference ends it, with the table before the call and the call's
 words as `bench words` takes them. The step runs in a child process: one that

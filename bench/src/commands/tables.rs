@@ -21,7 +21,7 @@ for each table that gives them all.
   --cases N  tables to try (default 20,000)
   --seed S   the seed that they are drawn from (default 1)
   --from K   the number of the first one (default 0)
-  --time T   the seconds that one may take (default 10)
+  --time T   the processor seconds that one may take (default 10)
 
 From 10,000 on everything that is tried for must be met.
 

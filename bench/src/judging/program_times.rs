@@ -10,15 +10,14 @@ use std::process::{Command, Stdio};
 
 use crate::output;
 
-/// How the plain C programs are compiled.
-pub const FLAGS: [&str; 6] = [
-    "-std=c11",
-    "-O3",
-    "-Wall",
-    "-Wextra",
-    "-Werror",
-    "-pedantic",
-];
+/// How the plain C is compiled, here as by the build: each word an option.
+const FLAGS: &str = env!("PLAIN_FLAGS");
+
+/// The level of optimisation among these.
+pub fn level() -> &'static str {
+    let level = FLAGS.split(' ').find(|flag| flag.starts_with("-O"));
+    level.unwrap_or("without optimisation")
+}
 
 /// The plain C kernel and what its programs share, which this program carries with it: it
 /// knows no folder.
@@ -41,7 +40,7 @@ pub fn compiled(folder: &Path, (name, source): Plain) -> Result<PathBuf, String>
     }
     let sources = [own.as_str(), "plain_run.c", "plain_check.c"];
     let status = Command::new("gcc")
-        .args(FLAGS)
+        .args(FLAGS.split(' '))
         .args(sources.map(|source| folder.join(source)))
         .arg("-o")
         .arg(&program)

@@ -248,11 +248,11 @@ pub fn median_row(like: &[&Row]) -> Row {
 
 /// What two runs don't have in common of how they were made.
 fn differently_made(one: &Run, other: &Run) -> Option<String> {
-    if one.made == other.made {
-        return None;
-    }
-    let pairs = one.made.iter().zip(&other.made);
-    let (of_one, of_other) = pairs.into_iter().find(|(a, b)| a != b)?;
+    let nothing = ("nothing told".to_string(), "nothing told".to_string());
+    let of = |run: &Run, place: usize| run.made.get(place).unwrap_or(&nothing).clone();
+    let mut places = 0..one.made.len().max(other.made.len());
+    let place = places.find(|&place| of(one, place) != of(other, place))?;
+    let (of_one, of_other) = (of(one, place), of(other, place));
     Some(format!(
         "runs of different {}: {} ({}) and {} ({})",
         of_one.0, of_one.1, one.time, of_other.1, other.time
@@ -339,6 +339,9 @@ pub mod tests {
         changed.made[0].1 = "Xeon".to_string();
         let told = "runs of different processor: EPYC (1) and Xeon (2)";
         assert_eq!(wrong(changed), told);
+        let mut less = other.clone();
+        less.made.clear();
+        assert!(wrong(less).starts_with("runs of different processor: EPYC (1) and nothing told"));
         for alter in [
             |run: &mut Run| drop(run.rows.pop()),
             |run: &mut Run| run.rows[0].name = "c".to_string(),

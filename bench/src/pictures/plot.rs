@@ -3,6 +3,7 @@
 //! ten; by domains and endpoints they begin at zero.
 
 use crate::judging::rows::Row;
+use crate::pictures::sheet::grouped;
 use crate::pictures::svg::{Drawing, Style, INK, LINE, QUIET};
 
 /// Panels stand in columns of so many.
@@ -230,14 +231,6 @@ fn time_in_words(nanoseconds: f64) -> String {
         0.0 => "0".to_string(),
         few if few < 1000.0 => format!("{few} ns"),
         many => format!("{} µs", many / 1000.0),
-    }
-}
-
-/// A number with a comma between thousands.
-fn grouped(number: u64) -> String {
-    match number {
-        0..=999 => number.to_string(),
-        _ => format!("{},{:03}", grouped(number / 1000), number % 1000),
     }
 }
 

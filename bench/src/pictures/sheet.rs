@@ -84,7 +84,7 @@ impl Row {
 }
 
 /// A number with its digits in threes.
-fn grouped(number: impl Into<u128>) -> String {
+pub fn grouped(number: impl Into<u128>) -> String {
     let digits = number.into().to_string();
     let mut text = String::new();
     for (place, digit) in digits.chars().enumerate() {

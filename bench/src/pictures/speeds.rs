@@ -166,6 +166,7 @@ mod tests {
     use crate::cases::workloads::workloads;
     use crate::judging::lengths::at;
     use crate::judging::timing::subjects;
+    use crate::kernels::boundary::HAS_WORDS_CHECK;
 
     fn cells(line: &str) -> usize {
         line.matches('|').count()
@@ -183,8 +184,9 @@ mod tests {
     fn the_table_has_a_row_for_each_subject_and_a_cell_for_each_title() {
         let workloads = workloads(1);
         let subjects = subjects(&workloads);
-        assert_eq!(subjects.len(), 14);
-        for subject in &subjects[..3] {
+        let of_words = if HAS_WORDS_CHECK { 2 } else { 0 };
+        assert_eq!(subjects.len(), 14 + of_words);
+        for subject in &subjects[..3 + of_words] {
             let row = row(subject, &Measured::of(subject, 1));
             assert_eq!(cells(&row), columns(&head(1, 1)), "{row}");
         }

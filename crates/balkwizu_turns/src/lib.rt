@@ -1,5 +1,5 @@
 // Calls handed in one by one and served in turn (document 02 (m)), for C, as target/staticlib/libbalkwizu_turns.a. It is an archive
-// beside the kernel's own: a turn serves a call by the kernel's step, and in one archive with it the run of a list was slower.
+// beside the kernel's own, so that a firmware without turns doesn't link the step that a turn serves a call by.
 // The state is 1 + 17 n words that the caller lends, n the table's number of domains: the place of the turn, then for each domain
 // how many of its words are pending, and sixteen words.
 ghost use mathlib.Core.Path.{_≡_};

@@ -1,5 +1,5 @@
-// What linetotals reads: the table, then each list with its length in words before it. What stands before a list says, and the
-// reading of standard input.
+// What linetotals reads: the table, then each list with its length in words before it. What the bytes before a list
+// say, and the reading of standard input.
 pub mod stdin;
 
 use machine::of_calls::LONGEST_LIST;

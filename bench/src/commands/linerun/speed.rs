@@ -8,7 +8,7 @@ use reference::cut;
 use reference::words::to_bytes;
 
 use crate::cases::workloads::{by_kind, workloads};
-use crate::judging::program_times::{compiled, median, timed, Plain, FLAGS};
+use crate::judging::program_times::{compiled, level, median, timed, Plain};
 use crate::line::explain::counted;
 use crate::output::say;
 use crate::scratch::Folder;
@@ -55,7 +55,7 @@ pub fn measure(program: &Path, rounds: usize) -> Result<bool, String> {
     say!(
         "{} of {RUNS} runs each, processor time of a run, user and system. Plain C by gcc {}.\n",
         counted(rounds, "round"),
-        FLAGS[1]
+        level()
     );
     say!("| Input | calls | plain C, µs | linerun, µs | over plain C | beyond no call |");
     say!("|---|---:|---:|---:|---:|---:|");

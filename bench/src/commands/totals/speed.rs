@@ -11,7 +11,7 @@ use reference::words::to_bytes;
 
 use crate::cases::sheets::long_inputs;
 use crate::cases::workloads::Workload;
-use crate::judging::program_times::{compiled, median, timed, Plain, FLAGS};
+use crate::judging::program_times::{compiled, level, median, timed, Plain};
 use crate::line::explain::counted;
 use crate::output::say;
 use crate::scratch::Folder;
@@ -30,7 +30,7 @@ pub fn measure(program: &Path, lists: usize, rounds: usize) -> Result<bool, Stri
         LIST_WORDS_MAX,
         bytes as f64 / 1e9,
         counted(rounds, "round"),
-        FLAGS[1]
+        level()
     );
     say!("| Lists | cat, s | plain C, s | linetotals, s | GB/s | over cat | over plain C |");
     say!("|---|---:|---:|---:|---:|---:|---:|");
