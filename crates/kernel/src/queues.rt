@@ -27,7 +27,7 @@ ghost use Rattle.calls.specs.declared.Call.the-variants.{LookUp, Send, Receive}
 ghost use Rattle.rules.specs.Access.{foundOf};
 ghost use Rattle.kernel.specs.Settled.{Settled};
 
-// So many endpoints are a few: up to these all names are looked at in a fixed time.
+// So many endpoints are a few: up to these all names are looked at.
 const FEW: u32 = 8;
 
 // The first endpoint that has the name, of a few: all are looked at, from the last to the first. Which of them has it is as good as

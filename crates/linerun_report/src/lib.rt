@@ -1,5 +1,5 @@
 // What linerun answers to what it read: the program without its reading and writing.
-use choosing::run_by_length;
+use kernel::run;
 use layout::domains;
 use linerun_input::unreadable;
 use machine::of_calls::LONGEST_LIST;
@@ -45,7 +45,7 @@ pub fn answer(bytes: &[u8], answers: &mut [u32]) -> Told
     // one word for each domain of an accepted table
     let mut holders = [0u32; DOMAIN_PLACES];
     let lent = holders_lent(&table[0..words]);
-    let ran = run_by_length(
+    let ran = run(
         &mut table[0..words],
         &list[0..listed],
         answers,

@@ -52,8 +52,8 @@ part-holders-lent-end c = search needs
 holders-lent-requires : tie.Need-holders-lent-requires
 holders-lent-requires c κs = search needs
 
-sub-run-by-length : tie.Need-sub-run-by-length
-sub-run-by-length c = search needs
+sub-run : tie.Need-sub-run
+sub-run c = search needs
 
 part-table-start : tie.Need-part-table-start
 part-table-start c = search needs
@@ -61,17 +61,17 @@ part-table-start c = search needs
 part-table-end : tie.Need-part-table-end
 part-table-end c = search needs
 
-sub-run-by-length-2 : tie.Need-sub-run-by-length-2
-sub-run-by-length-2 c = search needs
+sub-run-2 : tie.Need-sub-run-2
+sub-run-2 c = search needs
 
-part-run-by-length-start : tie.Need-part-run-by-length-start
-part-run-by-length-start c = search needs
+part-run-start : tie.Need-part-run-start
+part-run-start c = search needs
 
-part-run-by-length-end : tie.Need-part-run-by-length-end
-part-run-by-length-end c = search needs
+part-run-end : tie.Need-part-run-end
+part-run-end c = search needs
 
-sub-run-by-length-3 : tie.Need-sub-run-by-length-3
-sub-run-by-length-3 c = search needs
+sub-run-3 : tie.Need-sub-run-3
+sub-run-3 c = search needs
 
 part-holders-start : tie.Need-part-holders-start
 part-holders-start c = search needs
@@ -79,8 +79,8 @@ part-holders-start c = search needs
 part-holders-end : tie.Need-part-holders-end
 part-holders-end c = search needs
 
-run-by-length-requires : tie.Need-run-by-length-requires
-run-by-length-requires c κs = search needs
+run-requires : tie.Need-run-requires
+run-requires c κs = search needs
 
 calls-requires : tie.Need-calls-requires
 calls-requires c κs = search needs
@@ -107,8 +107,8 @@ returns-2 c =
     let list = list-part bytes refl (rw (after .after-table .ensures) at (filled .fill .ensures)) in
     let holders = lent-part (tableOf bytes) (lent .holders-lent .ensures ∙ ap (λ (t : List ℕ). min (domains t) 16) table) in
     record {
-      few = omega (arith, ran-few (ran .run-by-length .ensures), calls);
-      lines = λ space. report-ran bytes readable table list holders (rw space at (ran .run-by-length .ensures)) calls (c .code .ensures);
+      few = omega (arith, ran-few (ran .run .ensures), calls);
+      lines = λ space. report-ran bytes readable table list holders (rw space at (ran .run .ensures)) calls (c .code .ensures);
     }
 
 pub answer-spec : {M : Type 1} → statement M
@@ -126,16 +126,16 @@ answer-spec =
     part-holders-lent-start
     part-holders-lent-end
     holders-lent-requires
-    sub-run-by-length
+    sub-run
     part-table-start
     part-table-end
-    sub-run-by-length-2
-    part-run-by-length-start
-    part-run-by-length-end
-    sub-run-by-length-3
+    sub-run-2
+    part-run-start
+    part-run-end
+    sub-run-3
     part-holders-start
     part-holders-end
-    run-by-length-requires
+    run-requires
     calls-requires
     code-requires
     same-length
