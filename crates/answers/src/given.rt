@@ -3,14 +3,17 @@ use crate::Answer;
 use crate::head;
 use crate::refused;
 use calls::Refusal;
+use rules::range::Range;
+use rules::range::of_refused;
 ghost use mathlib.Core.Path.{_≡_};
 ghost use mathlib.Core.Bool.{cond};
 ghost use mathlib.Core.List.{[], _∷_};
 ghost use lib.Dec.{eqb};
 ghost use lib.ListN.{length};
 ghost use Rattle.machine.specs.Call.{Call.one};
-ghost use Rattle.machine.specs.Machine.{answerWord};
+ghost use Rattle.machine.specs.Machine.{answerWord, code, Decision.refused};
 ghost use Rattle.calls.specs.Number.{numberOf};
+ghost use Rattle.rules.specs.Range.{refusedNumbers};
 ghost use Rattle.answers.specs.Answer.{answerWords};
 
 // The answer to a call, given by its first word, that is refused.
@@ -19,6 +22,17 @@ pub fn refusal(first: u32, refusal: Refusal) -> Answer
 {
     let head = head(first);
     refused(head, refusal)
+}
+
+// The answer to a call that is refused without a table: 12 may come before its own number.
+pub fn refuse(n: u32, first: u32, caller: u32, number: Refusal) -> Answer
+    ensures { λ a. ⌜ answerWords a ≡ answerWord (one first) (code (refusedNumbers n caller number (refused (numberOf number)))) ∷ 0 ∷ 0 ∷ [] ⌝ }
+{
+    let range = of_refused(n, caller, number);
+    if let Range::Outside(refused) = range {
+        return refusal(first, refused);
+    }
+    refusal(first, number)
 }
 
 // The answer to one that is done, with its data words.

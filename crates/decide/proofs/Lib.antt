@@ -1,3 +1,2 @@
 -- Laws that the proofs of several functions cite.
-pub mod Reading
 pub mod Scans

@@ -8,7 +8,7 @@ use native.Mathlib.Numerals.{add-one}
 use native.Mathlib.Omega.{arith}
 use Rattle.machine.specs.Below.{firstBelow}
 use Rattle.machine.proofs.Below.{below-or-last}
-use Rattle.decide.proofs.Scans.{none-more, found}
+use Rattle.rules.proofs.Scans.{none-more, found}
 
 -- none passes
 none-below : (p : ℕ → Bool) (k : ℕ) → ((i : ℕ) → i < k → p i ≡ false) → firstBelow k p ≡ none

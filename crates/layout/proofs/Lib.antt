@@ -1,2 +1,3 @@
--- What is proved beside the functions: the laws of places.
+-- What is proved beside the functions: the laws of places, and what is read by them.
 pub mod Places
+pub mod Reading

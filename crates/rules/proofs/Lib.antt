@@ -3,3 +3,4 @@ pub mod Guards
 pub mod Passed
 pub mod Places
 pub mod Readings
+pub mod Scans

@@ -10,7 +10,7 @@ use lib.ListN.{getD}
 use borrow.Author.Count.{falls}
 use borrow.Author.Tests.{eq-eqb, ne-eqb}
 use Rattle.machine.specs.Below.{firstBelow}
-use Rattle.decide.proofs.Scans.{none-more, found}
+use Rattle.rules.proofs.Scans.{none-more, found}
 use Rattle.rules.specs.Access.{foundOf}
 use borrow.Author.Needs.{needs}
 use Rattle.working_queues.proofs.find.Statement.{statement}

@@ -13,7 +13,7 @@ use Rattle.machine.specs.Table.{endpoint, endpoints}
 use Rattle.machine.specs.Queue as queue
 use Rattle.machine.specs.Machine.{named}
 use Rattle.rules.specs.Access.{foundOf}
-use Rattle.decide.proofs.Reading.{name-is}
+use Rattle.layout.proofs.Reading.{name-is}
 use Rattle.decide.proofs.Scans.{none-more, found}
 use Rattle.decide.proofs.endpoint_calls.find.Statement.{statement}
 use Rattle.decide.proofs.endpoint_calls.find.Tie as tie

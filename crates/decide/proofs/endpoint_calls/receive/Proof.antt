@@ -6,7 +6,7 @@ use Rattle.rules.specs.Range.{callNumbers}
 use Rattle.rules.specs.Access.{receiveAccess, accessBy}
 use Rattle.rules.proofs.Guards.{outside, within}
 use Rattle.rules.proofs.Places.{decided}
-use Rattle.decide.proofs.Reading.{owner-is, waiting-is}
+use Rattle.layout.proofs.Reading.{owner-is, waiting-is}
 use Rattle.decide.proofs.endpoint_calls.receive.Statement.{statement}
 use Rattle.decide.proofs.endpoint_calls.receive.Tie as tie
 

@@ -7,7 +7,7 @@ use Rattle.rules.specs.Range.{callNumbers}
 use Rattle.rules.specs.Access.{sendAccess, accessBy}
 use Rattle.rules.proofs.Guards.{outside, within}
 use Rattle.rules.proofs.Places.{decided}
-use Rattle.decide.proofs.Reading.{rights-are, owner-is}
+use Rattle.layout.proofs.Reading.{rights-are, owner-is}
 use Rattle.decide.proofs.endpoint_calls.send.Statement.{statement}
 use Rattle.decide.proofs.endpoint_calls.send.Tie as tie
 

@@ -5,7 +5,7 @@ use Rattle.rules.specs.Range.{callNumbers}
 use Rattle.rules.specs.Access.{revokeAccess, accessBy}
 use Rattle.rules.proofs.Guards.{outside, within}
 use Rattle.rules.proofs.Places.{decided}
-use Rattle.decide.proofs.Reading.{rights-are}
+use Rattle.layout.proofs.Reading.{rights-are}
 use Rattle.decide.proofs.rights_calls.revoke.Statement.{statement}
 use Rattle.decide.proofs.rights_calls.revoke.Tie as tie
 

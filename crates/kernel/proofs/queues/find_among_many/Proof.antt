@@ -15,8 +15,8 @@ use Rattle.machine.specs.Table.{endpoint, endpoints}
 use Rattle.machine.specs.Queue as queue
 use Rattle.machine.specs.Machine.{named}
 use Rattle.rules.specs.Access.{foundOf}
-use Rattle.decide.proofs.Reading.{name-is}
-use Rattle.decide.proofs.Scans.{none-more, found}
+use Rattle.layout.proofs.Reading.{name-is}
+use Rattle.rules.proofs.Scans.{none-more, found}
 use Rattle.kernel.proofs.Within.{endpoint-in}
 use Rattle.kernel.proofs.queues.find_among_many.Statement.{statement}
 use Rattle.kernel.proofs.queues.find_among_many.Tie as tie

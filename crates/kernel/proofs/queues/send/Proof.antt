@@ -14,7 +14,7 @@ use Rattle.rules.specs.Range.{callNumbers}
 use Rattle.rules.specs.Access.{sendAccess, accessBy}
 use Rattle.rules.proofs.Guards.{outside, within}
 use Rattle.rules.proofs.Places.{decided}
-use Rattle.decide.proofs.Reading.{owner-is}
+use Rattle.layout.proofs.Reading.{owner-is}
 use Rattle.effects.proofs.Words.{sent-back}
 use Rattle.rules.proofs.Passed.{passed}
 use Rattle.kernel.proofs.Within.{in-endpoint, endpoint-in, owner-in}
