@@ -6,19 +6,18 @@ use mathlib.Core.Logic.{_⊎_, inl, inr, _↔_}
 use mathlib.Core.Bool.{Bool, true, false, not, _&&_}
 use mathlib.Core.List.{List, [], _∷_}
 use native.Mathlib.Omega.{arith}
-use lib.Arith.{lt-of-le-ne, mod-mul}
+use lib.Arith.{mod-mul}
 use lib.Dec.{eqb, lit<}
 use borrow.Author.Tests.{eqb-true, eqb-false, eq-eqb, ne-eqb}
 use Rattle.machine.specs.Word.{kind, caller, fieldA, fieldB, fieldC}
-use Rattle.machine.specs.Call.{Kind, kindOf, Kind.unknown, unusedFields, allZero, wantsSecond, hasSecond, wordPlaces}
-use Rattle.calls.specs.Apart.{whole, ofKind, apart}
+use Rattle.machine.specs.Call.{Kind, kindOf, unusedFields, allZero, hasSecond}
+use Rattle.calls.specs.Apart.{needsSecond, whole, ofKind, apart}
 use Rattle.cutting.specs.Cutting.{callOf}
 use Rattle.calls.specs.declared.Call.{Call}
 use Rattle.calls.specs.declared.Call.the-variants.{Refused}
-use Rattle.calls.specs.declared.Refusal.the-variants.{UnusedField, NoSecondWord}
+use Rattle.calls.specs.declared.Refusal.the-variants.{UnknownKind, UnusedField, NoSecondWord}
 use Rattle.cutting.specs.declared.Second.{Second}
 use Rattle.cutting.specs.declared.Second.the-variants.{Nothing}
-use Rattle.cutting.proofs.CutAt.{first-of}
 
 abbrev pub total : List ℕ → ℕ
 total [] = 0
@@ -49,37 +48,35 @@ digits x a b c e = ((λ z. omega arith), (λ z. omega arith))
 pub no-field : (w : ℕ) → (w % 4194304 ≡ 0) ↔ (total (fieldA w ∷ fieldB w ∷ fieldC w ∷ []) ≡ 0)
 no-field w = digits (w % 4194304) (fieldA w) (fieldB w) (fieldC w) (low-bits w)
 
-module _ (w n : ℕ) (is : kind w ≡ n) where
-  pub unused : (s : Second) (k : Kind) (next : Call)
-      → (total (unusedFields k w) ≡ 0 → ⊥)
-      → Refused (caller w) UnusedField ≡ whole w s k next
-  unfolding whole wordPlaces
-  unused s k next h = rw (first-of w s, all-zero, ne-eqb _ _ h)
+-- what the places 13 and 14 come to: 13 refuses, neither does, or 14 does
+module _ (w : ℕ) (s : Second) (k : Kind) (next : Call) where
+  pub unused : (total (unusedFields k w) ≡ 0 → ⊥) → Refused (caller w) UnusedField ≡ whole w s k next
+  unfolding whole
+  unused h = rw (all-zero, ne-eqb _ _ h)
 
-  pub no-second : (k : Kind) (next : Call)
-      → total (unusedFields k w) ≡ 0
-      → wantsSecond n ≡ true
-      → Refused (caller w) NoSecondWord ≡ whole w Nothing k next
-  unfolding whole wordPlaces hasSecond
-  no-second k next h wants = rw (first-of w Nothing, is, all-zero, eq-eqb _ _ h, wants)
-
-  pub fine : (s : Second) (k : Kind) (next : Call)
-      → total (unusedFields k w) ≡ 0
-      → (wantsSecond n && not (hasSecond (callOf w s))) ≡ false
+  pub fine : total (unusedFields k w) ≡ 0
+      → (needsSecond k && not (hasSecond (callOf w s))) ≡ false
       → next ≡ whole w s k next
-  unfolding whole wordPlaces
-  fine s k next h second = rw (first-of w s, is, all-zero, eq-eqb _ _ h, second)
+  unfolding whole
+  fine h second = rw (all-zero, eq-eqb _ _ h, second)
+
+pub no-second : (w : ℕ) (k : Kind) (next : Call)
+    → total (unusedFields k w) ≡ 0
+    → needsSecond k ≡ true
+    → Refused (caller w) NoSecondWord ≡ whole w Nothing k next
+unfolding whole hasSecond
+no-second w k next h wants = rw (all-zero, eq-eqb _ _ h, wants)
 
 -- a call goes by its kind
-pub of-kind : (w n : ℕ) (s : Second) → kind w ≡ n → ofKind w s (kindOf n) ≡ apart w s
+pub of-kind : {n : ℕ} (w : ℕ) (s : Second) → kind w ≡ n → ofKind w s (kindOf n) ≡ apart w s
 unfolding apart
-of-kind w n s is = ap (λ (k : ℕ). ofKind w s (kindOf k)) (sym is)
+of-kind w s is = ap (λ (k : ℕ). ofKind w s (kindOf k)) (sym is)
 
 -- kinds 9 to 14 are unknown
-pub unknown-kind : (n : ℕ) → 9 ≤ n → n < 15 → kindOf n ≡ unknown
-unfolding kindOf
-unknown-kind n low high =
-    let differs : (k : ℕ) → (n ≡ k → ⊥) → eqb n k ≡ false = ne-eqb n in
+pub unknown-kind : (w : ℕ) (s : Second) → 9 ≤ kind w → kind w < 15 → Refused (caller w) UnknownKind ≡ apart w s
+unfolding apart ofKind kindOf
+unknown-kind w s low high =
+    let differs : (k : ℕ) → (kind w ≡ k → ⊥) → eqb (kind w) k ≡ false = ne-eqb (kind w) in
     rw (
       differs 1 (omega arith),
       differs 2 (omega arith),
@@ -92,16 +89,22 @@ unknown-kind n low high =
       differs 15 (omega arith),
     )
 
--- one after the other: what is at least k and isn't k is above k
-pub past : {k n : ℕ} → k ≤ n → (n ≡ k → ⊥) → k < n
-past low d = lt-of-le-ne low (λ e. d (sym e))
+-- what a match leaves to its last arm when those before it are the kinds 15, 0 and 1 to 7, in this order
+abbrev pub Others : ℕ → Type 0
+Others n =
+    ((((((((Unit × (n ≡ 15 → ⊥)) × (n ≡ 0 → ⊥)) × (n ≡ 1 → ⊥)) × (n ≡ 2 → ⊥)) × (n ≡ 3 → ⊥)) × (n ≡ 4 → ⊥))
+    × (n ≡ 5 → ⊥))
+    × (n ≡ 6 → ⊥))
+    × (n ≡ 7 → ⊥)
 
--- 8 is the one kind left when 0 to 7 and 9 to 15 are gone
-pub eight-left : (w : ℕ)
-    → w < 2 ^ 32
-    → 8 ≤ kind w
-    → (kind w ≡ 15 → ⊥)
-    → (kind w < 9) ⊎ (15 ≤ kind w)
-    → kind w ≡ 8
-eight-left w fits low d (inl h) = omega arith
-eight-left w fits low d (inr h) = absurd (d (omega arith))
+from-four : (n : ℕ) → (n ≡ 0 → ⊥) → (n ≡ 1 → ⊥) → (n ≡ 2 → ⊥) → (n ≡ 3 → ⊥) → 4 ≤ n
+from-four n d0 d1 d2 d3 = omega arith
+
+from-eight : (n : ℕ) → 4 ≤ n → (n ≡ 4 → ⊥) → (n ≡ 5 → ⊥) → (n ≡ 6 → ⊥) → (n ≡ 7 → ⊥) → 8 ≤ n
+from-eight n low d4 d5 d6 d7 = omega arith
+
+-- with 9 to 14 gone too, 8 is the one kind left
+pub eight-left : (w : ℕ) → w < 2 ^ 32 → Others (kind w) → (kind w < 9) ⊎ (15 ≤ kind w) → kind w ≡ 8
+eight-left w fits (((((((((_, d15), d0), d1), d2), d3), d4), d5), d6), d7) (inl h) =
+    omega (arith, from-eight (kind w) (from-four (kind w) d0 d1 d2 d3) d4 d5 d6 d7)
+eight-left w fits (((((((((_, d15), d0), d1), d2), d3), d4), d5), d6), d7) (inr h) = absurd (d15 (omega arith))

@@ -1,6 +1,7 @@
 -- A call taken apart: what it asks for, or its refusal by one of the places that need no table: 10, 11, 13 and 14, in this
 -- order (document 01, 'The calls' and 'Where each number is checked').
 use Prim.Native.Nat.{ℕ}
+use mathlib.Core.Bool.{Bool, true, false, cond, not, _&&_}
 use Rattle.machine.specs.Word.{kind, caller, fieldA, fieldB, fieldC}
 use Rattle.machine.specs.Call as machine
 use Rattle.machine.specs.Call.{Kind.lookUp, Kind.send, Kind.receive, Kind.myEndpoints, Kind.myRights, Kind.grant, Kind.remove, Kind.revoke, Kind.stray, Kind.unknown}
@@ -10,10 +11,24 @@ use Rattle.calls.specs.declared.Refusal.the-variants.{Stray, UnknownKind
 use Rattle.cutting.specs.Cutting.{callOf}
 use Rattle.cutting.specs.declared.Second.{Second}
 
--- the places 13 and 14, which every known kind has
+-- the kinds of call that want a second word
+unfoldable pub needsSecond : machine.Kind → Bool
+needsSecond lookUp = true
+needsSecond send = true
+needsSecond receive = false
+needsSecond myEndpoints = false
+needsSecond myRights = false
+needsSecond grant = false
+needsSecond remove = false
+needsSecond revoke = false
+needsSecond stray = false
+needsSecond unknown = false
+
+-- the places 13 and 14, which every known kind has: the kind's unused fields are zero, and the second word that it wants is there
 unfoldable pub whole : ℕ → Second → machine.Kind → Call → Call
 whole w s k next =
-    machine.wordPlaces k (callOf w s) (Refused (caller w) UnusedField) (Refused (caller w) NoSecondWord) next
+    cond (not (machine.allZero (machine.unusedFields k w))) (Refused (caller w) UnusedField)
+    (cond (needsSecond k && not (machine.hasSecond (callOf w s))) (Refused (caller w) NoSecondWord) next)
 
 -- a call of a kind: its caller and the fields that the kind uses; a stray has no caller, and 0 stands in its place
 unfoldable pub ofKind : ℕ → Second → machine.Kind → Call

@@ -9,13 +9,12 @@ use machine::of_calls::A;
 use machine::of_calls::B;
 use machine::of_calls::CALLER;
 ghost use mathlib.Core.Path.{_≡_};
-ghost use Rattle.machine.specs.Word.{kind};
 ghost use Rattle.machine.specs.Call.{Kind.lookUp, Kind.send, Kind.receive, Kind.myEndpoints, Kind.myRights, Kind.grant, Kind.remove, Kind.revoke};
 ghost use Rattle.cutting.specs.declared.Second.{Second as AnySecond};
 ghost use Rattle.calls.specs.Apart.{ofKind};
 
+// Returns the look up that the words ask for, or its refusal by 13 or 14.
 pub fn look_up(first: u32, second: Second) -> Call
-    requires { ⌜ kind first ≡ 1 ⌝ }
     ensures { λ r. ⌜ r ≡ ofKind first second lookUp ⌝ }
 {
     let caller = first / CALLER % 64;
@@ -37,8 +36,8 @@ pub fn look_up(first: u32, second: Second) -> Call
     }
 }
 
+// Returns the send that the words ask for, or its refusal by 13 or 14.
 pub fn send(first: u32, second: Second) -> Call
-    requires { ⌜ kind first ≡ 2 ⌝ }
     ensures { λ r. ⌜ r ≡ ofKind first second send ⌝ }
 {
     let caller = first / CALLER % 64;
@@ -64,9 +63,9 @@ pub fn send(first: u32, second: Second) -> Call
     }
 }
 
-// A call of the other kinds wants no second word: it comes to the same whatever stands there.
+// Returns the receive that the word asks for, or its refusal by 13. This kind and those below want no second word: a call of one
+// comes to the same whatever stands there.
 pub fn receive(first: u32) -> Call
-    requires { ⌜ kind first ≡ 3 ⌝ }
     ensures { λ r. ⌜ ((second : AnySecond) → r ≡ ofKind first second receive) ⌝ }
 {
     let caller = first / CALLER % 64;
@@ -82,8 +81,8 @@ pub fn receive(first: u32) -> Call
     Call::Receive { caller, endpoint }
 }
 
+// Returns the call for the caller's endpoints that the word asks for, or its refusal by 13.
 pub fn my_endpoints(first: u32) -> Call
-    requires { ⌜ kind first ≡ 4 ⌝ }
     ensures { λ r. ⌜ ((second : AnySecond) → r ≡ ofKind first second myEndpoints) ⌝ }
 {
     let caller = first / CALLER % 64;
@@ -96,8 +95,8 @@ pub fn my_endpoints(first: u32) -> Call
     Call::MyEndpoints { caller }
 }
 
+// Returns the call for the caller's rights that the word asks for, or its refusal by 13.
 pub fn my_rights(first: u32) -> Call
-    requires { ⌜ kind first ≡ 5 ⌝ }
     ensures { λ r. ⌜ ((second : AnySecond) → r ≡ ofKind first second myRights) ⌝ }
 {
     let caller = first / CALLER % 64;
@@ -110,8 +109,8 @@ pub fn my_rights(first: u32) -> Call
     Call::MyRights { caller }
 }
 
+// Returns the grant that the word asks for: it uses every field, so nothing refuses it here.
 pub fn grant(first: u32) -> Call
-    requires { ⌜ kind first ≡ 6 ⌝ }
     ensures { λ r. ⌜ ((second : AnySecond) → r ≡ ofKind first second grant) ⌝ }
 {
     Call::Grant {
@@ -122,8 +121,8 @@ pub fn grant(first: u32) -> Call
     }
 }
 
+// Returns the remove that the word asks for, or its refusal by 13.
 pub fn remove(first: u32) -> Call
-    requires { ⌜ kind first ≡ 7 ⌝ }
     ensures { λ r. ⌜ ((second : AnySecond) → r ≡ ofKind first second remove) ⌝ }
 {
     let caller = first / CALLER % 64;
@@ -143,8 +142,8 @@ pub fn remove(first: u32) -> Call
     }
 }
 
+// Returns the revoke that the word asks for: it uses every field, so nothing refuses it here.
 pub fn revoke(first: u32) -> Call
-    requires { ⌜ kind first ≡ 8 ⌝ }
     ensures { λ r. ⌜ ((second : AnySecond) → r ≡ ofKind first second revoke) ⌝ }
 {
     Call::Revoke {

@@ -1,6 +1,6 @@
 // The calls of documents 01 and 02, taken apart without a table: what a call asks for, as one choice among its kinds, or the refusal
 // by a place that needs no table (10, 11, 13 and 14). Crate rules puts 12, which needs one, between 11 and 13.
-mod kinds;
+pub mod kinds;
 
 use cutting::Second;
 use kinds::grant;
@@ -89,7 +89,7 @@ pub enum Call {
     },
 }
 
-// The paper's number of a refusal.
+// Returns the paper's number of a refusal.
 pub fn number(refusal: Refusal) -> u32
     ensures { λ r. ⌜ r ≡ numberOf refusal ⌝ }
 {
@@ -111,7 +111,7 @@ pub fn number(refusal: Refusal) -> u32
     }
 }
 
-// A call of one or two words taken apart. Any words will do: what the cutting of a list gives is a special case.
+// Takes a call of one or two words apart. Any words will do: what the cutting of a list gives is a special case.
 pub fn take_apart(first: u32, second: Second) -> Call
     ensures { λ r. ⌜ r ≡ apart first second ⌝ }
 {

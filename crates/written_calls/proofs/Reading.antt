@@ -6,13 +6,13 @@ use mathlib.Core.Bool.{Bool, true, false, cond, false≢true}
 use mathlib.Core.List.{List, [], _∷_, _++_, map}
 use Rattle.machine.specs.Word.{kind, word}
 use Rattle.machine.specs.Call as machine
-use Rattle.machine.specs.Call.{pairs, cut, wantsSecond, first, kindOf, unusedFields, allZero, hasSecond, secondPayload, wordPlaces}
+use Rattle.machine.specs.Call.{pairs, cut, wantsSecond, kindOf, unusedFields, allZero, hasSecond, secondPayload}
 use Rattle.machine.proofs.Bools.{and-left, and-right, and-intro}
 use Rattle.machine.proofs.Cut.{cut-last, cut-one, cut-two}
 use Rattle.cutting.specs.Cutting.{callOf}
 use Rattle.cutting.specs.declared.Second.{Second}
 use Rattle.cutting.specs.declared.Second.the-variants.{Nothing, Word}
-use Rattle.calls.specs.Apart.{whole, ofKind, apart}
+use Rattle.calls.specs.Apart.{needsSecond, whole, ofKind, apart}
 use Rattle.calls.specs.declared.Call.{Call}
 use Rattle.calls.specs.declared.Call.the-variants.{LookUp, Send, Receive, MyEndpoints, MyRights, Grant, Remove, Revoke, Refused}
 use Rattle.written_calls.specs.declared.Fields.{Fields}
@@ -32,7 +32,7 @@ taken-of w (Word v) = refl
 
 -- a first word that holds the fields of a call that fits is taken apart into the call
 apart-back : (c : Call) (w : ℕ) → fits c ≡ true → Holds w (fieldsOf c) → apart w (secondOf (fieldsOf c)) ≡ c
-unfolding fits withinBits fieldsOf apart ofKind whole wordPlaces kindOf first unusedFields allZero wantsSecond hasSecond secondPayload
+unfolding fits withinBits fieldsOf apart ofKind whole needsSecond kindOf unusedFields allZero wantsSecond hasSecond secondPayload
 apart-back (LookUp u x) w h r =
     simp (r .kind, r .caller, r .a, r .b, r .c, second-holds x (bounds (fieldsOf (LookUp u x)) h .second))
 apart-back (Send u e m) w h r =

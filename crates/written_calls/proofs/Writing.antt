@@ -10,7 +10,7 @@ use borrow.Author.Tests.{lt-ltb, ne-eqb, eqb-true, eqb-false}
 use lib.Arith.{mod-mul}
 use lib.Dec.{eqb, lit<}
 use Rattle.machine.specs.Word.{kind, payload, caller, fieldA, fieldB, fieldC, word}
-use Rattle.machine.specs.Call.{Kind, pairs, cut, wantsSecond, unusedFields, allZero, hasSecond, secondPayload, wordPlaces}
+use Rattle.machine.specs.Call.{Kind, pairs, cut, wantsSecond, unusedFields, allZero, hasSecond, secondPayload}
 use Rattle.machine.specs.Call.{Kind.lookUp, Kind.send, Kind.receive, Kind.myEndpoints, Kind.myRights, Kind.grant, Kind.remove, Kind.revoke}
 use Rattle.machine.proofs.Bools.{and-left, and-right, and-intro}
 use Rattle.machine.proofs.Cut.{cut-last, cut-one, cut-two}
@@ -18,8 +18,7 @@ use Rattle.machine.proofs.Decide.{kind-elim}
 use Rattle.cutting.specs.Cutting.{callOf}
 use Rattle.cutting.specs.declared.Second.{Second}
 use Rattle.cutting.specs.declared.Second.the-variants.{Nothing, Word}
-use Rattle.cutting.proofs.CutAt.{first-of}
-use Rattle.calls.specs.Apart.{whole, ofKind, apart}
+use Rattle.calls.specs.Apart.{needsSecond, whole, ofKind, apart}
 use Rattle.calls.specs.declared.Call.{Call}
 use Rattle.calls.specs.declared.Call.the-variants.{Refused}
 use Rattle.calls.specs.declared.Refusal.the-variants.{UnusedField, NoSecondWord}
@@ -134,12 +133,13 @@ module _ (w : ℕ) (s : Second) (from : FromCut w s) where
   -- a call past the places 13 and 14, which holds the fields of its words
   module _ (n : ℕ) (is : kind w ≡ n) (k : Kind) (next : Call) where
     past-both : eqb n 0 ≡ false
+        → needsSecond k ≡ wantsSecond n
         → (allZero (unusedFields k w) ≡ true → hasSecond (callOf w s) ≡ wantsSecond n → fieldsOf next ≡ fieldsIn w s)
         → past (whole w s k next) ≡ true
         → Back w s (whole w s k next)
-    unfolding whole wordPlaces past ofTheFour
-    past-both some same =
-        rw (first-of w s)
+    unfolding whole past ofTheFour
+    past-both some wants same =
+        rw (wants, sym is)
         (go (allZero (unusedFields k w)) refl (wantsSecond (kind w) && not (hasSecond (callOf w s))) refl)
       where
         go : (b : Bool) → allZero (unusedFields k w) ≡ b → (l : Bool) → (wantsSecond (kind w) && not (hasSecond (callOf w s))) ≡ l
@@ -153,17 +153,17 @@ module _ (w : ℕ) (s : Second) (from : FromCut w s) where
 
   -- each kind: its unused fields are zero, and where it wants no second word there is none
   by-kind : past (apart w s) ≡ true → Back w s (apart w s)
-  unfolding apart ofKind fieldsOf unusedFields wantsSecond past ofTheFour
+  unfolding apart ofKind fieldsOf unusedFields wantsSecond needsSecond past ofTheFour
   by-kind =
       kind-elim (kind w) (λ k. past (ofKind w s k) ≡ true → Back w s (ofKind w s k))
-      (λ e. past-both 1 e lookUp _ refl (λ z h. let (a, b, c) = three-zero _ _ _ z in simp (e, a, b, c)))
-      (λ e. past-both 2 e send _ refl (λ z h. let (a, c) = two-zero _ _ z in simp (e, a, c)))
-      (λ e. past-both 3 e receive _ refl (λ z h. let (a, c) = two-zero _ _ z in simp (e, a, c, no-payload w s h)))
-      (λ e. past-both 4 e myEndpoints _ refl (λ z h. let (a, b, c) = three-zero _ _ _ z in simp (e, a, b, c, no-payload w s h)))
-      (λ e. past-both 5 e myRights _ refl (λ z h. let (a, b, c) = three-zero _ _ _ z in simp (e, a, b, c, no-payload w s h)))
-      (λ e. past-both 6 e grant _ refl (λ z h. simp (e, no-payload w s h)))
-      (λ e. past-both 7 e remove _ refl (λ z h. let b = one-zero _ z in simp (e, b, no-payload w s h)))
-      (λ e. past-both 8 e revoke _ refl (λ z h. simp (e, no-payload w s h)))
+      (λ e. past-both 1 e lookUp _ refl refl (λ z h. let (a, b, c) = three-zero _ _ _ z in simp (e, a, b, c)))
+      (λ e. past-both 2 e send _ refl refl (λ z h. let (a, c) = two-zero _ _ z in simp (e, a, c)))
+      (λ e. past-both 3 e receive _ refl refl (λ z h. let (a, c) = two-zero _ _ z in simp (e, a, c, no-payload w s h)))
+      (λ e. past-both 4 e myEndpoints _ refl refl (λ z h. let (a, b, c) = three-zero _ _ _ z in simp (e, a, b, c, no-payload w s h)))
+      (λ e. past-both 5 e myRights _ refl refl (λ z h. let (a, b, c) = three-zero _ _ _ z in simp (e, a, b, c, no-payload w s h)))
+      (λ e. past-both 6 e grant _ refl refl (λ z h. simp (e, no-payload w s h)))
+      (λ e. past-both 7 e remove _ refl refl (λ z h. let b = one-zero _ z in simp (e, b, no-payload w s h)))
+      (λ e. past-both 8 e revoke _ refl refl (λ z h. simp (e, no-payload w s h)))
       (λ _ p. absurd (false≢true p))
       (λ p. absurd (false≢true p))
 

@@ -3,8 +3,8 @@
 use mathlib.Core.Path.{refl}
 use native.Mathlib.Omega.{arith}
 use borrow.Author.Needs.{needs}
-use Rattle.machine.specs.Call.{unusedFields, wantsSecond, Kind.receive}
-use Rattle.calls.specs.Apart.{ofKind}
+use Rattle.machine.specs.Call.{unusedFields, Kind.receive}
+use Rattle.calls.specs.Apart.{needsSecond, ofKind}
 use Rattle.calls.proofs.Apart.{unused, fine}
 use Rattle.calls.proofs.kinds.receive.Statement.{statement}
 use Rattle.calls.proofs.kinds.receive.Tie as tie
@@ -14,12 +14,11 @@ add-if1 c = search needs
 
 returns : tie.Need-returns
 unfolding ofKind unusedFields
-returns c second =
-    unused (c .before .args .first) 3 (c .before .pre) second receive _ (λ e. c .if1 .taken (omega arith))
+returns c second = unused _ _ receive _ (λ e. c .if1 .taken (omega arith))
 
 returns-2 : tie.Need-returns-2
-unfolding ofKind unusedFields wantsSecond
-returns-2 c second = fine (c .before .args .first) 3 (c .before .pre) second receive _ (omega arith) refl
+unfolding ofKind unusedFields needsSecond
+returns-2 c second = fine _ _ receive _ (omega arith) refl
 
 pub receive-spec : {M : Type 1} → statement M
 receive-spec = tie.close (tie.spec add-if1 returns returns-2)

@@ -2,20 +2,19 @@
 -- Assumes nothing.
 use mathlib.Core.Path.{refl}
 use native.Mathlib.Omega.{arith}
-use Rattle.machine.specs.Call.{unusedFields, wantsSecond, Kind.remove}
-use Rattle.calls.specs.Apart.{ofKind}
+use Rattle.machine.specs.Call.{unusedFields, Kind.remove}
+use Rattle.calls.specs.Apart.{needsSecond, ofKind}
 use Rattle.calls.proofs.Apart.{unused, fine}
 use Rattle.calls.proofs.kinds.remove.Statement.{statement}
 use Rattle.calls.proofs.kinds.remove.Tie as tie
 
 returns : tie.Need-returns
 unfolding ofKind unusedFields
-returns c second =
-    unused (c .before .args .first) 7 (c .before .pre) second remove _ (λ e. c .if1 .taken (omega arith))
+returns c second = unused _ _ remove _ (λ e. c .if1 .taken (omega arith))
 
 returns-2 : tie.Need-returns-2
-unfolding ofKind unusedFields wantsSecond
-returns-2 c second = fine (c .before .args .first) 7 (c .before .pre) second remove _ (omega arith) refl
+unfolding ofKind unusedFields needsSecond
+returns-2 c second = fine _ _ remove _ (omega arith) refl
 
 pub remove-spec : {M : Type 1} → statement M
 remove-spec = tie.close (tie.spec returns returns-2)

@@ -1,15 +1,15 @@
 -- `calls::kinds::revoke` meets its contract: it uses every field, so nothing is left to test.
 -- Assumes nothing.
 use mathlib.Core.Path.{refl}
-use Rattle.machine.specs.Call.{unusedFields, wantsSecond, Kind.revoke}
-use Rattle.calls.specs.Apart.{ofKind}
+use Rattle.machine.specs.Call.{unusedFields, Kind.revoke}
+use Rattle.calls.specs.Apart.{needsSecond, ofKind}
 use Rattle.calls.proofs.Apart.{fine}
 use Rattle.calls.proofs.kinds.revoke.Statement.{statement}
 use Rattle.calls.proofs.kinds.revoke.Tie as tie
 
 returns : tie.Need-returns
-unfolding ofKind unusedFields wantsSecond
-returns c second = fine (c .args .first) 8 (c .pre) second revoke _ refl refl
+unfolding ofKind unusedFields needsSecond
+returns c second = fine _ _ revoke _ refl refl
 
 pub revoke-spec : {M : Type 1} → statement M
 revoke-spec = tie.close (tie.spec returns)

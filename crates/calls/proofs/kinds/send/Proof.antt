@@ -3,8 +3,8 @@
 use mathlib.Core.Path.{refl}
 use native.Mathlib.Omega.{arith}
 use borrow.Author.Needs.{needs}
-use Rattle.machine.specs.Call.{unusedFields, hasSecond, secondPayload, wantsSecond, Kind.send}
-use Rattle.calls.specs.Apart.{ofKind}
+use Rattle.machine.specs.Call.{unusedFields, hasSecond, secondPayload, Kind.send}
+use Rattle.calls.specs.Apart.{needsSecond, ofKind}
 use Rattle.calls.proofs.Apart.{unused, no-second, fine}
 use Rattle.calls.proofs.kinds.send.Statement.{statement}
 use Rattle.calls.proofs.kinds.send.Tie as tie
@@ -14,8 +14,7 @@ add-if1 c = search needs
 
 returns : tie.Need-returns
 unfolding ofKind unusedFields
-returns c =
-    unused (c .before .args .first) 2 (c .before .pre) (c .before .args .second) send _ (λ e. c .if1 .taken (omega arith))
+returns c = unused _ _ send _ (λ e. c .if1 .taken (omega arith))
 
 enum-known-second : tie.Need-enum-known-second
 enum-known-second c = search needs
@@ -24,16 +23,14 @@ enum-told : tie.Need-enum-told
 enum-told c = search needs
 
 returns-2 : tie.Need-returns-2
-unfolding ofKind unusedFields hasSecond secondPayload wantsSecond
+unfolding ofKind unusedFields hasSecond secondPayload needsSecond
 returns-2 c =
-    let start = c .before .before .before .before in
-    rw (c .before .second .given .1) (fine (start .args .first) 2 (start .pre) _ send _ (omega arith) refl)
+    rw (c .before .second .given .1) (fine _ _ send _ (omega arith) refl)
 
 returns-3 : tie.Need-returns-3
-unfolding ofKind unusedFields wantsSecond
+unfolding ofKind unusedFields needsSecond
 returns-3 c =
-    let start = c .before .before .before in
-    rw (c .enum-told .given .1) (no-second (start .args .first) 2 (start .pre) send _ (omega arith) refl)
+    rw (c .enum-told .given .1) (no-second _ send _ (omega arith) refl)
 
 pub send-spec : {M : Type 1} → statement M
 send-spec = tie.close (tie.spec add-if1 returns enum-known-second enum-told returns-2 returns-3)
