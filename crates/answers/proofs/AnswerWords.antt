@@ -1,10 +1,10 @@
 -- The answer words, as the code makes them: the first of the call's first word, the data by digits. Assumes nothing.
-use mathlib.Core.Path.{_≡_, sym, ap, _∙_}
+use mathlib.Core.Path.{_≡_, sym, ap, ap₂, _∙_}
 use mathlib.Core.Bool.{Bool, true, false, cond}
 use mathlib.Core.List.{List, [], _∷_}
 use Prim.Native.Nat.{ℕ, _+_, _*_, _-_, _%_, _^_, _<_, _≤_}
 use native.Mathlib.Nat.{add-zero, le-refl, mod-eq-of-lt, div-add-mod'}
-use native.Mathlib.Decide.{decLt}
+use native.Mathlib.Decide.{ℕ-discrete}
 use native.Mathlib.Omega.{arith}
 use lib.Arith.{mod-mul}
 use lib.Dec.{eqb, ltb, lit<}
@@ -14,11 +14,11 @@ use Rattle.machine.specs.Word.{kind, payload, caller}
 use Rattle.machine.specs.Table.{domains, endpoints, rightsAt, endpointAt, rights, endpoint}
 use Rattle.machine.specs.Queue.{owner}
 use Rattle.machine.specs.Call.{first, Call.one}
-use Rattle.machine.specs.Machine.{ownedBits, rightsBits, shownCaller, answerWord, Decision.receives, Decision.listsEndpoints, Decision.listsRights}
+use Rattle.machine.specs.Machine.{ownedBits, rightsBits, shownCaller, answerWord}
 use Rattle.machine.specs.Below.{sumBelow}
 use Rattle.machine.proofs.Below.{sum-same}
 use Rattle.layout.proofs.Places.{eight-bits}
-use Rattle.answers.specs.Answer.{headOf, readable, shown}
+use Rattle.answers.specs.Answer.{headOf, hasEndpoints, hasRow, shown}
 use Rattle.answers.specs.Eight.{Eight}
 use Rattle.answers.proofs.Digits.{digitSum, digits-end}
 
@@ -26,36 +26,37 @@ use Rattle.answers.proofs.Digits.{digitSum, digits-end}
 pub same-head : {h k x y : ℕ} → h ≡ k → h ∷ x ∷ y ∷ [] ≡ k ∷ x ∷ y ∷ []
 same-head {h} {k} {x} {y} e = ap (λ (w : ℕ). w ∷ x ∷ y ∷ []) e
 
+-- and in the data words at most
+pub same-data : {h x y x′ y′ : ℕ} → x ≡ x′ → y ≡ y′ → h ∷ x ∷ y ∷ [] ≡ h ∷ x′ ∷ y′ ∷ []
+same-data {h} p q = ap₂ (λ (x y : ℕ). h ∷ x ∷ y ∷ []) p q
+
 -- a code is added to the first word without one
 pub head-code : (w n : ℕ) → headOf w + n ≡ answerWord (one w) n
 unfolding headOf answerWord shownCaller first
 head-code w n = ap (λ (x : ℕ). x + n) (add-zero _)
 
-pub head-stray : (w : ℕ) → w < 2 ^ 32 → 4026531840 ≤ w → 4026531840 ≡ headOf w
+pub head-stray : (w : ℕ) → kind w ≡ 15 → w - w % 268435456 ≡ headOf w
 unfolding headOf answerWord shownCaller first
-head-stray w fits stray =
-    let is : kind w ≡ 15 = omega arith in
-    rw is
+head-stray w is = rw is (omega arith)
 
 -- the word is its kind, its caller and its lowest 22 bits
 fields : (w k p u r : ℕ) → k * 268435456 + p ≡ w → p ≡ u * 4194304 + r → w - r ≡ k * 268435456 + u * 4194304 + 0
 fields w k p u r e f = omega arith
 
-pub head-other : (w : ℕ) → w < 4026531840 → w - w % 4194304 ≡ headOf w
+pub head-other : (w : ℕ) → (kind w ≡ 15 → ⊥) → w - w % 4194304 ≡ headOf w
 unfolding headOf answerWord shownCaller first
-head-other w less =
-    let other : kind w ≡ 15 → ⊥ = λ is. omega arith in
+head-other w other =
     rw (ne-eqb (kind w) 15 other)
     (fields w (kind w) (w % 268435456) (caller w) (w % 4194304) (div-add-mod' w 268435456)
     (mod-mul w {m = 64} {c = 4194304} (lit< tt) (lit< tt)))
 
--- there is room for a code behind it
+-- there is room for a code in it
 pub head-room : (w : ℕ) → w < 2 ^ 32 → headOf w + 23 < 2 ^ 32
-head-room w fits = go (decLt w 4026531840)
+head-room w fits = go (ℕ-discrete (kind w) 15)
   where
-    go : Dec (w < 4026531840) → headOf w + 23 < 2 ^ 32
-    go (yes less) = omega (arith, head-other w less)
-    go (no most) = omega (arith, head-stray w fits (omega arith))
+    go : Dec (kind w ≡ 15) → headOf w + 23 < 2 ^ 32
+    go (yes is) = omega (arith, head-stray w is)
+    go (no other) = omega (arith, head-other w other)
 
 -- what is there is shown, 32 bits of it, and what isn't there is not
 pub shows : {there : Bool} (x : ℕ) {y : ℕ} → there ≡ true → y ≡ x % 2 ^ 32 → y ≡ shown there x
@@ -66,46 +67,33 @@ pub shows-none : {there : Bool} (x : ℕ) → there ≡ false → 0 ≡ shown th
 unfolding shown
 shows-none x past = rw past
 
--- what a word holds besides its kind fits 32 bits
-pub payload-fits : (w v : ℕ) → w ≡ v → payload w ≡ payload v % 2 ^ 32
-payload-fits w v e = ap payload e ∙ sym (mod-eq-of-lt (omega arith))
-
 -- the places of the data, by n: in the table or past it
 module _ (t : List ℕ) (n : ℕ) (is : n ≡ domains t) where
   by-own : (i : ℕ) → endpointAt (n % 256) i ≡ endpointAt (domains t) i
   by-own i = ap (λ (k : ℕ). endpointAt k i) (eight-bits t n is ∙ is)
 
-  module _ (i at : ℕ) (start : at ≡ endpointAt (n % 256) i) where
-    pub endpoint-there : at + 12 ≤ length t → readable t (receives i) ≡ true
-    unfolding readable
-    endpoint-there h = le-leb (endpointAt (domains t) i + 12) (length t) (omega (arith, start, by-own i, h))
-
-    pub endpoint-past : length t < at + 12 → readable t (receives i) ≡ false
-    unfolding readable
-    endpoint-past h = lt-leb (endpointAt (domains t) i + 12) (length t) (omega (arith, start, by-own i, h))
-
-  module _ (m at u : ℕ) (all : m ≡ endpoints t) (end : at ≡ endpointAt (n % 256) m) where
+  module _ (m at : ℕ) (all : m ≡ endpoints t) (end : at ≡ endpointAt (n % 256) m) where
     own-end : at ≡ endpointAt (domains t) (endpoints t)
     own-end = end ∙ by-own m ∙ ap (endpointAt (domains t)) all
 
-    pub endpoints-there : at ≤ length t → readable t (listsEndpoints u) ≡ true
-    unfolding readable
+    pub endpoints-there : at ≤ length t → hasEndpoints t ≡ true
+    unfolding hasEndpoints
     endpoints-there h = rw own-end at (le-leb at (length t) h)
 
-    pub endpoints-past : length t < at → readable t (listsEndpoints u) ≡ false
-    unfolding readable
+    pub endpoints-past : length t < at → hasEndpoints t ≡ false
+    unfolding hasEndpoints
     endpoints-past h = rw own-end at (lt-leb at (length t) h)
 
   module _ (u at : ℕ) (end : at ≡ rightsAt n u n) where
     own-row : at ≡ rightsAt (domains t) u (domains t)
     own-row = end ∙ ap (λ (k : ℕ). rightsAt k u k) is
 
-    pub rights-there : at ≤ length t → readable t (listsRights u) ≡ true
-    unfolding readable
+    pub rights-there : at ≤ length t → hasRow t u ≡ true
+    unfolding hasRow
     rights-there h = rw own-row at (le-leb at (length t) h)
 
-    pub rights-past : length t < at → readable t (listsRights u) ≡ false
-    unfolding readable
+    pub rights-past : length t < at → hasRow t u ≡ false
+    unfolding hasRow
     rights-past h = rw own-row at (lt-leb at (length t) h)
 
 -- bit e of the owned endpoints

@@ -6,17 +6,14 @@ use calls::Refusal;
 use rules::range::Range;
 use rules::range::of_refused;
 ghost use mathlib.Core.Path.{_≡_};
-ghost use mathlib.Core.Bool.{cond};
 ghost use mathlib.Core.List.{[], _∷_};
-ghost use lib.Dec.{eqb};
-ghost use lib.ListN.{length};
 ghost use Rattle.machine.specs.Call.{Call.one};
 ghost use Rattle.machine.specs.Machine.{answerWord, code, Decision.refused};
 ghost use Rattle.calls.specs.Number.{numberOf};
 ghost use Rattle.rules.specs.Range.{refusedNumbers};
-ghost use Rattle.answers.specs.Answer.{answerWords};
+ghost use Rattle.answers.specs.Answer.{answerWords, answersPut};
 
-// The answer to a call, given by its first word, that is refused.
+// Answers a call, given by its first word, that is refused.
 pub fn refusal(first: u32, refusal: Refusal) -> Answer
     ensures { λ a. ⌜ answerWords a ≡ answerWord (one first) (numberOf refusal) ∷ 0 ∷ 0 ∷ [] ⌝ }
 {
@@ -24,7 +21,7 @@ pub fn refusal(first: u32, refusal: Refusal) -> Answer
     refused(head, refusal)
 }
 
-// The answer to a call that is refused without a table: 12 may come before its own number.
+// Answers a call that is refused without a table: 12 may come before its own number.
 pub fn refuse(n: u32, first: u32, caller: u32, number: Refusal) -> Answer
     ensures { λ a. ⌜ answerWords a ≡ answerWord (one first) (code (refusedNumbers n caller number (refused (numberOf number)))) ∷ 0 ∷ 0 ∷ [] ⌝ }
 {
@@ -35,7 +32,7 @@ pub fn refuse(n: u32, first: u32, caller: u32, number: Refusal) -> Answer
     refusal(first, number)
 }
 
-// The answer to one that is done, with its data words.
+// Answers one that is done, with its data words.
 pub fn done(first: u32, x: u32, y: u32) -> Answer
     ensures { λ a. ⌜ answerWords a ≡ answerWord (one first) 0 ∷ x ∷ y ∷ [] ⌝ }
 {
@@ -47,11 +44,11 @@ pub fn done(first: u32, x: u32, y: u32) -> Answer
     }
 }
 
-// An answer's words, put into three lent ones; other than three are left as they are.
+// Puts an answer's words at the start of a space; a space under three words is left as it is.
 pub fn put(space: &mut [u32], words: Answer)
-    ensures { λ _. ⌜ now (space .exit) ≡ cond (eqb (length (now (space .entry))) 3) (answerWords words) (now (space .entry)) ⌝ }
+    ensures { λ _. ⌜ now (space .exit) ≡ answersPut (now (space .entry)) (answerWords words) ⌝ }
 {
-    if space.len() != 3 {
+    if space.len() < 3 {
         return;
     }
     space[0] = words.head;

@@ -6,13 +6,13 @@ use machine::of_calls::A;
 use machine::of_calls::B;
 use machine::of_calls::CALLER;
 use machine::of_calls::GRANT;
-use machine::of_calls::LEAST_SECOND;
 use machine::of_calls::LOOK_UP;
 use machine::of_calls::MY_ENDPOINTS;
 use machine::of_calls::MY_RIGHTS;
 use machine::of_calls::RECEIVE;
 use machine::of_calls::REMOVE;
 use machine::of_calls::REVOKE;
+use machine::of_calls::SECOND_WORD;
 use machine::of_calls::SEND;
 use written_calls::Fields;
 ghost use mathlib.Core.Path.{_≡_};
@@ -122,7 +122,7 @@ fn put_fields(list: &mut [u32], at: usize, f: Fields)
     list[at] = first_word(f);
     let kind = f.kind;
     if wants_second(kind) {
-        list[at + 1] = LEAST_SECOND + f.second;
+        list[at + 1] = SECOND_WORD + f.second;
     }
 }
 

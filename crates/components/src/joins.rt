@@ -1,22 +1,15 @@
 // Who is joined to whom in a table, as words, and what hangs together by them: bit u of word v is set where either of u and v has
 // a right on the other.
 use layout::rights;
+use reach::bit;
 use reach::closure;
 ghost use mathlib.Core.Path.{_≡_};
-ghost use Prim.Native.Nat.{_<_, _≤_, _^_};
+ghost use Prim.Native.Nat.{_<_, _≤_};
 ghost use lib.ListN.{take};
 ghost use Rattle.machine.specs.Below.{bitsBelow};
 ghost use Rattle.machine.specs.Table.{domains};
 ghost use Rattle.reach.specs.Chain.{wordsOf};
 ghost use Rattle.isolation.specs.Component.{joined, component};
-
-// The set of one domain.
-fn bit(domain: u32) -> u32
-    requires { ⌜ domain < 16 ⌝ }
-    ensures { λ r. ⌜ r ≡ 2 ^ domain ⌝ }
-{
-    1 << domain
-}
 
 // Either of two domains has a right on the other.
 fn joins(table: &[u32], n: u32, u: u32, v: u32) -> bool

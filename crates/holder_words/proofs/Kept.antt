@@ -13,8 +13,7 @@ use Rattle.machine.specs.Right.{hasAny}
 use Rattle.machine.specs.Table.{domains, rights, setRights, setEndpoint}
 use Rattle.machine.specs.Check.{Accepted}
 use Rattle.machine.specs.Call.{Call}
-use Rattle.machine.specs.Machine as machine
-use Rattle.machine.specs.Machine.{Decision, Effect, decide, effect, after, step, Effect.nothing, Effect.newRights, Effect.newEndpoint}
+use Rattle.machine.specs.Machine.{Effect, decide, effect, after, step, Effect.nothing, Effect.newRights, Effect.newEndpoint}
 use Rattle.machine.specs.Run.{run}
 use Rattle.machine.specs.Influence.{reaches}
 use Rattle.machine.specs.Holders.{holdersOf}
@@ -24,9 +23,8 @@ use Rattle.machine.proofs.Table.{equal-either}
 use Rattle.machine.proofs.Right.{rights-payload}
 use Rattle.machine.proofs.Accepted.{accepted-sized, accepted-counts}
 use Rattle.machine.proofs.Step.{InOrder, call-in-order, stays-accepted}
-use Rattle.effects.specs.Effect.{effectFor}
-use Rattle.holder_words.specs.Noted.{withBit, noted, holdersAfter, notedBy, holdersAlong}
-use Rattle.holder_words.specs.Claims.{HoldersKept, HoldersKeptByEffect, HoldersKeptAlong}
+use Rattle.holder_words.specs.Noted.{withBit, noted, holdersAfter, holdersAlong}
+use Rattle.holder_words.specs.Claims.{HoldersKept, HoldersKeptAlong}
 use Rattle.holder_words.proofs.OneBit.{bits-with}
 use Rattle.holder_words.proofs.Filled.{holders-length}
 
@@ -138,21 +136,6 @@ module _ (t : List ℕ) (a : Accepted t) where
 pub holders-kept : HoldersKept
 unfolding step
 holders-kept t c a = effect-kept t a (effect t (decide t c)) (call-in-order t c a)
-
-noted-by : (p t : List ℕ) (d : Decision) → notedBy p (effectFor t d) ≡ holdersAfter p (effect t d)
-unfolding notedBy holdersAfter effectFor effect
-noted-by p t (machine.refused code) = refl
-noted-by p t (machine.lookedUp e) = refl
-noted-by p t (machine.sends e message) = refl
-noted-by p t (machine.receives e) = refl
-noted-by p t (machine.listsEndpoints u) = refl
-noted-by p t (machine.listsRights u) = refl
-noted-by p t (machine.grants g h r) = refl
-noted-by p t (machine.removes g u r) = refl
-noted-by p t (machine.revokes g h r) = refl
-
-pub holders-kept-by-effect : HoldersKeptByEffect
-holders-kept-by-effect t c a = noted-by (holdersOf t) t (decide t c) ∙ holders-kept t c a
 
 along : (t : List ℕ) (cs : List Call) → Accepted t → holdersAlong (holdersOf t) t cs ≡ holdersOf (run t cs)
 unfolding holdersAlong run

@@ -14,18 +14,12 @@ use Rattle.machine.specs.Run.{run}
 use Rattle.machine.specs.Influence.{reaches}
 use Rattle.machine.specs.Holders.{holdersOf}
 use Rattle.reach.specs.Chain.{Chain, linked, among}
-use Rattle.effects.specs.Effect.{effectFor}
-use Rattle.holder_words.specs.Noted.{holdersAfter, notedBy, holdersAlong}
+use Rattle.holder_words.specs.Noted.{holdersAfter, holdersAlong}
 use Rattle.holder_words.specs.Asked.{askable, askCode, asked}
 
 -- Noting what a call alters makes of the words of the table before it those of the table after it, worked out afresh.
 abbrev pub HoldersKept : Type 0
 HoldersKept = (t : List ℕ) (c : Call) → Accepted t → holdersAfter (holdersOf t) (effect t (decide t c)) ≡ holdersOf (step t c)
-
--- The same of the effect as a value of the code.
-abbrev pub HoldersKeptByEffect : Type 0
-HoldersKeptByEffect =
-    (t : List ℕ) (c : Call) → Accepted t → notedBy (holdersOf t) (effectFor t (decide t c)) ≡ holdersOf (step t c)
 
 -- Noted from the start of a list on, the words are those of the table after each of its calls: after the first k, whatever k is.
 abbrev pub HoldersKeptAlong : Type 0

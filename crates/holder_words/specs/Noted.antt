@@ -11,8 +11,6 @@ use Rattle.machine.specs.Table.{domains}
 use Rattle.machine.specs.Call.{Call}
 use Rattle.machine.specs.Machine.{Effect, decide, effect, step, Effect.nothing, Effect.newRights, Effect.newEndpoint}
 use Rattle.machine.specs.Holders.{holdersOf}
-use Rattle.effects.specs.declared.Effect as effects
-use Rattle.effects.specs.declared.Effect.the-variants.{Nothing, NewRights, Send, Receive}
 
 -- bit i of the word w, set where b holds, else cleared
 unfoldable pub withBit : ℕ → ℕ → Bool → ℕ
@@ -37,13 +35,6 @@ unfoldable pub holdersAfter : List ℕ → Effect → List ℕ
 holdersAfter p nothing = p
 holdersAfter p (newRights h g s) = noted p h g s
 holdersAfter p (newEndpoint e q) = p
-
--- the same of an effect as a value of the code
-unfoldable pub notedBy : List ℕ → effects.Effect → List ℕ
-notedBy p Nothing = p
-notedBy p (NewRights h g s) = noted p h g s
-notedBy p (Send e message) = p
-notedBy p (Receive e) = p
 
 -- the words p after the calls, of which each is noted on the table that it finds, the first on t
 unfoldable pub holdersAlong : List ℕ → List ℕ → List Call → List ℕ

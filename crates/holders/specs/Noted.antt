@@ -1,2 +1,2 @@
--- For callers: the panel's words after an effect as a value of the code.
-unfoldable pub use Rattle.holder_words.specs.Noted.{notedBy}
+-- For callers: the words of the holders after an effect of the machine.
+unfoldable pub use Rattle.holder_words.specs.Noted.{noted, holdersAfter}

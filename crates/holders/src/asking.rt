@@ -1,6 +1,6 @@
 // When words can be asked about a domain.
-use crate::bits::bit;
 use machine::of_tables::DOMAIN_PLACES;
+use reach::bit;
 ghost use mathlib.Core.Path.{_≡_};
 ghost use Prim.Native.Nat.{_≤_};
 ghost use lib.ListN.{length};

@@ -1,19 +1,12 @@
 // Sets of domains as words, with a bit for each member.
 use machine::KIND;
+use reach::bit;
 ghost use mathlib.Core.Path.{_≡_};
 ghost use mathlib.Core.Bool.{cond};
-ghost use Prim.Native.Nat.{_<_, _^_};
+ghost use Prim.Native.Nat.{_<_};
 ghost use Rattle.machine.specs.Word.{payload};
 ghost use Rattle.machine.specs.Right.{hasAny};
 ghost use Rattle.holder_words.specs.Noted.{withBit};
-
-// The set of one.
-pub fn bit(i: u32) -> u32
-    requires { ⌜ i < 32 ⌝ }
-    ensures { λ r. ⌜ r ≡ 2 ^ i ⌝ }
-{
-    1 << i
-}
 
 // A bit of a word set or cleared.
 pub fn with_bit(word: u32, i: u32, set: bool) -> u32

@@ -6,9 +6,9 @@ mod bits;
 mod rows;
 
 use asking::askable;
-use bits::bit;
 use bits::with_bit;
 use layout::domains;
+use reach::bit;
 use reach::closure;
 use rows::fill_rows;
 use rows::fillable;

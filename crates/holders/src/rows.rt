@@ -1,8 +1,8 @@
 // The words worked out from a table, row by row: the rights that one domain holds stand side by side.
-use crate::bits::bit;
 use crate::bits::held;
 use layout::rights_at;
 use machine::of_tables::MOST_DOMAINS;
+use reach::bit;
 ghost use mathlib.Core.Path.{_≡_};
 ghost use Prim.Native.Nat.{_<_};
 ghost use lib.ListN.{length};

@@ -1,67 +1,95 @@
--- On an accepted table every decision of the machine can be done, and its data is in the table and has at most 32 bits, so that
--- answers are whole.
--- Assumes nothing.
-use mathlib.Core.Path.{_≡_, refl, ap₂, _∙_}
-use mathlib.Core.Bool.{Bool, true, false, cond}
-use mathlib.Core.List.{List, _∷_, []}
-use mathlib.Core.Option.{Option, none, some}
-use Prim.Native.Nat.{ℕ, zero, suc, _+_, _-_, _^_, _<_, _≤_}
-use native.Mathlib.Nat.{le-trans, lt-of-lt-of-le, mod-eq-of-lt, pow-le-pow-right}
+-- On an accepted table the queue of every endpoint can be sent to, and received from where a message waits, and the data words of an
+-- answer are in the table and have at most 32 bits. Assumes nothing.
+use mathlib.Core.Path.{_≡_, sym, subst, _∙_}
+use mathlib.Core.Bool.{Bool, true, false, cond, not, _&&_}
+use mathlib.Core.List.{List}
+use Prim.Native.Nat.{ℕ, _+_, _-_, _^_, _<_, _≤_}
+use native.Mathlib.Nat.{lt-of-lt-of-le, mod-eq-of-lt, pow-le-pow-right}
 use native.Mathlib.Omega.{arith}
 use lib.Dec.{eqb, ltb}
 use lib.ListN.{length}
-use borrow.Author.Tests.{le-leb, lt-ltb, ltb-true}
-use Rattle.machine.specs.Word.{caller, fieldB}
-use Rattle.machine.specs.Right.{allRights}
+use borrow.Author.Tests.{le-leb, ltb-true}
+use Rattle.machine.specs.Word.{mostPayload, kind, caller}
 use Rattle.machine.specs.Table.{domains, endpoints, rightsAt, endpointAt, endpoint}
-use Rattle.machine.specs.Queue.{name, owner, oldest, lost}
-use Rattle.machine.specs.Below.{firstBelow}
+use Rattle.machine.specs.Queue.{owner, waiting}
 use Rattle.machine.specs.Check.{Accepted}
-use Rattle.machine.specs.Call.{Call, Call.one, first}
-use Rattle.machine.specs.Machine.{Decision, named, ownedBits, rightsBits, code, firstData, secondData, shownCaller, answerWord, answerTo, decide}
-use Rattle.machine.specs.Machine.{Decision.receives, Decision.listsEndpoints, Decision.listsRights}
+use Rattle.machine.specs.Call.{Kind, kindOf, allZero, unusedFields, hasSecond}
+use Rattle.machine.specs.Call.{Kind.lookUp, Kind.send, Kind.receive, Kind.myEndpoints, Kind.myRights, Kind.grant, Kind.remove, Kind.revoke, Kind.stray, Kind.unknown}
+use Rattle.machine.specs.Machine.{ownedBits, rightsBits}
 use Rattle.machine.proofs.Accepted.{accepted-sized, accepted-counts, accepted-endpoint, info-of}
-use Rattle.machine.proofs.Bools.{and-intro, cond-elim}
-use Rattle.machine.proofs.Decide.{decide-elim}
+use Rattle.machine.proofs.Bools.{cond-elim}
 use Rattle.machine.proofs.Queue.{message-small, waiting-most}
-use Rattle.machine.proofs.Right.{adds-within, without-le}
 use Rattle.machine.proofs.Step.{rights-held}
-use Rattle.machine.proofs.Table.{rights-below, endpoint-fits, endpoint-length}
+use Rattle.machine.proofs.Table.{rights-below, endpoint-length}
 use Rattle.cutting.specs.Cutting.{callOf}
 use Rattle.cutting.specs.declared.Second.{Second}
-use Rattle.cutting.specs.declared.Second.the-variants.{Nothing, Word}
+use Rattle.calls.specs.Apart.{needsSecond, whole, ofKind, apart}
+use Rattle.calls.specs.declared.Call.{Call}
+use Rattle.calls.specs.declared.Call.the-variants.{LookUp, Send, Receive, MyEndpoints, MyRights, Grant, Remove, Revoke, Refused}
+use Rattle.calls.specs.declared.Refusal.the-variants.{UnusedField, NoSecondWord}
+use Rattle.queue.specs.Queue.{sendable, receivable}
 use Rattle.queue.proofs.Laws.{may-be-sent, may-be-received}
-use Rattle.answers.specs.Answer.{readable, shown, answerOf}
+use Rattle.answers.specs.Answer.{hasEndpoints, hasRow, shown}
 use Rattle.answers.proofs.Digits.{digits-below}
 use Rattle.answers.proofs.AnswerWords.{ownsAt, owned-digits, rightsOn}
-use Rattle.effects.specs.Effect.{rightsFit, fits, effectFor}
-
--- the first number below k that passes a test is below k
-abbrev FirstBelow : ℕ → Option ℕ → Type 0
-FirstBelow k none = Unit {0}
-FirstBelow k (some i) = i < k
-
-first-below : (k : ℕ) (p : ℕ → Bool) → FirstBelow k (firstBelow k p)
-unfolding firstBelow
-first-below zero p = tt
-first-below (suc k) p = next (firstBelow k p) (p k) (first-below k p)
-  where
-    next : (o : Option ℕ) (b : Bool) → FirstBelow k o → FirstBelow (suc k) (elim o [ none ↦ cond b (some k) none | some i ↦ some i ])
-    next none true l = omega arith
-    next none false l = tt
-    next (some i) b l = omega (arith, l)
-
-same-data : {h x y x′ y′ : ℕ} → x ≡ x′ → y ≡ y′ → h ∷ x ∷ y ∷ [] ≡ h ∷ x′ ∷ y′ ∷ []
-same-data {h} p q = ap₂ (λ (x y : ℕ). h ∷ x ∷ y ∷ []) p q
 
 all-shown : {there : Bool} {x : ℕ} → there ≡ true → x < 2 ^ 32 → shown there x ≡ x
 unfolding shown
 all-shown there fits = rw there (mod-eq-of-lt fits)
 
+-- ---- the message of a send that is taken apart fits a word
+abbrev MessageFits : Call → Type 0
+MessageFits (Send u e message) = message ≤ mostPayload
+MessageFits (Refused u r) = Unit {0}
+MessageFits (LookUp u x) = Unit {0}
+MessageFits (Receive u e) = Unit {0}
+MessageFits (MyEndpoints u) = Unit {0}
+MessageFits (MyRights u) = Unit {0}
+MessageFits (Grant u g h r) = Unit {0}
+MessageFits (Remove u g r) = Unit {0}
+MessageFits (Revoke u g h r) = Unit {0}
+
+module _ (w : ℕ) (s : Second) where
+  whole-fits : (k : Kind) (call : Call) → MessageFits call → MessageFits (whole w s k call)
+  unfolding whole
+  whole-fits k call fits =
+      go (not (allZero (unusedFields k w))) (needsSecond k && not (hasSecond (callOf w s)))
+    where
+      go : (unused lacking : Bool) → MessageFits (cond unused (Refused (caller w) UnusedField) (cond lacking (Refused (caller w) NoSecondWord) call))
+      go true lacking = tt
+      go false true = tt
+      go false false = fits
+
+  kind-fits : (k : Kind) → MessageFits (ofKind w s k)
+  unfolding ofKind
+  kind-fits stray = tt
+  kind-fits unknown = tt
+  kind-fits lookUp = whole-fits lookUp _ tt
+  kind-fits send = whole-fits send _ (message-small (callOf w s))
+  kind-fits receive = whole-fits receive _ tt
+  kind-fits myEndpoints = whole-fits myEndpoints _ tt
+  kind-fits myRights = whole-fits myRights _ tt
+  kind-fits grant = whole-fits grant _ tt
+  kind-fits remove = whole-fits remove _ tt
+  kind-fits revoke = whole-fits revoke _ tt
+
+  pub message-fits : {call : Call} {u e message : ℕ} → call ≡ Send u e message → call ≡ apart w s → message ≤ mostPayload
+  unfolding apart
+  message-fits is same = subst MessageFits (sym same ∙ is) (kind-fits (kindOf (kind w)))
+
 module _ (t : List ℕ) (a : Accepted t) where
-  pub named-below : (x e : ℕ) → named t x ≡ some e → e < endpoints t
-  unfolding named
-  named-below x e is = rw is at (first-below (endpoints t) (λ i. eqb (name (endpoint t i)) x))
+  -- ---- the queues
+  twelve : (e : ℕ) → e < endpoints t → length (endpoint t e) ≡ 12
+  twelve = endpoint-length t (accepted-sized t a)
+
+  pub may-send-to : (e message : ℕ) → e < endpoints t → message ≤ mostPayload → sendable (endpoint t e) message ≡ true
+  may-send-to e message l small =
+      let ok = accepted-endpoint t a e l in
+      let info = info-of (domains t) _ ok in
+      may-be-sent _ _ (twelve e l) (info .1) (info .2) (waiting-most (domains t) _ ok) small
+
+  pub may-receive-from : (e : ℕ) → e < endpoints t → 1 ≤ waiting (endpoint t e) → receivable (endpoint t e) ≡ true
+  may-receive-from e l more = may-be-received _ (twelve e l) more (waiting-most (domains t) _ (accepted-endpoint t a e l))
 
   -- ---- the data words
   owned-fit : (u : ℕ) → ownedBits t u < 2 ^ 32
@@ -82,89 +110,15 @@ module _ (t : List ℕ) (a : Accepted t) where
       (λ h. omega (arith, rights-held t a u (g + i) known (ltb-true _ _ h)))
       (λ _. omega arith))
 
-  -- ---- where they are read from
-  endpoint-there : (e : ℕ) → e < endpoints t → readable t (receives e) ≡ true
-  unfolding readable
-  endpoint-there e l =
-      le-leb (endpointAt (domains t) e + 12) (length t) (omega (arith, endpoint-fits (domains t) (endpoints t) e l, accepted-sized t a))
+  pub endpoints-shown : (u : ℕ) → shown (hasEndpoints t) (ownedBits t u) ≡ ownedBits t u
+  unfolding hasEndpoints
+  endpoints-shown u =
+      all-shown (le-leb (endpointAt (domains t) (endpoints t)) (length t) (omega (arith, accepted-sized t a))) (owned-fit u)
 
-  endpoints-there : (u : ℕ) → readable t (listsEndpoints u) ≡ true
-  unfolding readable
-  endpoints-there u = le-leb (endpointAt (domains t) (endpoints t)) (length t) (omega (arith, accepted-sized t a))
-
-  rights-there : (u : ℕ) → u < domains t → readable t (listsRights u) ≡ true
-  unfolding readable
-  rights-there u known =
-      le-leb (rightsAt (domains t) u (domains t)) (length t)
-      (omega (arith, rights-below (domains t) u (domains t - 1) known (omega arith), accepted-sized t a))
-
-  -- the data of a decision is in the table, and has at most 32 bits
-  pub record Whole (d : Decision) : Type 0 where
-    pub there : readable t d ≡ true
-    pub first : firstData t d < 2 ^ 32
-    pub second : secondData t d < 2 ^ 32
-
-  data-whole : (c : Call) → Whole (decide t c)
-  unfolding readable firstData secondData oldest lost
-  data-whole c =
-      decide-elim t c Whole
-      (record {
-        refuses = λ _ _. record { there = refl; first = omega arith; second = omega arith };
-        looksUp =
-            λ _ _ e is. record { there = refl; first = omega (arith, named-below _ e is, accepted-counts t a .2); second = omega arith };
-        sending = λ _ _ _ _. record { there = refl; first = omega arith; second = omega arith };
-        receiving = λ _ _ l _ _. record { there = endpoint-there (fieldB (first c)) l; first = omega arith; second = omega arith };
-        endpointsListed = λ _ _. record { there = endpoints-there (caller (first c)); first = owned-fit _; second = omega arith };
-        rightsListed =
-            λ known _.
-            record {
-              there = rights-there (caller (first c)) (known .below);
-              first = rights-fit _ 0 (known .below);
-              second = rights-fit _ 8 (known .below);
-            };
-        granting = λ _ _ _ _ _ _ _ _. record { there = refl; first = omega arith; second = omega arith };
-        removing = λ _ _ _ _ _. record { there = refl; first = omega arith; second = omega arith };
-        revoking = λ _ _ _ _ _ _. record { there = refl; first = omega arith; second = omega arith };
-      })
-
-  -- the answer by the first word of a call is the machine's
-  pub answer-whole : (w : ℕ) (s : Second) → answerOf t w (decide t (callOf w s)) ≡ answerTo t (callOf w s) (decide t (callOf w s))
-  unfolding answerOf answerTo answerWord shownCaller first
-  answer-whole w s =
-      let whole = data-whole (callOf w s) in
-      same-data (all-shown (whole .there) (whole .first)) (all-shown (whole .there) (whole .second)) ∙ by-first s (decide t (callOf w s))
-    where
-      by-first : (s : Second) (d : Decision) → answerWord (one w) (code d) ∷ firstData t d ∷ secondData t d ∷ [] ≡ answerTo t (callOf w s) d
-      by-first Nothing d = refl
-      by-first (Word v) d = refl
-
-  -- ---- what is done
-  rights-fits : (h g s : ℕ) → h < domains t → g < domains t → s ≤ allRights → rightsFit t h g s ≡ true
-  unfolding rightsFit
-  rights-fits h g s ph pg few =
-      and-intro (le-leb s allRights few)
-      (lt-ltb (rightsAt (domains t) h g) (length t) (omega (arith, rights-below (domains t) h g ph pg, accepted-sized t a)))
-
-  pub can-be-done : (c : Call) → fits t (effectFor t (decide t c)) ≡ true
-  unfolding fits effectFor
-  can-be-done c =
-      decide-elim t c (λ d. fits t (effectFor t d) ≡ true)
-      (record {
-        refuses = λ _ _. refl;
-        looksUp = λ _ _ _ _. refl;
-        sending =
-            λ _ _ l _.
-            let ok = accepted-endpoint t a (fieldB (first c)) l in
-            let info = info-of (domains t) _ ok in
-            may-be-sent _ _ (twelve _ l) (info .1) (info .2) (waiting-most (domains t) _ ok) (message-small c);
-        receiving =
-            λ _ _ l _ some. may-be-received _ (twelve _ l) (omega (arith, some)) (waiting-most (domains t) _ (accepted-endpoint t a _ l));
-        endpointsListed = λ _ _. refl;
-        rightsListed = λ _ _. refl;
-        granting = λ _ _ lg lh few _ _ _. rights-fits _ _ _ lh lg (adds-within _ _ (rights-held t a _ _ lh lg) few);
-        removing = λ known _ lg _ _. rights-fits _ _ _ (known .below) lg (le-trans (without-le _ _) (rights-held t a _ _ (known .below) lg));
-        revoking = λ _ _ lg lh _ _. rights-fits _ _ _ lh lg (le-trans (without-le _ _) (rights-held t a _ _ lh lg));
-      })
-    where
-      twelve : (e : ℕ) → e < endpoints t → length (endpoint t e) ≡ 12
-      twelve = endpoint-length t (accepted-sized t a)
+  pub rights-shown : (u g : ℕ) → u < domains t → shown (hasRow t u) (rightsBits t u g) ≡ rightsBits t u g
+  unfolding hasRow
+  rights-shown u g known =
+      all-shown
+      (le-leb (rightsAt (domains t) u (domains t)) (length t)
+      (omega (arith, rights-below (domains t) u (domains t - 1) known (omega arith), accepted-sized t a)))
+      (rights-fit u g known)

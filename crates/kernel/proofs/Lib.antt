@@ -1,10 +1,9 @@
 -- What is proved of the kernel besides its functions.
 pub mod Fits
+pub mod Written
 pub mod Underway
 pub mod Entries
 pub mod Within
 pub mod Outcomes
-pub mod SameCall
-pub mod Pairs
 pub mod Settled
 pub mod Backwards

@@ -1,82 +1,111 @@
 -- What is answered and left, by what a call came to. Assumes nothing.
-use mathlib.Core.Path.{_≡_, refl, sym, ap, ap₂, subst, _∙_}
+use mathlib.Core.Path.{_≡_, refl, ap, ap₂, subst, _∙_}
+use mathlib.Core.Bool.{Bool, true, false, cond, not}
 use mathlib.Core.List.{List, [], _∷_}
-use Prim.Native.Nat.{ℕ, _^_, _<_}
-use native.Mathlib.Nat.{mod-eq-of-lt}
+use Prim.Native.Nat.{ℕ}
+use lib.Dec.{ltb}
 use Rattle.machine.specs.Right.{adds, without}
-use Rattle.machine.specs.Table.{rights, endpoint}
-use Rattle.machine.specs.Queue.{oldest, lost}
+use Rattle.machine.specs.Table.{domains, rights, endpoint, setRights, setEndpoint}
+use Rattle.machine.specs.Queue.{oldest, lost, sent, received}
 use Rattle.machine.specs.Call.{Call.one}
 use Rattle.machine.specs.Machine as machine
-use Rattle.machine.specs.Machine.{Decision, code, firstData, secondData, answerWord, after}
-use Rattle.answers.specs.Answer.{readable, shown, answerOf}
-use Rattle.effects.specs.Effect.{effectOf, fits, effectFor, performed}
-use Rattle.effects.specs.declared.Effect.the-variants.{NewRights, Send, Receive}
-use Rattle.holders.specs.Noted.{notedBy}
+use Rattle.machine.specs.Machine.{Decision, place, code, firstData, secondData, answerWord, answerTo, effect, after, ownedBits, rightsBits, Effect.newRights}
+use Rattle.calls.specs.Number.{numberOf}
+use Rattle.calls.specs.Decide.{knownCaller, refusedCall, decideCall}
+use Rattle.calls.specs.declared.Call.the-variants.{Refused}
+use Rattle.calls.specs.declared.Refusal.{Refusal}
+use Rattle.rules.specs.Range.{callerNumber, refusedNumbers}
+use Rattle.holders.specs.Noted.{noted, holdersAfter}
 use Rattle.kernel.specs.Settled.{Settled}
 
 module _ (t p : List ℕ) (w : ℕ) (d : Decision) (words : List ℕ) where
   pub settled-refused : (k : ℕ) → machine.refused k ≡ d → words ≡ answerWord (one w) k ∷ 0 ∷ 0 ∷ [] → Settled t p w d words t p
-  unfolding answerOf code readable shown firstData secondData performed fits effectOf effectFor after notedBy
-  settled-refused k is told =
-      subst (λ (x : Decision). Settled t p w x words t p) is (record { answer = told; table = refl; holders = refl })
+  unfolding answerTo code firstData secondData effect after holdersAfter
+  settled-refused k is said =
+      subst (λ (x : Decision). Settled t p w x words t p) is (record { answer = said; table = refl; holders = refl })
 
   pub settled-sent : (e message : ℕ) (t′ : List ℕ)
       → machine.sends e message ≡ d
       → words ≡ answerWord (one w) 0 ∷ 0 ∷ 0 ∷ []
-      → t′ ≡ performed t (Send e message)
+      → t′ ≡ setEndpoint t e (sent (endpoint t e) message)
       → Settled t p w d words t′ p
-  unfolding answerOf code readable shown firstData secondData effectFor notedBy
-  settled-sent e message t′ is told left =
-      subst (λ (x : Decision). Settled t p w x words t′ p) is (record { answer = told; table = left; holders = refl })
+  unfolding answerTo code firstData secondData effect after holdersAfter
+  settled-sent e message t′ is said left =
+      subst (λ (x : Decision). Settled t p w x words t′ p) is (record { answer = said; table = left; holders = refl })
 
   pub settled-received : (e x y : ℕ) (t′ : List ℕ)
       → machine.receives e ≡ d
       → words ≡ answerWord (one w) 0 ∷ x ∷ y ∷ []
-      → x ≡ shown (readable t (machine.receives e)) (oldest (endpoint t e))
-      → y ≡ shown (readable t (machine.receives e)) (lost (endpoint t e))
-      → t′ ≡ performed t (Receive e)
+      → x ≡ oldest (endpoint t e)
+      → y ≡ lost (endpoint t e)
+      → t′ ≡ setEndpoint t e (received (endpoint t e))
       → Settled t p w d words t′ p
-  unfolding answerOf code firstData secondData effectFor notedBy
-  settled-received e x y t′ is told message count left =
+  unfolding answerTo code firstData secondData effect after holdersAfter
+  settled-received e x y t′ is said message count left =
       subst (λ (v : Decision). Settled t p w v words t′ p) is
       (record {
-        answer = told ∙ ap₂ (λ (i j : ℕ). answerWord (one w) 0 ∷ i ∷ j ∷ []) message count;
+        answer = said ∙ ap₂ (λ (i j : ℕ). answerWord (one w) 0 ∷ i ∷ j ∷ []) message count;
         table = left;
         holders = refl;
       })
 
-  pub settled-looked-up : (e : ℕ) → e < 2 ^ 32 → machine.lookedUp e ≡ d → words ≡ answerWord (one w) 0 ∷ e ∷ 0 ∷ [] → Settled t p w d words t p
-  unfolding answerOf code readable shown firstData secondData performed fits effectOf effectFor after notedBy
-  settled-looked-up e fit is told =
-      subst (λ (x : Decision). Settled t p w x words t p) is
-      (record { answer = told ∙ ap (λ (k : ℕ). answerWord (one w) 0 ∷ k ∷ 0 ∷ []) (sym (mod-eq-of-lt fit)); table = refl; holders = refl })
+  pub settled-looked-up : (e : ℕ) → machine.lookedUp e ≡ d → words ≡ answerWord (one w) 0 ∷ e ∷ 0 ∷ [] → Settled t p w d words t p
+  unfolding answerTo code firstData secondData effect after holdersAfter
+  settled-looked-up e is said =
+      subst (λ (x : Decision). Settled t p w x words t p) is (record { answer = said; table = refl; holders = refl })
 
-  pub settled-endpoints : (u : ℕ) → machine.listsEndpoints u ≡ d → words ≡ answerOf t w (machine.listsEndpoints u) → Settled t p w d words t p
-  unfolding performed fits effectOf effectFor after notedBy
-  settled-endpoints u is told =
-      subst (λ (x : Decision). Settled t p w x words t p) is (record { answer = told; table = refl; holders = refl })
+  pub settled-endpoints : (u x : ℕ) → machine.listsEndpoints u ≡ d → words ≡ answerWord (one w) 0 ∷ x ∷ 0 ∷ [] → x ≡ ownedBits t u → Settled t p w d words t p
+  unfolding answerTo code firstData secondData effect after holdersAfter
+  settled-endpoints u x is said same =
+      subst (λ (v : Decision). Settled t p w v words t p) is
+      (record { answer = said ∙ ap (λ (k : ℕ). answerWord (one w) 0 ∷ k ∷ 0 ∷ []) same; table = refl; holders = refl })
 
-  pub settled-rights : (u : ℕ) → machine.listsRights u ≡ d → words ≡ answerOf t w (machine.listsRights u) → Settled t p w d words t p
-  unfolding performed fits effectOf effectFor after notedBy
-  settled-rights u is told =
-      subst (λ (x : Decision). Settled t p w x words t p) is (record { answer = told; table = refl; holders = refl })
+  pub settled-rights : (u x y : ℕ)
+      → machine.listsRights u ≡ d
+      → words ≡ answerWord (one w) 0 ∷ x ∷ y ∷ []
+      → x ≡ rightsBits t u 0
+      → y ≡ rightsBits t u 8
+      → Settled t p w d words t p
+  unfolding answerTo code firstData secondData effect after holdersAfter
+  settled-rights u x y is said low high =
+      subst (λ (v : Decision). Settled t p w v words t p) is
+      (record { answer = said ∙ ap₂ (λ (i j : ℕ). answerWord (one w) 0 ∷ i ∷ j ∷ []) low high; table = refl; holders = refl })
 
   -- one rights word is altered, whichever of the calls did it
-  module _ (told : words ≡ answerWord (one w) 0 ∷ 0 ∷ 0 ∷ []) (h g s : ℕ) (t′ p′ : List ℕ) (left : t′ ≡ performed t (NewRights h g s)) (noted : p′ ≡ notedBy p (NewRights h g s)) where
-    altered : (x : Decision) → x ≡ d → answerWord (one w) 0 ∷ 0 ∷ 0 ∷ [] ≡ answerOf t w x → NewRights h g s ≡ effectFor t x → Settled t p w d words t′ p′
+  module _ (said : words ≡ answerWord (one w) 0 ∷ 0 ∷ 0 ∷ []) (h g s : ℕ) (t′ p′ : List ℕ) (left : t′ ≡ setRights t h g s) (kept : p′ ≡ noted p h g s) where
+    altered : (x : Decision) → x ≡ d → answerWord (one w) 0 ∷ 0 ∷ 0 ∷ [] ≡ answerTo t (one w) x → newRights h g s ≡ effect t x → Settled t p w d words t′ p′
+    unfolding after holdersAfter
     altered x is plain same =
         subst (λ (v : Decision). Settled t p w v words t′ p′) is
-        (record { answer = told ∙ plain; table = left ∙ ap (performed t) same; holders = noted ∙ ap (notedBy p) same })
+        (record { answer = said ∙ plain; table = left ∙ ap (after t) same; holders = kept ∙ ap (holdersAfter p) same })
 
     pub granted : (r : ℕ) → machine.grants g h r ≡ d → s ≡ adds (rights t h g) r → Settled t p w d words t′ p′
-    unfolding answerOf code readable shown firstData secondData effectFor
-    granted r is new = altered (machine.grants g h r) is refl (ap (NewRights h g) new)
+    unfolding answerTo code firstData secondData effect
+    granted r is new = altered (machine.grants g h r) is refl (ap (newRights h g) new)
 
     pub removed : (r : ℕ) → machine.removes g h r ≡ d → s ≡ without (rights t h g) r → Settled t p w d words t′ p′
-    unfolding answerOf code readable shown firstData secondData effectFor
-    removed r is new = altered (machine.removes g h r) is refl (ap (NewRights h g) new)
+    unfolding answerTo code firstData secondData effect
+    removed r is new = altered (machine.removes g h r) is refl (ap (newRights h g) new)
 
     pub revoked : (r : ℕ) → machine.revokes g h r ≡ d → s ≡ without (rights t h g) r → Settled t p w d words t′ p′
-    unfolding answerOf code readable shown firstData secondData effectFor
-    revoked r is new = altered (machine.revokes g h r) is refl (ap (NewRights h g) new)
+    unfolding answerTo code firstData secondData effect
+    revoked r is new = altered (machine.revokes g h r) is refl (ap (newRights h g) new)
+
+-- refused without a table: 12 may come before the call's own number
+refused-either : (first unknown : Bool) (k : ℕ)
+    → let d = cond first (machine.refused k) (place unknown 12 (machine.refused k)) in
+    machine.refused (code d) ≡ d
+unfolding code place
+refused-either true unknown k = refl
+refused-either false true k = refl
+refused-either false false k = refl
+
+pub settled-unread : (t p : List ℕ) (w : ℕ) (words : List ℕ) (n u : ℕ) (r : Refusal)
+    → n ≡ domains t
+    → words ≡ answerWord (one w) (code (refusedNumbers n u r (machine.refused (numberOf r)))) ∷ 0 ∷ 0 ∷ []
+    → Settled t p w (decideCall t (Refused u r)) words t p
+unfolding decideCall refusedCall knownCaller refusedNumbers callerNumber
+settled-unread t p w words n u r is said =
+    settled-refused t p w _ words _ (refused-either (ltb (numberOf r) 12) (not (ltb u (domains t))) (numberOf r))
+    (said
+    ∙ ap (λ (k : ℕ). answerWord (one w) (code (refusedNumbers k u r (machine.refused (numberOf r)))) ∷ 0 ∷ 0 ∷ []) is)

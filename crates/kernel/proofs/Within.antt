@@ -56,6 +56,10 @@ module _ (r : Range) (is : r ≡ Within) where
   goes : (X : Decision → Decision) → ((next : Decision) → followed r next ≡ X next) → Goes (X (machine.listsRights 0))
   goes X tested = subst (λ (d : Decision). Goes d) (within (machine.listsRights 0) is (tested (machine.listsRights 0))) tt
 
+  pub in-caller : (n u : ℕ) → ((next : Decision) → followed r next ≡ callerNumber n u next) → u < n
+  unfolding callerNumber
+  in-caller n u tested = below u n (passes (not (ltb u n)) 12 _ (goes (callerNumber n u) tested) .0)
+
   pub in-endpoint : (n m u e : ℕ) → ((next : Decision) → followed r next ≡ endpointNumbers n m u e next) → (u < n) × (e < m)
   unfolding endpointNumbers callerNumber
   in-endpoint n m u e tested =

@@ -2,14 +2,13 @@
 use Prim.Native.Nat.{ℕ}
 use mathlib.Core.Path.{_≡_}
 use mathlib.Core.List.{List}
-use Rattle.machine.specs.Machine.{Decision}
-use Rattle.answers.specs.Answer.{answerOf}
-use Rattle.effects.specs.Effect.{effectFor, performed}
-use Rattle.holders.specs.Noted.{notedBy}
+use Rattle.machine.specs.Call.{Call.one}
+use Rattle.machine.specs.Machine.{Decision, effect, after, answerTo}
+use Rattle.holders.specs.Noted.{holdersAfter}
 
 -- the decision d fell on a call with the first word w, on the table t with the words p for the holders: the call is answered by these
 -- words, and leaves the table t′ and the words p′
 pub record Settled (t p : List ℕ) (w : ℕ) (d : Decision) (words t′ p′ : List ℕ) : Type 0 where
-  pub answer : words ≡ answerOf t w d
-  pub table : t′ ≡ performed t (effectFor t d)
-  pub holders : p′ ≡ notedBy p (effectFor t d)
+  pub answer : words ≡ answerTo t (one w) d
+  pub table : t′ ≡ after t (effect t d)
+  pub holders : p′ ≡ holdersAfter p (effect t d)

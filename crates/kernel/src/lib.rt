@@ -1,6 +1,5 @@
 // The kernel: what a call and a list of calls do to a lent table and to the holders kept beside it, and what they answer. A table
 // is checked before any call runs.
-mod kinds;
 mod list;
 mod moves;
 mod queues;
@@ -12,6 +11,8 @@ use cutting::Second;
 use entry::EntryRefusal;
 use entry::Ran;
 use holders::fill;
+use layout::domains;
+use layout::endpoints;
 use list::run_calls;
 use machine::of_calls::LONGEST_LIST;
 use serve::serve;
@@ -53,7 +54,9 @@ pub fn step(table: &mut [u32], first: u32, second: Second, holders: &mut [u32]) 
         return Stepped::Refused(EntryRefusal::BadHolders);
     }
     fill(table, holders);
-    let words = serve(table, first, second, holders);
+    let n = domains(table);
+    let m = endpoints(table);
+    let words = serve(table, n, m, holders, first, second);
     Stepped::Answered(words)
 }
 

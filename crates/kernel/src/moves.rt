@@ -1,8 +1,9 @@
-// The calls that move rights, in the lent table's own words: the numbers are tested, then what the table holds, one rights word is
-// written, and the change is noted in the holders.
+// The calls about rights, in the lent table's own words: each tests the call's numbers, then what the table holds, writes one rights
+// word and notes the change in the holders.
 use answers::Answer;
 use answers::given::done;
 use answers::given::refusal;
+use answers::rights_listed;
 use holders::note;
 use layout::rights_at;
 use machine::KIND;
@@ -11,21 +12,21 @@ use right::Rights;
 use rules::Decision;
 use rules::access;
 use rules::range::Range;
+use rules::range::of_caller;
 use rules::range::of_grant;
 use rules::range::of_remove;
 ghost use mathlib.Core.Path.{_≡_};
-ghost use Prim.Native.Nat.{_<_, _≤_};
-ghost use Rattle.machine.specs.Table.{domains, rights};
+ghost use mathlib.Core.List.{List};
+ghost use Prim.Native.Nat.{ℕ, _<_, _≤_};
+ghost use Rattle.machine.specs.Table.{domains, rights, setRights};
 ghost use Rattle.machine.specs.Check.{Accepted};
 ghost use Rattle.answers.specs.Answer.{answerWords};
 ghost use Rattle.calls.specs.Decide.{decideCall};
-ghost use Rattle.calls.specs.declared.Call.the-variants.{Grant, Remove, Revoke};
-ghost use Rattle.effects.specs.Effect.{performed};
-ghost use Rattle.effects.specs.declared.Effect.the-variants.{NewRights};
-ghost use Rattle.holders.specs.Noted.{notedBy};
+ghost use Rattle.calls.specs.declared.Call.the-variants.{MyRights, Grant, Remove, Revoke};
+ghost use Rattle.holders.specs.Noted.{noted};
 ghost use Rattle.kernel.specs.Settled.{Settled};
 
-// A holder's rights on a target.
+// Returns a holder's rights on a target.
 pub fn held(table: &[u32], n: u32, holder: u32, target: u32) -> Rights
     requires { ⌜ Accepted (now table) ⌝ }
     requires { ⌜ n ≡ domains (now table) ⌝ }
@@ -38,22 +39,22 @@ pub fn held(table: &[u32], n: u32, holder: u32, target: u32) -> Rights
     Rights { bits: word % KIND }
 }
 
-// A holder's rights on a target become these, and the holders' words are told.
+// Writes a holder's rights on a target, and notes them in the holders.
 fn alter(table: &mut [u32], n: u32, holders: &mut [u32], holder: u32, target: u32, rights: u32)
     requires { ⌜ Accepted (now table) ⌝ }
     requires { ⌜ n ≡ domains (now table) ⌝ }
     requires { ⌜ holder < n ⌝ }
     requires { ⌜ target < n ⌝ }
     requires { ⌜ rights ≤ 15 ⌝ }
-    ensures { λ _. ⌜ now (table .exit) ≡ performed (now (table .entry)) (NewRights holder target rights) ⌝ }
-    ensures { λ _. ⌜ now (holders .exit) ≡ notedBy (now (holders .entry)) (NewRights holder target rights) ⌝ }
+    ensures { λ _. ⌜ now (table .exit) ≡ setRights (now (table .entry)) holder target rights ⌝ }
+    ensures { λ _. ⌜ now (holders .exit) ≡ noted (now (holders .entry)) holder target rights ⌝ }
 {
     let at = rights_at(n, holder, target);
     table[at] = NO_RIGHT + rights;
     note(holders, holder, target, rights);
 }
 
-// Rights are granted to a recipient.
+// Grants rights to a recipient and returns the answer.
 pub fn grant(
     table: &mut [u32],
     n: u32,
@@ -84,7 +85,7 @@ pub fn grant(
     done(first, 0, 0)
 }
 
-// A domain removes rights of its own.
+// Removes rights of the caller's own and returns the answer.
 pub fn remove(
     table: &mut [u32],
     n: u32,
@@ -112,7 +113,7 @@ pub fn remove(
     done(first, 0, 0)
 }
 
-// Rights are taken back from a holder.
+// Takes rights back from a holder and returns the answer.
 pub fn revoke(
     table: &mut [u32],
     n: u32,
@@ -141,4 +142,17 @@ pub fn revoke(
     let left = had.without(Rights { bits: given });
     alter(table, n, holders, holder, target, left.bits);
     done(first, 0, 0)
+}
+
+// Answers my rights.
+pub fn my_rights(table: &[u32], n: u32, first: u32, caller: u32) -> Answer
+    requires { ⌜ Accepted (now table) ⌝ }
+    requires { ⌜ n ≡ domains (now table) ⌝ }
+    ensures { λ a. ⌜ ((p : List ℕ) → Settled (now (table .entry)) p first (decideCall (now (table .entry)) (MyRights caller)) (answerWords a) (now (table .entry)) p) ⌝ }
+{
+    let range = of_caller(n, caller);
+    if let Range::Outside(refused) = range {
+        return refusal(first, refused);
+    }
+    rights_listed(table, first, caller)
 }

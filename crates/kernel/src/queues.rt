@@ -1,7 +1,8 @@
-// The calls that name an endpoint, in the lent table's own words: the numbers are tested, then what the table holds, and a send and a
-// receive are made of the endpoint's twelve words, lent once.
+// The calls about endpoints, in the lent table's own words: each tests the call's numbers, then what the table holds; a send and a
+// receive lend the endpoint's twelve words to the queue.
 use crate::moves::held;
 use answers::Answer;
+use answers::endpoints_listed;
 use answers::given::done;
 use answers::given::refusal;
 use calls::Refusal;
@@ -17,22 +18,20 @@ use rules::range::of_caller;
 use rules::range::of_endpoint;
 ghost use mathlib.Core.Path.{_≡_};
 ghost use mathlib.Core.List.{List};
-ghost use Prim.Native.Nat.{ℕ};
+ghost use Prim.Native.Nat.{ℕ, _≤_};
+ghost use Rattle.machine.specs.Word.{mostPayload};
 ghost use Rattle.machine.specs.Table.{domains, endpoints};
 ghost use Rattle.machine.specs.Check.{Accepted};
 ghost use Rattle.machine.specs.Machine.{named};
 ghost use Rattle.answers.specs.Answer.{answerWords};
 ghost use Rattle.calls.specs.Decide.{decideCall};
-ghost use Rattle.calls.specs.declared.Call.the-variants.{LookUp, Send, Receive};
+ghost use Rattle.calls.specs.declared.Call.the-variants.{LookUp, Send, Receive, MyEndpoints};
 ghost use Rattle.rules.specs.Access.{foundOf};
 ghost use Rattle.kernel.specs.Settled.{Settled};
 
-// So many endpoints are a few: up to these all names are looked at.
-const FEW: u32 = 8;
-
-// The first endpoint that has the name, of a few: all are looked at, from the last to the first. Which of them has it is as good as
-// random to the processor, and a jump that is foretold wrongly costs more than the names behind it.
-fn find_among_few(table: &[u32], n: u32, m: u32, name: u32) -> Found
+// Returns the first endpoint that has the name, if one has it. It looks at all of them, from the last to the first: which one has the
+// name is as good as random to the processor, and a mispredicted branch costs more than the names after it.
+fn find(table: &[u32], n: u32, m: u32, name: u32) -> Found
     requires { ⌜ Accepted (now table) ⌝ }
     requires { ⌜ n ≡ domains (now table) ⌝ }
     requires { ⌜ m ≡ endpoints (now table) ⌝ }
@@ -52,39 +51,7 @@ fn find_among_few(table: &[u32], n: u32, m: u32, name: u32) -> Found
     Found::Nothing
 }
 
-// The first endpoint that has the name, of many: it ends where one has it.
-fn find_among_many(table: &[u32], n: u32, m: u32, name: u32) -> Found
-    requires { ⌜ Accepted (now table) ⌝ }
-    requires { ⌜ n ≡ domains (now table) ⌝ }
-    requires { ⌜ m ≡ endpoints (now table) ⌝ }
-    ensures { λ r. ⌜ foundOf r ≡ named (now (table .entry)) name ⌝ }
-{
-    let mut e = 0;
-    while e < m {
-        let at = endpoint_at(n, e);
-        let word = table[at];
-        if word % KIND == name {
-            return Found::At(e);
-        }
-        e += 1;
-    }
-    Found::Nothing
-}
-
-// The first endpoint that has the name.
-fn find(table: &[u32], n: u32, m: u32, name: u32) -> Found
-    requires { ⌜ Accepted (now table) ⌝ }
-    requires { ⌜ n ≡ domains (now table) ⌝ }
-    requires { ⌜ m ≡ endpoints (now table) ⌝ }
-    ensures { λ r. ⌜ foundOf r ≡ named (now (table .entry)) name ⌝ }
-{
-    if m <= FEW {
-        return find_among_few(table, n, m, name);
-    }
-    find_among_many(table, n, m, name)
-}
-
-// A name is looked up.
+// Looks a name up and returns the answer.
 pub fn look_up(table: &[u32], n: u32, m: u32, first: u32, caller: u32, name: u32) -> Answer
     requires { ⌜ Accepted (now table) ⌝ }
     requires { ⌜ n ≡ domains (now table) ⌝ }
@@ -102,7 +69,7 @@ pub fn look_up(table: &[u32], n: u32, m: u32, first: u32, caller: u32, name: u32
     }
 }
 
-// A message is sent to an endpoint.
+// Sends a message to an endpoint and returns the answer.
 pub fn send(
     table: &mut [u32],
     n: u32,
@@ -115,6 +82,7 @@ pub fn send(
     requires { ⌜ Accepted (now table) ⌝ }
     requires { ⌜ n ≡ domains (now table) ⌝ }
     requires { ⌜ m ≡ endpoints (now table) ⌝ }
+    requires { ⌜ message ≤ mostPayload ⌝ }
     ensures { λ a. ⌜ ((p : List ℕ) → Settled (now (table .entry)) p first (decideCall (now (table .entry)) (Send caller e message)) (answerWords a) (now (table .exit)) p) ⌝ }
 {
     let range = of_endpoint(n, m, caller, e);
@@ -133,7 +101,7 @@ pub fn send(
     done(first, 0, 0)
 }
 
-// A message is received from an endpoint.
+// Receives from an endpoint and returns the answer.
 pub fn receive(table: &mut [u32], n: u32, m: u32, first: u32, caller: u32, e: u32) -> Answer
     requires { ⌜ Accepted (now table) ⌝ }
     requires { ⌜ n ≡ domains (now table) ⌝ }
@@ -155,7 +123,20 @@ pub fn receive(table: &mut [u32], n: u32, m: u32, first: u32, caller: u32, e: u3
     let lost = table[start + 3];
     let end = start + ENDPOINT_WORDS;
     queue::receive(&mut table[start..end]);
-    // Taken off its kind, and not cut like the message: two words side by side that are cut alike become one read of 64 bits, which waits
-    // for the write of the message's 32.
+    // Subtracts the kind, where the message has a remainder: two words side by side that are cut alike become one read of 64 bits,
+    // which waits for the 32-bit write of the message.
     done(first, message % KIND, lost - NONE_LOST)
+}
+
+// Answers my endpoints.
+pub fn my_endpoints(table: &[u32], n: u32, first: u32, caller: u32) -> Answer
+    requires { ⌜ Accepted (now table) ⌝ }
+    requires { ⌜ n ≡ domains (now table) ⌝ }
+    ensures { λ a. ⌜ ((p : List ℕ) → Settled (now (table .entry)) p first (decideCall (now (table .entry)) (MyEndpoints caller)) (answerWords a) (now (table .entry)) p) ⌝ }
+{
+    let range = of_caller(n, caller);
+    if let Range::Outside(refused) = range {
+        return refusal(first, refused);
+    }
+    endpoints_listed(table, first, caller)
 }

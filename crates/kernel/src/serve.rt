@@ -1,50 +1,68 @@
-// One call on an accepted table: it is taken apart, decided on, answered and done, in this order; then the holders are kept.
+// One call on an accepted table: it is taken apart into one choice among its kinds, and each kind is served by a function of its own,
+// which tests the call's numbers, then what the table holds, and writes and answers.
+use crate::moves::grant;
+use crate::moves::my_rights;
+use crate::moves::remove;
+use crate::moves::revoke;
+use crate::queues::look_up;
+use crate::queues::my_endpoints;
+use crate::queues::receive;
+use crate::queues::send;
 use answers::Answer;
-use answers::answer_to;
+use answers::given::refuse;
+use calls::Call;
 use calls::take_apart;
 use cutting::Second;
-use decide::decide;
-use effects::Effect;
-use effects::effect_on;
-use effects::perform;
-use holders::note;
 ghost use mathlib.Core.Path.{_≡_};
+ghost use Rattle.machine.specs.Table.{domains, endpoints};
 ghost use Rattle.machine.specs.Check.{Accepted};
-ghost use Rattle.machine.specs.Holders.{holdersOf};
-ghost use Rattle.cutting.specs.Cutting.{callOf};
 ghost use Rattle.answers.specs.Answer.{answerWords};
-ghost use Rattle.holders.specs.Noted.{notedBy};
-ghost use Rattle.kernel.specs.Step.{Served};
+ghost use Rattle.calls.specs.Apart.{apart};
+ghost use Rattle.calls.specs.Decide.{decideCall};
+ghost use Rattle.kernel.specs.Settled.{Settled};
 
-// What an effect does to the holders: new rights alter one bit of theirs at most, and nothing else alters any.
-fn keep(holders: &mut [u32], effect: Effect)
-    ensures { λ _. ⌜ now (holders .exit) ≡ notedBy (now (holders .entry)) effect ⌝ }
-{
-    match effect {
-        Effect::NewRights {
-            holder,
-            target,
-            rights,
-        } => note(holders, holder, target, rights),
-        Effect::Nothing => {}
-        Effect::Send {
-            endpoint: _,
-            message: _,
-        } => {}
-        Effect::Receive { endpoint: _ } => {}
-    }
-}
-
-pub fn serve(table: &mut [u32], first: u32, second: Second, holders: &mut [u32]) -> Answer
+// Serves the call of a first word and, if there is one, a second, and returns its answer.
+pub fn serve(
+    table: &mut [u32],
+    n: u32,
+    m: u32,
+    holders: &mut [u32],
+    first: u32,
+    second: Second,
+) -> Answer
     requires { ⌜ Accepted (now table) ⌝ }
-    requires { ⌜ now holders ≡ holdersOf (now table) ⌝ }
-    ensures { λ a. ⌜ Served (now (table .entry)) (callOf first second) (answerWords a) (now (table .exit)) (now (holders .exit)) ⌝ }
+    requires { ⌜ n ≡ domains (now table) ⌝ }
+    requires { ⌜ m ≡ endpoints (now table) ⌝ }
+    ensures { λ a. ⌜ Settled (now (table .entry)) (now (holders .entry)) first (decideCall (now (table .entry)) (apart first second)) (answerWords a) (now (table .exit)) (now (holders .exit)) ⌝ }
 {
     let call = take_apart(first, second);
-    let decision = decide(table, call);
-    let words = answer_to(table, first, decision);
-    let effect = effect_on(table, decision);
-    perform(table, effect);
-    keep(holders, effect);
-    words
+    match call {
+        Call::Refused { caller, refusal } => refuse(n, first, caller, refusal),
+        Call::LookUp { caller, name } => look_up(table, n, m, first, caller, name),
+        Call::Send {
+            caller,
+            endpoint,
+            message,
+        } => send(table, n, m, first, caller, endpoint, message),
+        Call::Receive { caller, endpoint } => receive(table, n, m, first, caller, endpoint),
+        Call::MyEndpoints { caller } => my_endpoints(table, n, first, caller),
+        Call::MyRights { caller } => my_rights(table, n, first, caller),
+        Call::Grant {
+            caller,
+            target,
+            recipient,
+            rights,
+        } => grant(table, n, holders, first, caller, target, recipient, rights),
+        Call::Remove {
+            caller,
+            target,
+            rights,
+        } => remove(table, n, holders, first, caller, target, rights),
+        Call::Revoke {
+            caller,
+            target,
+            holder,
+            rights,
+        } => revoke(table, n, holders, first, caller, target, holder, rights),
+    }
 }

@@ -31,23 +31,5 @@ pub const REVOKE: u32 = 8;
 // The kind of a call's second word.
 pub const SECOND: u32 = 15;
 
-// The least word of each kind, and of kind 9, from which on kinds are unknown up to 15.
-pub const LEAST_LOOK_UP: u32 = LOOK_UP * KIND;
-
-pub const LEAST_SEND: u32 = SEND * KIND;
-
-pub const LEAST_RECEIVE: u32 = RECEIVE * KIND;
-
-pub const LEAST_MY_ENDPOINTS: u32 = MY_ENDPOINTS * KIND;
-
-pub const LEAST_MY_RIGHTS: u32 = MY_RIGHTS * KIND;
-
-pub const LEAST_GRANT: u32 = GRANT * KIND;
-
-pub const LEAST_REMOVE: u32 = REMOVE * KIND;
-
-pub const LEAST_REVOKE: u32 = REVOKE * KIND;
-
-pub const LEAST_UNKNOWN: u32 = 9 * KIND;
-
-pub const LEAST_SECOND: u32 = SECOND * KIND;
+// A second word with nothing in it: the name or the message is added to it.
+pub const SECOND_WORD: u32 = SECOND * KIND;

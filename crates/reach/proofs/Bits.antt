@@ -3,8 +3,8 @@
 use mathlib.Core.Path.{_≡_, refl, sym, ap, ap₂, _∙_}
 use mathlib.Core.Bool.{true, false, _||_, false≢true}
 use mathlib.Core.Logic.{⊎-elim}
-use Prim.Native.Nat.{ℕ, zero, suc, _/_, _%_, _^_}
-use native.Mathlib.Nat.{zero-div, div-one, pow-suc}
+use Prim.Native.Nat.{ℕ, zero, suc, _/_, _%_, _^_, _<_}
+use native.Mathlib.Nat.{zero-div, div-one, pow-suc, mod-eq-of-lt}
 use native.Mathlib.Omega.{arith}
 use borrow.Author.Tests.{eqb-true, eqb-false}
 use lib.Arith.{bin-ind}
@@ -32,6 +32,10 @@ bit-zero w = ap (λ x. eqb (x % 2) 1) (div-one w)
 pub bit-half : (w u : ℕ) → hasBit (w / 2) u ≡ hasBit w (suc u)
 unfolding hasBit
 bit-half w u = ap (λ x. eqb (x % 2) 1) (shr-shr w 1 u ∙ ap (λ k. w / 2 ^ k) (omega arith))
+
+-- the set of one as `bit` makes it, of a number below 32
+pub bit-is : {r i : ℕ} → i < 32 → r ≡ 2 ^ (i % 32) → r ≡ 2 ^ i
+bit-is l e = e ∙ ap (λ k. 2 ^ k) (mod-eq-of-lt l)
 
 -- of a set of one
 half-pow : (d : ℕ) → 2 ^ suc d / 2 ≡ 2 ^ d

@@ -1,7 +1,15 @@
 // The closure of a set of domains over lent words: bit u of word v says that u has a step to v. A set is a word too, with a bit
 // for each member. Any words and any set will do.
 ghost use mathlib.Core.Path.{_≡_};
+ghost use Prim.Native.Nat.{_%_, _^_};
 ghost use Rattle.reach.specs.Closure.{widened, closed};
+
+// Returns the set of one: bit i of a word, i taken modulo 32.
+pub fn bit(i: u32) -> u32
+    ensures { λ r. ⌜ r ≡ 2 ^ (i % 32) ⌝ }
+{
+    1 << (i % 32)
+}
 
 // One round: the set with all that have a step to a member.
 fn widen(words: &[u32], set: u32) -> u32

@@ -1,5 +1,5 @@
 -- A decision of the code that is no refusal has passed its places. Assumes nothing.
-use mathlib.Core.Path.{_≡_}
+use mathlib.Core.Path.{_≡_, refl}
 use mathlib.Core.Bool.{Bool, true, false}
 use mathlib.Core.List.{[], _∷_}
 use Prim.Native.Nat.{ℕ}
@@ -10,21 +10,18 @@ use Rattle.machine.specs.Machine as machine
 use Rattle.machine.specs.Machine.{place}
 use Rattle.rules.specs.Decision.{decisionOf}
 use Rattle.rules.specs.declared.Decision.{Decision}
-use Rattle.rules.specs.declared.Decision.the-variants.{Refused, LookedUp, Sends, Receives, ListsEndpoints, ListsRights, Grants, Removes, Revokes}
+use Rattle.rules.specs.declared.Decision.the-variants.{Refused, Sends, Receives, Grants, Removes, Revokes}
 use Rattle.rules.proofs.Decision.{the-type}
 
 -- the code's test: one of the variants behind the refusal
 abbrev pub IsDone : Decision → Type 0
-IsDone x = OneOf (1 ∷ 2 ∷ 3 ∷ 4 ∷ 5 ∷ 6 ∷ 7 ∷ 8 ∷ []) (tagOf the-type x)
+IsDone x = OneOf (1 ∷ 2 ∷ 3 ∷ 4 ∷ 5 ∷ []) (tagOf the-type x)
 
 pub not-refused : (x : Decision) (k : ℕ) → IsDone x → decisionOf x ≡ machine.refused k → ⊥
 unfolding decisionOf
-not-refused (Refused r) k told e = miss (1 ∷ 2 ∷ 3 ∷ 4 ∷ 5 ∷ 6 ∷ 7 ∷ 8 ∷ []) 0 tt told
-not-refused (LookedUp i) k told e = let z : _≡_ {A = ℕ} 0 1 = cc in omega arith
+not-refused (Refused r) k told e = miss (1 ∷ 2 ∷ 3 ∷ 4 ∷ 5 ∷ []) 0 tt told
 not-refused (Sends i j) k told e = let z : _≡_ {A = ℕ} 0 1 = cc in omega arith
 not-refused (Receives i) k told e = let z : _≡_ {A = ℕ} 0 1 = cc in omega arith
-not-refused (ListsEndpoints u) k told e = let z : _≡_ {A = ℕ} 0 1 = cc in omega arith
-not-refused (ListsRights u) k told e = let z : _≡_ {A = ℕ} 0 1 = cc in omega arith
 not-refused (Grants g h r) k told e = let z : _≡_ {A = ℕ} 0 1 = cc in omega arith
 not-refused (Removes g u r) k told e = let z : _≡_ {A = ℕ} 0 1 = cc in omega arith
 not-refused (Revokes g h r) k told e = let z : _≡_ {A = ℕ} 0 1 = cc in omega arith
@@ -33,3 +30,9 @@ pub passed : (x : Decision) (b : Bool) (k : ℕ) (next : machine.Decision) → I
 unfolding place
 passed x true k next told e = absurd (not-refused x k told e)
 passed x false k next told e = e
+
+-- and the place's condition is false
+pub clear : (x : Decision) (b : Bool) (k : ℕ) (next : machine.Decision) → IsDone x → decisionOf x ≡ place b k next → b ≡ false
+unfolding place
+clear x true k next told e = absurd (not-refused x k told e)
+clear x false k next told e = refl

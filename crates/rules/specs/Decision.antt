@@ -2,15 +2,12 @@
 use Rattle.machine.specs.Machine as machine
 use Rattle.calls.specs.Number.{numberOf}
 use Rattle.rules.specs.declared.Decision.{Decision}
-use Rattle.rules.specs.declared.Decision.the-variants.{Refused, LookedUp, Sends, Receives, ListsEndpoints, ListsRights, Grants, Removes, Revokes}
+use Rattle.rules.specs.declared.Decision.the-variants.{Refused, Sends, Receives, Grants, Removes, Revokes}
 
 unfoldable pub decisionOf : Decision → machine.Decision
 decisionOf (Refused r) = machine.refused (numberOf r)
-decisionOf (LookedUp e) = machine.lookedUp e
 decisionOf (Sends e message) = machine.sends e message
 decisionOf (Receives e) = machine.receives e
-decisionOf (ListsEndpoints u) = machine.listsEndpoints u
-decisionOf (ListsRights u) = machine.listsRights u
 decisionOf (Grants g h r) = machine.grants g h r
 decisionOf (Removes g u r) = machine.removes g u r
 decisionOf (Revokes g h r) = machine.revokes g h r

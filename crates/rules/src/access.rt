@@ -1,4 +1,4 @@
-// The tests of what was read for a call (15, 17, 18, 19, 22 and 23), by plain values: who owns the endpoint, what the caller
+// The tests of what was read for a call (17, 18, 19, 22 and 23), by plain values: who owns the endpoint, what the caller
 // holds, what waits. Whoever holds a table in another layout reads its own and asks the same.
 use crate::Decision;
 use calls::Refusal;
@@ -7,24 +7,13 @@ ghost use mathlib.Core.Path.{_≡_};
 ghost use mathlib.Core.Bool.{_&&_, _||_};
 ghost use lib.Dec.{eqb};
 ghost use Rattle.machine.specs.Right.{holds, hasAny};
-ghost use Rattle.machine.specs.Machine.{lookUpPlaces};
 ghost use Rattle.rules.specs.Decision.{decisionOf};
-ghost use Rattle.rules.specs.Access.{foundOf, sendAccess, receiveAccess, grantAccess, revokeAccess, removeAccess};
+ghost use Rattle.rules.specs.Access.{sendAccess, receiveAccess, grantAccess, revokeAccess, removeAccess};
 
-// The endpoint that has a name, if one has it.
+// The endpoint that has a name, if one has it: place 15 is that none has.
 pub enum Found {
     At(u32),
     Nothing,
-}
-
-// Place 15.
-pub fn look_up(found: Found) -> Decision
-    ensures { λ d. ⌜ decisionOf d ≡ lookUpPlaces (foundOf found) ⌝ }
-{
-    match found {
-        Found::At(endpoint) => Decision::LookedUp { endpoint },
-        Found::Nothing => Decision::Refused(Refusal::NoSuchName),
-    }
 }
 
 // Place 17: held are the caller's rights on the endpoint's owner.

@@ -6,24 +6,15 @@ pub mod range;
 
 use calls::Refusal;
 
-// A refusal, or the call's row with what it needs.
+// A refusal, or the row, with what it needs, of a call that is decided by what was read for it.
 pub enum Decision {
     Refused(Refusal),
-    LookedUp {
-        endpoint: u32,
-    },
     Sends {
         endpoint: u32,
         message: u32,
     },
     Receives {
         endpoint: u32,
-    },
-    ListsEndpoints {
-        caller: u32,
-    },
-    ListsRights {
-        caller: u32,
     },
     Grants {
         target: u32,

@@ -1,13 +1,9 @@
 // The public step behind a C function, for the bench alone: no header declares it and the archive for the firmware hasn't
 // got it (`rt staticlib step_export` makes an archive of its own). It is how `kernel::step` is run beside the separate machine.
-use answers::Answer;
+use answers::given::put;
 use cutting::Second;
 use kernel::Stepped;
 ghost use mathlib.Core.Path.{_≡_};
-ghost use mathlib.Core.List.{_++_};
-ghost use Prim.Native.Nat.{_≤_};
-ghost use lib.ListN.{length, drop};
-ghost use Rattle.answers.specs.Answer.{answerWords};
 ghost use Rattle.cutting.specs.Cutting.{callOf};
 ghost use Rattle.step_export.specs.Exported.{secondGiven, Exported};
 
@@ -20,16 +16,6 @@ fn given(word: u32, has: u32) -> Second
     } else {
         Second::Word(word)
     }
-}
-
-// An answer's three words at the start of the answer space.
-fn put(space: &mut [u32], words: Answer)
-    requires { ⌜ 3 ≤ length (now space) ⌝ }
-    ensures { λ _. ⌜ now (space .exit) ≡ answerWords words ++ drop 3 (now (space .entry)) ⌝ }
-{
-    space[0] = words.head;
-    space[1] = words.first;
-    space[2] = words.second;
 }
 
 // One call on any table.

@@ -1,7 +1,7 @@
 // A turn that serves nobody, and one that serves a domain.
 use crate::TurnRefusal;
 use crate::Turned;
-use answers::Answer;
+use answers::given::put;
 use cutting::width;
 use entry::EntryRefusal;
 use kernel::Stepped;
@@ -14,10 +14,6 @@ use turn_state::first_of_oldest;
 use turn_state::remove;
 use turn_state::second_of_oldest;
 ghost use mathlib.Core.Path.{_≡_};
-ghost use mathlib.Core.List.{_++_};
-ghost use Prim.Native.Nat.{_≤_};
-ghost use lib.ListN.{length, drop};
-ghost use Rattle.answers.specs.Answer.{answerWords};
 ghost use Rattle.turns.specs.Told.{turnedCode, turnedServed};
 ghost use Rattle.turns.specs.Promise.{turnsCode, MayServe, TurnPromise};
 
@@ -41,16 +37,6 @@ pub fn nobody(table: &[u32], size: usize, lent: usize, space: usize) -> Turned
         return Turned::Refused(TurnRefusal::BadTurns);
     }
     Turned::Idle
-}
-
-// An answer's three words at the start of the answer space.
-fn put(space: &mut [u32], words: Answer)
-    requires { ⌜ 3 ≤ length (now space) ⌝ }
-    ensures { λ _. ⌜ now (space .exit) ≡ answerWords words ++ drop 3 (now (space .entry)) ⌝ }
-{
-    space[0] = words.head;
-    space[1] = words.first;
-    space[2] = words.second;
 }
 
 // The oldest call of a domain is served. A step that is refused changes nothing, here neither.

@@ -16,8 +16,7 @@ use Rattle.machine.proofs.Below.{words-length}
 use Rattle.machine.proofs.Bools.{and-intro}
 use Rattle.rows.specs.Rows.{rowsOf, rowsOut, hasRights}
 use Rattle.kernel.specs.Run.{AllRun}
-use Rattle.working_state.specs.State.{Rights, rightsOf}
-use Rattle.working_layout.specs.Layout.{hasQueues, ringsOf, queuesOut, namesOf, ownedOf, packedOf}
+use Rattle.working_layout.specs.Layout.{hasQueues, ringsOf, queuesOut, namesOf, ownedOf}
 use Rattle.working_layout.proofs.Stands.{taken-in-stands-for}
 use Rattle.working_layout.proofs.PutOut.{put-out-is-table}
 use Rattle.working.specs.Run.{StandsFor, Left}
@@ -51,20 +50,19 @@ module _ (t : List ℕ) (a : Accepted t) where
     small : n % 256 ≡ domains t
     small = ap (λ (k : ℕ). k % 256) isN ∙ eight
 
-    pub taken-in : (rows : List (List ℕ)) (packed lent rings names owned holders : List ℕ)
+    pub taken-in : (rows : List (List ℕ)) (lent rings names owned holders : List ℕ)
         → length lent ≡ 12 * endpoints t
         → rows ≡ rowsOf (cond (hasRights n (length t)) n 0) t
         → rings ≡ cond (hasQueues (n % 256) m (length t) (length lent)) (ringsOf (n % 256) m t) lent
-        → packed ≡ packedOf rows
         → names ≡ namesOf (n % 256) m t
         → owned ≡ ownedOf (n % 256) m t
         → holders ≡ holdersOf t
-        → StandsFor n m (rightsOf rows packed) rings names owned holders t
-    taken-in rows packed lent rings names owned holders long isRows isRings isPacked isNames isOwned isHolders =
+        → StandsFor n m rows rings names owned holders t
+    taken-in rows lent rings names owned holders long isRows isRings isNames isOwned isHolders =
         record {
           accepted = a;
           state =
-              rw (isPacked, isN, isM, isRows ∙ rowsAre, isRings ∙ ringsAre, isNames ∙ ap₂ (λ (i j : ℕ). namesOf i j t) small isM, isOwned ∙ ap₂ (λ (i j : ℕ). ownedOf i j t) small isM)
+              rw (isN, isM, isRows ∙ rowsAre, isRings ∙ ringsAre, isNames ∙ ap₂ (λ (i j : ℕ). namesOf i j t) small isM, isOwned ∙ ap₂ (λ (i j : ℕ). ownedOf i j t) small isM)
               (taken-in-stands-for t a);
           sameHolders = isHolders;
         }
@@ -76,20 +74,20 @@ module _ (t : List ℕ) (a : Accepted t) where
         ringsAre = rw (small, isM, has-queues (length t) (length lent) refl long) refl
 
     -- what is put out is the table at the end
-    pub put-out : (names owned ws space : List ℕ) (k : ℕ) (rows : Rights) (rings space′ holders t₁ t₂ : List ℕ)
+    pub put-out : (names owned ws space : List ℕ) (k : ℕ) (rows : List (List ℕ)) (rings space′ holders t₁ t₂ : List ℕ)
         → Left n m names owned t ws space k rows rings space′ holders
-        → t₁ ≡ cond (hasRights n (length t)) (rowsOut n (rows .rows) t) t
+        → t₁ ≡ cond (hasRights n (length t)) (rowsOut n rows t) t
         → t₂ ≡ cond (hasQueues (n % 256) m (length t₁) (length rings)) (queuesOut (n % 256) m rings t₁) t₁
         → AllRun t ws space k space′ t₂ holders
     put-out names owned ws space k rows rings space′ holders t₁ t₂ x isT₁ isT₂ =
         let ran = x .ran in
         record { count = ran .count; table = isT₂ ∙ whole ∙ ran .table; answers = ran .answers; holders = ran .holders }
       where
-        first : t₁ ≡ rowsOut n (rows .rows) t
-        first = isT₁ ∙ ap (λ (b : _). cond b (rowsOut n (rows .rows) t) t) (ap (λ (i : ℕ). hasRights i (length t)) isN ∙ has-rights)
+        first : t₁ ≡ rowsOut n rows t
+        first = isT₁ ∙ ap (λ (b : _). cond b (rowsOut n rows t) t) (ap (λ (i : ℕ). hasRights i (length t)) isN ∙ has-rights)
 
         same : length t₁ ≡ length t
-        same = ap length first ∙ rows-length n (rows .rows) t
+        same = ap length first ∙ rows-length n rows t
 
         there : hasQueues (n % 256) m (length t₁) (length rings) ≡ true
         there =

@@ -1,37 +1,35 @@
 -- A run of a list on its way, on a working state: the kernel's run on its way, and that the state stands for its table.
 -- Assumes nothing.
 use mathlib.Core.Path.{_≡_, refl, sym, ap, ap₂, subst₂, _∙_}
-use mathlib.Core.List.{List}
+use mathlib.Core.List.{List, _++_}
 use Prim.Native.Nat.{ℕ, _+_, _*_, _<_, _≤_}
-use lib.ListN.{length, getD}
+use lib.ListN.{length, getD, take, drop}
 use Rattle.machine.specs.Machine as machine
 use Rattle.machine.specs.Machine.{Decision}
 use Rattle.machine.specs.SameParts.{SameFrame}
 use Rattle.machine.proofs.Frame.{frame-refl, frame-trans}
 use Rattle.machine.proofs.Step.{stays-accepted}
-use Rattle.cutting.specs.Cutting.{callOf, secondAt}
+use Rattle.cutting.specs.Cutting.{callOf, secondAt, widthOf}
 use Rattle.cutting.specs.declared.Second.{Second}
 use Rattle.calls.specs.Apart.{apart}
-use Rattle.effects.specs.Effect.{effectBy}
-use Rattle.holders.specs.Noted.{notedBy}
-use Rattle.rows.specs.Rows.{heldIn}
+use Rattle.holders.specs.Noted.{holdersAfter}
 use Rattle.kernel.specs.Step as kernel
 use Rattle.kernel.proofs.Underway.{Underway, underway-start, underway-next, underway-end}
-use Rattle.working_state.specs.State.{Rights, namedIn, answerFrom, rowsAfter, ringsAfter}
+use Rattle.working_state.specs.State.{namedIn, answerFrom, effectFrom, rowsAfter, ringsAfter}
 use Rattle.working_state.specs.Represents.{Represents}
 use Rattle.working_state.proofs.Along.{calls-go-along}
-use Rattle.working_calls.specs.Served.{Served}
-use Rattle.working.specs.Run.{ServedAt, StandsFor, Left}
+use Rattle.working.specs.Served.{Served}
+use Rattle.working.specs.Run.{StandsFor, Left}
 
 -- k calls of the list ws are done, the next begins at place i; the rest is what stands now
-pub record OnItsWay (n m : ℕ) (names owned t₀ ws space₀ p₀ : List ℕ) (rows : Rights) (rings space p : List ℕ) (k i : ℕ) : Type 0 where
+pub record OnItsWay (n m : ℕ) (names owned t₀ ws space₀ p₀ : List ℕ) (rows : List (List ℕ)) (rings space p : List ℕ) (k i : ℕ) : Type 0 where
   pub table : List ℕ
   pub underway : Underway t₀ ws space₀ p₀ table space p k i
   pub frame : SameFrame table t₀
   pub state : Represents n m rows rings names owned table
 
 module _ (n m : ℕ) (names hints owned ws space₀ p₀ : List ℕ) where
-  pub way-start : (rows : Rights) (rings t : List ℕ) → StandsFor n m rows rings names owned p₀ t
+  pub way-start : (rows : List (List ℕ)) (rings t : List ℕ) → StandsFor n m rows rings names owned p₀ t
       → OnItsWay n m names owned t ws space₀ p₀ rows rings space₀ p₀ 0 0
   way-start rows rings t s =
       record {
@@ -41,9 +39,9 @@ module _ (n m : ℕ) (names hints owned ws space₀ p₀ : List ℕ) where
         state = s .state;
       }
 
-  module _ (t₀ : List ℕ) (rows : Rights) (rings space p : List ℕ) (k i : ℕ) (y : OnItsWay n m names owned t₀ ws space₀ p₀ rows rings space p k i) where
+  module _ (t₀ : List ℕ) (rows : List (List ℕ)) (rings space p : List ℕ) (k i : ℕ) (y : OnItsWay n m names owned t₀ ws space₀ p₀ rows rings space p k i) where
     -- one call more, on the state, is one on the table
-    served : (w : ℕ) (s : Second) (words : List ℕ) (rows′ : Rights) (rings′ p′ : List ℕ)
+    served : (w : ℕ) (s : Second) (words : List ℕ) (rows′ : List (List ℕ)) (rings′ p′ : List ℕ)
         → Served n m rows rings (namedIn m names hints) owned p w (apart w s) words rows′ rings′ p′
         → kernel.Served (y .table) (callOf w s) words (machine.step (y .table) (callOf w s)) p′
         × Represents n m rows′ rings′ names owned (machine.step (y .table) (callOf w s))
@@ -55,26 +53,28 @@ module _ (n m : ℕ) (names hints owned ws space₀ p₀ : List ℕ) where
           record {
             answer = x .answer ∙ ap (answerFrom w rows rings owned) is ∙ along .answer;
             table = refl;
-            holders = x .noted ∙ ap₂ (λ (h : List ℕ) (d : Decision). notedBy h (effectBy (heldIn (rows .rows)) d)) (y .underway .holders) is ∙ along .holders;
+            holders = x .noted ∙ ap₂ (λ (h : List ℕ) (d : Decision). holdersAfter h (effectFrom rows rings d)) (y .underway .holders) is ∙ along .holders;
           },
-          subst₂ (λ (a : Rights) (b : List ℕ). Represents n m a b names owned (machine.step t c))
-              (sym (x .rowsLeft ∙ ap (λ (d : Decision). rowsAfter rows (effectBy (heldIn (rows .rows)) d)) is))
-              (sym (x .ringsLeft ∙ ap (λ (d : Decision). ringsAfter rings (effectBy (heldIn (rows .rows)) d)) is))
+          subst₂ (λ (a : List (List ℕ)) (b : List ℕ). Represents n m a b names owned (machine.step t c))
+              (sym (x .rowsLeft ∙ ap (λ (d : Decision). rowsAfter rows (effectFrom rows rings d)) is))
+              (sym (x .ringsLeft ∙ ap (λ (d : Decision). ringsAfter rings (effectFrom rows rings d)) is))
               (along .state),
         )
 
     pub way-next : i < length ws
-        → (w : ℕ) (rows′ : Rights) (rings′ space′ p′ : List ℕ)
-        → ServedAt n m rows rings (namedIn m names hints) owned p ws i space (3 * k) w rows′ rings′ space′ p′
+        → (s : Second) (w : ℕ) (words : List ℕ) (rows′ : List (List ℕ)) (rings′ space′ p′ : List ℕ)
+        → s ≡ secondAt ws i
+        → w ≡ widthOf s
+        → Served n m rows rings (namedIn m names hints) owned p (getD ws i 0) (apart (getD ws i 0) s) words rows′ rings′ p′
         → length p′ ≡ length p
+        → space′ ≡ take (3 * k) space ++ (words ++ drop (3 * k + 3) space)
         → length space′ ≡ length space
         → OnItsWay n m names owned t₀ ws space₀ p₀ rows′ rings′ space′ p′ (k + 1) (i + w)
-    way-next l w rows′ rings′ space′ p′ x many long =
-        let s = secondAt ws i in
-        let one = served (getD ws i 0) s (x .words) rows′ rings′ p′ (x .served) in
+    way-next l s w words rows′ rings′ space′ p′ is wide x many put long =
+        let one = served (getD ws i 0) s words rows′ rings′ p′ x in
         record {
           table = machine.step (y .table) (callOf (getD ws i 0) s);
-          underway = underway-next (y .underway) l s w (x .words) _ space′ p′ refl (x .wide) (one .0) many (x .put) long;
+          underway = underway-next (y .underway) l s w words _ space′ p′ is wide (one .0) many put long;
           frame = frame-trans (stays-accepted (y .table) (callOf (getD ws i 0) s) (y .underway .accepted) .frame) (y .frame);
           state = one .1;
         }

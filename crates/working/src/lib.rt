@@ -1,7 +1,9 @@
 // The run of a list on a working layout: the lent table is taken in once, after the entry's checks, and put out once, at the end.
 // In between no word of it is read or written: the calls run on the rights as rows, the queues as rings, the names and the
 // endpoints owned.
+mod decode;
 mod list;
+mod serve;
 
 use entry::Ran;
 use holders::fill;
@@ -14,7 +16,6 @@ use machine::of_tables::ENDPOINT_PLACES;
 use machine::of_tables::ENDPOINT_WORDS;
 use working_layout::names_in;
 use working_layout::owned_in;
-use working_layout::packed_in;
 use working_layout::rings_in;
 use working_layout::rings_out;
 use working_queues::hint_place;
@@ -28,8 +29,8 @@ ghost use Rattle.machine.specs.Promise.{RunPromise};
 ghost use Rattle.kernel.specs.Run.{AllRun};
 ghost use Rattle.entry.specs.Entry.{ranCode, ranCalls};
 
-// A hint for each name: the endpoint that has it, at the place that the name gives; of two names with one place the later stays.
-// Nothing rests on them, since a hint is believed only where the name is found.
+// Returns a hint for each name: the endpoint that has it, at the place that the name gives; of two names with one place the later
+// stays. Nothing rests on them, since a hint is believed only where the name is found.
 fn hints_in(names: &[u32; 32], m: u32) -> [u8; 1024] {
     let mut hints = [0u8; 1024];
     let mut e: u32 = 0;
@@ -65,12 +66,10 @@ fn run_on_rings(
     let owned = owned_in(table, n, m);
     fill(table, holders);
     let hints = hints_in(&names, m);
-    let mut packed = packed_in(&rows);
     let calls = run_list(
         n,
         m,
         &mut rows,
-        &mut packed,
         rings,
         &names,
         &hints,

@@ -26,7 +26,7 @@ use Rattle.rows.proofs.Parts.{part-at, part-length}
 use Rattle.rows.proofs.Rights.{put-out-rights}
 use Rattle.rings.specs.Ring.{putOutQueue}
 use Rattle.rings.proofs.Along.{put-out-is-queue}
-use Rattle.working_state.specs.State.{Rights, ringAt}
+use Rattle.working_state.specs.State.{ringAt}
 use Rattle.working_state.specs.Represents.{Represents}
 use Rattle.working_layout.specs.Layout.{wordsAt, isQueue, queuesOut}
 use Rattle.working_layout.specs.Claims.{PutOutIsTable}
@@ -49,16 +49,16 @@ rights-whole w h =
     let isRights : kind w ≡ 2 = eqb-true _ _ (and-left (eqb (kind w) 2) (leb (payload w) allRights) h) in
     omega arith
 
-module _ (t₀ t : List ℕ) (n m : ℕ) (rows : Rights) (rings names owned : List ℕ) (a₀ : Accepted t₀) (a : Accepted t) (frame : SameFrame t t₀) (x : Represents n m rows rings names owned t) where
+module _ (t₀ t : List ℕ) (n m : ℕ) (rows : List (List ℕ)) (rings names owned : List ℕ) (a₀ : Accepted t₀) (a : Accepted t) (frame : SameFrame t t₀) (x : Represents n m rows rings names owned t) where
   t₁ : List ℕ
-  t₁ = rowsOut n (rows .rows) t₀
+  t₁ = rowsOut n rows t₀
 
   size : length t ≡ 1 + n * n + 12 * m
   size = accepted-sized t a ∙ ap₂ (λ (i j : ℕ). 1 + i * i + 12 * j) (sym (x .domains)) (sym (x .endpoints))
 
-  out : OutTo n (rows .rows) t₀ t₁
+  out : OutTo n rows t₀ t₁
   unfolding t₁
-  out = put-out-rights n (rows .rows) t₀ (omega (arith, size, frame .size))
+  out = put-out-rights n rows t₀ (omega (arith, size, frame .size))
 
   same-header : getD t₀ 0 0 ≡ getD t 0 0
   unfolding domains endpoints

@@ -5,7 +5,6 @@ use mathlib.Core.Bool.{Bool, cond}
 use mathlib.Core.List.{List}
 use Prim.Native.Nat.{ℕ, _+_, _-_, _*_, _/_, _%_, _<_, min}
 use native.Mathlib.Nat.{add-zero, mod-eq-of-lt}
-use native.Mathlib.Decide.{decLt}
 use native.Mathlib.Omega.{arith}
 use lib.Dec.{eqb}
 use lib.ListN.{length, getD}
@@ -20,17 +19,14 @@ use Rattle.machine.specs.Machine.{ownedBits}
 use Rattle.machine.proofs.Accepted.{accepted-sized, accepted-counts, accepted-endpoint, accepted-owner}
 use Rattle.machine.proofs.Below.{words-length, words-at, bits-same}
 use Rattle.machine.proofs.Queue.{waiting-most}
-use Rattle.machine.proofs.Step.{rights-held}
 use Rattle.machine.proofs.Table.{endpoint-word}
 use Rattle.rows.proofs.Parts.{part-at, part-length}
-use Rattle.rows.specs.Rows.{heldIn, rowsOf}
 use Rattle.rows.proofs.Rights.{taken-in-rights}
 use Rattle.rings.specs.Ring.{ringOf}
 use Rattle.rings.specs.Claims.{Stands}
 use Rattle.rings.proofs.Along.{taken-in-stands}
 use Rattle.working_state.specs.State.{ringAt}
-use Rattle.working_state.proofs.Packed.{halves}
-use Rattle.working_layout.specs.Layout.{wordsAt, ringsOf, namesOf, ownedOf, packedOf}
+use Rattle.working_layout.specs.Layout.{wordsAt, ringsOf, namesOf, ownedOf}
 use Rattle.working_layout.specs.Claims.{TakenInStands}
 
 -- an endpoint's words, by n
@@ -98,25 +94,13 @@ module _ (t : List ℕ) (a : Accepted t) where
       all : min m 32 ≡ m
       all = omega (arith, accepted-counts t a .2)
 
-  -- all rights in a row have four bits
-  all-small : (u : ℕ) → u < domains t → (g : ℕ) → g < 16 → heldIn (rowsOf (domains t) t) u g < 16
-  all-small u l g b = go (decLt g (domains t))
-    where
-      go : Dec (g < domains t) → heldIn (rowsOf (domains t) t) u g < 16
-      go (yes known) = omega (arith, taken-in-rights t a .same u g l known, rights-held t a u g l known)
-      go (no past) = omega (arith, taken-in-rights t a .nothing u g l (omega arith) b)
-
 pub taken-in-stands-for : TakenInStands
-unfolding ringsOf packedOf n m
+unfolding ringsOf n m
 taken-in-stands-for t a =
     record {
       domains = refl;
       endpoints = refl;
       rights = taken-in-rights t a;
-      packedSize = words-length 16 _;
-      samePacked =
-          λ u l.
-          words-at 16 _ u 0 (omega (arith, accepted-counts t a .1)) ∙ sym (halves (rowsOf (domains t) t) u (all-small t a u l));
       size = words-length (12 * endpoints t) _;
       queues = ring-stands t a;
       sameNames = same-name t a;

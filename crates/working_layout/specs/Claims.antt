@@ -7,16 +7,15 @@ use Rattle.machine.specs.Table.{domains, endpoints}
 use Rattle.machine.specs.Check.{Accepted}
 use Rattle.machine.specs.SameParts.{SameFrame}
 use Rattle.rows.specs.Rows.{rowsOf, rowsOut}
-use Rattle.working_state.specs.State.{Rights, rightsOf}
 use Rattle.working_state.specs.Represents.{Represents}
-use Rattle.working_layout.specs.Layout.{ringsOf, queuesOut, namesOf, ownedOf, packedOf}
+use Rattle.working_layout.specs.Layout.{ringsOf, queuesOut, namesOf, ownedOf}
 
 -- what is taken in stands for the table
 abbrev pub TakenInStands : Type 0
 TakenInStands =
     (t : List ℕ)
     → Accepted t
-    → Represents (domains t) (endpoints t) (rightsOf (rowsOf (domains t) t) (packedOf (rowsOf (domains t) t))) (ringsOf (domains t) (endpoints t) t)
+    → Represents (domains t) (endpoints t) (rowsOf (domains t) t) (ringsOf (domains t) (endpoints t) t)
     (namesOf (domains t) (endpoints t) t)
     (ownedOf (domains t) (endpoints t) t)
     t
@@ -24,9 +23,9 @@ TakenInStands =
 -- what is put out is the table that the state stands for
 abbrev pub PutOutIsTable : Type 0
 PutOutIsTable =
-    (t₀ t : List ℕ) (n m : ℕ) (rows : Rights) (rings names owned : List ℕ)
+    (t₀ t : List ℕ) (n m : ℕ) (rows : List (List ℕ)) (rings names owned : List ℕ)
     → Accepted t₀
     → Accepted t
     → SameFrame t t₀
     → Represents n m rows rings names owned t
-    → queuesOut n m rings (rowsOut n (rows .rows) t₀) ≡ t
+    → queuesOut n m rings (rowsOut n rows t₀) ≡ t

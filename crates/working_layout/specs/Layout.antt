@@ -9,7 +9,7 @@ use Rattle.machine.specs.Below.{wordsBelow, bitsBelow}
 use Rattle.machine.specs.Word.{payload, fieldB}
 use Rattle.machine.specs.Table.{endpointAt}
 use Rattle.rings.specs.Ring.{ringOf, putOutQueue}
-use Rattle.working_state.specs.State.{ringAt, rowBits}
+use Rattle.working_state.specs.State.{ringAt}
 
 -- the twelve words of an endpoint among n domains
 abbrev pub wordsAt : ℕ → List ℕ → ℕ → List ℕ
@@ -42,7 +42,3 @@ namesOf n m t = wordsBelow 32 (λ e. cond (ltb e m) (payload (getD t (endpointAt
 -- for each of sixteen domains the endpoints, among the first 32, that it owns, of whose number four bits count
 unfoldable pub ownedOf : ℕ → ℕ → List ℕ → List ℕ
 ownedOf n m t = wordsBelow 16 (λ u. bitsBelow (min m 32) (λ e. eqb (fieldB (getD t (endpointAt n e + 1) 0) % 16) u))
-
--- the rows packed, one number for each of sixteen domains: the rights on the first eight targets, and on the others above them
-unfoldable pub packedOf : List (List ℕ) → List ℕ
-packedOf rows = wordsBelow 16 (λ u. rowBits rows u 0 + rowBits rows u 8 * 2 ^ 32)

@@ -1,40 +1,33 @@
 -- What is answered and left, by what a call came to. Assumes nothing.
 use mathlib.Core.Path.{_≡_, refl, sym, ap, ap₂, subst, _∙_}
 use mathlib.Core.List.{List, [], _∷_, _++_}
-use mathlib.Core.Option.{Option, none, some}
 use Prim.Native.Nat.{ℕ, _+_, _-_, _*_, _%_}
 use lib.ListN.{getD, take, drop}
 use Rattle.machine.specs.Call.{Call.one}
 use Rattle.machine.specs.Machine as machine
-use Rattle.machine.specs.Machine.{Decision, lookUpPlaces, code, answerWord}
-use Rattle.rules.specs.Decision.{decisionOf}
-use Rattle.rules.specs.declared.Decision as rules
-use Rattle.effects.specs.Effect.{effectBy}
-use Rattle.effects.specs.declared.Effect.the-variants.{Send, Receive}
-use Rattle.rows.specs.Rows.{heldIn}
+use Rattle.machine.specs.Machine.{Decision, code, answerWord}
 use Rattle.rings.specs.Ring.{messageAt, lostCount, ringSent, ringTake, ofTwelve}
 use Rattle.working_state.proofs.Answered.{refused-answer}
-use Rattle.rules.proofs.Passed.{IsDone, not-refused}
-use Rattle.working_state.specs.State.{Rights, noRights, ringAt, withRing, firstFrom, secondFrom, answerFrom, ringsAfter}
-use Rattle.working_queues.specs.Served.{numberIn, RingServed, QueueServed}
+use Rattle.working_state.specs.State.{ringAt, withRing, firstFrom, secondFrom, answerFrom, effectFrom, ringsAfter}
+use Rattle.working_queues.specs.Served.{RingServed, QueueServed}
 use Rattle.working_queues.proofs.Parts.{lent, back, same-back}
 
 module _ (d : Decision) (w : ℕ) (rings words : List ℕ) where
   pub queue-refused : (k : ℕ) → machine.refused k ≡ d → words ≡ answerWord (one w) k ∷ 0 ∷ 0 ∷ [] → QueueServed d w rings words rings
-  unfolding ringsAfter
+  unfolding ringsAfter effectFrom
   queue-refused k is told =
       record {
-        answer = refused-answer d k w noRights rings [] words is told;
-        left = subst (λ (x : Decision). rings ≡ ringsAfter rings (effectBy (heldIn []) x)) is refl;
+        answer = refused-answer d k w [] rings [] words is told;
+        left = subst (λ (x : Decision). rings ≡ ringsAfter rings (effectFrom [] rings x)) is refl;
       }
 
   pub queue-sent :
       (e message : ℕ) (rings′ : List ℕ)
       → machine.sends e message ≡ d
       → words ≡ answerWord (one w) 0 ∷ 0 ∷ 0 ∷ []
-      → rings′ ≡ ringsAfter rings (Send e message)
+      → rings′ ≡ withRing rings e (ofTwelve (ringAt rings e) (ringSent (ringAt rings e) message) (ringAt rings e))
       → QueueServed d w rings words rings′
-  unfolding answerFrom firstFrom secondFrom code
+  unfolding answerFrom firstFrom secondFrom code ringsAfter effectFrom
   queue-sent e message rings′ is told left =
       subst (λ (x : Decision). QueueServed x w rings words rings′) is (record { answer = told; left = left })
 
@@ -44,9 +37,9 @@ module _ (d : Decision) (w : ℕ) (rings words : List ℕ) where
       → words ≡ answerWord (one w) 0 ∷ x ∷ y ∷ []
       → x ≡ ofTwelve (ringAt rings e) (messageAt (ringAt rings e) 0) 0
       → y ≡ ofTwelve (ringAt rings e) (lostCount (ringAt rings e)) 0
-      → rings′ ≡ ringsAfter rings (Receive e)
+      → rings′ ≡ withRing rings e (ofTwelve (ringAt rings e) (ringTake (ringAt rings e)) (ringAt rings e))
       → QueueServed d w rings words rings′
-  unfolding answerFrom firstFrom secondFrom code
+  unfolding answerFrom firstFrom secondFrom code ringsAfter effectFrom
   queue-received e x y rings′ is told message lost left =
       subst (λ (v : Decision). QueueServed v w rings words rings′) is
       (record { answer = told ∙ ap₂ (λ (i j : ℕ). answerWord (one w) 0 ∷ i ∷ j ∷ []) message lost; left = left })
@@ -66,7 +59,6 @@ module _ (d : Decision) (e w : ℕ) (r words : List ℕ) where
       → words ≡ answerWord (one w) 0 ∷ 0 ∷ 0 ∷ []
       → r′ ≡ ofTwelve r (ringSent r message) r
       → RingServed d e w r words r′
-  unfolding ringsAfter
   ring-sent message r′ is told left =
       record {
         among = λ rings at. queue-sent d w rings words e message (withRing rings e r′) is told
@@ -81,7 +73,6 @@ module _ (d : Decision) (e w : ℕ) (r words : List ℕ) where
       → y ≡ ofTwelve r (lostCount r) 0
       → r′ ≡ ofTwelve r (ringTake r) r
       → RingServed d e w r words r′
-  unfolding ringsAfter
   ring-received x y r′ is told message lost left =
       record {
         among = λ rings at. queue-received d w rings words e x y (withRing rings e r′) is told
@@ -104,24 +95,18 @@ ring-back rings e d d′ w words r′ is served =
     so-decided d d′ w rings words _ is
     (subst (λ (x : List ℕ). QueueServed d w rings words x) (sym (back rings e r′)) (served .among rings (sym (lent rings e))))
 
--- an endpoint that was found: where the decision is no refusal there is one, and its number is shown
+-- an endpoint that was found: its number is shown
 pub looked-up :
-    (x : rules.Decision) (o : Option ℕ) (d : Decision) (w e : ℕ) (rows : Rights) (rings owned words : List ℕ)
-    → IsDone x
-    → decisionOf x ≡ lookUpPlaces o
-    → decisionOf x ≡ d
-    → e ≡ numberIn o
+    (e : ℕ) (d : Decision) (w : ℕ) (rows : List (List ℕ)) (rings owned words : List ℕ)
+    → machine.lookedUp e ≡ d
     → words ≡ answerWord (one w) 0 ∷ e ∷ 0 ∷ []
     → words ≡ answerFrom w rows rings owned d
-unfolding lookUpPlaces numberIn answerFrom firstFrom secondFrom code
-looked-up x none d w e rows rings owned words told is same number shown = absurd (not-refused x 15 told is)
-looked-up x (some i) d w e rows rings owned words told is same number shown =
-    subst (λ (v : Decision). words ≡ answerFrom w rows rings owned v) (sym is ∙ same)
-    (shown ∙ ap (λ (k : ℕ). answerWord (one w) 0 ∷ k ∷ 0 ∷ []) number)
+unfolding answerFrom firstFrom secondFrom code
+looked-up e d w rows rings owned words is told = subst (λ (v : Decision). words ≡ answerFrom w rows rings owned v) is told
 
 -- the endpoints that a domain owns
 pub listed :
-    (u : ℕ) (d : Decision) (w : ℕ) (rows : Rights) (rings owned words : List ℕ)
+    (u : ℕ) (d : Decision) (w : ℕ) (rows : List (List ℕ)) (rings owned words : List ℕ)
     → machine.listsEndpoints u ≡ d
     → words ≡ answerWord (one w) 0 ∷ getD owned (u % 16) 0 ∷ 0 ∷ []
     → words ≡ answerFrom w rows rings owned d

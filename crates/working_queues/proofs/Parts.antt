@@ -6,11 +6,10 @@ use native.Mathlib.Nat.{add-sub-cancel-left}
 use native.Mathlib.Omega.{arith}
 use lib.ListN.{length, getD, take, drop, length-take, length-drop, take-append-drop}
 use Rattle.machine.specs.Word.{fieldB}
-use Rattle.effects.specs.declared.Effect.the-variants.{Send, Receive}
 use Rattle.rows.proofs.Parts.{part-at}
 use Rattle.rings.specs.Ring.{count, info, ringOwner, ofTwelve}
 use Rattle.rings.proofs.Words.{not-twelve}
-use Rattle.working_state.specs.State.{ringAt, withRing, ringsAfter}
+use Rattle.working_state.specs.State.{ringAt, withRing}
 
 -- what is read for a call
 pub owner-read : (rings : List ℕ) (e w : ℕ) → w ≡ getD rings (12 * e + 3) 0 → fieldB w ≡ ringOwner (ringAt rings e)
@@ -39,13 +38,8 @@ module _ (rings : List ℕ) (e : ℕ) where
   not-there : length rings < 12 * e + 12 → length (ringAt rings e) ≡ 12 → ⊥
   not-there past twelve = omega (arith, length-take 12 (drop (12 * e) rings), length-drop (12 * e) rings)
 
-  pub not-sent : (message : ℕ) → length rings < 12 * e + 12 → rings ≡ ringsAfter rings (Send e message)
-  unfolding ringsAfter
-  not-sent message past = sym same-back ∙ ap (withRing rings e) (not-twelve (ringAt rings e) _ (ringAt rings e) (not-there past))
-
-  pub not-taken : length rings < 12 * e + 12 → rings ≡ ringsAfter rings (Receive e)
-  unfolding ringsAfter
-  not-taken past = sym same-back ∙ ap (withRing rings e) (not-twelve (ringAt rings e) _ (ringAt rings e) (not-there past))
+  pub not-put : (r : List ℕ) → length rings < 12 * e + 12 → rings ≡ withRing rings e (ofTwelve (ringAt rings e) r (ringAt rings e))
+  not-put r past = sym same-back ∙ ap (withRing rings e) (not-twelve (ringAt rings e) r (ringAt rings e) (not-there past))
 
   -- and shows nothing
   pub nothing-shown : (x : ℕ) → length rings < 12 * e + 12 → 0 ≡ ofTwelve (ringAt rings e) x 0

@@ -1,22 +1,14 @@
 -- What is answered and left where a decision fell on a call that names an endpoint.
 use mathlib.Core.Path.{_≡_}
 use mathlib.Core.List.{List, []}
-use mathlib.Core.Option.{Option, none, some}
 use Prim.Native.Nat.{ℕ}
 use Rattle.machine.specs.Machine.{Decision}
-use Rattle.effects.specs.Effect.{effectBy}
-use Rattle.rows.specs.Rows.{heldIn}
-use Rattle.working_state.specs.State.{noRights, ringAt, withRing, answerFrom, ringsAfter}
-
--- the number of an endpoint that was found, 0 where none was
-unfoldable pub numberIn : Option ℕ → ℕ
-numberIn none = 0
-numberIn (some e) = e
+use Rattle.working_state.specs.State.{ringAt, withRing, answerFrom, effectFrom, ringsAfter}
 
 -- a call on which the decision d fell is answered by these words, and leaves the rings rings′
 pub record QueueServed (d : Decision) (w : ℕ) (rings words rings′ : List ℕ) : Type 0 where
-  pub answer : words ≡ answerFrom w noRights rings [] d
-  pub left : rings′ ≡ ringsAfter rings (effectBy (heldIn []) d)
+  pub answer : words ≡ answerFrom w [] rings [] d
+  pub left : rings′ ≡ ringsAfter rings (effectFrom [] rings d)
 
 -- The ring r of the endpoint e served alone: among whichever rings it stands, such a call is answered by these words, and leaves
 -- them with the ring r′ in its place.

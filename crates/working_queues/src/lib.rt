@@ -1,5 +1,5 @@
-// The calls that name an endpoint or ask for one's own, on a working state, and those that are refused without a table: each is
-// decided by crate rules, answered and done. Any numbers and words will do.
+// The calls about endpoints, on a working state: each tests the call's numbers, then what the rows and the ring hold; a send and a
+// receive lend the endpoint's ring once. It accepts any numbers and words.
 use answers::Answer;
 use answers::given::done;
 use answers::given::refusal;
@@ -13,7 +13,6 @@ use rules::access::Found;
 use rules::range::Range;
 use rules::range::of_caller;
 use rules::range::of_endpoint;
-use rules::range::of_refused;
 ghost use mathlib.Core.Path.{_≡_};
 ghost use mathlib.Core.Bool.{_&&_};
 ghost use mathlib.Core.List.{[]};
@@ -26,28 +25,17 @@ ghost use Rattle.calls.specs.declared.Call.the-variants as calls;
 ghost use Rattle.rules.specs.Access.{foundOf, sendAccess, receiveAccess, decidedBy};
 ghost use Rattle.rows.specs.Rows.{heldIn};
 ghost use Rattle.rings.specs.Ring.{count, ringOwner};
-ghost use Rattle.working_state.specs.State.{noRights, hintPlace, namedIn, nobody, readingFrom, answerFrom, ringAt};
-ghost use Rattle.working_queues.specs.Served.{numberIn, RingServed, QueueServed};
+ghost use Rattle.working_state.specs.State.{hintPlace, namedIn, nobody, readingFrom, answerFrom, ringAt};
+ghost use Rattle.working_queues.specs.Served.{RingServed, QueueServed};
 
-// A call that is refused without a table: 12 may come before its own number.
-pub fn refuse(n: u32, first: u32, caller: u32, number: Refusal) -> Answer
-    ensures { λ a. ⌜ answerWords a ≡ answerFrom first noRights [] [] (decidedBy n 0 (readingFrom [] [] nobody) (calls.Refused caller number)) ⌝ }
-{
-    let range = of_refused(n, caller, number);
-    if let Range::Outside(refused) = range {
-        return refusal(first, refused);
-    }
-    refusal(first, number)
-}
-
-// Where the hint for a name stands.
+// Returns the place of the hint for a name.
 pub fn hint_place(name: u32) -> usize
     ensures { λ r. ⌜ r ≡ hintPlace name ⌝ }
 {
     (name as u64 * 0x9E37_79B1 / 0x40_0000 % 1024) as usize
 }
 
-// The first endpoint that has the name.
+// Returns the first endpoint that has the name, if one has it.
 fn find(names: &[u32; 32], m: u32, name: u32) -> Found
     ensures { λ r. ⌜ foundOf r ≡ firstBelow m (λ e. eqb (getD (now (names .entry)) (e % 32) 0) name) ⌝ }
 {
@@ -62,7 +50,7 @@ fn find(names: &[u32; 32], m: u32, name: u32) -> Found
     Found::Nothing
 }
 
-// The endpoint is one of m and has the name.
+// Returns whether the endpoint is one of m and has the name.
 fn has_name(names: &[u32; 32], m: u32, e: u32, name: u32) -> bool
     ensures { λ b. ⌜ b ≡ (ltb e m && eqb (getD (now (names .entry)) (e % 32) 0) name) ⌝ }
 {
@@ -79,7 +67,7 @@ fn wide(small: u8) -> u32
     small as u32
 }
 
-// The endpoint that has the name: the one that the hint says, where it has the name, else the first that is found to have it.
+// Returns the endpoint that has the name: the one of the hint where that has it, else the first that has it.
 fn find_by(names: &[u32; 32], hints: &[u8; 1024], m: u32, name: u32) -> Found
     ensures { λ r. ⌜ foundOf r ≡ namedIn m (now (names .entry)) (now (hints .entry)) name ⌝ }
 {
@@ -91,17 +79,7 @@ fn find_by(names: &[u32; 32], hints: &[u8; 1024], m: u32, name: u32) -> Found
     find(names, m, name)
 }
 
-// The endpoint's number, 0 where none was found.
-fn number(found: Found) -> u32
-    ensures { λ r. ⌜ r ≡ numberIn (foundOf found) ⌝ }
-{
-    match found {
-        Found::At(e) => e,
-        Found::Nothing => 0,
-    }
-}
-
-// A name is looked up.
+// Looks a name up and returns the answer.
 pub fn look_up(
     n: u32,
     m: u32,
@@ -111,24 +89,22 @@ pub fn look_up(
     caller: u32,
     name: u32,
 ) -> Answer
-    ensures { λ a. ⌜ answerWords a ≡ answerFrom first noRights [] [] (decidedBy n m (readingFrom [] [] (namedIn m (now (names .entry)) (now (hints .entry)))) (calls.LookUp caller name)) ⌝ }
+    ensures { λ a. ⌜ answerWords a ≡ answerFrom first [] [] [] (decidedBy n m (readingFrom [] [] (namedIn m (now (names .entry)) (now (hints .entry)))) (calls.LookUp caller name)) ⌝ }
 {
     let range = of_caller(n, caller);
     if let Range::Outside(refused) = range {
         return refusal(first, refused);
     }
     let found = find_by(names, hints, m, name);
-    let decision = access::look_up(found);
-    if let Decision::Refused(refused) = decision {
-        return refusal(first, refused);
+    match found {
+        Found::At(e) => done(first, e, 0),
+        Found::Nothing => refusal(first, Refusal::NoSuchName),
     }
-    let e = number(found);
-    done(first, e, 0)
 }
 
-// A domain asks for the endpoints that it owns.
+// Answers my endpoints.
 pub fn my_endpoints(n: u32, owned: &[u32; 16], first: u32, caller: u32) -> Answer
-    ensures { λ a. ⌜ answerWords a ≡ answerFrom first noRights [] (now (owned .entry)) (decidedBy n 0 (readingFrom [] [] nobody) (calls.MyEndpoints caller)) ⌝ }
+    ensures { λ a. ⌜ answerWords a ≡ answerFrom first [] [] (now (owned .entry)) (decidedBy n 0 (readingFrom [] [] nobody) (calls.MyEndpoints caller)) ⌝ }
 {
     let range = of_caller(n, caller);
     if let Range::Outside(refused) = range {
@@ -138,7 +114,7 @@ pub fn my_endpoints(n: u32, owned: &[u32; 16], first: u32, caller: u32) -> Answe
     done(first, owned[at], 0)
 }
 
-// A message is sent to the endpoint of a ring, by the ring's own words.
+// Sends a message to the endpoint of a ring, by the ring's own words.
 fn send_on(
     ring: &mut [u32],
     rows: &[[u8; 16]; 16],
@@ -160,7 +136,7 @@ fn send_on(
     done(first, 0, 0)
 }
 
-// A message is sent where words of the endpoint's ring are missing: it goes nowhere.
+// Answers a send where words of the endpoint's ring are missing: the message goes nowhere.
 fn send_beyond(
     rings: &[u32],
     rows: &[[u8; 16]; 16],
@@ -181,7 +157,7 @@ fn send_beyond(
     }
 }
 
-// A message is sent to an endpoint. Its ring is lent once, for all that is read and done.
+// Sends a message to an endpoint and returns the answer.
 pub fn send(
     n: u32,
     m: u32,
@@ -206,7 +182,7 @@ pub fn send(
     send_on(&mut rings[start..end], rows, first, caller, e, message)
 }
 
-// A message is received from the endpoint of a ring, by the ring's own words.
+// Receives from the endpoint of a ring, by the ring's own words.
 fn receive_on(ring: &mut [u32], first: u32, caller: u32, e: u32) -> Answer
     requires { ⌜ length (now ring) ≡ 12 ⌝ }
     ensures { λ a. ⌜ RingServed (receiveAccess caller (ringOwner (now (ring .entry))) (count (now (ring .entry))) e) e first (now (ring .entry)) (answerWords a) (now (ring .exit)) ⌝ }
@@ -221,7 +197,7 @@ fn receive_on(ring: &mut [u32], first: u32, caller: u32, e: u32) -> Answer
     done(first, taken.message, taken.lost)
 }
 
-// A message is received where words of the endpoint's ring are missing: none is shown.
+// Answers a receive where words of the endpoint's ring are missing: no message is shown.
 fn receive_beyond(rings: &[u32], first: u32, caller: u32, e: u32) -> Answer
     requires { ⌜ length (now rings) < 12 * e + 12 ⌝ }
     ensures { λ a. ⌜ QueueServed (receiveAccess caller (ringOwner (ringAt (now (rings .entry)) e)) (count (ringAt (now (rings .entry)) e)) e) first (now (rings .entry)) (answerWords a) (now (rings .entry)) ⌝ }
@@ -236,7 +212,7 @@ fn receive_beyond(rings: &[u32], first: u32, caller: u32, e: u32) -> Answer
     }
 }
 
-// A message is received from an endpoint. Its ring is lent once, for all that is read and done.
+// Receives from an endpoint and returns the answer.
 pub fn receive(n: u32, m: u32, rings: &mut [u32], first: u32, caller: u32, e: u32) -> Answer
     ensures { λ a. ⌜ QueueServed (decidedBy n m (readingFrom [] (now (rings .entry)) nobody) (calls.Receive caller e)) first (now (rings .entry)) (answerWords a) (now (rings .exit)) ⌝ }
 {

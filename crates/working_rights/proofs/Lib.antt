@@ -1,3 +1,2 @@
 -- Laws that the proofs of several functions cite.
 pub mod Outcomes
-pub mod Packing

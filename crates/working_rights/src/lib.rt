@@ -1,5 +1,5 @@
-// The calls that move rights or ask for one's own, on a working state: each is decided by crate rules, answered and done, and a
-// change of rights is noted in the holders. Any numbers and words will do.
+// The calls about rights, on a working state: each tests the call's numbers, then what the rows hold, writes one place of a row and
+// notes the change in the holders. It accepts any numbers and words.
 use answers::Answer;
 use answers::given::done;
 use answers::given::refusal;
@@ -15,78 +15,55 @@ use rules::range::of_grant;
 use rules::range::of_remove;
 ghost use mathlib.Core.Path.{_≡_};
 ghost use mathlib.Core.List.{[]};
-ghost use Prim.Native.Nat.{_/_, _%_, _^_};
+ghost use Rattle.machine.specs.Machine.{Effect.newRights};
 ghost use Rattle.answers.specs.Answer.{answerWords};
 ghost use Rattle.calls.specs.declared.Call.the-variants as calls;
 ghost use Rattle.rules.specs.Access.{decidedBy};
-ghost use Rattle.effects.specs.declared.Effect.the-variants as effects;
-ghost use Rattle.holders.specs.Noted.{notedBy};
-ghost use Rattle.working_state.specs.State.{rightsOf, nobody, readingFrom, repacked, answerFrom, rowsAfter};
+ghost use Rattle.holders.specs.Noted.{holdersAfter};
+ghost use Rattle.working_state.specs.State.{nobody, readingFrom, rowBits, answerFrom, rowsAfter};
 ghost use Rattle.working_rights.specs.Served.{RightsServed};
 
-// The upper 32 bits of a packed row.
-fn upper(row: u64) -> u32
-    ensures { λ r. ⌜ r ≡ row / 2 ^ 32 ⌝ }
+// Returns the rights of a holder on the eight targets from one on, four bits each. It goes from the last to the first, so each step
+// moves up what is there; what goes past 32 bits is cut off.
+fn bits(rows: &[[u8; 16]; 16], holder: u32, from: u32) -> u32
+    ensures { λ r. ⌜ r ≡ rowBits (now (rows .entry)) holder from ⌝ }
 {
-    (row / 0x1_0000_0000) as u32
+    let mut bits: u32 = 0;
+    let mut i: u32 = 8;
+    while 0 < i {
+        i -= 1;
+        let one = held(rows, holder, from % 16 + i);
+        bits = ((bits as u64 * 16 + one.bits as u64) % 0x1_0000_0000) as u32;
+    }
+    bits
 }
 
-// A domain asks for its rights: the two halves of its packed row.
-pub fn my_rights(n: u32, packed: &[u64; 16], first: u32, caller: u32) -> Answer
-    ensures { λ a. ⌜ answerWords a ≡ answerFrom first (rightsOf [] (now (packed .entry))) [] [] (decidedBy n 0 (readingFrom [] [] nobody) (calls.MyRights caller)) ⌝ }
+// Answers my rights: the caller's row, eight targets to a word.
+pub fn my_rights(n: u32, rows: &[[u8; 16]; 16], first: u32, caller: u32) -> Answer
+    ensures { λ a. ⌜ answerWords a ≡ answerFrom first (now (rows .entry)) [] [] (decidedBy n 0 (readingFrom [] [] nobody) (calls.MyRights caller)) ⌝ }
 {
     let range = of_caller(n, caller);
     if let Range::Outside(refused) = range {
         return refusal(first, refused);
     }
-    let at = (caller % 16) as usize;
-    let row = packed[at];
-    let low = (row % 0x1_0000_0000) as u32;
-    let high = upper(row);
+    let low = bits(rows, caller, 0);
+    let high = bits(rows, caller, 8);
     done(first, low, high)
 }
 
-// One right on a target, in a packed row.
-fn unit(target: u32) -> u64
-    ensures { λ r. ⌜ r ≡ 16 ^ (target % 16) ⌝ }
+// Writes a holder's rights on a target, and notes them in the holders.
+fn alter(rows: &mut [[u8; 16]; 16], holders: &mut [u32], holder: u32, target: u32, rights: u32)
+    ensures { λ _. ⌜ now (rows .exit) ≡ rowsAfter (now (rows .entry)) (newRights holder target rights) ⌝ }
+    ensures { λ _. ⌜ now (holders .exit) ≡ holdersAfter (now (holders .entry)) (newRights holder target rights) ⌝ }
 {
-    1 << (4 * (target % 16))
-}
-
-// A packed row in which the rights on a target have become others.
-fn repack(row: u64, target: u32, old: u32, new: u32) -> u64
-    ensures { λ r. ⌜ r ≡ repacked row (target % 16) (old % 16) (new % 16) ⌝ }
-{
-    let one = unit(target);
-    let more = std::num::wrapping_add_u64(row, (new % 16) as u64 * one);
-    std::num::wrapping_sub_u64(more, (old % 16) as u64 * one)
-}
-
-// A holder's rights on a target have become these.
-fn alter(
-    rows: &mut [[u8; 16]; 16],
-    packed: &mut [u64; 16],
-    holders: &mut [u32],
-    holder: u32,
-    target: u32,
-    rights: u32,
-)
-    ensures { λ _. ⌜ rightsOf (now (rows .exit)) (now (packed .exit)) ≡ rowsAfter (rightsOf (now (rows .entry)) (now (packed .entry))) (effects.NewRights holder target rights) ⌝ }
-    ensures { λ _. ⌜ now (holders .exit) ≡ notedBy (now (holders .entry)) (effects.NewRights holder target rights) ⌝ }
-{
-    let had = held(rows, holder, target);
     put(rows, holder, target, rights);
-    let at = (holder % 16) as usize;
-    let row = repack(packed[at], target, had.bits, rights);
-    packed[at] = row;
     note(holders, holder, target, rights);
 }
 
-// Rights are granted to a recipient.
+// Grants rights to a recipient and returns the answer.
 pub fn grant(
     n: u32,
     rows: &mut [[u8; 16]; 16],
-    packed: &mut [u64; 16],
     holders: &mut [u32],
     first: u32,
     caller: u32,
@@ -94,7 +71,7 @@ pub fn grant(
     recipient: u32,
     given: u32,
 ) -> Answer
-    ensures { λ a. ⌜ RightsServed (decidedBy n 0 (readingFrom (now (rows .entry)) [] nobody) (calls.Grant caller target recipient given)) first (rightsOf (now (rows .entry)) (now (packed .entry))) (now (holders .entry)) (answerWords a) (rightsOf (now (rows .exit)) (now (packed .exit))) (now (holders .exit)) ⌝ }
+    ensures { λ a. ⌜ RightsServed (decidedBy n 0 (readingFrom (now (rows .entry)) [] nobody) (calls.Grant caller target recipient given)) first (now (rows .entry)) (now (holders .entry)) (answerWords a) (now (rows .exit)) (now (holders .exit)) ⌝ }
 {
     let range = of_grant(n, caller, target, recipient, given);
     if let Range::Outside(refused) = range {
@@ -108,22 +85,21 @@ pub fn grant(
     }
     let had = held(rows, recipient, target);
     let more = had.adds(Rights { bits: given });
-    alter(rows, packed, holders, recipient, target, more.bits);
+    alter(rows, holders, recipient, target, more.bits);
     done(first, 0, 0)
 }
 
-// A domain removes rights of its own.
+// Removes rights of the caller's own and returns the answer.
 pub fn remove(
     n: u32,
     rows: &mut [[u8; 16]; 16],
-    packed: &mut [u64; 16],
     holders: &mut [u32],
     first: u32,
     caller: u32,
     target: u32,
     given: u32,
 ) -> Answer
-    ensures { λ a. ⌜ RightsServed (decidedBy n 0 (readingFrom (now (rows .entry)) [] nobody) (calls.Remove caller target given)) first (rightsOf (now (rows .entry)) (now (packed .entry))) (now (holders .entry)) (answerWords a) (rightsOf (now (rows .exit)) (now (packed .exit))) (now (holders .exit)) ⌝ }
+    ensures { λ a. ⌜ RightsServed (decidedBy n 0 (readingFrom (now (rows .entry)) [] nobody) (calls.Remove caller target given)) first (now (rows .entry)) (now (holders .entry)) (answerWords a) (now (rows .exit)) (now (holders .exit)) ⌝ }
 {
     let range = of_remove(n, caller, target, given);
     if let Range::Outside(refused) = range {
@@ -135,15 +111,14 @@ pub fn remove(
         return refusal(first, refused);
     }
     let left = mine.without(Rights { bits: given });
-    alter(rows, packed, holders, caller, target, left.bits);
+    alter(rows, holders, caller, target, left.bits);
     done(first, 0, 0)
 }
 
-// Rights are taken back from a holder.
+// Takes rights back from a holder and returns the answer.
 pub fn revoke(
     n: u32,
     rows: &mut [[u8; 16]; 16],
-    packed: &mut [u64; 16],
     holders: &mut [u32],
     first: u32,
     caller: u32,
@@ -151,7 +126,7 @@ pub fn revoke(
     holder: u32,
     given: u32,
 ) -> Answer
-    ensures { λ a. ⌜ RightsServed (decidedBy n 0 (readingFrom (now (rows .entry)) [] nobody) (calls.Revoke caller target holder given)) first (rightsOf (now (rows .entry)) (now (packed .entry))) (now (holders .entry)) (answerWords a) (rightsOf (now (rows .exit)) (now (packed .exit))) (now (holders .exit)) ⌝ }
+    ensures { λ a. ⌜ RightsServed (decidedBy n 0 (readingFrom (now (rows .entry)) [] nobody) (calls.Revoke caller target holder given)) first (now (rows .entry)) (now (holders .entry)) (answerWords a) (now (rows .exit)) (now (holders .exit)) ⌝ }
 {
     let range = of_grant(n, caller, target, holder, given);
     if let Range::Outside(refused) = range {
@@ -165,6 +140,6 @@ pub fn revoke(
     }
     let had = held(rows, holder, target);
     let left = had.without(Rights { bits: given });
-    alter(rows, packed, holders, holder, target, left.bits);
+    alter(rows, holders, holder, target, left.bits);
     done(first, 0, 0)
 }

@@ -8,8 +8,7 @@ use native.Mathlib.Nat.{le-trans, mod-eq-of-lt}
 use native.Mathlib.Decide.{decLt, ℕ-discrete}
 use native.Mathlib.Omega.{arith}
 use lib.Dec.{eqb, ltb}
-use lib.ListN.{length, getD, set, length-set}
-use lib.Seq.{getD-set-same, getD-set-other}
+use lib.ListN.{length, getD}
 use borrow.Author.Tests.{lt-ltb, le-ltb, ltb-true}
 use Rattle.machine.specs.Word.{payload, caller, fieldA, fieldB, fieldC}
 use Rattle.machine.specs.Right.{allRights, adds, without}
@@ -33,27 +32,23 @@ use Rattle.cutting.specs.Cutting.{callOf}
 use Rattle.cutting.specs.declared.Second.{Second}
 use Rattle.cutting.specs.declared.Second.the-variants.{Nothing, Word}
 use Rattle.answers.proofs.Digits.{digits-below}
-use Rattle.effects.specs.Effect.{effectBy, effectFor}
-use Rattle.effects.specs.declared.Effect.{Effect}
-use Rattle.effects.specs.declared.Effect.the-variants.{NewRights}
-use Rattle.holders.specs.Noted.{notedBy}
-use Rattle.holders.proofs.Kept.{holders-kept-by-effect}
+use Rattle.holders.specs.Noted.{noted, holdersAfter}
+use Rattle.holders.proofs.Kept.{holders-kept}
 use Rattle.rows.specs.Rows.{heldIn, withHeld}
-use Rattle.rows.specs.Claims.{SameRights, Altered}
+use Rattle.rows.specs.Claims.{SameRights}
 use Rattle.rows.proofs.Rights.{put-is-held}
 use Rattle.rings.specs.Ring.{ofTwelve}
 use Rattle.rings.specs.Claims.{Stands}
 use Rattle.rings.proofs.Words.{of-twelve}
 use Rattle.rings.proofs.Along.{queues-go-along}
-use Rattle.working_state.specs.State.{Rights, rightsOf, ringAt, withRing, packedRow, repacked, rowBits, firstFrom, secondFrom, answerFrom, rowsAfter, ringsAfter}
+use Rattle.working_state.specs.State.{ringAt, withRing, rowBits, firstFrom, secondFrom, answerFrom, effectFrom, rowsAfter, ringsAfter}
 use Rattle.working_state.specs.Represents.{Represents, CallsGoAlong}
 use Rattle.working_state.proofs.Rings.{ring-length, with-length, ring-same, ring-other}
-use Rattle.working_state.proofs.Packed.{packed-low, packed-high, repacked-is, packed-same}
 use Rattle.working_state.proofs.Reading.{decided-same}
 
 -- the words of an answer, by its data
 answer-words :
-    (w : ℕ) (s : Second) (rows : Rights) (rings owned t : List ℕ) (d : Decision)
+    (w : ℕ) (s : Second) (rows : List (List ℕ)) (rings owned t : List ℕ) (d : Decision)
     → firstFrom rows rings owned d ≡ firstData t d
     → secondFrom rows rings d ≡ secondData t d
     → answerFrom w rows rings owned d ≡ answerTo t (callOf w s) d
@@ -64,12 +59,12 @@ answer-words w s rows rings owned t d p q = ap₂ (λ (x y : ℕ). answerWord (o
     by-first Nothing = refl
     by-first (Word v) = refl
 
-module _ (n m : ℕ) (rows : Rights) (rings names owned t : List ℕ) (a : Accepted t) (x : Represents n m rows rings names owned t) where
+module _ (n m : ℕ) (rows : List (List ℕ)) (rings names owned t : List ℕ) (a : Accepted t) (x : Represents n m rows rings names owned t) where
   few : n ≤ 16
   few = omega (arith, accepted-counts t a .1, x .domains)
 
   -- ---- the data words
-  row-bits : (u g : ℕ) → u < n → g + 8 ≤ 16 → rowBits (rows .rows) u g ≡ rightsBits t u g
+  row-bits : (u g : ℕ) → u < n → g + 8 ≤ 16 → rowBits rows u g ≡ rightsBits t u g
   unfolding rowBits rightsBits
   row-bits u g l top =
       ap (λ (k : ℕ). k % 2 ^ 32) (sum-same 8 _ _ (λ i b. ap (λ (k : ℕ). k * 16 ^ i) (place i b (decLt (g + i) n))))
@@ -78,7 +73,7 @@ module _ (n m : ℕ) (rows : Rights) (rings names owned t : List ℕ) (a : Accep
       shown : ℕ → ℕ
       shown i = cond (ltb (g + i) (machine.domains t)) (rights t u (g + i)) 0
 
-      place : (i : ℕ) → i < 8 → Dec (g + i < n) → heldIn (rows .rows) u (g + i) ≡ shown i
+      place : (i : ℕ) → i < 8 → Dec (g + i < n) → heldIn rows u (g + i) ≡ shown i
       place i b (yes known) = x .rights .same u (g + i) l known ∙ rw (lt-ltb (g + i) (machine.domains t) (rw (x .domains) at known))
       place i b (no past) =
           x .rights .nothing u (g + i) l (omega arith) (omega arith)
@@ -87,17 +82,6 @@ module _ (n m : ℕ) (rows : Rights) (rings names owned t : List ℕ) (a : Accep
       small : (i : ℕ) (b : _) → ltb (g + i) (machine.domains t) ≡ b → cond b (rights t u (g + i)) 0 < 16
       small i true h = omega (arith, rights-held t a u (g + i) (rw (x .domains) at l) (ltb-true _ _ h))
       small i false h = omega arith
-
-  -- all rights in a row have four bits
-  all-small : (u : ℕ) → u < n → (g : ℕ) → g < 16 → heldIn (rows .rows) u g < 16
-  all-small u l g b = go (decLt g n)
-    where
-      go : Dec (g < n) → heldIn (rows .rows) u g < 16
-      go (yes known) = omega (arith, x .rights .same u g l known, rights-held t a u g (rw (x .domains) at l) (rw (x .domains) at known))
-      go (no past) = omega (arith, x .rights .nothing u g l (omega arith) b)
-
-  packed-word : (u : ℕ) → u < n → (f : ℕ → ℕ) → f (getD (rows .packed) (u % 16) 0) ≡ f (packedRow (rows .rows) u)
-  packed-word u l f = ap f (ap (λ (i : ℕ). getD (rows .packed) i 0) (mod-eq-of-lt (omega (arith, few))) ∙ x .samePacked u l)
 
   -- the ring of an endpoint has twelve words
   all-there : {A : Type 0} (e : ℕ) (done left : A) → e < m → ofTwelve (ringAt rings e) done left ≡ done
@@ -108,6 +92,9 @@ module _ (n m : ℕ) (rows : Rights) (rings names owned t : List ℕ) (a : Accep
 
   below-n : (u : ℕ) → u < machine.domains t → u < n
   below-n u l = rw (← x .domains) at l
+
+  same-held : (h g : ℕ) → h < machine.domains t → g < machine.domains t → heldIn rows h g ≡ rights t h g
+  same-held h g lh lg = x .rights .same h g (below-n h lh) (below-n g lg)
 
   answer-along : (w : ℕ) (s : Second) → answerFrom w rows rings owned (decide t (callOf w s)) ≡ answer t (callOf w s)
   unfolding answer firstFrom secondFrom firstData secondData oldest
@@ -132,18 +119,17 @@ module _ (n m : ℕ) (rows : Rights) (rings names owned t : List ℕ) (a : Accep
         rightsListed =
             λ known _.
             let l = below-n (caller (first c)) (known .below) in
-            answer-words w s rows rings owned t _ (packed-word _ l (λ (k : ℕ). k % 2 ^ 32) ∙ packed-low (rows .rows) _ (all-small _ l) ∙ row-bits _ 0 l (omega arith))
-            (packed-word _ l (λ (k : ℕ). k / 2 ^ 32) ∙ packed-high (rows .rows) _ (all-small _ l) ∙ row-bits _ 8 l (omega arith));
+            answer-words w s rows rings owned t _ (row-bits _ 0 l (omega arith)) (row-bits _ 8 l (omega arith));
         granting = λ _ _ _ _ _ _ _ _. answer-words w s rows rings owned t _ refl refl;
         removing = λ _ _ _ _ _. answer-words w s rows rings owned t _ refl refl;
         revoking = λ _ _ _ _ _ _. answer-words w s rows rings owned t _ refl refl;
       })
 
-  -- ---- the effect is the table's
-  effect-along : (c : Call) → effectBy (heldIn (rows .rows)) (decide t c) ≡ effectFor t (decide t c)
-  unfolding effectFor
-  effect-along c =
-      decide-elim t c (λ d. effectBy (heldIn (rows .rows)) d ≡ effectFor t d)
+  -- ---- what is noted in the holders is what the table's effect has noted in them
+  noted-along : (c : Call) (p : List ℕ) → holdersAfter p (effectFrom rows rings (decide t c)) ≡ holdersAfter p (effect t (decide t c))
+  unfolding effectFrom effect holdersAfter
+  noted-along c p =
+      decide-elim t c (λ d. holdersAfter p (effectFrom rows rings d) ≡ holdersAfter p (effect t d))
       (record {
         refuses = λ _ _. refl;
         looksUp = λ _ _ _ _. refl;
@@ -151,30 +137,19 @@ module _ (n m : ℕ) (rows : Rights) (rings names owned t : List ℕ) (a : Accep
         receiving = λ _ _ _ _ _. refl;
         endpointsListed = λ _ _. refl;
         rightsListed = λ _ _. refl;
-        granting =
-            λ _ _ lg lh _ _ _ _.
-            ap (λ (k : ℕ). NewRights (fieldB (first c)) (fieldA (first c)) (adds k (fieldC (first c))))
-            (x .rights .same _ _ (below-n _ lh) (below-n _ lg));
-        removing =
-            λ known _ lg _ _.
-            ap (λ (k : ℕ). NewRights (caller (first c)) (fieldA (first c)) (without k (fieldC (first c))))
-            (x .rights .same _ _ (below-n _ (known .below)) (below-n _ lg));
-        revoking =
-            λ _ _ lg lh _ _.
-            ap (λ (k : ℕ). NewRights (fieldB (first c)) (fieldA (first c)) (without k (fieldC (first c))))
-            (x .rights .same _ _ (below-n _ lh) (below-n _ lg));
+        granting = λ _ _ lg lh _ _ _ _. ap (λ (k : ℕ). noted p (fieldB (first c)) (fieldA (first c)) (adds k (fieldC (first c)))) (same-held _ _ lh lg);
+        removing = λ known _ lg _ _. ap (λ (k : ℕ). noted p (caller (first c)) (fieldA (first c)) (without k (fieldC (first c)))) (same-held _ _ (known .below) lg);
+        revoking = λ _ _ lg lh _ _. ap (λ (k : ℕ). noted p (fieldB (first c)) (fieldA (first c)) (without k (fieldC (first c)))) (same-held _ _ lh lg);
       })
 
   -- ---- what is left stands for the table after it, but for what never changes
-  record Core (rows′ : Rights) (rings′ t′ : List ℕ) : Type 0 where
-    pub rights : SameRights n (rows′ .rows) t′
-    pub packedSize : length (rows′ .packed) ≡ 16
-    pub samePacked : (u : ℕ) → u < n → getD (rows′ .packed) u 0 ≡ packedRow (rows′ .rows) u
+  record Core (rows′ : List (List ℕ)) (rings′ t′ : List ℕ) : Type 0 where
+    pub rights : SameRights n rows′ t′
     pub size : length rings′ ≡ 12 * m
     pub queues : (e : ℕ) → e < m → Stands (ringAt rings′ e) (endpoint t′ e)
 
   unaltered : Core rows rings t
-  unaltered = record { rights = x .rights; packedSize = x .packedSize; samePacked = x .samePacked; size = x .size; queues = x .queues }
+  unaltered = record { rights = x .rights; size = x .size; queues = x .queues }
 
   z : Sized t
   z = accepted-sized t a
@@ -194,8 +169,6 @@ module _ (n m : ℕ) (rows : Rights) (rings names owned t : List ℕ) (a : Accep
                     ∙ ap payload (sym (table.setEndpoint-rights t z e q l twelve h g (rw (x .domains) at lh) (rw (x .domains) at lg)));
                 nothing = x .rights .nothing;
               };
-          packedSize = x .packedSize;
-          samePacked = x .samePacked;
           size = with-length rings m (x .size) e (below-m e l) r (st .twelve);
           queues = λ f b. go f b (ℕ-discrete f e);
         }
@@ -211,54 +184,12 @@ module _ (n m : ℕ) (rows : Rights) (rings names owned t : List ℕ) (a : Accep
 
   -- one holder's rights on a target
   module _ (h g s : ℕ) (lh : h < machine.domains t) (lg : g < machine.domains t) (within : s ≤ allRights) where
-    -- the packed row of the holder is repacked, and the others stay
-    packed-core : (u : ℕ) → u < n
-        → getD (set (rows .packed) (h % 16) (repacked (getD (rows .packed) (h % 16) 0) (g % 16) (heldIn (rows .rows) h g % 16) (s % 16))) u 0
-        ≡ packedRow (withHeld (rows .rows) h g (s % 256)) u
-    packed-core u l = go (ℕ-discrete u h)
-      where
-        nh : h < n
-        nh = below-n h lh
-
-        put : Altered (rows .rows) h g (s % 256) (withHeld (rows .rows) h g (s % 256))
-        put = put-is-held (rows .rows) h g (s % 256) (x .rights .sixteen) (omega (arith, few)) (omega (arith, few, below-n g lg))
-
-        is-h : h % 16 ≡ h
-        is-h = mod-eq-of-lt (omega (arith, few))
-
-        is-g : g % 16 ≡ g
-        is-g = mod-eq-of-lt (omega (arith, few, below-n g lg))
-
-        new : s % 16 ≡ heldIn (withHeld (rows .rows) h g (s % 256)) h g % 16
-        new = ap (λ (k : ℕ). k % 16) (sym (put .held ∙ mod-eq-of-lt (omega arith)))
-
-        word : ℕ → ℕ → ℕ → ℕ
-        word i j k = repacked (getD (rows .packed) i 0) j (heldIn (rows .rows) h g % 16) k
-
-        holder : word (h % 16) (g % 16) (s % 16) ≡ packedRow (withHeld (rows .rows) h g (s % 256)) h
-        holder =
-            ap₂ (λ (i j : ℕ). word i j (s % 16)) is-h is-g
-            ∙ ap₂ (λ (p k : ℕ). repacked p g (heldIn (rows .rows) h g % 16) k) (x .samePacked h nh) new
-            ∙ repacked-is (rows .rows) (withHeld (rows .rows) h g (s % 256)) h g (omega (arith, few, below-n g lg))
-            (λ i b ne. sym (put .others h i (omega (arith, few)) b (λ _ e. ne e)))
-
-        go : Dec (u ≡ h) → getD (set (rows .packed) (h % 16) (word (h % 16) (g % 16) (s % 16))) u 0 ≡ packedRow (withHeld (rows .rows) h g (s % 256)) u
-        go (yes is) =
-            ap (λ (i : ℕ). getD (set (rows .packed) (h % 16) (word (h % 16) (g % 16) (s % 16))) i 0) (is ∙ sym is-h)
-            ∙ getD-set-same (rows .packed) (h % 16) _ 0 (omega (arith, x .packedSize))
-            ∙ holder
-            ∙ ap (packedRow (withHeld (rows .rows) h g (s % 256))) (sym is)
-        go (no ne) =
-            getD-set-other (rows .packed) (h % 16) u _ 0 (λ e. ne (e ∙ is-h))
-            ∙ x .samePacked u l
-            ∙ packed-same (rows .rows) (withHeld (rows .rows) h g (s % 256)) u (λ i b. sym (put .others u i (omega (arith, few)) b (λ e _. ne e)))
-
-    rights-core : Core (rightsOf (withHeld (rows .rows) h g (s % 256)) (set (rows .packed) (h % 16) (repacked (getD (rows .packed) (h % 16) 0) (g % 16) (heldIn (rows .rows) h g % 16) (s % 16)))) rings (setRights t h g s)
+    rights-core : Core (withHeld rows h g (s % 256)) rings (setRights t h g s)
     unfolding rights
     rights-core =
         let nh = below-n h lh in
         let ng = below-n g lg in
-        let put = put-is-held (rows .rows) h g (s % 256) (x .rights .sixteen) (omega (arith, few)) (omega (arith, few)) in
+        let put = put-is-held rows h g (s % 256) (x .rights .sixteen) (omega (arith, few)) (omega (arith, few)) in
         record {
           rights =
               record {
@@ -267,7 +198,7 @@ module _ (n m : ℕ) (rows : Rights) (rings names owned t : List ℕ) (a : Accep
                     λ i j li lj.
                     ⊎-elim
                     (λ is.
-                    ap₂ (heldIn (withHeld (rows .rows) h g (s % 256))) (is .0) (is .1)
+                    ap₂ (heldIn (withHeld rows h g (s % 256))) (is .0) (is .1)
                     ∙ put .held
                     ∙ mod-eq-of-lt (omega arith)
                     ∙ sym
@@ -281,17 +212,22 @@ module _ (n m : ℕ) (rows : Rights) (rings names owned t : List ℕ) (a : Accep
                     (table.pair-either i j h g);
                 nothing = λ i j li past lj. put .others i j (omega (arith, few)) lj (λ _ is. omega arith) ∙ x .rights .nothing i j li past lj;
               };
-          packedSize = simp length-set (x .packedSize);
-          samePacked = packed-core;
           size = x .size;
           queues = λ e l. subst (Stands (ringAt rings e)) (sym (table.setRights-endpoint t z h g s lh lg e (rw (x .endpoints) at l))) (x .queues e l);
         }
 
-  -- what an effect of the table leaves
-  core-along : (c : Call) → Core (rowsAfter rows (effectFor t (decide t c))) (ringsAfter rings (effectFor t (decide t c))) (step t c)
-  unfolding step rowsAfter ringsAfter effectFor effect after
+  -- the same rights, written to the rows and to the table
+  rights-along : (h g : ℕ) (f : ℕ → ℕ) (lh : h < machine.domains t) (lg : g < machine.domains t) → f (rights t h g) ≤ allRights
+      → Core (withHeld rows h g (f (heldIn rows h g) % 256)) rings (setRights t h g (f (rights t h g)))
+  rights-along h g f lh lg within =
+      subst (λ (k : ℕ). Core (withHeld rows h g (f k % 256)) rings (setRights t h g (f (rights t h g)))) (sym (same-held h g lh lg))
+      (rights-core h g (f (rights t h g)) lh lg within)
+
+  -- what a decision leaves
+  core-along : (c : Call) → Core (rowsAfter rows (effectFrom rows rings (decide t c))) (ringsAfter rings (effectFrom rows rings (decide t c))) (step t c)
+  unfolding step rowsAfter ringsAfter effectFrom effect after
   core-along c =
-      decide-elim t c (λ d. Core (rowsAfter rows (effectFor t d)) (ringsAfter rings (effectFor t d)) (after t (effect t d)))
+      decide-elim t c (λ d. Core (rowsAfter rows (effectFrom rows rings d)) (ringsAfter rings (effectFrom rows rings d)) (after t (effect t d)))
       (record {
         refuses = λ _ _. unaltered;
         looksUp = λ _ _ _ _. unaltered;
@@ -316,16 +252,16 @@ module _ (n m : ℕ) (rows : Rights) (rings names owned t : List ℕ) (a : Accep
             (queues-go-along q (ringAt rings e) (twelve e l) (info .1) (info .2) (x .queues e (below-m e l)) .1 (omega (arith, some))));
         endpointsListed = λ _ _. unaltered;
         rightsListed = λ _ _. unaltered;
-        granting = λ _ _ lg lh most _ _ _. rights-core _ _ _ lh lg (adds-within _ _ (rights-held t a _ _ lh lg) most);
-        removing = λ known _ lg _ _. rights-core _ _ _ (known .below) lg (le-trans (without-le _ _) (rights-held t a _ _ (known .below) lg));
-        revoking = λ _ _ lg lh _ _. rights-core _ _ _ lh lg (le-trans (without-le _ _) (rights-held t a _ _ lh lg));
+        granting = λ _ _ lg lh most _ _ _. rights-along _ _ (λ k. adds k (fieldC (first c))) lh lg (adds-within _ _ (rights-held t a _ _ lh lg) most);
+        removing = λ known _ lg _ _. rights-along _ _ (λ k. without k (fieldC (first c))) (known .below) lg (le-trans (without-le _ _) (rights-held t a _ _ (known .below) lg));
+        revoking = λ _ _ lg lh _ _. rights-along _ _ (λ k. without k (fieldC (first c))) lh lg (le-trans (without-le _ _) (rights-held t a _ _ lh lg));
       })
     where
       twelve : (e : ℕ) → e < machine.endpoints t → length (endpoint t e) ≡ 12
       twelve = endpoint-length t z
 
   -- ---- and what never changes
-  state-along : (c : Call) → Represents n m (rowsAfter rows (effectFor t (decide t c))) (ringsAfter rings (effectFor t (decide t c))) names owned (step t c)
+  state-along : (c : Call) → Represents n m (rowsAfter rows (effectFrom rows rings (decide t c))) (ringsAfter rings (effectFrom rows rings (decide t c))) names owned (step t c)
   unfolding ownedBits
   state-along c =
       let core = core-along c in
@@ -334,8 +270,6 @@ module _ (n m : ℕ) (rows : Rights) (rings names owned t : List ℕ) (a : Accep
         domains = x .domains ∙ sym (frame .sameDomains);
         endpoints = x .endpoints ∙ sym (frame .sameEndpoints);
         rights = core .rights;
-        packedSize = core .packedSize;
-        samePacked = core .samePacked;
         size = core .size;
         queues = core .queues;
         sameNames =
@@ -353,12 +287,9 @@ module _ (n m : ℕ) (rows : Rights) (rings names owned t : List ℕ) (a : Accep
 pub calls-go-along : CallsGoAlong
 calls-go-along w s n m rows rings names hints owned t a x =
     let c = callOf w s in
-    let same = effect-along n m rows rings names owned t a x c in
     record {
       decided = decided-same n m rows rings names owned t a x hints w s;
       answer = answer-along n m rows rings names owned t a x w s;
-      state =
-          subst (λ (y : Effect). Represents n m (rowsAfter rows y) (ringsAfter rings y) names owned (step t c)) (sym same)
-          (state-along n m rows rings names owned t a x c);
-      holders = ap (notedBy (holdersOf t)) same ∙ holders-kept-by-effect t c a;
+      state = state-along n m rows rings names owned t a x c;
+      holders = noted-along n m rows rings names owned t a x c (holdersOf t) ∙ holders-kept t c a;
     }

@@ -5,11 +5,11 @@ use Prim.Native.Nat.{ℕ}
 use Rattle.machine.specs.Call.{Call.one}
 use Rattle.machine.specs.Machine as machine
 use Rattle.machine.specs.Machine.{Decision, code, answerWord}
-use Rattle.working_state.specs.State.{Rights, firstFrom, secondFrom, answerFrom}
+use Rattle.working_state.specs.State.{firstFrom, secondFrom, answerFrom}
 
 -- a refusal answers its number, and nothing else
 pub refused-answer :
-    (d : Decision) (k w : ℕ) (rows : Rights) (rings owned words : List ℕ)
+    (d : Decision) (k w : ℕ) (rows : List (List ℕ)) (rings owned words : List ℕ)
     → machine.refused k ≡ d
     → words ≡ answerWord (one w) k ∷ 0 ∷ 0 ∷ []
     → words ≡ answerFrom w rows rings owned d

@@ -1,6 +1,5 @@
 -- What is proved of the working state.
 pub mod Rings
-pub mod Packed
 pub mod Reading
 pub mod Answered
 pub mod Along

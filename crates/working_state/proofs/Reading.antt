@@ -29,7 +29,7 @@ use Rattle.rules.proofs.Places.{readingOf, decide-places}
 use Rattle.rules.proofs.Readings.{same-decision}
 use Rattle.rings.specs.Ring.{ringOwner}
 use Rattle.rings.specs.Claims.{Stands}
-use Rattle.working_state.specs.State.{Rights, ringAt, hintPlace, namedIn, readingFrom}
+use Rattle.working_state.specs.State.{ringAt, hintPlace, namedIn, readingFrom}
 use Rattle.working_state.specs.Represents.{Represents}
 
 -- a ring's owner is its queue's
@@ -54,7 +54,7 @@ first-is (suc k) p e l is before = go (λ less. first-is k p e less is before) (
         let same : k ≡ e = omega arith in
         rw (none-before k p (λ i b. before i (omega arith)), ap p same ∙ is) (ap some same)
 
-module _ (n m : ℕ) (rows : Rights) (rings names owned t : List ℕ) (a : Accepted t) (x : Represents n m rows rings names owned t) where
+module _ (n m : ℕ) (rows : List (List ℕ)) (rings names owned t : List ℕ) (a : Accepted t) (x : Represents n m rows rings names owned t) where
   name-at : (e : ℕ) → e < m → getD names (e % 32) 0 ≡ name (endpoint t e)
   name-at e l =
       ap (λ (i : ℕ). getD names i 0) (mod-eq-of-lt (omega (arith, accepted-counts t a .2, x .endpoints))) ∙ x .sameNames e l
@@ -85,7 +85,7 @@ module _ (n m : ℕ) (rows : Rights) (rings names owned t : List ℕ) (a : Accep
       h : ℕ
       h = getD hints (hintPlace k) 0
 
-  same-reading : (hints : List ℕ) → SameReading n m (readingFrom (rows .rows) rings (namedIn m names hints)) (readingOf t)
+  same-reading : (hints : List ℕ) → SameReading n m (readingFrom rows rings (namedIn m names hints)) (readingOf t)
   same-reading hints =
       record {
         rights = x .rights .same;
@@ -96,9 +96,9 @@ module _ (n m : ℕ) (rows : Rights) (rings names owned t : List ℕ) (a : Accep
       }
 
   -- so a call comes to the same
-  pub decided-same : (hints : List ℕ) (w : ℕ) (s : Second) → decidedBy n m (readingFrom (rows .rows) rings (namedIn m names hints)) (apart w s) ≡ decide t (callOf w s)
+  pub decided-same : (hints : List ℕ) (w : ℕ) (s : Second) → decidedBy n m (readingFrom rows rings (namedIn m names hints)) (apart w s) ≡ decide t (callOf w s)
   decided-same hints w s =
-      same-decision n m (readingFrom (rows .rows) rings (namedIn m names hints)) (readingOf t) (same-reading hints) (apart w s)
+      same-decision n m (readingFrom rows rings (namedIn m names hints)) (readingOf t) (same-reading hints) (apart w s)
       ∙ ap₂ (λ (i j : ℕ). decidedBy i j (readingOf t) (apart w s)) (x .domains) (x .endpoints)
       ∙ decide-places t (apart w s)
       ∙ sym (decided t w s)

@@ -1,19 +1,18 @@
--- The working state of a run (document 02 (l)), part by part: the rights as rows (crate rows), each packed too, the queues as rings of
--- twelve words (crate rings), the endpoints' names side by side, and for each domain the endpoints that it owns as bits. What is read
--- of it for a call, what is answered, and what an effect leaves of it. Any numbers and words will do.
-use Prim.Native.Nat.{ℕ, _+_, _-_, _*_, _/_, _%_, _^_}
+-- The working state of a run (document 02 (l)), part by part: the rights as rows (crate rows), the queues as rings of twelve words
+-- (crate rings), the endpoints' names side by side, and for each domain the endpoints that it owns as bits. What is read of it for a
+-- call, what is answered, and what a decision alters. Any numbers and words will do.
+use Prim.Native.Nat.{ℕ, _+_, _*_, _/_, _%_, _^_}
 use mathlib.Core.Bool.{cond, _&&_}
 use mathlib.Core.Option.{Option, none, some}
 use mathlib.Core.List.{List, [], _∷_, _++_}
 use lib.Dec.{eqb, ltb}
-use lib.ListN.{getD, take, drop, set}
+use lib.ListN.{getD, take, drop}
 use Rattle.machine.specs.Below.{firstBelow, sumBelow}
+use Rattle.machine.specs.Right.{adds, without}
 use Rattle.machine.specs.Call.{Call.one}
 use Rattle.machine.specs.Machine as machine
-use Rattle.machine.specs.Machine.{answerWord, code}
+use Rattle.machine.specs.Machine.{Effect, answerWord, code, Effect.nothing, Effect.newRights, Effect.newEndpoint}
 use Rattle.rules.specs.Access.{Reading}
-use Rattle.effects.specs.declared.Effect.{Effect}
-use Rattle.effects.specs.declared.Effect.the-variants.{Nothing, NewRights, Send, Receive}
 use Rattle.rows.specs.Rows.{heldIn, withHeld}
 use Rattle.rings.specs.Ring.{count, lostCount, ringOwner, messageAt, ringSent, ringTake, ofTwelve}
 
@@ -50,71 +49,59 @@ readingFrom rows rings named =
       named = named;
     }
 
--- the rights of a state: the rows, and each row packed into one number
-pub record Rights : Type 0 where
-  pub rows : List (List ℕ)
-  pub packed : List ℕ
-
-abbrev pub rightsOf : List (List ℕ) → List ℕ → Rights
-rightsOf rows packed = record { rows = rows; packed = packed }
-
--- no rows: what is read where no right is asked for
-abbrev pub noRights : Rights
-noRights = rightsOf [] []
-
--- the row of u packed: four bits of its rights on each target
-unfoldable pub packedRow : List (List ℕ) → ℕ → ℕ
-packedRow rows u = sumBelow 16 (λ g. heldIn rows u g % 16 * 16 ^ g)
-
--- a packed row in which the rights on g have become s, as far as it goes into 64 bits
-unfoldable pub repacked : ℕ → ℕ → ℕ → ℕ → ℕ
-repacked row g old s = (row + s * 16 ^ g + (2 ^ 64 - old * 16 ^ g)) % 2 ^ 64
-
 -- the rights of u on the eight targets from g on, four bits each, as far as they go into a word
 unfoldable pub rowBits : List (List ℕ) → ℕ → ℕ → ℕ
 rowBits rows u g = sumBelow 8 (λ i. heldIn rows u (g + i) * 16 ^ i) % 2 ^ 32
 
 -- the first data word of the answer to a decision, zero where nothing is named
-unfoldable pub firstFrom : Rights → List ℕ → List ℕ → machine.Decision → ℕ
+unfoldable pub firstFrom : List (List ℕ) → List ℕ → List ℕ → machine.Decision → ℕ
 firstFrom rows rings owned (machine.refused n) = 0
 firstFrom rows rings owned (machine.lookedUp e) = e
 firstFrom rows rings owned (machine.sends e message) = 0
 firstFrom rows rings owned (machine.receives e) = ofTwelve (ringAt rings e) (messageAt (ringAt rings e) 0) 0
 firstFrom rows rings owned (machine.listsEndpoints u) = getD owned (u % 16) 0
-firstFrom rows rings owned (machine.listsRights u) = getD (rows .packed) (u % 16) 0 % 2 ^ 32
+firstFrom rows rings owned (machine.listsRights u) = rowBits rows u 0
 firstFrom rows rings owned (machine.grants g h r) = 0
 firstFrom rows rings owned (machine.removes g u r) = 0
 firstFrom rows rings owned (machine.revokes g h r) = 0
 
 -- and the second
-unfoldable pub secondFrom : Rights → List ℕ → machine.Decision → ℕ
+unfoldable pub secondFrom : List (List ℕ) → List ℕ → machine.Decision → ℕ
 secondFrom rows rings (machine.refused n) = 0
 secondFrom rows rings (machine.lookedUp e) = 0
 secondFrom rows rings (machine.sends e message) = 0
 secondFrom rows rings (machine.receives e) = ofTwelve (ringAt rings e) (lostCount (ringAt rings e)) 0
 secondFrom rows rings (machine.listsEndpoints u) = 0
-secondFrom rows rings (machine.listsRights u) = getD (rows .packed) (u % 16) 0 / 2 ^ 32
+secondFrom rows rings (machine.listsRights u) = rowBits rows u 8
 secondFrom rows rings (machine.grants g h r) = 0
 secondFrom rows rings (machine.removes g u r) = 0
 secondFrom rows rings (machine.revokes g h r) = 0
 
 -- the answer to a call with the first word w, on which a decision fell
-unfoldable pub answerFrom : ℕ → Rights → List ℕ → List ℕ → machine.Decision → List ℕ
+unfoldable pub answerFrom : ℕ → List (List ℕ) → List ℕ → List ℕ → machine.Decision → List ℕ
 answerFrom w rows rings owned d =
     answerWord (one w) (code d) ∷ firstFrom rows rings owned d ∷ secondFrom rows rings d ∷ []
 
--- the rights after an effect, and the rings; a row has room for eight bits
-unfoldable pub rowsAfter : Rights → Effect → Rights
-rowsAfter rows Nothing = rows
-rowsAfter rows (NewRights h g s) =
-    rightsOf (withHeld (rows .rows) h g (s % 256))
-    (set (rows .packed) (h % 16) (repacked (getD (rows .packed) (h % 16) 0) (g % 16) (heldIn (rows .rows) h g % 16) (s % 16)))
-rowsAfter rows (Send e message) = rows
-rowsAfter rows (Receive e) = rows
+-- what a decision alters of a state: a holder's rights on a target, or the ring of an endpoint
+unfoldable pub effectFrom : List (List ℕ) → List ℕ → machine.Decision → Effect
+effectFrom rows rings (machine.refused n) = nothing
+effectFrom rows rings (machine.lookedUp e) = nothing
+effectFrom rows rings (machine.sends e message) =
+    newEndpoint e (ofTwelve (ringAt rings e) (ringSent (ringAt rings e) message) (ringAt rings e))
+effectFrom rows rings (machine.receives e) = newEndpoint e (ofTwelve (ringAt rings e) (ringTake (ringAt rings e)) (ringAt rings e))
+effectFrom rows rings (machine.listsEndpoints u) = nothing
+effectFrom rows rings (machine.listsRights u) = nothing
+effectFrom rows rings (machine.grants g h r) = newRights h g (adds (heldIn rows h g) r)
+effectFrom rows rings (machine.removes g u r) = newRights u g (without (heldIn rows u g) r)
+effectFrom rows rings (machine.revokes g h r) = newRights h g (without (heldIn rows h g) r)
+
+-- the rows after that, and the rings; a place of a row has eight bits
+unfoldable pub rowsAfter : List (List ℕ) → Effect → List (List ℕ)
+rowsAfter rows nothing = rows
+rowsAfter rows (newRights h g s) = withHeld rows h g (s % 256)
+rowsAfter rows (newEndpoint e r) = rows
 
 unfoldable pub ringsAfter : List ℕ → Effect → List ℕ
-ringsAfter rings Nothing = rings
-ringsAfter rings (NewRights h g s) = rings
-ringsAfter rings (Send e message) =
-    withRing rings e (ofTwelve (ringAt rings e) (ringSent (ringAt rings e) message) (ringAt rings e))
-ringsAfter rings (Receive e) = withRing rings e (ofTwelve (ringAt rings e) (ringTake (ringAt rings e)) (ringAt rings e))
+ringsAfter rings nothing = rings
+ringsAfter rings (newRights h g s) = rings
+ringsAfter rings (newEndpoint e r) = withRing rings e r

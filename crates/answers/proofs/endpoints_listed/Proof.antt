@@ -1,10 +1,8 @@
 -- `endpoints_listed` meets its contract. Assumes nothing.
-use mathlib.Core.Path.{refl, ap₂, _∙_}
-use mathlib.Core.List.{[], _∷_}
-use Prim.Native.Nat.{ℕ}
+use mathlib.Core.Path.{refl, _∙_}
 use native.Mathlib.Omega.{arith}
 use borrow.Author.Needs.{needs}
-use Rattle.answers.proofs.AnswerWords.{shows, shows-none, endpoints-there, endpoints-past}
+use Rattle.answers.proofs.AnswerWords.{same-data, shows, shows-none, endpoints-there, endpoints-past}
 use Rattle.answers.proofs.endpoints_listed.Statement.{statement}
 use Rattle.answers.proofs.endpoints_listed.Tie as tie
 
@@ -22,27 +20,28 @@ owned-bits-requires c κs =
     let at = c .before in
     (at .before .before .domains .ensures, (at .before .endpoints .ensures, omega (arith, at .endpoint-at .ensures, c .if1 .taken)))
 
+done-requires : tie.Need-done-requires
+done-requires c κs = search needs
+
 returns : tie.Need-returns
 returns c =
-    let there = c .before in
+    let there = c .before .before in
     let at = there .before in
     let m = at .before in
-    let a = m .before .before .before .args in
-    let is = endpoints-there _ _ (m .before .domains .ensures) _ _ (a .caller) (m .endpoints .ensures) (at .endpoint-at .ensures) (there .if1 .taken) in
-    ap₂ (λ (x y : ℕ). a .head ∷ x ∷ y ∷ []) (shows _ is (c .owned-bits .ensures)) (shows 0 is refl)
+    let is = endpoints-there _ _ (m .before .domains .ensures) _ _ (m .endpoints .ensures) (at .endpoint-at .ensures) (there .if1 .taken) in
+    c .done .ensures ∙ same-data (shows _ is (c .before .owned-bits .ensures)) refl
 
-plain-requires : tie.Need-plain-requires
-plain-requires c κs = search needs
+done-requires-2 : tie.Need-done-requires-2
+done-requires-2 c κs = search needs
 
 returns-2 : tie.Need-returns-2
 returns-2 c =
     let at = c .before .before in
     let m = at .before in
-    let a = m .before .before .before .args in
-    let past = endpoints-past _ _ (m .before .domains .ensures) _ _ (a .caller) (m .endpoints .ensures) (at .endpoint-at .ensures) (c .before .if1 .left) in
-    c .plain .ensures ∙ ap₂ (λ (x y : ℕ). a .head ∷ x ∷ y ∷ []) (shows-none _ past) (shows-none 0 past)
+    let past = endpoints-past _ _ (m .before .domains .ensures) _ _ (m .endpoints .ensures) (at .endpoint-at .ensures) (c .before .if1 .left) in
+    c .done2 .ensures ∙ same-data (shows-none _ past) refl
 
 pub endpoints-listed-spec : {M : Type 1} → statement M
 endpoints-listed-spec =
     tie.close
-    (tie.spec domains-requires endpoints-requires endpoint-at-requires owned-bits-requires returns plain-requires returns-2)
+    (tie.spec domains-requires endpoints-requires endpoint-at-requires owned-bits-requires done-requires returns done-requires-2 returns-2)

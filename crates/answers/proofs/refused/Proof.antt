@@ -1,5 +1,5 @@
 -- `refused` meets its contract: no number is above 23. Assumes nothing.
-use mathlib.Core.Path.{ap, _∙_}
+use mathlib.Core.Path.{ap}
 use mathlib.Core.List.{[], _∷_}
 use Prim.Native.Nat.{ℕ, _+_}
 use native.Mathlib.Omega.{arith}
@@ -14,11 +14,8 @@ number-requires c κs = search needs
 add-word : tie.Need-add-word
 add-word c = omega (arith, c .number .ensures, number-most (c .before .args .refusal))
 
-plain-requires : tie.Need-plain-requires
-plain-requires c κs = search needs
-
 returns : tie.Need-returns
-returns c = c .plain .ensures ∙ ap (λ (k : ℕ). (c .before .before .args .head + k) ∷ 0 ∷ 0 ∷ []) (c .before .number .ensures)
+returns c = ap (λ (k : ℕ). (c .before .args .head + k) ∷ 0 ∷ 0 ∷ []) (c .number .ensures)
 
 pub refused-spec : {M : Type 1} → statement M
-refused-spec = tie.close (tie.spec number-requires add-word plain-requires returns)
+refused-spec = tie.close (tie.spec number-requires add-word returns)

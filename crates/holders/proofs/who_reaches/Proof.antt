@@ -4,6 +4,7 @@ use native.Mathlib.Omega.{arith}
 use borrow.Author.Tests.{not-true, not-false}
 use borrow.Author.Needs.{needs}
 use Rattle.reach.specs.Closure.{closed}
+use Rattle.reach.proofs.Bits.{bit-is}
 use Rattle.holder_words.proofs.Told.{askable-parts}
 use Rattle.holders.proofs.Told.{told-nothing, told}
 use Rattle.holders.proofs.who_reaches.Statement.{statement}
@@ -16,9 +17,7 @@ returns : tie.Need-returns
 returns c = told-nothing _ _ (sym (not-true _ (c .if1 .taken)) ∙ c .before .askable .ensures)
 
 bit-requires : tie.Need-bit-requires
-bit-requires c κs =
-    let (few, _, below) = askable-parts _ _ (sym (c .before .askable .ensures) ∙ not-false _ (c .if1 .left)) in
-    omega (arith, few, below)
+bit-requires c κs = search needs
 
 closure-requires : tie.Need-closure-requires
 closure-requires c κs = search needs
@@ -26,8 +25,10 @@ closure-requires c κs = search needs
 returns-2 : tie.Need-returns-2
 returns-2 c =
     let test = c .before .before in
-    told _ _ (sym (not-false _ (test .if1 .left)) ∙ test .before .askable .ensures) _
-    (c .closure .ensures ∙ ap (closed (test .before .before .before .args .words .now)) (c .before .bit .ensures))
+    let asked = sym (not-false _ (test .if1 .left)) ∙ test .before .askable .ensures in
+    let (few, _, below) = askable-parts _ _ (sym asked) in
+    let alone = bit-is (omega (arith, few, below)) (c .before .bit .ensures) in
+    told _ _ asked _ (c .closure .ensures ∙ ap (closed (test .before .before .before .args .words .now)) alone)
 
 pub who-reaches-spec : {M : Type 1} → statement M
 who-reaches-spec =

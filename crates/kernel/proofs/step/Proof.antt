@@ -11,6 +11,7 @@ use Rattle.table.specs.Checked.{checkedCode}
 use Rattle.table.proofs.Refusals.{refusal-code}
 use Rattle.holders.proofs.Filled.{filled-accepted}
 use Rattle.kernel.proofs.Entries.{step-table, step-holders, step-refused, step-served}
+use Rattle.kernel.proofs.Settled.{served}
 use Rattle.kernel.proofs.step.Statement.{statement}
 use Rattle.kernel.proofs.step.Tie as tie
 
@@ -58,27 +59,31 @@ fit c = eqb-true _ _ (sym (c .before .one-a-domain .ensures) ∙ not-false _ (c 
 fill-requires : tie.Need-fill-requires
 fill-requires c κs = tt
 
+domains-requires : tie.Need-domains-requires
+domains-requires c κs = tt
+
+endpoints-requires : tie.Need-endpoints-requires
+endpoints-requires c κs = tt
+
 serve-requires : tie.Need-serve-requires
 serve-requires c κs =
-    let filled = c .before .before .before .before in
-    let lent = filled .before .before .before in
-    let a = accepted (lent .before .before .before) in
-    (a, filled .fill .ensures ∙ filled-accepted _ _ a (fit lent))
+    let read = c .before .before in
+    (accepted (c .before .before .before .before .before .before .before .before .before .before .before .before .before .before), (read .before .before .domains .ensures, read .endpoints .ensures))
 
 same-length-3 : tie.Need-same-length-3
 same-length-3 c = c .before .before .before .before .serve .kept .0
 
 same-length-4 : tie.Need-same-length-4
-same-length-4 c =
-    let served = c .before .before .before .before in
-    served .serve .kept .1 .1 .1 .0 ∙ served .before .before .before .before .before .fill .kept .1 .0
+same-length-4 c = c .before .before .before .before .serve .kept .1 .1 .1 .0 ∙ c .before .before .before .before .before .before .before .before .before .before .before .before .before .fill .kept .1 .0
 
 returns-3 : tie.Need-returns-3
 returns-3 c =
     let call = c .before .before .before .before in
-    let lent = call .before .before .before .before .before .before .before .before in
+    let filled = call .before .before .before .before .before .before .before .before .before in
+    let lent = filled .before .before .before in
     let a = accepted (lent .before .before .before) in
-    step-served _ _ _ _ _ _ (step-holders _ _ a ∙ holders-fit _ _ (fit lent)) (call .serve .ensures)
+    step-served _ _ _ _ _ _ (step-holders _ _ a ∙ holders-fit _ _ (fit lent))
+    (served _ _ a (filled .fill .ensures ∙ filled-accepted _ _ a (fit lent)) _ _ _ _ _ (call .serve .ensures))
 
 pub step-spec : {M : Type 1} → statement M
 step-spec =
@@ -93,6 +98,8 @@ step-spec =
     same-length-2
     returns-2
     fill-requires
+    domains-requires
+    endpoints-requires
     serve-requires
     same-length-3
     same-length-4

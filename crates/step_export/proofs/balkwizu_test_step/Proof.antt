@@ -15,6 +15,7 @@ use Rattle.entry.specs.declared.EntryRefusal.{EntryRefusal}
 use Rattle.cutting.specs.Cutting.{callOf}
 use Rattle.cutting.specs.declared.Second.{Second}
 use Rattle.answers.specs.Answer.{answerWords}
+use Rattle.answers.proofs.Space.{put-whole}
 use Rattle.kernel.specs.Step.{stepEntryCode, StepPromise}
 use Rattle.answers.specs.declared.Answer.{Answer}
 use Rattle.kernel.specs.declared.Stepped.{Stepped}
@@ -76,7 +77,7 @@ enum-known-stepped-2 : tie.Need-enum-known-stepped-2
 enum-known-stepped-2 c = search needs
 
 put-requires : tie.Need-put-requires
-put-requires c κs = c .before .before .before .before .before .before .before .before .before .before .before .before .if1 .left
+put-requires c κs = search needs
 
 same-length : tie.Need-same-length
 same-length c = search needs
@@ -116,7 +117,7 @@ returns-3 c =
     let put = c .before .before in
     let step = put .before .before .before .before .before .before .before .before .before in
     let a = step .before .before .before .before .before .before .before .before .args in
-    rw (put .put .ensures)
+    rw (put .put .ensures ∙ put-whole _ _ (step .before .before .before .before .if1 .left))
     (answered (now (a .table)) (now (a .answer)) (now (a .holders)) _ _ _ _
     (step .before .before .before .before .if1 .left)
     (stepped step _ (put .before .before .before .stepped2 .given .1)))

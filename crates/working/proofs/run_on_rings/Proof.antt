@@ -30,22 +30,24 @@ fill-requires c κs = tt
 hints-in-requires : tie.Need-hints-in-requires
 hints-in-requires c κs = tt
 
-packed-in-requires : tie.Need-packed-in-requires
-packed-in-requires c κs = tt
-
 run-list-requires : tie.Need-run-list-requires
 run-list-requires c κs =
-    let filled = c .before .before .before .before .before .before .before .before .before .before .before .before .before .before in
-    let rings = filled .before .before .before .before .before .before .before .before .before in
-    let start = rings .before .before .before .before .before .before .before .before .before .before .before .before .before .before in
+    let filled = c .before .before .before .before .before .before .before .before .before .before .before in
+    let owned = filled .before .before .before in
+    let names = owned .before .before in
+    let rings = names .before .before .before .before in
+    let rows = rings .before .before .before in
+    let endpoints = rows .before .before in
+    let domains = endpoints .before .before in
+    let start = domains .before .before .before .before .before .before .before in
     let a = start .pre .0 in (
       record {
         table = start .args .table .now;
-        stands = taken-in _ a _ _ (rings .before .before .before .before .before .before .before .domains .ensures) (rings .before .before .before .before .before .endpoints .ensures) _ _ (start .args .rings .now) _ _ _ _ (start .pre .1 .0) (rings .before .before .before .take-in .ensures)
+        stands = taken-in _ a _ _ (domains .domains .ensures) (endpoints .endpoints .ensures) _ (start .args .rings .now) _ _ _ _ (start .pre .1 .0)
+            (rows .take-in .ensures)
             (rings .rings-in .ensures)
-            (c .before .before .before .before .before .before .before .before .packed-in .ensures)
-            (filled .before .before .before .before .before .names-in .ensures)
-            (filled .before .before .before .owned-in .ensures)
+            (names .names-in .ensures)
+            (owned .owned-in .ensures)
             (filled .fill .ensures ∙ filled-accepted _ _ a (start .pre .1 .1 .1 .1));
       },
       (start .pre .1 .1 .0, start .pre .1 .1 .1 .0),
@@ -61,21 +63,26 @@ same-length : tie.Need-same-length
 same-length c = c .before .before .rings-out .kept .1 .1 .1 .0 ∙ c .before .before .before .before .before .before .before .put-out .kept .1 .1 .0
 
 same-length-2 : tie.Need-same-length-2
-same-length-2 c = c .before .before .before .before .before .before .before .before .before .before .before .before .before .before .before .before .run-list .kept .1 .1 .1 .1 .0 ∙ c .before .before .before .before .before .before .before .before .before .before .before .before .before .before .before .before .before .before .before .before .before .before .before .before .before .before .before .before .before .before .before .before .before .before .before .before .before .before .before .before .rings-in .kept .1 .1 .1 .0
+same-length-2 c =
+    let run = c .before .before .before .before .before .before .before .before .before .before .before .before .before .before .before .before in
+    run .run-list .kept .1 .1 .1 .0 ∙ run .before .before .before .before .before .before .before .before .before .before .before .before .before .before .before .before .before .before .before .before .before .rings-in .kept .1 .1 .1 .0
 
 same-length-3 : tie.Need-same-length-3
-same-length-3 c = c .before .before .before .before .before .before .before .before .before .before .before .before .before .before .before .before .run-list .kept .1 .1 .1 .1 .1 .1 .1 .1 .1 .0
+same-length-3 c = c .before .before .before .before .before .before .before .before .before .before .before .before .before .before .before .before .run-list .kept .1 .1 .1 .1 .1 .1 .1 .1 .0
 
 same-length-4 : tie.Need-same-length-4
-same-length-4 c = c .before .before .before .before .before .before .before .before .before .before .before .before .before .before .before .before .run-list .kept .1 .1 .1 .1 .1 .1 .1 .1 .1 .1 .0 ∙ c .before .before .before .before .before .before .before .before .before .before .before .before .before .before .before .before .before .before .before .before .before .before .before .before .before .before .before .before .before .before .before .fill .kept .1 .0
+same-length-4 c =
+    let run = c .before .before .before .before .before .before .before .before .before .before .before .before .before .before .before .before in
+    run .run-list .kept .1 .1 .1 .1 .1 .1 .1 .1 .1 .0 ∙ run .before .before .before .before .before .before .before .before .before .before .before .before .fill .kept .1 .0
 
 returns : tie.Need-returns
 unfolding run-list-requires
 returns c =
-    let call = c .before .before .before .before .before .before .before .before .before .before .before .before .before .before .before .before in
-    let start = call .before .before .before .before .before .before .before .before .before .before .before .before .before .before .before .before .before .before .before .before .before .before .before .before .before .before .before .before .before .before .before .before .before .before .before .before .before .before in
-    put-out _ (start .pre .0) _ _ (call .before .before .before .before .before .before .before .before .before .before .before .before .before .before .before .before .before .before .before .before .before .before .before .before .before .before .before .before .before .before .before .domains .ensures) (call .before .before .before .before .before .before .before .before .before .before .before .before .before .before .before .before .before .before .before .before .before .before .before .before .before .before .before .before .before .endpoints .ensures) _ _ _ _ _ _ _ _ _ _ _
-    (call .run-list .ensures _ (run-list-requires (call .before) (call .run-list .lifetimes) .0 .stands))
+    let run = c .before .before .before .before .before .before .before .before .before .before .before .before .before .before .before .before in
+    let endpoints = run .before .before .before .before .before .before .before .before .before .before .before .before .before .before .before .before .before .before .before .before .before .before .before .before .before .before in
+    let domains = endpoints .before .before in
+    put-out _ (domains .before .before .before .before .before .before .before .pre .0) _ _ (domains .domains .ensures) (endpoints .endpoints .ensures) _ _ _ _ _ _ _ _ _ _ _
+    (run .run-list .ensures _ (run-list-requires (run .before) (run .run-list .lifetimes) .0 .stands))
     (c .before .before .before .before .before .before .before .put-out .ensures)
     (c .before .before .rings-out .ensures)
 
@@ -91,7 +98,6 @@ run-on-rings-spec =
     owned-in-requires
     fill-requires
     hints-in-requires
-    packed-in-requires
     run-list-requires
     put-out-requires
     rings-out-requires

@@ -6,6 +6,7 @@ use lib.ListN.{getD}
 use Prim.Native.Nat.{_+_}
 use Rattle.machine.specs.Table.{endpointAt}
 use Rattle.machine.specs.Word.{fieldB}
+use Rattle.reach.proofs.Bits.{bit-is}
 use Rattle.working_layout.proofs.Gathering.{Gathered, gather-start, gather-room, gather-next, gather-end}
 use borrow.Author.Needs.{needs}
 use Rattle.working_layout.proofs.owned_in.Statement.{statement}
@@ -39,7 +40,7 @@ cast-u : tie.Need-cast-u Inv-loop μ-loop
 cast-u c = search needs
 
 bit-requires : tie.Need-bit-requires Inv-loop μ-loop
-bit-requires c κs = omega (arith, c .before .loop-test .taken, c .before .before .loop .inv .2)
+bit-requires c κs = search needs
 
 mul-owned : tie.Need-mul-owned Inv-loop μ-loop
 mul-owned c = search needs
@@ -48,7 +49,7 @@ array-read-owned : tie.Need-array-read-owned Inv-loop μ-loop
 array-read-owned c = omega (arith, c .before .before .before .loop .inv .0 .room)
 
 add-owned : tie.Need-add-owned Inv-loop μ-loop
-add-owned c = gather-room _ _ _ _ (c .before .before .before .loop .inv .0) (inside c) _ _ (owner c) (c .bit .ensures)
+add-owned c = gather-room _ _ _ _ (c .before .before .before .loop .inv .0) (inside c) _ _ (owner c) (bit-is (inside c) (c .bit .ensures))
 
 mul-owned-2 : tie.Need-mul-owned-2 Inv-loop μ-loop
 mul-owned-2 c = search needs
@@ -65,7 +66,7 @@ loop-less c = omega (arith, c .before .before .loop-test .taken)
 loop-again : tie.Need-loop-again Inv-loop μ-loop
 loop-again c =
     let at = c .before .before .before in
-    (gather-next _ _ _ _ (at .loop .inv .0) (inside c) _ _ (owner c) (c .bit .ensures), omega (arith, c .before .before .loop-test .taken), at .loop .inv .2)
+    (gather-next _ _ _ _ (at .loop .inv .0) (inside c) _ _ (owner c) (bit-is (inside c) (c .bit .ensures)), omega (arith, c .before .before .loop-test .taken), at .loop .inv .2)
 
 returns : tie.Need-returns Inv-loop μ-loop
 returns c =

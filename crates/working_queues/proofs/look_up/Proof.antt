@@ -1,71 +1,69 @@
--- `look_up` meets its contract: refused by its caller, by its name, or done. Assumes nothing.
+-- `look_up` meets its contract: 12, and then what has the name. Assumes nothing.
 use mathlib.Core.Path.{_≡_, sym, ap, _∙_}
 use mathlib.Core.List.{[]}
 use Rattle.machine.specs.Machine.{lookUpPlaces}
 use Rattle.calls.specs.declared.Call.the-variants.{LookUp}
 use Rattle.rules.specs.Range.{callNumbers}
-use Rattle.rules.specs.Access.{accessBy, decidedBy}
-use Rattle.rules.specs.Decision.{decisionOf}
+use Rattle.rules.specs.Access.{foundOf, accessBy, decidedBy}
+use Rattle.rules.specs.declared.access.Found.{Found}
 use Rattle.rules.proofs.Guards.{outside, within}
 use Rattle.working_state.specs.State.{namedIn, readingFrom}
 use Rattle.working_state.proofs.Answered.{refused-answer}
 use Rattle.working_queues.proofs.Outcomes.{looked-up}
-use borrow.Author.Needs.{needs}
 use Rattle.working_queues.proofs.look_up.Statement.{statement}
 use Rattle.working_queues.proofs.look_up.Tie as tie
 
--- what was found, behind the numbers, is what the call comes to
-reached : (c : tie.After-look-up)
-    → let a = c .before .before .before .before .before .args in
-    decisionOf (c .look-up .result) ≡ decidedBy (a .n) (a .m) (readingFrom [] [] (namedIn (a .m) (a .names .now) (a .hints .now))) (LookUp (a .caller) (a .name))
-unfolding callNumbers accessBy
-reached c =
-    c .look-up .ensures
-    ∙ ap lookUpPlaces (c .before .find-by .ensures)
-    ∙ within _ (c .before .before .enum-told .given .1) (c .before .before .before .before .of-caller .ensures _)
-
 of-caller-requires : tie.Need-of-caller-requires
-of-caller-requires c κs = search needs
+of-caller-requires c κs = tt
 
 enum-known-range : tie.Need-enum-known-range
-enum-known-range c = search needs
+enum-known-range c = c .match .keys1
 
 refusal-requires : tie.Need-refusal-requires
-refusal-requires c κs = search needs
+refusal-requires c κs = tt
 
 returns : tie.Need-returns
 unfolding callNumbers
 returns c = refused-answer _ _ _ _ _ _ _ (outside _ (c .before .before .range .given .1) (c .before .before .before .before .of-caller .ensures _)) (c .refusal .ensures)
 
 enum-told : tie.Need-enum-told
-enum-told c = search needs
+enum-told c = c .match .keys2
 
 find-by-requires : tie.Need-find-by-requires
-find-by-requires c κs = search needs
+find-by-requires c κs = tt
 
-look-up-requires : tie.Need-look-up-requires
-look-up-requires c κs = search needs
+-- what has the name is what the call comes to
+reached : (c : tie.After-find-by)
+    → let a = c .before .before .before .before .args in
+    lookUpPlaces (foundOf (c .find-by .result)) ≡ decidedBy (a .n) (a .m) (readingFrom [] [] (namedIn (a .m) (a .names .now) (a .hints .now))) (LookUp (a .caller) (a .name))
+unfolding callNumbers accessBy
+reached c =
+    ap lookUpPlaces (c .find-by .ensures)
+    ∙ within _ (c .before .enum-told .given .1) (c .before .before .before .of-caller .ensures _)
 
-enum-known-decision : tie.Need-enum-known-decision
-enum-known-decision c = search needs
-
-refusal-requires-2 : tie.Need-refusal-requires-2
-refusal-requires-2 c κs = search needs
-
-returns-2 : tie.Need-returns-2
-unfolding decisionOf
-returns-2 c = refused-answer _ _ _ _ _ _ _ (sym (ap decisionOf (c .before .before .decision .given .1)) ∙ reached (c .before .before .before .before)) (c .refusal2 .ensures)
-
-number-requires : tie.Need-number-requires
-number-requires c κs = search needs
+enum-known-found : tie.Need-enum-known-found
+enum-known-found c = c .match2 .keys1
 
 done-requires : tie.Need-done-requires
-done-requires c κs = search needs
+done-requires c κs = tt
+
+enum-told-2 : tie.Need-enum-told-2
+enum-told-2 c = c .match2 .keys2
+
+refusal-requires-2 : tie.Need-refusal-requires-2
+refusal-requires-2 c κs = tt
+
+returns-2 : tie.Need-returns-2
+unfolding lookUpPlaces foundOf
+returns-2 c =
+    looked-up _ _ _ _ _ _ _
+    (ap (λ (f : Found). lookUpPlaces (foundOf f)) (sym (c .before .before .found .given .1)) ∙ reached (c .before .before .before .before)) (c .done .ensures)
 
 returns-3 : tie.Need-returns-3
+unfolding lookUpPlaces foundOf
 returns-3 c =
-    let found = c .before .before .before in
-    looked-up (found .look-up .result) _ _ _ _ _ _ _ _ (c .before .before .match2 .keys2) (found .look-up .ensures) (reached found) (c .before .number .ensures) (c .done .ensures)
+    refused-answer _ _ _ _ _ _ _
+    (ap (λ (f : Found). lookUpPlaces (foundOf f)) (sym (c .before .enum-told2 .given .1)) ∙ reached (c .before .before .before)) (c .refusal2 .ensures)
 
 pub look-up-spec : {M : Type 1} → statement M
 look-up-spec =
@@ -77,10 +75,9 @@ look-up-spec =
     returns
     enum-told
     find-by-requires
-    look-up-requires
-    enum-known-decision
+    enum-known-found
+    done-requires
+    enum-told-2
     refusal-requires-2
     returns-2
-    number-requires
-    done-requires
     returns-3)

@@ -6,7 +6,7 @@ use Rattle.rules.specs.Decision.{decisionOf}
 use Rattle.rings.specs.Ring.{count, ringOwner}
 use Rattle.working_state.specs.State.{ringAt}
 use Rattle.rules.proofs.Passed.{passed}
-use Rattle.working_queues.proofs.Parts.{owner-read, count-read, not-taken, nothing-shown}
+use Rattle.working_queues.proofs.Parts.{owner-read, count-read, not-put, nothing-shown}
 use Rattle.working_queues.proofs.Outcomes.{queue-refused, queue-received}
 use borrow.Author.Needs.{needs}
 use Rattle.working_queues.proofs.receive_beyond.Statement.{statement}
@@ -60,7 +60,7 @@ returns-2 c =
     let x = s .receive .result in
     let told = c .before .match .keys2 in
     let past = s .before .before .before .before .pre in
-    queue-received _ _ _ _ _ _ _ _ (sym (passed x _ 19 _ told (passed x _ 18 _ told (s .receive .ensures))) ∙ reached s) (c .done .ensures) (nothing-shown _ _ _ past) (nothing-shown _ _ _ past) (not-taken _ _ past)
+    queue-received _ _ _ _ _ _ _ _ (sym (passed x _ 19 _ told (passed x _ 18 _ told (s .receive .ensures))) ∙ reached s) (c .done .ensures) (nothing-shown _ _ _ past) (nothing-shown _ _ _ past) (not-put _ _ _ past)
 
 pub receive-beyond-spec : {M : Type 1} → statement M
 receive-beyond-spec =

@@ -7,7 +7,7 @@ use Rattle.rows.specs.Rows.{heldIn}
 use Rattle.rings.specs.Ring.{ringOwner}
 use Rattle.working_state.specs.State.{ringAt}
 use Rattle.rules.proofs.Passed.{passed}
-use Rattle.working_queues.proofs.Parts.{owner-read, not-sent}
+use Rattle.working_queues.proofs.Parts.{owner-read, not-put}
 use Rattle.working_queues.proofs.Outcomes.{queue-refused, queue-sent}
 use borrow.Author.Needs.{needs}
 use Rattle.working_queues.proofs.send_beyond.Statement.{statement}
@@ -55,7 +55,7 @@ returns-2 : tie.Need-returns-2
 unfolding sendAccess
 returns-2 c =
     let s = c .before .before in
-    queue-sent _ _ _ _ _ _ _ (sym (passed (s .send .result) _ 17 _ (c .before .match .keys2) (s .send .ensures)) ∙ reached s) (c .done .ensures) (not-sent _ _ _ (s .before .before .before .before .pre))
+    queue-sent _ _ _ _ _ _ _ (sym (passed (s .send .result) _ 17 _ (c .before .match .keys2) (s .send .ensures)) ∙ reached s) (c .done .ensures) (not-put _ _ _ (s .before .before .before .before .pre))
 
 pub send-beyond-spec : {M : Type 1} → statement M
 send-beyond-spec =

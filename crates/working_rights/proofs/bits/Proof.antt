@@ -9,8 +9,8 @@ use Rattle.answers.proofs.Digits.{digitSum, Kept, none-kept, one-kept, all-kept
 use Rattle.answers.proofs.AnswerWords.{four-more}
 use Rattle.working_state.specs.State.{rowBits}
 use borrow.Author.Needs.{needs}
-use Rattle.working_layout.proofs.bits.Statement.{statement}
-use Rattle.working_layout.proofs.bits.Tie as tie
+use Rattle.working_rights.proofs.bits.Statement.{statement}
+use Rattle.working_rights.proofs.bits.Tie as tie
 
 -- the rights on the i-th target
 abbrev onTarget : List (List ℕ) → ℕ → ℕ → ℕ → ℕ

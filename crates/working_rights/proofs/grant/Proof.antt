@@ -79,11 +79,16 @@ same-length c = search needs
 returns-3 : tie.Need-returns-3
 unfolding grantAccess
 returns-3 c =
-    let s = c .before .before .before .before .before .before .before .before .before .before .before in
+    let altered = c .before .before .before in
+    let made = altered .before .before .before in
+    let had = made .before in
+    let done = had .before .before .match2 .keys2 in
+    let s = had .before .before .before in
     let x = s .grant .result in
-    let told = c .before .before .before .before .before .before .before .before .before .before .match2 .keys2 in
-    let made = c .before .before .before .alter .ensures in
-    granted _ _ _ _ _ (c .done .ensures) _ _ _ _ _ (made .0) (made .1) _ (sym (passed x _ 23 _ told (passed x _ 22 _ told (s .grant .ensures))) ∙ reached s) (c .before .before .before .before .before .before .before .adds .ensures ∙ ap (λ (k : ℕ). adds k (c .before .before .before .before .before .before .before .before .before .before .before .before .before .before .before .before .before .before .before .before .args .given)) (c .before .before .before .before .before .before .before .before .held3 .ensures))
+    let given = s .before .before .before .before .before .before .before .before .before .args .given in
+    granted _ _ _ _ _ (c .done .ensures) _ _ _ _ _ (altered .alter .ensures .0) (altered .alter .ensures .1) _
+    (sym (passed x _ 23 _ done (passed x _ 22 _ done (s .grant .ensures))) ∙ reached s)
+    (made .adds .ensures ∙ ap (λ (k : ℕ). adds k given) (had .held3 .ensures))
 
 pub grant-spec : {M : Type 1} → statement M
 grant-spec =

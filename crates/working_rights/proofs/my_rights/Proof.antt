@@ -1,5 +1,4 @@
 -- `my_rights` meets its contract. Assumes nothing.
-use mathlib.Core.Path.{refl}
 use Rattle.rules.specs.Range.{callNumbers}
 use Rattle.rules.specs.Access.{accessBy}
 use Rattle.rules.proofs.Guards.{outside, within}
@@ -25,27 +24,18 @@ returns c = refused-answer _ _ _ _ _ _ _ (outside _ (c .before .before .range .g
 enum-told : tie.Need-enum-told
 enum-told c = search needs
 
-cast-at : tie.Need-cast-at
-cast-at c = search needs
+bits-requires : tie.Need-bits-requires
+bits-requires c κs = search needs
 
-mul-row : tie.Need-mul-row
-mul-row c = search needs
-
-element-copy-out-row : tie.Need-element-copy-out-row
-element-copy-out-row c = search needs
-
-cast-low : tie.Need-cast-low
-cast-low c = search needs
-
-upper-requires : tie.Need-upper-requires
-upper-requires c κs = search needs
+bits-requires-2 : tie.Need-bits-requires-2
+bits-requires-2 c κs = search needs
 
 done-requires : tie.Need-done-requires
 done-requires c κs = search needs
 
 returns-2 : tie.Need-returns-2
 unfolding callNumbers accessBy
-returns-2 c = listed _ _ _ _ _ _ _ _ _ (within _ (c .before .before .before .enum-told .given .1) (c .before .before .before .before .before .of-caller .ensures _)) (c .done .ensures) refl (c .before .upper .ensures)
+returns-2 c = listed _ _ _ _ _ _ _ _ _ (within _ (c .before .before .before .enum-told .given .1) (c .before .before .before .before .before .of-caller .ensures _)) (c .done .ensures) (c .before .before .bits .ensures) (c .before .bits2 .ensures)
 
 pub my-rights-spec : {M : Type 1} → statement M
 my-rights-spec =
@@ -56,10 +46,7 @@ my-rights-spec =
     refusal-requires
     returns
     enum-told
-    cast-at
-    mul-row
-    element-copy-out-row
-    cast-low
-    upper-requires
+    bits-requires
+    bits-requires-2
     done-requires
     returns-2)

@@ -73,11 +73,15 @@ same-length c = search needs
 returns-3 : tie.Need-returns-3
 unfolding removeAccess
 returns-3 c =
-    let s = c .before .before .before .before .before .before .before .before .before in
+    let altered = c .before .before .before in
+    let made = altered .before .before .before in
+    let done = made .before .match2 .keys2 in
+    let s = made .before .before in
     let x = s .remove .result in
-    let told = c .before .before .before .before .before .before .before .before .match2 .keys2 in
-    let made = c .before .before .before .alter .ensures in
-    removed _ _ _ _ _ (c .done .ensures) _ _ _ _ _ (made .0) (made .1) _ (sym (passed x _ 22 _ told (s .remove .ensures)) ∙ reached s) (c .before .before .before .before .before .before .before .without .ensures ∙ ap (λ (k : ℕ). without k (c .before .before .before .before .before .before .before .before .before .before .before .before .before .before .before .before .args .given)) (c .before .before .before .before .before .before .before .before .before .before .held .ensures))
+    let given = s .before .before .before .before .before .before .before .args .given in
+    removed _ _ _ _ _ (c .done .ensures) _ _ _ _ _ (altered .alter .ensures .0) (altered .alter .ensures .1) _
+    (sym (passed x _ 22 _ done (s .remove .ensures)) ∙ reached s)
+    (made .without .ensures ∙ ap (λ (k : ℕ). without k given) (s .before .held .ensures))
 
 pub remove-spec : {M : Type 1} → statement M
 remove-spec =

@@ -1,20 +1,22 @@
 -- `given::put` meets its contract: three words, one after the other. Assumes nothing.
-use Rattle.answers.proofs.Space.{not-three, three-put}
+use native.Mathlib.Omega.{arith}
+use lib.ListN.{length-set}
+use Rattle.answers.proofs.Space.{too-short, three-put}
 use borrow.Author.Needs.{needs}
 use Rattle.answers.proofs.given.put.Statement.{statement}
 use Rattle.answers.proofs.given.put.Tie as tie
 
 returns : tie.Need-returns
-returns c = not-three _ _ (c .if1 .taken)
+returns c = too-short _ _ (c .if1 .taken)
 
 slice-write-space : tie.Need-slice-write-space
 slice-write-space c = search needs
 
 slice-write-space-2 : tie.Need-slice-write-space-2
-slice-write-space-2 c = search needs
+slice-write-space-2 c = simp length-set (omega arith)
 
 slice-write-space-3 : tie.Need-slice-write-space-3
-slice-write-space-3 c = search needs
+slice-write-space-3 c = simp length-set (omega arith)
 
 same-length : tie.Need-same-length
 same-length c = search needs

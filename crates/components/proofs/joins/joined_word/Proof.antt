@@ -1,9 +1,10 @@
 -- `joins::joined_word` meets its contract. Assumes nothing.
 use mathlib.Core.Path.{sym, _∙_}
 use mathlib.Core.Logic.{⊎-elim}
-use Prim.Native.Nat.{_-_}
+use Prim.Native.Nat.{_-_, _<_}
 use native.Mathlib.Omega.{arith}
 use borrow.Author.Needs.{needs}
+use Rattle.reach.proofs.Bits.{bit-is}
 use Rattle.isolation.specs.Component.{joined}
 use Rattle.components.proofs.Words.{Gathered, gather-start, gather-room, gather-with, gather-without, gather-end}
 use Rattle.components.proofs.joins.joined_word.Statement.{statement}
@@ -15,6 +16,10 @@ Inv-loop table n v bits₀ u₀ bits u = Gathered (λ w. joined table w v) n bit
 abbrev μ-loop : tie.MeasureT-loop
 μ-loop table n v bits₀ u₀ bits u = n - u
 
+-- u has a bit in a word
+small : (c : tie.In-loop Inv-loop μ-loop) → c .before .loop .u < 32
+small c = omega (arith, c .before .before .before .pre .1, c .loop-test .taken)
+
 loop-holds : tie.Need-loop-holds Inv-loop μ-loop
 loop-holds c = gather-start _ _
 
@@ -22,12 +27,12 @@ joins-requires : tie.Need-joins-requires Inv-loop μ-loop
 joins-requires c κs = c .before .before .before .pre .0
 
 bit-requires : tie.Need-bit-requires Inv-loop μ-loop
-bit-requires c κs = omega (arith, c .before .before .before .before .before .pre .1, c .before .before .loop-test .taken)
+bit-requires c κs = search needs
 
 add-bits : tie.Need-add-bits Inv-loop μ-loop
 add-bits c =
     let loop = c .before .before .before in
-    gather-room _ _ _ _ (loop .before .loop .inv) (loop .loop-test .taken) _ (c .bit .ensures) (loop .before .before .before .pre .1)
+    gather-room _ _ _ _ (loop .before .loop .inv) (loop .loop-test .taken) _ (bit-is (small loop) (c .bit .ensures)) (loop .before .before .before .pre .1)
 
 add-u : tie.Need-add-u Inv-loop μ-loop
 add-u c = search needs
@@ -41,7 +46,7 @@ loop-again c =
     let inv = loop .before .loop .inv in
     let within = loop .loop-test .taken in
     ⊎-elim
-    (λ w. rw (w .2) (gather-with _ _ _ _ inv within _ (w .1 .ensures) (sym (w .0 .taken) ∙ c .before .joins .ensures)))
+    (λ w. rw (w .2) (gather-with _ _ _ _ inv within _ (bit-is (small loop) (w .1 .ensures)) (sym (w .0 .taken) ∙ c .before .joins .ensures)))
     (λ w. rw (w .1) (gather-without _ _ _ _ inv within (sym (w .0 .left) ∙ c .before .joins .ensures)))
     (c .if1 .came)
 

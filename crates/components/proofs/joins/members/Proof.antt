@@ -1,6 +1,8 @@
 -- `joins::members` meets its contract: the closure over the words of the joins is the component. Assumes nothing.
 use mathlib.Core.Path.{_∙_}
+use native.Mathlib.Omega.{arith}
 use borrow.Author.Needs.{needs}
+use Rattle.reach.proofs.Bits.{bit-is}
 use Rattle.components.proofs.Words.{component-read}
 use Rattle.components.proofs.joins.members.Statement.{statement}
 use Rattle.components.proofs.joins.members.Tie as tie
@@ -27,8 +29,8 @@ returns : tie.Need-returns
 returns c =
     let start = c .before .before .before .before .before .before in
     let words = c .before .before .before .before .joined-words in
-    c .closure .ensures
-    ∙ component-read (start .args .table .now) _ _ _ _ (start .pre .0) (words .ensures) (c .before .before .before .bit .ensures)
+    let alone = bit-is (omega (arith, start .pre)) (c .before .before .before .bit .ensures) in
+    c .closure .ensures ∙ component-read (start .args .table .now) _ _ _ _ (start .pre .0) (words .ensures) alone
 
 pub members-spec : {M : Type 1} → statement M
 members-spec =

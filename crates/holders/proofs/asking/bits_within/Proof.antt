@@ -1,7 +1,10 @@
 -- `asking::bits_within` meets its contract: the first word with such a bit ends it. Assumes nothing.
-use Prim.Native.Nat.{_-_}
+use mathlib.Core.Path.{_≡_}
+use Prim.Native.Nat.{_-_, _^_}
+use native.Mathlib.Omega.{arith}
 use borrow.Author.Needs.{needs}
 use lib.ListN.{length}
+use Rattle.reach.proofs.Bits.{bit-is}
 use Rattle.holders.proofs.Told.{Within, within-start, within-next, within-not, within-all}
 use Rattle.holders.proofs.asking.bits_within.Statement.{statement}
 use Rattle.holders.proofs.asking.bits_within.Tie as tie
@@ -18,6 +21,10 @@ cast-bit c = search needs
 bit-requires : tie.Need-bit-requires Inv-loop μ-loop
 bit-requires c κs = search needs
 
+-- the bound is the bit of the number of the words
+is-bound : (c : tie.After-bit Inv-loop μ-loop) → c .bit .result ≡ 2 ^ length (c .before .before .args .words .now)
+is-bound c = bit-is (omega (arith, c .before .before .pre)) (c .bit .ensures)
+
 loop-holds : tie.Need-loop-holds Inv-loop μ-loop
 loop-holds c = within-start _
 
@@ -30,7 +37,7 @@ shared-slice-read-if1 c = search needs
 returns : tie.Need-returns Inv-loop μ-loop
 returns c =
     let loop = c .before .before .before in
-    within-not _ _ (loop .loop .inv) (c .before .before .loop-test .taken) (rw (← loop .before .bit .ensures) (c .if1 .taken))
+    within-not _ _ (loop .loop .inv) (c .before .before .loop-test .taken) (rw (← is-bound (loop .before)) (c .if1 .taken))
 
 add-v : tie.Need-add-v Inv-loop μ-loop
 add-v c = search needs
@@ -41,7 +48,7 @@ loop-less c = search needs
 loop-again : tie.Need-loop-again Inv-loop μ-loop
 loop-again c =
     let loop = c .before .before .before in
-    within-next _ _ (loop .loop .inv) (c .before .before .loop-test .taken) (rw (← loop .before .bit .ensures) (c .if1 .left))
+    within-next _ _ (loop .loop .inv) (c .before .before .loop-test .taken) (rw (← is-bound (loop .before)) (c .if1 .left))
 
 returns-2 : tie.Need-returns-2 Inv-loop μ-loop
 returns-2 c = within-all _ _ (c .before .loop .inv) (c .loop-test .left)

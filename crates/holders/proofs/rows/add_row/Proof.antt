@@ -3,6 +3,7 @@ use Prim.Native.Nat.{_-_, _<_}
 use native.Mathlib.Omega.{arith}
 use borrow.Author.Needs.{needs}
 use lib.ListN.{length}
+use Rattle.reach.proofs.Bits.{bit-is}
 use Rattle.holders.specs.Rows.{withRow}
 use Rattle.holders.proofs.Filled.{Written, written-start, written-next, written-not-yet, written-end, row-there, row-word}
 use Rattle.holders.proofs.rows.add_row.Statement.{statement}
@@ -72,7 +73,7 @@ loop-again c =
     let start = loop .before .before .before .before in
     let inv = loop .loop .inv in
     written-next _ _ _ _ inv _ (omega (arith, c .before .before .before .before .loop-test .taken, start .pre .0 .words))
-    (row-word _ _ _ _ _ _ _ _ _ (written-not-yet _ _ _ _ inv) (c .before .before .before .rights-at .ensures) (loop .before .bit .ensures) (c .before .held .ensures))
+    (row-word _ _ _ _ _ _ _ _ _ (written-not-yet _ _ _ _ inv) (c .before .before .before .rights-at .ensures) (bit-is (omega (arith, start .pre .0 .few, start .pre .1)) (loop .before .bit .ensures)) (c .before .held .ensures))
 
 same-length : tie.Need-same-length Inv-loop μ-loop
 same-length c = c .before .loop .inv .size

@@ -3,10 +3,11 @@ use mathlib.Core.Path.{_∙_}
 use Prim.Native.Nat.{_+_, _*_, _-_, _≤_}
 use native.Mathlib.Omega.{arith}
 use lib.ListN.{length}
+use borrow.Author.Needs.{needs}
 use Rattle.machine.proofs.Cut.{cut-few}
 use Rattle.holders.proofs.Filled.{filled-accepted}
-use Rattle.cutting.specs.Cutting.{secondAt}
 use Rattle.cutting.proofs.CutAt.{wide}
+use Rattle.answers.proofs.Space.{lent-back}
 use Rattle.kernel.proofs.Underway.{underway-start, room, underway-end}
 use Rattle.kernel.proofs.Settled.{OnItsWay, way-next}
 use Rattle.kernel.proofs.list.run_calls.Statement.{statement}
@@ -32,17 +33,19 @@ few c =
 -- one call more
 next : tie.Need-loop-again Inv-loop μ-loop
 next c =
-    let at = c .before .before .before .before .before .before .before .before .before .before in
-    let call = c .before .before .before .before .before .before in
-    way-next (at .before .loop .inv) (at .loop-test .taken) _ _ _ _ (call .serve-at .ensures)
-    (call .serve-at .kept .1 .1 .1 .0)
-    (call .serve-at .kept .1 .1 .1 .1 .1 .1 .0)
+    let put = c .before .before .before in
+    let call = put .before .before .before .before .before .before in
+    let at = call .before .before .before .before .before in
+    way-next (at .before .loop .inv) (at .loop-test .taken) _ _ _ _ _ _ (call .before .before .before .before .second-at .ensures) (c .width .ensures) (call .serve .ensures) (call .serve .kept .1 .1 .1 .0)
+    (lent-back _ _ _ _ (next-room at) (put .put .ensures))
+    (search needs)
 
 -- a call is one word at least, and within the list
-next-place : (c : tie.After-slice-known7 Inv-loop μ-loop)
-    → (c .before .before .before .before .before .before .before .before .before .before .before .loop .i + c .before .before .before .before .before .before .serve-at .result ≤ length (c .before .before .before .before .before .before .before .before .before .before .before .before .before .before .before .before .before .before .before .before .before .before .before .before .before .args .list .now)) × (1 ≤ c .before .before .before .before .before .before .serve-at .result)
+next-place : (c : tie.After-width Inv-loop μ-loop)
+    → let i = c .before .before .before .before .before .before .before .before .before .before .before .before .before .before .before .loop .i in
+    (i + c .width .result ≤ length (c .before .before .before .before .before .before .before .before .before .before .before .before .before .before .before .before .before .before .before .before .before .before .before .before .before .before .before .before .before .args .list .now)) × (1 ≤ c .width .result)
 next-place c =
-    (next c .underway .within, omega (arith, c .before .before .before .before .before .before .serve-at .ensures .wide, wide (secondAt (c .before .before .before .before .before .before .before .before .before .before .before .before .before .before .before .before .before .before .before .before .before .before .before .before .before .args .list .now) (c .before .before .before .before .before .before .before .before .before .before .before .loop .i))))
+    (next c .underway .within, omega (arith, c .width .ensures, wide (c .before .before .before .before .before .before .before .before .before .before .before .before .before .second-at .result)))
 
 fill-requires : tie.Need-fill-requires Inv-loop μ-loop
 fill-requires c κs = tt
@@ -64,19 +67,49 @@ loop-holds c =
       endpoints = c .endpoints .ensures;
     }
 
-mul-serve-at : tie.Need-mul-serve-at Inv-loop μ-loop
-mul-serve-at c = omega (arith, few (c .before .before .before))
+second-at-requires : tie.Need-second-at-requires Inv-loop μ-loop
+second-at-requires c κs = tt
 
-serve-at-requires : tie.Need-serve-at-requires Inv-loop μ-loop
-serve-at-requires c κs =
-    let y = c .before .before .before .before .loop .inv in
-    (y .underway .accepted, (y .domains, (y .endpoints, (c .before .before .before .loop-test .taken, next-room (c .before .before .before)))))
+mul-serve : tie.Need-mul-serve Inv-loop μ-loop
+mul-serve c = search needs
+
+shared-slice-read-serve : tie.Need-shared-slice-read-serve Inv-loop μ-loop
+shared-slice-read-serve c = search needs
+
+serve-requires : tie.Need-serve-requires Inv-loop μ-loop
+serve-requires c κs =
+    let y = c .before .before .before .before .before .loop .inv in
+    (y .underway .accepted, (y .domains, y .endpoints))
+
+mul-at : tie.Need-mul-at Inv-loop μ-loop
+mul-at c = omega (arith, few (c .before .before .before .before .before .before .before .before .before))
+
+add-end : tie.Need-add-end Inv-loop μ-loop
+add-end c = omega (arith, few (c .before .before .before .before .before .before .before .before .before))
+
+mul-put : tie.Need-mul-put Inv-loop μ-loop
+mul-put c = omega (arith, few (c .before .before .before .before .before .before .before .before .before))
+
+sub-put : tie.Need-sub-put Inv-loop μ-loop
+sub-put c = search needs
+
+part-put-start : tie.Need-part-put-start Inv-loop μ-loop
+part-put-start c = search needs
+
+part-put-end : tie.Need-part-put-end Inv-loop μ-loop
+part-put-end c = next-room (c .before .before .before .before .before .before .before .before .before)
+
+put-requires : tie.Need-put-requires Inv-loop μ-loop
+put-requires c κs = tt
+
+width-requires : tie.Need-width-requires Inv-loop μ-loop
+width-requires c κs = tt
 
 add-i : tie.Need-add-i Inv-loop μ-loop
-add-i c = omega (arith, next-place c)
+add-i c = omega (arith, next-place c, c .before .before .before .before .before .before .before .before .before .before .before .before .before .before .before .before .before .before .before .before .before .before .before .before .before .before .before .before .before .pre .1 .0)
 
 add-calls : tie.Need-add-calls Inv-loop μ-loop
-add-calls c = omega (arith, few (c .before .before .before .before .before .before .before .before .before .before))
+add-calls c = omega (arith, few (c .before .before .before .before .before .before .before .before .before .before .before .before .before .before))
 
 loop-less : tie.Need-loop-less Inv-loop μ-loop
 loop-less c = omega (arith, next-place c)
@@ -106,8 +139,18 @@ run-calls-spec =
     domains-requires
     endpoints-requires
     loop-holds
-    mul-serve-at
-    serve-at-requires
+    second-at-requires
+    mul-serve
+    shared-slice-read-serve
+    serve-requires
+    mul-at
+    add-end
+    mul-put
+    sub-put
+    part-put-start
+    part-put-end
+    put-requires
+    width-requires
     add-i
     add-calls
     loop-less

@@ -3,9 +3,8 @@ use Prim.Native.Nat.{_<_}
 use native.Mathlib.Omega.{arith}
 use lib.ListN.{length}
 use borrow.Author.Needs.{needs}
-use Rattle.effects.proofs.Words.{rights-written}
-use Rattle.holders.specs.Noted.{notedBy}
 use Rattle.kernel.proofs.Within.{right-in}
+use Rattle.kernel.proofs.Written.{rights-written}
 use Rattle.kernel.proofs.moves.alter.Statement.{statement}
 use Rattle.kernel.proofs.moves.alter.Tie as tie
 
@@ -37,11 +36,10 @@ same-length-2 : tie.Need-same-length-2
 same-length-2 c = search needs
 
 returns : tie.Need-returns
-unfolding notedBy
 returns c =
     let at = c .before .before .before .before in
     let s = at .before .before .before in
-    (rights-written _ _ (s .pre .1 .0) _ _ _ _ (at .rights-at .ensures) (s .pre .1 .1 .1 .1) (there at), c .before .before .note .ensures)
+    (rights-written _ _ (s .pre .1 .0) _ _ _ _ (at .rights-at .ensures), c .before .before .note .ensures)
 
 pub alter-spec : {M : Type 1} → statement M
 alter-spec =

@@ -1,9 +1,6 @@
 -- `queues::look_up` meets its contract: 12, and then what has the name. Assumes nothing.
 use mathlib.Core.Path.{_≡_, sym, ap, _∙_}
-use Prim.Native.Nat.{_<_, _^_}
-use native.Mathlib.Omega.{arith}
 use Rattle.machine.specs.Machine.{lookUpPlaces}
-use Rattle.machine.proofs.Accepted.{accepted-counts}
 use Rattle.calls.specs.Decide.{decideCall}
 use Rattle.calls.specs.declared.Call.the-variants.{LookUp}
 use Rattle.rules.specs.Range.{callNumbers}
@@ -11,7 +8,6 @@ use Rattle.rules.specs.Access.{foundOf, accessBy}
 use Rattle.rules.specs.declared.access.Found.{Found}
 use Rattle.rules.proofs.Guards.{outside, within}
 use Rattle.rules.proofs.Places.{decided}
-use Rattle.kernel.proofs.Fits.{named-below}
 use Rattle.kernel.proofs.Outcomes.{settled-refused, settled-looked-up}
 use Rattle.kernel.proofs.queues.look_up.Statement.{statement}
 use Rattle.kernel.proofs.queues.look_up.Tie as tie
@@ -61,18 +57,10 @@ enum-told-2 c = c .match2 .keys2
 refusal-requires-2 : tie.Need-refusal-requires-2
 refusal-requires-2 c κs = tt
 
--- the endpoint's number is a word
-small : (c : tie.After-done) → c .before .before .found .given .0 .0 < 2 ^ 32
-unfolding foundOf
-small c =
-    let find = c .before .before .before .before in
-    let a = find .before .before .before .before .before .pre .0 in
-    omega (arith, named-below _ a _ _ (sym (find .find .ensures) ∙ ap foundOf (c .before .before .found .given .1)), accepted-counts _ a .2)
-
 returns-2 : tie.Need-returns-2
 unfolding lookUpPlaces foundOf
 returns-2 c p =
-    settled-looked-up _ _ _ _ _ _ (small c)
+    settled-looked-up _ _ _ _ _ _
     (ap (λ (f : Found). lookUpPlaces (foundOf f)) (sym (c .before .before .found .given .1)) ∙ reached (c .before .before .before .before)) (c .done .ensures)
 
 returns-3 : tie.Need-returns-3

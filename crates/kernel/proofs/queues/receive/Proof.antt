@@ -4,6 +4,7 @@ use Prim.Native.Nat.{ℕ, _+_, _≤_, _<_}
 use native.Mathlib.Omega.{arith}
 use lib.ListN.{length, getD}
 use borrow.Author.Needs.{needs}
+use borrow.Author.Tests.{eqb-false}
 use Rattle.machine.specs.Word.{kind, fieldB, payload}
 use Rattle.machine.specs.Table.{endpoint}
 use Rattle.machine.specs.Queue.{owner, waiting, oldest, lost}
@@ -15,10 +16,10 @@ use Rattle.rules.specs.Access.{receiveAccess, accessBy}
 use Rattle.rules.proofs.Guards.{outside, within}
 use Rattle.rules.proofs.Places.{decided}
 use Rattle.layout.proofs.Places.{endpoint-read}
-use Rattle.answers.proofs.AnswerWords.{shows, payload-fits, endpoint-there}
-use Rattle.effects.proofs.Words.{received-back}
-use Rattle.rules.proofs.Passed.{passed}
+use Rattle.rules.proofs.Passed.{passed, clear}
+use Rattle.kernel.proofs.Fits.{may-receive-from}
 use Rattle.kernel.proofs.Within.{in-endpoint, endpoint-in, lost-in}
+use Rattle.kernel.proofs.Written.{received-back}
 use Rattle.kernel.proofs.Outcomes.{settled-refused, settled-received}
 use Rattle.kernel.proofs.queues.receive.Statement.{statement}
 use Rattle.kernel.proofs.queues.receive.Tie as tie
@@ -161,7 +162,7 @@ same-length : tie.Need-same-length
 same-length c = search needs
 
 returns-3 : tie.Need-returns-3
-unfolding receiveAccess oldest lost
+unfolding receiveAccess oldest lost waiting
 returns-3 c p =
     let take = c .before .before .before in
     let s = c .before .before .before .before .before .before .before .before in
@@ -169,11 +170,13 @@ returns-3 c p =
     let told = c .before .before .before .before .before .before .before .match2 .keys2 in
     let at = s .before .before .before in
     let start = at .before .before .before .before .before in
-    let is = endpoint-there _ _ (start .pre .1 .0) (start .args .e) _ (at .endpoint-at .ensures) (there at) in
+    let l = in-endpoint _ (at .before .enum-told .given .1) _ _ _ _ (at .before .before .before .of-endpoint .ensures) .1 in
+    let some : payload (getD (start .args .table .now) (at .endpoint-at .result + 2) 0) ≡ 0 → ⊥ = eqb-false _ _ (clear x _ 19 _ told (passed x _ 18 _ told (s .receive .ensures))) in
+    let fits = may-receive-from _ (start .pre .0) (start .args .e) (omega (arith, l, start .pre .1 .1)) (omega (arith, some, ap payload (read at 2 (omega arith)))) in
     settled-received _ _ _ _ _ _ _ _ _ (sym (passed x _ 19 _ told (passed x _ 18 _ told (s .receive .ensures))) ∙ reached s) (c .done .ensures)
-    (shows _ is (payload-fits _ _ (read at 4 (omega arith))))
-    (shows _ is (omega (arith, lost-kind at) ∙ payload-fits _ _ (read at 3 (omega arith))))
-    (received-back _ _ (start .pre .1 .0) _ _ (at .endpoint-at .ensures) _ (take .receive2 .ensures .1))
+    (ap payload (read at 4 (omega arith)))
+    (omega (arith, lost-kind at) ∙ ap payload (read at 3 (omega arith)))
+    (received-back _ _ (start .pre .1 .0) _ _ (at .endpoint-at .ensures) _ fits (take .receive2 .ensures .1))
 
 pub receive-spec : {M : Type 1} → statement M
 receive-spec =

@@ -15,9 +15,10 @@ use Rattle.rules.specs.Access.{sendAccess, accessBy}
 use Rattle.rules.proofs.Guards.{outside, within}
 use Rattle.rules.proofs.Places.{decided}
 use Rattle.layout.proofs.Reading.{owner-is}
-use Rattle.effects.proofs.Words.{sent-back}
 use Rattle.rules.proofs.Passed.{passed}
+use Rattle.kernel.proofs.Fits.{may-send-to}
 use Rattle.kernel.proofs.Within.{in-endpoint, endpoint-in, owner-in}
+use Rattle.kernel.proofs.Written.{sent-back}
 use Rattle.kernel.proofs.Outcomes.{settled-refused, settled-sent}
 use Rattle.kernel.proofs.queues.send.Statement.{statement}
 use Rattle.kernel.proofs.queues.send.Tie as tie
@@ -36,7 +37,7 @@ unfolding callNumbers
 returns c p =
     let numbers = c .before .before .before .before in
     let s = numbers .before .before in
-    settled-refused _ _ _ _ _ _ (outside _ (c .before .before .range .given .1) (decided _ _ _ _ _ (s .pre .1 .0) (s .pre .1 .1) (numbers .of-endpoint .ensures))) (c .refusal .ensures)
+    settled-refused _ _ _ _ _ _ (outside _ (c .before .before .range .given .1) (decided _ _ _ _ _ (s .pre .1 .0) (s .pre .1 .1 .0) (numbers .of-endpoint .ensures))) (c .refusal .ensures)
 
 enum-told : tie.Need-enum-told
 enum-told c = c .match .keys2
@@ -52,7 +53,7 @@ ranged c = in-endpoint _ (c .before .enum-told .given .1) _ _ _ _ (c .before .be
 there : (c : tie.After-endpoint-at) → c .endpoint-at .result + 12 ≤ length (c .before .before .before .before .before .args .table .now)
 there c =
     let s = c .before .before .before .before .before in
-    endpoint-in _ (s .pre .0) _ (s .pre .1 .0) _ _ _ (s .pre .1 .1) (ranged c .1) (c .endpoint-at .ensures)
+    endpoint-in _ (s .pre .0) _ (s .pre .1 .0) _ _ _ (s .pre .1 .1 .0) (ranged c .1) (c .endpoint-at .ensures)
 
 -- its owner is read
 owned : (c : tie.After-endpoint-at)
@@ -75,7 +76,7 @@ held-requires : tie.Need-held-requires
 held-requires c κs =
     let at = c .before .before in
     let s = at .before .before .before .before .before in
-    (s .pre .0, (s .pre .1 .0, (ranged at .0, owner-in _ (s .pre .0) _ (s .pre .1 .0) _ _ _ (s .pre .1 .1) (ranged at .1) (owned at))))
+    (s .pre .0, (s .pre .1 .0, (ranged at .0, owner-in _ (s .pre .0) _ (s .pre .1 .0) _ _ _ (s .pre .1 .1 .0) (ranged at .1) (owned at))))
 
 -- what was read, behind the numbers, is what the call comes to
 reached : (c : tie.After-send)
@@ -88,7 +89,7 @@ reached c =
     let a = s .args in
     c .send .ensures
     ∙ ap (λ (k : ℕ). sendAccess k (a .e) (a .message)) (c .before .held .ensures ∙ ap (rights (a .table .now) (a .caller)) (owned at))
-    ∙ within _ (at .before .enum-told .given .1) (decided _ _ _ _ _ (s .pre .1 .0) (s .pre .1 .1) (at .before .before .before .of-endpoint .ensures))
+    ∙ within _ (at .before .enum-told .given .1) (decided _ _ _ _ _ (s .pre .1 .0) (s .pre .1 .1 .0) (at .before .before .before .of-endpoint .ensures))
 
 send-requires : tie.Need-send-requires
 send-requires c κs = tt
@@ -139,7 +140,8 @@ returns-3 c p =
     let at = s .before .before .before .before in
     let start = at .before .before .before .before .before in
     settled-sent _ _ _ _ _ _ _ _ (sym (passed (s .send .result) _ 17 _ (put .before .before .match2 .keys2) (s .send .ensures)) ∙ reached s) (c .done .ensures)
-    (sent-back _ _ (start .pre .1 .0) _ _ (at .endpoint-at .ensures) _ _ (put .send2 .ensures .1))
+    (sent-back _ _ (start .pre .1 .0) _ _ (at .endpoint-at .ensures) _ _
+    (may-send-to _ (start .pre .0) _ _ (omega (arith, ranged at .1, start .pre .1 .1 .0)) (start .pre .1 .1 .1)) (put .send2 .ensures .1))
 
 pub send-spec : {M : Type 1} → statement M
 send-spec =

@@ -1,2 +1,0 @@
--- What is proved of effects besides the functions.
-pub mod Words

@@ -1,0 +1,66 @@
+// One call on a working state: it is taken apart into one choice among its kinds, and each kind is served by a function of its own.
+// It accepts any numbers and words.
+use crate::decode::take_apart;
+use answers::Answer;
+use answers::given::refuse;
+use calls::Call;
+use cutting::Second;
+use working_queues::look_up;
+use working_queues::my_endpoints;
+use working_queues::receive;
+use working_queues::send;
+use working_rights::grant;
+use working_rights::my_rights;
+use working_rights::remove;
+use working_rights::revoke;
+ghost use Rattle.answers.specs.Answer.{answerWords};
+ghost use Rattle.calls.specs.Apart.{apart};
+ghost use Rattle.working_state.specs.State.{namedIn};
+ghost use Rattle.working.specs.Served.{Served};
+
+// Serves the call of a first word and, if there is one, a second, and returns its answer.
+pub fn serve(
+    n: u32,
+    m: u32,
+    rows: &mut [[u8; 16]; 16],
+    rings: &mut [u32],
+    names: &[u32; 32],
+    hints: &[u8; 1024],
+    owned: &[u32; 16],
+    holders: &mut [u32],
+    first: u32,
+    second: Second,
+) -> Answer
+    ensures { λ a. ⌜ Served n m (now (rows .entry)) (now (rings .entry)) (namedIn m (now (names .entry)) (now (hints .entry))) (now (owned .entry)) (now (holders .entry)) first (apart first second) (answerWords a) (now (rows .exit)) (now (rings .exit)) (now (holders .exit)) ⌝ }
+{
+    let call = take_apart(first, second);
+    match call {
+        Call::Refused { caller, refusal } => refuse(n, first, caller, refusal),
+        Call::LookUp { caller, name } => look_up(n, m, names, hints, first, caller, name),
+        Call::Send {
+            caller,
+            endpoint,
+            message,
+        } => send(n, m, rows, rings, first, caller, endpoint, message),
+        Call::Receive { caller, endpoint } => receive(n, m, rings, first, caller, endpoint),
+        Call::MyEndpoints { caller } => my_endpoints(n, owned, first, caller),
+        Call::MyRights { caller } => my_rights(n, rows, first, caller),
+        Call::Grant {
+            caller,
+            target,
+            recipient,
+            rights,
+        } => grant(n, rows, holders, first, caller, target, recipient, rights),
+        Call::Remove {
+            caller,
+            target,
+            rights,
+        } => remove(n, rows, holders, first, caller, target, rights),
+        Call::Revoke {
+            caller,
+            target,
+            holder,
+            rights,
+        } => revoke(n, rows, holders, first, caller, target, holder, rights),
+    }
+}
