@@ -1,4 +1,4 @@
-// The conditions of the places 12 and 15 to 23 of a call, by plain values and without a table: those of the numbers that a call
+// The conditions of the places 12 and 16 to 23 of a call, by plain values and without a table: those of the numbers that a call
 // names (range), and those of what was read for it (access). Each stands here once, for whoever holds a table in whatever
 // layout.
 pub mod access;
