@@ -9,7 +9,7 @@
 //! stand in one program.
 //!
 //! Where they are there, the archives of the crates step_export, queue_export and
-//! check_export are linked too: they have the kernel's public step for `bench step`, the
+//! test_check_export are linked too: they have the kernel's public step for `bench step`, the
 //! queue's functions for `bench queue` and the check of a table's words for `bench speed`,
 //! which the firmware's archive hasn't got. An archive of the kit shows its exported
 //! functions only, so they don't meet.
@@ -82,7 +82,7 @@ const TEST_ARCHIVES: [TestArchive; 3] = [
     },
     TestArchive {
         archive: Archive {
-            name: "check_export",
+            name: "test_check_export",
             variable: "BALKWIZU_CHECK_ARCHIVE",
             exports: &["balkwizu_test_check"],
         },

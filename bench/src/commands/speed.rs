@@ -58,7 +58,7 @@ exceed. A goal is for the check, or for the run that is meant for long lists,
 and is told of each proved run.
 Every kernel's runs are first compared with the separate machine's. The plain C
 checks words as the bytes that they are in memory; the proved check of words is
-in the archive of the crate check_export (`rt staticlib check_export`), which
+in the archive of the crate test_check_export (`rt staticlib test_check_export`), which
 the program is built with where it is there, and its rows are left out where it
 isn't.
 

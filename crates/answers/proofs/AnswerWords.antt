@@ -17,7 +17,7 @@ use Rattle.machine.specs.Call.{first, Call.one}
 use Rattle.machine.specs.Machine.{ownedBits, rightsBits, shownCaller, answerWord}
 use Rattle.machine.specs.Below.{sumBelow}
 use Rattle.machine.proofs.Below.{sum-same}
-use Rattle.layout.proofs.Places.{eight-bits}
+use Rattle.table_layout.proofs.Places.{eight-bits}
 use Rattle.answers.specs.Answer.{headOf, hasEndpoints, hasRow, shown}
 use Rattle.answers.specs.Eight.{Eight}
 use Rattle.answers.proofs.Digits.{digitSum, digits-end}

@@ -1,8 +1,8 @@
 // What a domain has, as the bits of a data word: the endpoints that it owns and its rights on eight targets. Both go from the last to
 // the first, so each step moves up what is there; what goes past 32 bits is cut off. The callers have seen that the words are in the table.
-use layout::endpoint_at;
-use layout::rights_at;
 use machine::KIND;
+use table_layout::endpoint_at;
+use table_layout::rights_at;
 ghost use mathlib.Core.Path.{_≡_};
 ghost use Prim.Native.Nat.{_%_, _^_, _≤_};
 ghost use lib.ListN.{length};

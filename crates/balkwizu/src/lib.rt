@@ -9,9 +9,9 @@ ghost use Rattle.machine.specs.Promise.{RunPromise};
 ghost use Rattle.call_rows.specs.Rows.{RowsPromise};
 ghost use Rattle.holders.specs.Asked.{ReachTold};
 ghost use Rattle.components.specs.Told.{ComponentTold};
-ghost use Rattle.image.specs.Bytes.{bytesCode};
+ghost use Rattle.table_check_bytes.specs.Bytes.{bytesCode};
 ghost use Rattle.repair.specs.Repair.{RepairPromise};
-ghost use Rattle.potential_rights.specs.Told.{PotentialTold};
+ghost use Rattle.potential.specs.Told.{PotentialTold};
 
 // The check of a table before the kernel runs on it. C: uint32_t balkwizu_table_check(const uint8_t *bytes, size_t length).
 //
@@ -28,7 +28,7 @@ ghost use Rattle.potential_rights.specs.Told.{PotentialTold};
 pub extern "C" fn balkwizu_table_check(bytes: &[u8]) -> u32
     ensures { λ r. ⌜ r ≡ bytesCode (now (bytes .entry)) ⌝ }
 {
-    let checked = image::check(bytes);
+    let checked = table_check_bytes::check(bytes);
     checked.code()
 }
 
@@ -125,7 +125,7 @@ pub extern "C" fn balkwizu_repair(table: &mut [u32], changes: &mut [u32]) -> u32
 pub extern "C" fn balkwizu_potential(table: &[u32], actors: u32, rights: &mut [u32]) -> u32
     ensures { λ r. ⌜ PotentialTold (now (table .entry)) actors (now (rights .entry)) r (now (rights .exit)) ⌝ }
 {
-    let told = potential_rights::potential_of(table, actors, rights);
+    let told = potential::potential_of(table, actors, rights);
     told.code()
 }
 

@@ -13,7 +13,7 @@ use lib.Seq.{drop-drop}
 use Rattle.machine.specs.Entry.{longestList}
 use Rattle.calls.specs.declared.Call.{Call}
 use Rattle.written_calls.specs.Words.{fits, wordsOf, allFit, written}
-use Rattle.call_words.specs.Put.{putAt}
+use Rattle.call_encode.specs.Put.{putAt}
 use Rattle.written_calls.proofs.FieldWords.{one-or-two}
 use Rattle.writer.specs.declared.Measured.the-variants.{Words, Unfit}
 use Rattle.written_lists.specs.Write.{tooLong}

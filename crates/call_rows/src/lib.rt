@@ -1,8 +1,8 @@
 // Calls as C hands them to the writer: five words a call, here a row (document 02, (c)). The writer's two passes go over the
 // rows as they are lent: a call is taken from its row in each, and none is kept, so that little stack is needed.
-use call_words::fits;
-use call_words::put;
-use call_words::width;
+use call_encode::fits;
+use call_encode::put;
+use call_encode::width;
 use calls::Call;
 use calls::Refusal;
 use machine::of_calls::GRANT;

@@ -1,8 +1,8 @@
 // One run that chooses between the two ways by the length of the list: short lists run on the lent table, long ones in the working
 // layout, which takes the table in and puts it out. Both keep one promise, so nothing rests on where the two cross: it is measured.
-use entry::Ran;
+use run_result::Ran;
 ghost use Rattle.machine.specs.Promise.{RunPromise};
-ghost use Rattle.entry.specs.Entry.{ranCode, ranCalls};
+ghost use Rattle.run_result.specs.Entry.{ranCode, ranCalls};
 
 // So many words make a list long enough for the working layout (docs/BENCHMARKS.md, `bench speed --lengths`). No number is right for
 // all calls: here a list of sends that is just long enough and one of look ups that is just too short lose about as much.

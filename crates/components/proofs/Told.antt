@@ -11,11 +11,11 @@ use Rattle.machine.specs.Table.{domains}
 use Rattle.machine.specs.Check.{tableCode, Accepted}
 use Rattle.machine.proofs.Bools.{cond-elim}
 use Rattle.machine.proofs.Accepted.{accepted-counts}
-use Rattle.reach.proofs.Bounds.{relation-lt}
-use Rattle.isolation.specs.Component.{joined, component}
-use Rattle.table.specs.Checked.{refusalCode}
-use Rattle.table.specs.declared.TableRefusal.{TableRefusal}
-use Rattle.table.specs.declared.TableRefusal.the-variants.{BadHeader, BadLength, BadRights, BadEndpoint}
+use Rattle.reachability.proofs.Bounds.{relation-lt}
+use Rattle.isolation_theory.specs.Component.{joined, component}
+use Rattle.table_check.specs.Checked.{refusalCode}
+use Rattle.table_check.specs.declared.TableRefusal.{TableRefusal}
+use Rattle.table_check.specs.declared.TableRefusal.the-variants.{BadHeader, BadLength, BadRights, BadEndpoint}
 use Rattle.components.specs.Told.{toldCode, toldMembers, ComponentTold, componentCode}
 use Rattle.components.specs.declared.Component.{Component}
 use Rattle.components.specs.declared.Component.the-variants.{Of, BadTable, NotADomain}

@@ -17,9 +17,9 @@ use Rattle.machine.specs.Right.{hasAny}
 use Rattle.machine.specs.Table.{domains, rightsAt, rightsWord, rights}
 use Rattle.machine.specs.Influence.{reaches}
 use Rattle.machine.proofs.Below.{bits-lt}
-use Rattle.reach.specs.Closure.{closed}
-use Rattle.reach.specs.Chain.{wordsOf}
-use Rattle.isolation.specs.Component.{joined, component}
+use Rattle.reachability.specs.Closure.{closed}
+use Rattle.reachability.specs.Chain.{wordsOf}
+use Rattle.isolation_theory.specs.Component.{joined, component}
 
 -- two rights sets as they are read from a table of n domains
 pub joined-read :

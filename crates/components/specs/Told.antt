@@ -6,8 +6,8 @@ use mathlib.Core.List.{List}
 use lib.Dec.{eqb, ltb}
 use Rattle.machine.specs.Table.{domains}
 use Rattle.machine.specs.Check.{tableCode}
-use Rattle.isolation.specs.Component.{component}
-use Rattle.table.specs.Checked.{refusalCode}
+use Rattle.isolation_theory.specs.Component.{component}
+use Rattle.table_check.specs.Checked.{refusalCode}
 use Rattle.components.specs.declared.Component.{Component}
 use Rattle.components.specs.declared.Component.the-variants.{Of, BadTable, NotADomain}
 

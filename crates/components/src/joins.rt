@@ -1,15 +1,15 @@
 // Who is joined to whom in a table, as words, and what hangs together by them: bit u of word v is set where either of u and v has
 // a right on the other.
-use layout::rights;
-use reach::bit;
-use reach::closure;
+use reachability::bit;
+use reachability::closure;
+use table_layout::rights;
 ghost use mathlib.Core.Path.{_≡_};
 ghost use Prim.Native.Nat.{_<_, _≤_};
 ghost use lib.ListN.{take};
 ghost use Rattle.machine.specs.Below.{bitsBelow};
 ghost use Rattle.machine.specs.Table.{domains};
-ghost use Rattle.reach.specs.Chain.{wordsOf};
-ghost use Rattle.isolation.specs.Component.{joined, component};
+ghost use Rattle.reachability.specs.Chain.{wordsOf};
+ghost use Rattle.isolation_theory.specs.Component.{joined, component};
 
 // Either of two domains has a right on the other.
 fn joins(table: &[u32], n: u32, u: u32, v: u32) -> bool

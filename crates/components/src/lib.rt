@@ -3,10 +3,10 @@
 mod joins;
 
 use joins::members;
-use layout::domains;
-use table::Checked;
-use table::TableRefusal;
-use table::check;
+use table_check::Checked;
+use table_check::TableRefusal;
+use table_check::check;
+use table_layout::domains;
 ghost use mathlib.Core.Path.{_≡_};
 ghost use Rattle.components.specs.Told.{ComponentTold, componentCode, componentMembers};
 

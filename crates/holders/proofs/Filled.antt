@@ -20,11 +20,11 @@ use Rattle.machine.specs.Holders.{holdersOf}
 use Rattle.machine.proofs.Bools.{and-left, and-right}
 use Rattle.machine.proofs.Below.{words-at, words-same, words-length}
 use Rattle.machine.proofs.Table.{rights-below}
-use Rattle.layout.proofs.Places.{rights-read}
-use Rattle.holder_words.specs.Noted.{roomFor}
+use Rattle.table_layout.proofs.Places.{rights-read}
+use Rattle.holders_theory.specs.Noted.{roomFor}
 use Rattle.holders.specs.Rows.{HasRoom, withRow}
-use Rattle.holder_words.proofs.OneBit.{bits-next}
-pub use Rattle.holder_words.proofs.Filled.{filled-accepted}
+use Rattle.holders_theory.proofs.OneBit.{bits-next}
+pub use Rattle.holders_theory.proofs.Filled.{filled-accepted}
 
 -- ---- words written from the front: g of them are there, and the rest is as it was in ws
 pub record Written (f : ℕ → ℕ) (ws ps : List ℕ) (g : ℕ) : Type 0 where

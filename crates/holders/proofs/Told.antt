@@ -10,12 +10,12 @@ use lib.Dec.{leb, ltb}
 use lib.ListN.{length, getD}
 use Rattle.machine.specs.Below.{allBelow}
 use Rattle.machine.proofs.Below.{all-fails}
-use Rattle.reach.specs.Closure.{closed}
+use Rattle.reachability.specs.Closure.{closed}
 use Rattle.holders.specs.declared.Asked.{Asked}
 use Rattle.holders.specs.declared.Asked.the-variants.{Reach, NotAskable}
-use Rattle.holder_words.specs.Asked.{bitsWithin, askable, askCode, asked, ReachTold}
+use Rattle.holders_theory.specs.Asked.{bitsWithin, askable, askCode, asked, ReachTold}
 use Rattle.holders.specs.Asked.{askedCode}
-pub use Rattle.holder_words.proofs.Told.{asked-small}
+pub use Rattle.holders_theory.proofs.Told.{asked-small}
 
 -- ---- when words can be asked
 

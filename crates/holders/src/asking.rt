@@ -1,10 +1,10 @@
 // When words can be asked about a domain.
 use machine::of_tables::DOMAIN_PLACES;
-use reach::bit;
+use reachability::bit;
 ghost use mathlib.Core.Path.{_≡_};
 ghost use Prim.Native.Nat.{_≤_};
 ghost use lib.ListN.{length};
-ghost use Rattle.holder_words.specs.Asked.{bitsWithin, askable};
+ghost use Rattle.holders_theory.specs.Asked.{bitsWithin, askable};
 
 // No word has a bit from their number on.
 fn bits_within(words: &[u32]) -> bool

@@ -1,12 +1,12 @@
 // Sets of domains as words, with a bit for each member.
 use machine::KIND;
-use reach::bit;
+use reachability::bit;
 ghost use mathlib.Core.Path.{_≡_};
 ghost use mathlib.Core.Bool.{cond};
 ghost use Prim.Native.Nat.{_<_};
 ghost use Rattle.machine.specs.Word.{payload};
 ghost use Rattle.machine.specs.Right.{hasAny};
-ghost use Rattle.holder_words.specs.Noted.{withBit};
+ghost use Rattle.holders_theory.specs.Noted.{withBit};
 
 // A bit of a word set or cleared.
 pub fn with_bit(word: u32, i: u32, set: bool) -> u32

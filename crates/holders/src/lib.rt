@@ -7,14 +7,14 @@ mod rows;
 
 use asking::askable;
 use bits::with_bit;
-use layout::domains;
-use reach::bit;
-use reach::closure;
+use reachability::bit;
+use reachability::closure;
 use rows::fill_rows;
 use rows::fillable;
+use table_layout::domains;
 ghost use mathlib.Core.Path.{_≡_};
-ghost use Rattle.holder_words.specs.Noted.{noted, filled};
-ghost use Rattle.holder_words.specs.Asked.{ReachTold};
+ghost use Rattle.holders_theory.specs.Noted.{noted, filled};
+ghost use Rattle.holders_theory.specs.Asked.{ReachTold};
 ghost use Rattle.holders.specs.Asked.{askedCode, askedSet};
 
 // What the table says, worked out afresh. Where the words aren't those of the table's domains, or the table has not all its rights

@@ -1,15 +1,15 @@
 // The words worked out from a table, row by row: the rights that one domain holds stand side by side.
 use crate::bits::held;
-use layout::rights_at;
 use machine::of_tables::MOST_DOMAINS;
-use reach::bit;
+use reachability::bit;
+use table_layout::rights_at;
 ghost use mathlib.Core.Path.{_≡_};
 ghost use Prim.Native.Nat.{_<_};
 ghost use lib.ListN.{length};
 ghost use Rattle.machine.specs.Below.{wordsBelow};
 ghost use Rattle.machine.specs.Table.{domains};
 ghost use Rattle.machine.specs.Holders.{holdersOf};
-ghost use Rattle.holder_words.specs.Noted.{roomFor};
+ghost use Rattle.holders_theory.specs.Noted.{roomFor};
 ghost use Rattle.holders.specs.Rows.{HasRoom, withRow};
 
 // As many words are lent as there are domains, at most 16, and the table has their rights words.

@@ -14,9 +14,9 @@ use Rattle.machine.specs.Call.{Call, cut}
 use Rattle.machine.specs.Entry.{longestList, holdersCode, entryCode, Runs}
 use Rattle.machine.specs.Promise.{RunPromise}
 use Rattle.machine.proofs.Promise.{runs-accepted, runs-short, code-space, code-holders, holders-unfit, promise-refused, promise-ran}
-use Rattle.entry.specs.Entry.{entryRefusalCode}
-use Rattle.entry.specs.declared.EntryRefusal.{EntryRefusal}
-use Rattle.entry.proofs.Refusals.{entry-refusal-code}
+use Rattle.run_result.specs.Entry.{entryRefusalCode}
+use Rattle.run_result.specs.declared.EntryRefusal.{EntryRefusal}
+use Rattle.run_result.proofs.Refusals.{entry-refusal-code}
 use Rattle.answers.specs.Answer.{answerWords}
 use Rattle.answers.specs.declared.Answer.{Answer}
 use Rattle.kernel.specs.Step.{Served, stepEntryCode, StepPromise}

@@ -20,7 +20,7 @@ use Rattle.machine.proofs.Queue.{sound-of}
 use Rattle.machine.proofs.Right.{adds-within, without-le}
 use Rattle.machine.proofs.Step.{rights-held}
 use Rattle.machine.proofs.Table.{rights-below, endpoint-fits}
-use Rattle.layout.proofs.Places.{eight-bits}
+use Rattle.table_layout.proofs.Places.{eight-bits}
 use Rattle.rules.specs.Range.{followed, callerNumber, endpointNumbers, grantNumbers, removeNumbers}
 use Rattle.rules.specs.declared.range.Range.{Range}
 use Rattle.rules.specs.declared.range.Range.the-variants.{Within}

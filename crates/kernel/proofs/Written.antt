@@ -10,7 +10,7 @@ use Rattle.machine.specs.Word.{word}
 use Rattle.machine.specs.Table as table
 use Rattle.machine.specs.Table.{rightsAt, endpointAt}
 use Rattle.machine.specs.Queue.{sent, received}
-use Rattle.layout.proofs.Places.{eight-bits}
+use Rattle.table_layout.proofs.Places.{eight-bits}
 use Rattle.queue.specs.Queue.{sendable, leftBySend, receivable, leftByReceive}
 
 module _ (t : List ℕ) (n : ℕ) (e : n ≡ table.domains t) where

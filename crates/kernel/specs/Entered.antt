@@ -1,6 +1,6 @@
 -- The number of what a run comes to at its entry.
 use Prim.Native.Nat.{ℕ}
-use Rattle.entry.specs.Entry.{entryRefusalCode}
+use Rattle.run_result.specs.Entry.{entryRefusalCode}
 use Rattle.kernel.specs.declared.Entered.{Entered}
 use Rattle.kernel.specs.declared.Entered.the-variants.{Refused, Runs}
 

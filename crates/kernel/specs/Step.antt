@@ -10,7 +10,7 @@ use Rattle.machine.specs.Call.{Call}
 use Rattle.machine.specs.Machine as machine
 use Rattle.machine.specs.Holders.{holdersOf}
 use Rattle.machine.specs.Entry.{holdersCode}
-use Rattle.entry.specs.Entry.{entryRefusalCode}
+use Rattle.run_result.specs.Entry.{entryRefusalCode}
 use Rattle.answers.specs.Answer.{answerWords}
 use Rattle.kernel.specs.declared.Stepped.{Stepped}
 use Rattle.kernel.specs.declared.Stepped.the-variants.{Refused, Answered}

@@ -8,26 +8,26 @@ mod space;
 
 use answers::Answer;
 use cutting::Second;
-use entry::EntryRefusal;
-use entry::Ran;
 use holders::fill;
-use layout::domains;
-use layout::endpoints;
 use list::run_calls;
 use machine::of_calls::LONGEST_LIST;
+use run_result::EntryRefusal;
+use run_result::Ran;
 use serve::serve;
 use space::has_space;
 use space::one_a_domain;
-use table::Checked;
+use table_check::Checked;
+use table_layout::domains;
+use table_layout::endpoints;
 ghost use mathlib.Core.Path.{_≡_};
 ghost use Rattle.machine.specs.Check.{tableCode};
 ghost use Rattle.machine.specs.Entry.{entryCode};
 ghost use Rattle.machine.specs.Promise.{RunPromise};
-ghost use Rattle.table.specs.Checked.{checkedCode};
+ghost use Rattle.table_check.specs.Checked.{checkedCode};
 ghost use Rattle.cutting.specs.Cutting.{callOf};
 ghost use Rattle.kernel.specs.Step.{StepPromise};
 ghost use Rattle.kernel.specs.Entered.{enteredCode};
-ghost use Rattle.entry.specs.Entry.{ranCode, ranCalls};
+ghost use Rattle.run_result.specs.Entry.{ranCode, ranCalls};
 
 // What one call by itself comes to: it is refused at the entry, or answered.
 pub enum Stepped {
@@ -39,7 +39,7 @@ pub enum Stepped {
 pub fn check(table: &[u32]) -> Checked
     ensures { λ r. ⌜ checkedCode r ≡ tableCode (now (table .entry)) ⌝ }
 {
-    table::check(table)
+    table_check::check(table)
 }
 
 // One call on any table, with any words for the holders: a run of one call.

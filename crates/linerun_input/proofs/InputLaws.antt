@@ -10,13 +10,13 @@ use lib.Dec.{lit≤}
 use lib.ListN.{length, take, drop, length-append, length-take, length-drop}
 use lib.Seq.{length-take-le}
 use Rattle.machine.proofs.Bools.{or-none-left}
-use Rattle.reading.specs.Bytes.{wordsOf}
-use Rattle.reading.specs.TableInput.{tableEnd, noTable, afterTable, tableWanted}
+use Rattle.input_words.specs.Bytes.{wordsOf}
+use Rattle.input_words.specs.TableInput.{tableEnd, noTable, afterTable, tableWanted}
 use Rattle.text.specs.Write.{Fills}
 use Rattle.text.proofs.WriteLaws.{fills-cut, fills-part}
-use Rattle.reading.proofs.WordLaws.{take-wordsOf-append}
-use Rattle.reading.proofs.TableLaws.{Whole, whole, whole-table, table-within, whole-more, afterTable-more, still-asks}
-use Rattle.reading.proofs.Needed.{needed-none, needed-more, stored}
+use Rattle.input_words.proofs.WordLaws.{take-wordsOf-append}
+use Rattle.input_words.proofs.TableLaws.{Whole, whole, whole-table, table-within, whole-more, afterTable-more, still-asks}
+use Rattle.input_words.proofs.Needed.{needed-none, needed-more, stored}
 use Rattle.linerun_input.specs.Input.{listWordsRead, mostInput, listOf, leftOver, unreadable, wanted, Needed, Reads}
 
 -- the reading asks for no byte past the room for a longest table and a list one word too long

@@ -6,8 +6,8 @@ use mathlib.Core.List.{List}
 use lib.ListN.{length, take}
 use lib.Dec.{eqb, ltb}
 use Rattle.machine.specs.Entry.{longestList}
-use Rattle.reading.specs.Bytes.{wordsOf}
-use Rattle.reading.specs.TableInput.{longestTable, noTable, afterTable, tableWanted, NeededBy}
+use Rattle.input_words.specs.Bytes.{wordsOf}
+use Rattle.input_words.specs.TableInput.{longestTable, noTable, afterTable, tableWanted, NeededBy}
 
 -- the reading stops at the first list word that is one too many
 abbrev pub listWordsRead : ℕ

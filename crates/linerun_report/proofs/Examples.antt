@@ -2,9 +2,9 @@
 use mathlib.Core.Path.{refl}
 use Rattle.machine.proofs.Everything.{everything}
 use Rattle.text.specs.Ascii.{ascii}
-use Rattle.reading.specs.Bytes.{wordsOf, bytesOf}
+use Rattle.input_words.specs.Bytes.{wordsOf, bytesOf}
 use Rattle.text.specs.Decimal.{digitsWithin, decimal, labelled}
-use Rattle.reading.specs.TableInput.{noTable, tableOf, afterTable}
+use Rattle.input_words.specs.TableInput.{noTable, tableOf, afterTable}
 use Rattle.linerun_input.specs.Input.{listOf, leftOver, unreadable}
 use Rattle.linerun_text.specs.Lines.{firstLine, callLine}
 use Rattle.linerun_report.specs.Lines.{callLines, allLines}

@@ -18,10 +18,10 @@ use Rattle.machine.proofs.Bools.{cond-elim}
 use Rattle.machine.proofs.Cut.{cut-few}
 use Rattle.machine.proofs.Accepted.{accepted-counts}
 use Rattle.machine.proofs.Promise.{entry-code, entry-refused, code-long, holders-fit}
-use Rattle.reading.specs.Bytes.{wordsOf}
-use Rattle.reading.specs.TableInput.{tableOf, afterTable}
-use Rattle.reading.proofs.WordLaws.{length-wordsOf}
-use Rattle.reading.proofs.TableLaws.{Whole, whole-table}
+use Rattle.input_words.specs.Bytes.{wordsOf}
+use Rattle.input_words.specs.TableInput.{tableOf, afterTable}
+use Rattle.input_words.proofs.WordLaws.{length-wordsOf}
+use Rattle.input_words.proofs.TableLaws.{Whole, whole-table}
 use Rattle.linerun_input.specs.Input.{listWordsRead, listOf, unreadable}
 use Rattle.linerun_text.specs.Lines.{firstLine}
 use Rattle.linerun_report.specs.Lines.{callLines, allLines}

@@ -13,8 +13,8 @@ use Rattle.machine.specs.Table.{domains}
 use Rattle.machine.specs.Entry.{longestList}
 use Rattle.machine.specs.Promise.{RunPromise}
 use Rattle.machine.proofs.Promise.{calls-few}
-use Rattle.reading.specs.TableInput.{noTable, tableOf, afterTable}
-use Rattle.reading.proofs.TableLaws.{Whole, whole, whole-table, no-more, no-table-more, whole-more, tableOf-more, afterTable-more}
+use Rattle.input_words.specs.TableInput.{noTable, tableOf, afterTable}
+use Rattle.input_words.proofs.TableLaws.{Whole, whole, whole-table, no-more, no-table-more, whole-more, tableOf-more, afterTable-more}
 use Rattle.linerun_input.specs.Input.{listWordsRead, listOf, unreadable, wanted, Reads}
 use Rattle.linerun_text.specs.Lines.{firstLine}
 use Rattle.linerun_input.proofs.InputLaws.{no-left-over, listOf-more}

@@ -7,7 +7,7 @@ use mathlib.Core.List.{List, [], _∷_, _++_}
 use lib.ListN.{take, replicate}
 use Rattle.machine.specs.Examples.{T, L}
 use Rattle.text.specs.Ascii.{ascii}
-use Rattle.reading.specs.Bytes.{bytesOf}
+use Rattle.input_words.specs.Bytes.{bytesOf}
 use Rattle.linerun_report.specs.Report.{report}
 
 -- an input, and what is printed for it

@@ -6,7 +6,7 @@ use mathlib.Core.List.{List, [], _++_}
 use lib.ListN.{replicate}
 use Rattle.machine.specs.Table.{domains}
 use Rattle.machine.specs.Entry.{Outcome, entry, longestList}
-use Rattle.reading.specs.TableInput.{tableOf}
+use Rattle.input_words.specs.TableInput.{tableOf}
 use Rattle.linerun_input.specs.Input.{listOf, unreadable, wanted}
 use Rattle.linerun_text.specs.Lines.{firstLine}
 use Rattle.linerun_report.specs.Lines.{allLines}

@@ -1,13 +1,13 @@
 // What linerun answers to what it read: the program without its reading and writing.
+use input_words::table_input::after_table;
+use input_words::table_input::read_table;
+use input_words::words::fill;
 use kernel::run;
-use layout::domains;
 use linerun_input::unreadable;
 use machine::of_calls::LONGEST_LIST;
 use machine::of_tables::DOMAIN_PLACES;
 use machine::of_tables::LONGEST_TABLE;
-use reading::table_input::after_table;
-use reading::table_input::read_table;
-use reading::words::fill;
+use table_layout::domains;
 ghost use mathlib.Core.Path.{_≡_};
 ghost use Prim.Native.Nat.{_≤_, min};
 ghost use Rattle.machine.specs.Table.{domains};

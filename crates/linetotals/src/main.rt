@@ -3,11 +3,11 @@
 // totals_report's; here the lines are written.
 use libc::STDERR_FILENO;
 use libc::STDOUT_FILENO;
-use totals_report::report;
+use linetotals_report::report;
 ghost use Prim.Native.Nat.{_≤_};
 ghost use lib.ListN.{length};
-ghost use Rattle.totals_sheet.specs.Sheet.{Printed};
-ghost use Rattle.totals_report.specs.Report.{mostBytes};
+ghost use Rattle.linetotals_theory.specs.Sheet.{Printed};
+ghost use Rattle.linetotals_report.specs.Report.{mostBytes};
 
 // At most 146 bytes in the line of each of 32 endpoints and 43 in the last.
 const MOST_BYTES: usize = 4715;

@@ -21,7 +21,7 @@ use Rattle.machine.proofs.Below.{all-at, all-of, all-same}
 use Rattle.machine.proofs.Right.{holds-bit}
 use Rattle.machine.proofs.Table.{endpoint-length, endpoint-word}
 use Rattle.machine.proofs.Accepted.{parts, accepted-endpoint}
-use Rattle.table.specs.Checked.{Headed}
+use Rattle.table_check.specs.Checked.{Headed}
 use Rattle.mended.specs.Mend.{mendedRights, mendedEndpoint, mended, mendable}
 use Rattle.mended.specs.Claims.{EachPartMended, MendedAccepted, UnmendableRefused, SoundStays, NoRightAdded, NoRightInAnyReading, MayAlter, MayAlter.brokenRights, MayAlter.brokenQueue, OnlyBrokenAltered}
 use Rattle.mended.proofs.Places.{place-elim}

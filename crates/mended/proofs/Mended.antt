@@ -18,7 +18,7 @@ use Rattle.machine.specs.Check.{rightsWordOk, waitingWordOk, lostWordOk, slotWo
 use Rattle.machine.proofs.Bools.{and-left, and-right, either, cond-elim}
 use Rattle.machine.proofs.Below.{words-length, words-at}
 use Rattle.machine.proofs.Table.{Sized, domains-header, endpoints-header, endpoint-length, endpoint-word, endpoint-fits}
-use Rattle.table.specs.Checked.{Headed}
+use Rattle.table_check.specs.Checked.{Headed}
 use Rattle.mended.specs.Mend.{mendedRights, emptyQueue, mendedEndpoint, endpointsFrom, mendedAt, mended}
 use Rattle.mended.proofs.Places.{place-elim}
 

@@ -15,7 +15,7 @@ use Rattle.machine.specs.Table.{domains, endpoints, endpointAt, endpoint, setEn
 use Rattle.machine.specs.Queue.{emptySlot}
 use Rattle.machine.specs.Check.{queueOk, headerOk, lengthOk, rightsOk, endpointsOk, tableCode, Accepted}
 use Rattle.machine.proofs.Table.{Sized, domains-header, endpoints-header, endpoint-length, endpoint-ext, setEndpoint-length, setEndpoint-before, setEndpoint-same, setEndpoint-other}
-use Rattle.table.specs.Checked.{Headed}
+use Rattle.table_check.specs.Checked.{Headed}
 use Rattle.mended.specs.Mend.{mendedRights, emptyQueue, mendedEndpoint, mended}
 use Rattle.mending.specs.Passes.{RightsMended, EndpointsMended}
 use Rattle.mended.proofs.Mended.{queue-emptied, mended-twelve, headed-sized, mended-is, headed-either}

@@ -7,13 +7,13 @@ use machine::of_tables::NO_RIGHT;
 use machine::of_tables::NONE_LOST;
 use machine::of_tables::NONE_WAITING;
 use machine::of_tables::SLOT_PLACES;
-use table::check;
+use table_check::check;
 use words::rights_word_ok;
 ghost use mathlib.Core.Path.{_≡_};
 ghost use Prim.Native.Nat.{_*_};
 ghost use lib.ListN.{length};
 ghost use Rattle.machine.specs.Table.{domains, endpoints};
-ghost use Rattle.table.specs.Checked.{Headed};
+ghost use Rattle.table_check.specs.Checked.{Headed};
 ghost use Rattle.mended.specs.Mend.{mendedRights, mendedEndpoint, mended};
 ghost use Rattle.mending.specs.Passes.{RightsMended, EndpointsMended};
 

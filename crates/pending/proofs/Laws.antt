@@ -12,7 +12,7 @@ use lib.Dec.{eqb, leb}
 use lib.ListN.{length, getD, take, drop, set, length-append, length-drop}
 use lib.Seq.{length-take-le, take-length, take-at, drop-at, getD-drop, drop-drop, take-add, paste, paste-suc, drop-paste}
 use Rattle.machine.proofs.Bools.{and-left, and-right}
-use Rattle.turn_order.specs.Turns.{mostPending}
+use Rattle.turns_theory.specs.Turns.{mostPending}
 use Rattle.pending.specs.Pending.{blockLength, count, pendingIn, enqueuable, enqueued, leftByEnqueue, dequeuable, dequeued, leftByDequeue, MayEnqueue, MayDequeue}
 
 pub may-enqueue : (b : List ℕ) (more : ℕ) → enqueuable b more ≡ true → MayEnqueue b more

@@ -10,7 +10,7 @@ use lib.ListN.{length, getD, take, drop}
 use Rattle.cutting.specs.declared.Second.{Second}
 use Rattle.cutting.specs.declared.Second.the-variants.{Nothing}
 use Rattle.cutting.specs.Cutting.{secondAt}
-use Rattle.turn_order.specs.Turns.{mostPending}
+use Rattle.turns_theory.specs.Turns.{mostPending}
 
 -- how many words a domain has in the state, and how many of them are pending: its first word says, and above 16 it says 16
 abbrev pub blockLength : ℕ

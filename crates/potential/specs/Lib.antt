@@ -1,6 +1,2 @@
--- What could ever come about, how it is computed, and what is claimed of it.
-pub mod Potential
-pub mod Closure
-pub mod Lists
-pub mod Claims
-pub mod Examples
+-- What the contracts of this crate cite besides the machine and what is claimed of potential rights.
+pub mod Told

@@ -1,3 +1,60 @@
-// The rights that could ever come about, as definitions and theorems about the machine and about the words that the kernel left:
-// the safety question of protection systems, with an answer that computes. It has no code: what a reader must believe stands in
-// specs/, what is proved of it in proofs/.
+// The rights that could ever come about in a table where only some domains act: n × n sets, holder by holder, in words that are
+// lent for them. Any words will do as a table, and any number as the set of those that act.
+mod grants;
+mod matrix;
+
+use grants::settle;
+use matrix::fill;
+use matrix::power;
+use table_check::Checked;
+use table_check::TableRefusal;
+use table_check::check;
+use table_layout::domains;
+ghost use mathlib.Core.Path.{_≡_};
+ghost use Rattle.potential.specs.Told.{PotentialTold, potentialCode};
+
+// What is told of the potential rights.
+pub enum Potential {
+    // they stand in the lent words
+    Told,
+    // 2 to 5: the table is refused
+    BadTable(TableRefusal),
+    // 6: other than n × n words are lent
+    OtherSpace,
+    // 32: the set has a bit from n on
+    NotDomains,
+}
+
+impl Potential {
+    // The number of the answer: 0 where the rights are told.
+    pub fn code(self) -> u32
+        ensures { λ r. ⌜ r ≡ potentialCode self ⌝ }
+    {
+        match self {
+            Potential::Told => 0,
+            Potential::BadTable(refusal) => refusal.code(),
+            Potential::OtherSpace => 6,
+            Potential::NotDomains => 32,
+        }
+    }
+}
+
+// The potential rights in a table, where the domains of a set act.
+pub fn potential_of(table: &[u32], actors: u32, rights: &mut [u32]) -> Potential
+    ensures { λ r. ⌜ PotentialTold (now (table .entry)) actors (now (rights .entry)) (potentialCode r) (now (rights .exit)) ⌝ }
+{
+    let checked = check(table);
+    if let Checked::Refused(refusal) = checked {
+        return Potential::BadTable(refusal);
+    }
+    let n = domains(table);
+    if rights.len() != n as usize * n as usize {
+        return Potential::OtherSpace;
+    }
+    if power(n) <= actors {
+        return Potential::NotDomains;
+    }
+    fill(table, rights);
+    settle(rights, n, actors);
+    Potential::Told
+}

@@ -3,7 +3,7 @@
 // old content, from which the old table can be had back. A refusal alters nothing.
 use machine::of_tables::LONGEST_TABLE;
 use mending::mend;
-use table::check;
+use table_check::check;
 ghost use mathlib.Core.Path.{_≡_};
 ghost use mathlib.Core.List.{_++_};
 ghost use Prim.Native.Nat.{_≤_};

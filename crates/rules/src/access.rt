@@ -2,7 +2,7 @@
 // holds, what waits. Whoever holds a table in another layout reads its own and asks the same.
 use crate::Decision;
 use calls::Refusal;
-use right::Rights;
+use rights::Rights;
 ghost use mathlib.Core.Path.{_≡_};
 ghost use mathlib.Core.Bool.{_&&_, _||_};
 ghost use lib.Dec.{eqb};

@@ -1,7 +1,7 @@
 // The tests of a call's numbers (12, 16, 20 and 21), by n and m alone: no table is read, so whoever holds one in another layout
 // asks the same.
 use calls::Refusal;
-use right::Rights;
+use rights::Rights;
 ghost use mathlib.Core.Path.{_≡_};
 ghost use mathlib.Core.Bool.{not};
 ghost use Rattle.machine.specs.Right.{isSet};

@@ -13,9 +13,9 @@ use lib.ListN.{take-append-drop, length, getD, take, drop, set, replicate, lengt
 use lib.Seq.{length-take-le, take-at, drop-at, drop-drop, take-append-le, drop-append-le, drop-append-add, getD-set-same, drop-set-lt, getD-take, getD-drop}
 use Rattle.machine.specs.Table.{domains}
 use Rattle.machine.specs.Call.{Call}
-use Rattle.turn_order.specs.Turns.{mostPending, begun, replaced, handInCode, handedIn, width, afterTurn, Turn.idle, Turn.serves}
-use Rattle.turn_order.proofs.Pending.{Serving, turn-cases}
-use Rattle.turn_order.proofs.Histories.{LetIn, let-in}
+use Rattle.turns_theory.specs.Turns.{mostPending, begun, replaced, handInCode, handedIn, width, afterTurn, Turn.idle, Turn.serves}
+use Rattle.turns_theory.proofs.Pending.{Serving, turn-cases}
+use Rattle.turns_theory.proofs.Histories.{LetIn, let-in}
 use Rattle.pending.specs.Pending.{blockLength, count, pendingIn, enqueued, dequeued, MayEnqueue, MayDequeue}
 use Rattle.pending.proofs.Laws.{pending-length, pending-enqueued, pending-dequeued, enqueued-length, dequeued-length}
 use Rattle.turn_state.specs.State.{stateLength, blockAt, block, setBlock, turnsIn, turnIn, stateHandedIn, stateServed, stateAfter}

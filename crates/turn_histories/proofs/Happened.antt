@@ -14,10 +14,10 @@ use Rattle.machine.specs.Machine.{answer}
 use Rattle.machine.specs.RunClaims.{Noninterference}
 use Rattle.machine.proofs.Cut.{answer-length}
 use Rattle.machine.proofs.Step.{stays-accepted}
-use Rattle.turn_order.specs.Turns.{Turns, Turn, begun, turnCode, tableAfter, answerOf, holdersAfter, Turn.idle, Turn.serves}
-use Rattle.turn_order.specs.History.{Layer, Event, eventCode, nextTurn, done, afterEvent, after, alongWith, turnAt, turnsOf, answerAt, answersOf, holdersOfTurn, holdersAt, holdersAlong, served, servedOf, Event.handIn, Event.turn}
-use Rattle.turn_order.proofs.Histories.{refused-changes-nothing, as-one-list, history-noninterference, in-order}
-use Rattle.turn_order.proofs.InTime.{served-in-time}
+use Rattle.turns_theory.specs.Turns.{Turns, Turn, begun, turnCode, tableAfter, answerOf, holdersAfter, Turn.idle, Turn.serves}
+use Rattle.turns_theory.specs.History.{Layer, Event, eventCode, nextTurn, done, afterEvent, after, alongWith, turnAt, turnsOf, answerAt, answersOf, holdersOfTurn, holdersAt, holdersAlong, served, servedOf, Event.handIn, Event.turn}
+use Rattle.turns_theory.proofs.Histories.{refused-changes-nothing, as-one-list, history-noninterference, in-order}
+use Rattle.turns_theory.proofs.InTime.{served-in-time}
 use Rattle.turn_state.specs.State.{stateLength, turnsIn, turnIn, stateHandedIn, stateAfter}
 use Rattle.turns.specs.Promise.{handsInCode, turnsCode, servedBy, spaceAfter, HandInPromise, TurnPromise}
 use Rattle.turn_histories.specs.Claims.{HandsIn}

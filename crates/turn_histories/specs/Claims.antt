@@ -5,7 +5,7 @@ use mathlib.Core.Path.{_≡_}
 use mathlib.Core.List.{List}
 use lib.ListN.{length, replicate}
 use Rattle.machine.specs.Table.{domains}
-use Rattle.turn_order.specs.Turns.{begun, handInCode, handedIn, turnCode, afterTurn}
+use Rattle.turns_theory.specs.Turns.{begun, handInCode, handedIn, turnCode, afterTurn}
 use Rattle.turn_state.specs.State.{stateLength, turnsIn, turnIn, stateHandedIn, stateAfter}
 use Rattle.turns.specs.Promise.{handsInCode, turnsCode}
 

@@ -11,9 +11,9 @@ use Rattle.machine.specs.Check.{Accepted}
 use Rattle.machine.specs.Call.{Call, cut}
 use Rattle.machine.specs.Run as machine
 use Rattle.machine.specs.RunClaims.{Noninterference}
-use Rattle.turn_order.specs.Turns.{begun}
-use Rattle.turn_order.specs.History.{Layer, Event, eventCode, afterEvent, after, turnsOf, answersOf, holdersAlong, handedInBy, served, servedOf, holdersEach, Event.handIn, Event.turn}
-use Rattle.turn_order.specs.Claims.{ServedWithin}
+use Rattle.turns_theory.specs.Turns.{begun}
+use Rattle.turns_theory.specs.History.{Layer, Event, eventCode, afterEvent, after, turnsOf, answersOf, holdersAlong, handedInBy, served, servedOf, holdersEach, Event.handIn, Event.turn}
+use Rattle.turns_theory.specs.Claims.{ServedWithin}
 use Rattle.pending.specs.Pending.{pendingIn}
 use Rattle.turn_state.specs.State.{stateLength, block, turnsIn}
 use Rattle.turns.specs.Promise.{HandInPromise, TurnPromise}

@@ -9,7 +9,7 @@ use lib.Dec.{eqb}
 use lib.ListN.{length, getD, take, drop, set, length-take, length-drop}
 use lib.Seq.{length-take-le, getD-take, getD-drop}
 use borrow.Rule.Slice.PartMut.{put-same, same-len-mid}
-use Rattle.turn_order.specs.Turns.{mostPending, waits}
+use Rattle.turns_theory.specs.Turns.{mostPending, waits}
 use Rattle.cutting.specs.declared.Second.the-variants.{Nothing}
 use Rattle.pending.specs.Pending.{blockLength, count, enqueuable, enqueued, leftByEnqueue, dequeuable, leftByDequeue, secondOfOldest}
 use Rattle.pending.proofs.Laws.{pending-length, not-dequeued, dequeued-there}

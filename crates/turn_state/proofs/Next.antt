@@ -11,8 +11,8 @@ use borrow.Author.Tests.{eqb-true, eqb-false, eq-eqb, ne-eqb, le-leb, lt-leb}
 use lib.Dec.{eqb, leb}
 use lib.ListN.{length}
 use Rattle.machine.proofs.Bools.{and-right}
-use Rattle.turn_order.specs.Turns.{Turns, waits, firstFrom, firstWaiting}
-use Rattle.turn_order.proofs.Pending.{waiting-up, waiting-round, from-cases}
+use Rattle.turns_theory.specs.Turns.{Turns, waits, firstFrom, firstWaiting}
+use Rattle.turns_theory.proofs.Pending.{waiting-up, waiting-round, from-cases}
 use Rattle.turn_state.specs.State.{stateLength, turnsIn, orNone, nextToServe}
 
 -- the first that is found is a domain with a call

@@ -15,8 +15,8 @@ use Rattle.machine.specs.Call.{Call, cut}
 use Rattle.machine.proofs.Bools.{and-intro}
 use Rattle.cutting.specs.declared.Second.{Second}
 use Rattle.cutting.specs.Cutting.{callOf, secondAt, widthOf}
-use Rattle.turn_order.specs.Turns.{waits, firstWaiting, servesOldest, Turn.serves}
-use Rattle.turn_order.proofs.Pending.{cut-oldest, oldest-width, turn-of}
+use Rattle.turns_theory.specs.Turns.{waits, firstWaiting, servesOldest, Turn.serves}
+use Rattle.turns_theory.proofs.Pending.{cut-oldest, oldest-width, turn-of}
 use Rattle.pending.specs.Pending.{blockLength, count, pendingIn, dequeuable, secondOfOldest}
 use Rattle.pending.proofs.Laws.{pending-length}
 use Rattle.turn_state.specs.State.{stateLength, block, turnsIn, turnIn, stateServed, stateAfter, firstOfOldest, removedFrom}

@@ -15,8 +15,8 @@ use Rattle.machine.specs.DomainSet.{calledBy}
 use Rattle.cutting.specs.Cutting.{callOf, secondAt, widthOf}
 use Rattle.cutting.specs.declared.Second.{Second}
 use Rattle.cutting.specs.declared.Second.the-variants.{Nothing, Word}
-use Rattle.turn_order.specs.Turns.{isOneOf, width}
-use Rattle.turn_order.proofs.Pending.{oldest, cut-oldest, oldest-width, oldest-first}
+use Rattle.turns_theory.specs.Turns.{isOneOf, width}
+use Rattle.turns_theory.proofs.Pending.{oldest, cut-oldest, oldest-width, oldest-first}
 use Rattle.turn_state.specs.State.{isCallOf}
 
 -- how wide a call is, by what comes second

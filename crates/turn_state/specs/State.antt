@@ -9,7 +9,7 @@ use lib.Dec.{eqb, leb}
 use lib.ListN.{length, getD, take, drop, set}
 use Rattle.machine.specs.Word.{kind, caller}
 use Rattle.machine.specs.Table.{domains}
-use Rattle.turn_order.specs.Turns.{Turns, Turn, firstWaiting, turnOf, width, Turn.idle, Turn.serves}
+use Rattle.turns_theory.specs.Turns.{Turns, Turn, firstWaiting, turnOf, width, Turn.idle, Turn.serves}
 use Rattle.pending.specs.Pending.{blockLength, pendingIn, enqueuable, enqueued, dequeuable, dequeued}
 
 -- how many words n domains ask for, and where those of a domain begin

@@ -8,7 +8,7 @@ ghost use mathlib.Core.Path.{_≡_};
 ghost use lib.Dec.{eqb};
 ghost use Rattle.machine.specs.Table as machine;
 ghost use Rattle.machine.specs.Call.{cut};
-ghost use Rattle.turn_order.specs.Turns.{isOneOf};
+ghost use Rattle.turns_theory.specs.Turns.{isOneOf};
 ghost use Rattle.turn_state.specs.State.{stateLength, isCallOf};
 
 // n, the number of domains: it has eight bits in a table's first word.

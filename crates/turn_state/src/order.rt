@@ -6,7 +6,7 @@ ghost use Prim.Native.Nat.{_<_};
 ghost use lib.Dec.{leb};
 ghost use lib.ListN.{length};
 ghost use Rattle.machine.specs.Table as machine;
-ghost use Rattle.turn_order.specs.Turns.{waits, firstFrom, firstWaiting};
+ghost use Rattle.turns_theory.specs.Turns.{waits, firstFrom, firstWaiting};
 ghost use Rattle.turn_state.specs.State.{stateLength, turnsIn, orNone, nextToServe};
 
 // The domain d isn't before the place and has a call pending.

@@ -12,7 +12,7 @@ use Rattle.machine.specs.Check.{tableCode, Accepted}
 use Rattle.machine.specs.Call.{cut}
 use Rattle.machine.specs.Entry.{holdersCode}
 use Rattle.kernel.specs.Step.{stepEntryCode}
-use Rattle.turn_order.specs.Turns.{mostPending, isOneOf, turnCode}
+use Rattle.turns_theory.specs.Turns.{mostPending, isOneOf, turnCode}
 use Rattle.pending.specs.Pending.{blockLength, count, pendingIn, enqueuable}
 use Rattle.pending.proofs.Laws.{may-enqueue, pending-length}
 use Rattle.turn_state.specs.State.{stateLength, block, stateHandedIn}

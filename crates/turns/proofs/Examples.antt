@@ -3,7 +3,7 @@ use mathlib.Core.Path.{refl}
 use Rattle.machine.specs.Below.{wordsBelow, bitsBelow}
 use Rattle.machine.specs.Holders.{holdersOf}
 use Rattle.machine.proofs.Everything.{everything}
-use Rattle.turn_order.specs.Turns as order
+use Rattle.turns_theory.specs.Turns as order
 use Rattle.pending.specs.Pending as pending
 use Rattle.turn_state.specs.State as state
 use Rattle.turns.specs.Promise.{handsInCode, turnsCode, servedBy, spaceAfter}

@@ -1,12 +1,12 @@
 -- What is so of everything that a turn comes to: its code and how many calls it served are small. Assumes nothing.
 use Prim.Native.Nat.{_≤_}
 use native.Mathlib.Omega.{arith}
-use Rattle.table.specs.Checked.{refusalCode}
-use Rattle.table.specs.declared.TableRefusal.{TableRefusal}
-use Rattle.table.specs.declared.TableRefusal.the-variants.{BadHeader, BadLength, BadRights, BadEndpoint}
-use Rattle.entry.specs.Entry.{entryRefusalCode}
-use Rattle.entry.specs.declared.EntryRefusal.{EntryRefusal}
-use Rattle.entry.specs.declared.EntryRefusal.the-variants.{ListTooLong, BadTable, SpaceTooSmall, BadHolders}
+use Rattle.table_check.specs.Checked.{refusalCode}
+use Rattle.table_check.specs.declared.TableRefusal.{TableRefusal}
+use Rattle.table_check.specs.declared.TableRefusal.the-variants.{BadHeader, BadLength, BadRights, BadEndpoint}
+use Rattle.run_result.specs.Entry.{entryRefusalCode}
+use Rattle.run_result.specs.declared.EntryRefusal.{EntryRefusal}
+use Rattle.run_result.specs.declared.EntryRefusal.the-variants.{ListTooLong, BadTable, SpaceTooSmall, BadHolders}
 use Rattle.turns.specs.declared.Turned.{Turned}
 use Rattle.turns.specs.declared.Turned.the-variants.{Refused, Idle, Served}
 use Rattle.turns.specs.declared.TurnRefusal.the-variants.{Entry, BadTurns}

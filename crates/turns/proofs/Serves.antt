@@ -10,16 +10,16 @@ use lib.ListN.{length, drop}
 use Rattle.machine.specs.Table.{domains}
 use Rattle.machine.specs.Machine as machine
 use Rattle.machine.specs.Holders.{holdersOf}
-use Rattle.entry.specs.Entry.{entryRefusalCode}
-use Rattle.entry.specs.declared.EntryRefusal.{EntryRefusal}
-use Rattle.entry.proofs.Refusals.{entry-refusal-code}
+use Rattle.run_result.specs.Entry.{entryRefusalCode}
+use Rattle.run_result.specs.declared.EntryRefusal.{EntryRefusal}
+use Rattle.run_result.proofs.Refusals.{entry-refusal-code}
 use Rattle.answers.specs.declared.Answer.{Answer}
 use Rattle.answers.specs.Answer.{answerWords}
 use Rattle.cutting.specs.Cutting.{widthOf}
 use Rattle.kernel.specs.Step.{stepEntryCode, StepPromise}
 use Rattle.kernel.specs.declared.Stepped.the-variants.{Refused, Answered}
-use Rattle.turn_order.specs.Turns.{tableAfter, holdersAfter, Turn.idle}
-use Rattle.turn_order.proofs.Pending.{turn-idle}
+use Rattle.turns_theory.specs.Turns.{tableAfter, holdersAfter, Turn.idle}
+use Rattle.turns_theory.proofs.Pending.{turn-idle}
 use Rattle.pending.specs.Pending.{secondOfOldest}
 use Rattle.turn_state.specs.State.{block, turnsIn, turnIn, stateAfter, removedFrom, nextToServe}
 use Rattle.turn_state.proofs.Next.{next-none, next-waiting}

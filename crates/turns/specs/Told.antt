@@ -1,8 +1,8 @@
 -- The numbers of the answers (document 02 (m)): 35, 36 and 37, document 01's 2 to 6, and 99, which no paper uses, for a state of another
 -- length than n domains ask for.
 use Prim.Native.Nat.{ℕ}
-use Rattle.table.specs.Checked.{refusalCode}
-use Rattle.entry.specs.Entry.{entryRefusalCode}
+use Rattle.table_check.specs.Checked.{refusalCode}
+use Rattle.run_result.specs.Entry.{entryRefusalCode}
 use Rattle.turns.specs.declared.HandInRefusal.{HandInRefusal}
 use Rattle.turns.specs.declared.HandInRefusal.the-variants as handIn
 use Rattle.turns.specs.declared.HandedIn.{HandedIn}

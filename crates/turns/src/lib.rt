@@ -3,12 +3,12 @@
 // turn_state).
 mod serving;
 
-use entry::EntryRefusal;
 use kernel::check;
+use run_result::EntryRefusal;
 use serving::nobody;
 use serving::serve;
-use table::Checked;
-use table::TableRefusal;
+use table_check::Checked;
+use table_check::TableRefusal;
 use turn_state::add;
 use turn_state::domain::fits;
 use turn_state::domain::is_one_call;

@@ -13,7 +13,7 @@ use machine::of_tables::NO_RIGHT;
 use machine::of_tables::RIGHTS;
 use machine::of_tables::SLOTS;
 use machine::of_tables::WAITING;
-use right::Rights;
+use rights::Rights;
 ghost use mathlib.Core.Path.{_≡_};
 ghost use mathlib.Core.Bool.{cond};
 ghost use Prim.Native.Nat.{_-_};

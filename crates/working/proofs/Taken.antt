@@ -14,11 +14,11 @@ use Rattle.machine.specs.Holders.{holdersOf}
 use Rattle.machine.proofs.Accepted.{accepted-sized, accepted-counts}
 use Rattle.machine.proofs.Below.{words-length}
 use Rattle.machine.proofs.Bools.{and-intro}
-use Rattle.rows.specs.Rows.{rowsOf, rowsOut, hasRights}
+use Rattle.rights_matrix.specs.Rows.{rowsOf, rowsOut, hasRights}
 use Rattle.kernel.specs.Run.{AllRun}
-use Rattle.working_layout.specs.Layout.{hasQueues, ringsOf, queuesOut, namesOf, ownedOf}
-use Rattle.working_layout.proofs.Stands.{taken-in-stands-for}
-use Rattle.working_layout.proofs.PutOut.{put-out-is-table}
+use Rattle.working_load.specs.Layout.{hasQueues, ringsOf, queuesOut, namesOf, ownedOf}
+use Rattle.working_load.proofs.Stands.{taken-in-stands-for}
+use Rattle.working_load.proofs.PutOut.{put-out-is-table}
 use Rattle.working.specs.Run.{StandsFor, Left}
 
 -- rows put out leave a table its length

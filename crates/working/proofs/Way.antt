@@ -15,9 +15,9 @@ use Rattle.calls.specs.Apart.{apart}
 use Rattle.holders.specs.Noted.{holdersAfter}
 use Rattle.kernel.specs.Step as kernel
 use Rattle.kernel.proofs.Underway.{Underway, underway-start, underway-next, underway-end}
-use Rattle.working_state.specs.State.{namedIn, answerFrom, effectFrom, rowsAfter, ringsAfter}
-use Rattle.working_state.specs.Represents.{Represents}
-use Rattle.working_state.proofs.Along.{calls-go-along}
+use Rattle.working_theory.specs.State.{namedIn, answerFrom, effectFrom, rowsAfter, ringsAfter}
+use Rattle.working_theory.specs.Represents.{Represents}
+use Rattle.working_theory.proofs.Along.{calls-go-along}
 use Rattle.working.specs.Served.{Served}
 use Rattle.working.specs.Run.{StandsFor, Left}
 

@@ -13,14 +13,14 @@ use Rattle.machine.proofs.Bools.{cond-elim}
 use Rattle.calls.specs.Number.{numberOf}
 use Rattle.calls.specs.declared.Call.{Call}
 use Rattle.calls.specs.declared.Refusal.{Refusal}
-use Rattle.working_queues.specs.Served.{QueueServed}
-use Rattle.working_rights.specs.Served.{RightsServed}
+use Rattle.working_endpoint_calls.specs.Served.{QueueServed}
+use Rattle.working_rights_calls.specs.Served.{RightsServed}
 use Rattle.calls.specs.declared.Call.the-variants.{LookUp, Send, Receive, MyEndpoints, MyRights, Grant, Remove, Revoke, Refused}
 use Rattle.rules.specs.Range.{callerNumber, refusedNumbers, endpointNumbers, grantNumbers, removeNumbers, callNumbers}
 use Rattle.rules.specs.Access.{Reading, sendAccess, receiveAccess, grantAccess, revokeAccess, removeAccess, accessBy, decidedBy}
 use Rattle.holders.specs.Noted.{holdersAfter}
 use Rattle.working.specs.Served.{Served}
-use Rattle.working_state.specs.State.{nobody, readingFrom, firstFrom, secondFrom, answerFrom, effectFrom, rowsAfter, ringsAfter}
+use Rattle.working_theory.specs.State.{nobody, readingFrom, firstFrom, secondFrom, answerFrom, effectFrom, rowsAfter, ringsAfter}
 
 -- the row of a call's kind
 abbrev Row : (Decision → Type 0) → Call → Type 0

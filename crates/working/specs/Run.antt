@@ -6,7 +6,7 @@ use Rattle.machine.specs.Check.{Accepted}
 use Rattle.machine.specs.Holders.{holdersOf}
 use Rattle.machine.specs.SameParts.{SameFrame}
 use Rattle.kernel.specs.Run.{AllRun}
-use Rattle.working_state.specs.Represents.{Represents}
+use Rattle.working_theory.specs.Represents.{Represents}
 
 -- a state and the holders beside it stand for the accepted table t
 pub record StandsFor (n m : ℕ) (rows : List (List ℕ)) (rings names owned holders t : List ℕ) : Type 0 where

@@ -6,7 +6,7 @@ use Prim.Native.Nat.{ℕ}
 use Rattle.calls.specs.declared.Call.{Call}
 use Rattle.rules.specs.Access.{decidedBy}
 use Rattle.holders.specs.Noted.{holdersAfter}
-use Rattle.working_state.specs.State.{readingFrom, answerFrom, effectFrom, rowsAfter, ringsAfter}
+use Rattle.working_theory.specs.State.{readingFrom, answerFrom, effectFrom, rowsAfter, ringsAfter}
 
 -- the call, with the first word w, is answered by these words and leaves the rows rows′, the rings rings′ and the holders holders′
 pub record Served (n m : ℕ) (rows : List (List ℕ)) (rings : List ℕ) (named : ℕ → Option ℕ) (owned holders : List ℕ) (w : ℕ) (call : Call) (words : List ℕ) (rows′ : List (List ℕ)) (rings′ holders′ : List ℕ) : Type 0 where

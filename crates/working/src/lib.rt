@@ -5,20 +5,20 @@ mod decode;
 mod list;
 mod serve;
 
-use entry::Ran;
 use holders::fill;
 use kernel::Entered;
 use kernel::enter;
-use layout::domains;
-use layout::endpoints;
 use list::run_list;
 use machine::of_tables::ENDPOINT_PLACES;
 use machine::of_tables::ENDPOINT_WORDS;
-use working_layout::names_in;
-use working_layout::owned_in;
-use working_layout::rings_in;
-use working_layout::rings_out;
-use working_queues::hint_place;
+use run_result::Ran;
+use table_layout::domains;
+use table_layout::endpoints;
+use working_endpoint_calls::hint_place;
+use working_load::names_in;
+use working_load::owned_in;
+use working_load::rings_in;
+use working_load::rings_out;
 ghost use mathlib.Core.Path.{_≡_};
 ghost use Prim.Native.Nat.{_*_, _≤_};
 ghost use lib.ListN.{length};
@@ -27,7 +27,7 @@ ghost use Rattle.machine.specs.Call.{cut};
 ghost use Rattle.machine.specs.Table as machine;
 ghost use Rattle.machine.specs.Promise.{RunPromise};
 ghost use Rattle.kernel.specs.Run.{AllRun};
-ghost use Rattle.entry.specs.Entry.{ranCode, ranCalls};
+ghost use Rattle.run_result.specs.Entry.{ranCode, ranCalls};
 
 // Returns a hint for each name: the endpoint that has it, at the place that the name gives; of two names with one place the later
 // stays. Nothing rests on them, since a hint is believed only where the name is found.
@@ -60,7 +60,7 @@ fn run_on_rings(
 {
     let n = domains(table);
     let m = endpoints(table);
-    let mut rows = rows::take_in(table, n);
+    let mut rows = rights_matrix::take_in(table, n);
     rings_in(table, n, m, rings);
     let names = names_in(table, n, m);
     let owned = owned_in(table, n, m);
@@ -78,7 +78,7 @@ fn run_on_rings(
         answers,
         holders,
     );
-    rows::put_out(&rows, n, table);
+    rights_matrix::put_out(&rows, n, table);
     rings_out(rings, n, m, table);
     calls
 }

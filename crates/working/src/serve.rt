@@ -5,17 +5,17 @@ use answers::Answer;
 use answers::given::refuse;
 use calls::Call;
 use cutting::Second;
-use working_queues::look_up;
-use working_queues::my_endpoints;
-use working_queues::receive;
-use working_queues::send;
-use working_rights::grant;
-use working_rights::my_rights;
-use working_rights::remove;
-use working_rights::revoke;
+use working_endpoint_calls::look_up;
+use working_endpoint_calls::my_endpoints;
+use working_endpoint_calls::receive;
+use working_endpoint_calls::send;
+use working_rights_calls::grant;
+use working_rights_calls::my_rights;
+use working_rights_calls::remove;
+use working_rights_calls::revoke;
 ghost use Rattle.answers.specs.Answer.{answerWords};
 ghost use Rattle.calls.specs.Apart.{apart};
-ghost use Rattle.working_state.specs.State.{namedIn};
+ghost use Rattle.working_theory.specs.State.{namedIn};
 ghost use Rattle.working.specs.Served.{Served};
 
 // Serves the call of a first word and, if there is one, a second, and returns its answer.

@@ -1,9 +1,9 @@
 // The writer of call lists (document 02, (c)): calls as values go in and words come out, those that the reader takes past 10,
 // 11, 13 and 14. It is lent no table. Two passes: the first finds a call that can't be written and counts the words, and only
 // then are words written.
-use call_words::fits;
-use call_words::put;
-use call_words::width;
+use call_encode::fits;
+use call_encode::put;
+use call_encode::width;
 use calls::Call;
 use machine::of_calls::LONGEST_LIST;
 ghost use mathlib.Core.Path.{_≡_};

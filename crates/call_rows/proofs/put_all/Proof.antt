@@ -5,7 +5,7 @@ use native.Mathlib.Omega.{arith}
 use lib.ListN.{length}
 use Rattle.calls.specs.declared.Call.{Call}
 use Rattle.written_calls.specs.Words.{wordsOf}
-use Rattle.call_words.specs.Put.{putAt}
+use Rattle.call_encode.specs.Put.{putAt}
 use Rattle.writer.proofs.Passes.{place-within}
 use Rattle.call_rows.proofs.Rounds.{Puts, puts-start, puts-next, puts-done}
 use Rattle.call_rows.proofs.put_all.Statement.{statement}

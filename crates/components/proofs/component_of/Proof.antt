@@ -5,8 +5,8 @@ use native.Mathlib.Omega.{arith}
 use borrow.Author.Needs.{needs}
 use Rattle.machine.specs.Check.{Accepted}
 use Rattle.machine.proofs.Accepted.{accepted-counts}
-use Rattle.table.specs.Checked.{checkedCode}
-use Rattle.table.proofs.Refusals.{refusal-code}
+use Rattle.table_check.specs.Checked.{checkedCode}
+use Rattle.table_check.proofs.Refusals.{refusal-code}
 use Rattle.components.proofs.Told.{told-refused, told-none, told}
 use Rattle.components.proofs.component_of.Statement.{statement}
 use Rattle.components.proofs.component_of.Tie as tie

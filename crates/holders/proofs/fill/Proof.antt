@@ -1,7 +1,7 @@
 -- `fill` meets its contract: the words are worked out where they can be. Assumes nothing.
 use mathlib.Core.Path.{sym, _∙_}
 use borrow.Author.Needs.{needs}
-use Rattle.holder_words.proofs.Filled.{filled-done, filled-stays}
+use Rattle.holders_theory.proofs.Filled.{filled-done, filled-stays}
 use Rattle.holders.proofs.Filled.{has-room}
 use Rattle.holders.proofs.fill.Statement.{statement}
 use Rattle.holders.proofs.fill.Tie as tie

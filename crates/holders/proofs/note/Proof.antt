@@ -3,7 +3,7 @@ use mathlib.Core.Path.{ap, _∙_}
 use borrow.Author.Needs.{needs}
 use lib.ListN.{set}
 use Rattle.machine.specs.Right.{hasAny}
-use Rattle.holder_words.proofs.Kept.{noted-there, noted-no-bit, noted-no-word}
+use Rattle.holders_theory.proofs.Kept.{noted-there, noted-no-bit, noted-no-word}
 use Rattle.holders.proofs.note.Statement.{statement}
 use Rattle.holders.proofs.note.Tie as tie
 

@@ -3,9 +3,9 @@ use mathlib.Core.Path.{sym, ap, _∙_}
 use native.Mathlib.Omega.{arith}
 use borrow.Author.Tests.{not-true, not-false}
 use borrow.Author.Needs.{needs}
-use Rattle.reach.specs.Closure.{closed}
-use Rattle.reach.proofs.Bits.{bit-is}
-use Rattle.holder_words.proofs.Told.{askable-parts}
+use Rattle.reachability.specs.Closure.{closed}
+use Rattle.reachability.proofs.Bits.{bit-is}
+use Rattle.holders_theory.proofs.Told.{askable-parts}
 use Rattle.holders.proofs.Told.{told-nothing, told}
 use Rattle.holders.proofs.who_reaches.Statement.{statement}
 use Rattle.holders.proofs.who_reaches.Tie as tie

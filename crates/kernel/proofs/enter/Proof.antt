@@ -7,8 +7,8 @@ use borrow.Author.Tests.{eqb-true, eqb-false, ltb-true, ltb-false, not-true, not
 use Rattle.machine.specs.Check.{tableCode}
 use Rattle.machine.specs.Call.{cut}
 use Rattle.machine.proofs.Promise.{code-long, code-table, code-space, code-holders, holders-fit, holders-unfit}
-use Rattle.table.specs.Checked.{checkedCode}
-use Rattle.table.proofs.Refusals.{refusal-code}
+use Rattle.table_check.specs.Checked.{checkedCode}
+use Rattle.table_check.proofs.Refusals.{refusal-code}
 use Rattle.kernel.proofs.enter.Statement.{statement}
 use Rattle.kernel.proofs.enter.Tie as tie
 

@@ -7,8 +7,8 @@ use borrow.Author.Tests.{eqb-true, eqb-false, not-true, not-false}
 use Rattle.machine.specs.Table.{domains}
 use Rattle.machine.specs.Check.{tableCode}
 use Rattle.machine.proofs.Promise.{holders-fit, holders-unfit}
-use Rattle.table.specs.Checked.{checkedCode}
-use Rattle.table.proofs.Refusals.{refusal-code}
+use Rattle.table_check.specs.Checked.{checkedCode}
+use Rattle.table_check.proofs.Refusals.{refusal-code}
 use Rattle.holders.proofs.Filled.{filled-accepted}
 use Rattle.kernel.proofs.Entries.{step-table, step-holders, step-refused, step-served}
 use Rattle.kernel.proofs.Settled.{served}

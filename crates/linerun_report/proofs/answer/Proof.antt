@@ -5,8 +5,8 @@ use mathlib.Core.List.{List, append-nil}
 use native.Mathlib.Omega.{arith}
 use Rattle.machine.specs.Table.{domains}
 use Rattle.text.proofs.WriteLaws.{fills-part}
-use Rattle.reading.specs.TableInput.{tableOf}
-use Rattle.reading.proofs.TableLaws.{whole, length-tableOf}
+use Rattle.input_words.specs.TableInput.{tableOf}
+use Rattle.input_words.proofs.TableLaws.{whole, length-tableOf}
 use Rattle.linerun_input.proofs.InputLaws.{readable-whole, list-part}
 use Rattle.linerun_text.specs.Lines.{firstLine}
 use Rattle.linerun_report.specs.Lines.{callLines, allLines}

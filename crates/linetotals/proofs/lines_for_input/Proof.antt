@@ -2,7 +2,7 @@
 use borrow.Author.Needs.{needs}
 use native.Mathlib.Nat.{le-trans}
 use Rattle.text.proofs.WriteLaws.{writes-part}
-use Rattle.totals_sheet.proofs.SheetLaws.{printed}
+use Rattle.linetotals_theory.proofs.SheetLaws.{printed}
 use Rattle.linetotals.proofs.lines_for_input.Statement.{statement}
 use Rattle.linetotals.proofs.lines_for_input.Tie as tie
 

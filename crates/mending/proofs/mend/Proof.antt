@@ -4,7 +4,7 @@ use mathlib.Core.Path.{_≡_, subst, _∙_}
 use borrow.Author.Needs.{needs}
 use denote.Ref.{now}
 use Rattle.machine.specs.Check.{tableCode}
-use Rattle.table.specs.Checked.{Headed}
+use Rattle.table_check.specs.Checked.{Headed}
 use Rattle.mending.proofs.Passes.{still-headed, both-passes, from-four, below-four}
 use Rattle.mending.proofs.mend.Statement.{statement}
 use Rattle.mending.proofs.mend.Tie as tie

@@ -9,8 +9,8 @@ use denote.Ref.{now}
 use lib.ListN.{length}
 use Rattle.machine.specs.Table.{domains, endpoints}
 use Rattle.machine.proofs.Table.{Sized}
-use Rattle.table.proofs.Places.{headed-most, headed-size}
-use Rattle.table.proofs.Bounds.{count-fits, from-fits, words-fit, start-fits, end-fits, bytes-fit, end-within, next-fits}
+use Rattle.table_check.proofs.Places.{headed-most, headed-size}
+use Rattle.table_check.proofs.Bounds.{count-fits, from-fits, words-fit, start-fits, end-fits, bytes-fit, end-within, next-fits}
 use Rattle.mending.specs.Passes.{EndpointsMended}
 use Rattle.mended.proofs.Mended.{headed-sized}
 use Rattle.mending.proofs.Passes.{endpoints-start, lent-twelve, endpoints-next}

@@ -7,8 +7,8 @@ use native.Mathlib.Omega.{arith}
 use borrow.Author.Count.{falls}
 use lib.ListN.{length}
 use Rattle.machine.specs.Table.{domains}
-use Rattle.table.proofs.Places.{headed-size, headed-rights}
-use Rattle.table.proofs.Bounds.{count-fits, rights-fits, rights-bytes-fit, rights-next-fits, rights-within}
+use Rattle.table_check.proofs.Places.{headed-size, headed-rights}
+use Rattle.table_check.proofs.Bounds.{count-fits, rights-fits, rights-bytes-fit, rights-next-fits, rights-within}
 use Rattle.mending.specs.Passes.{RightsMended}
 use Rattle.mending.proofs.Passes.{rights-start, rights-next}
 use Rattle.mending.proofs.mend_rights.Statement.{statement}

@@ -5,7 +5,7 @@ use native.Mathlib.Omega.{arith}
 use borrow.Author.Needs.{needs}
 use lib.ListN.{List·getD-eq-default}
 use denote.Ref.{now}
-use Rattle.turn_order.specs.Turns.{mostPending}
+use Rattle.turns_theory.specs.Turns.{mostPending}
 use Rattle.pending.specs.Pending.{count}
 use Rattle.pending.proofs.count.Statement.{statement}
 use Rattle.pending.proofs.count.Tie as tie

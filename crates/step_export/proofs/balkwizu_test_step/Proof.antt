@@ -10,8 +10,8 @@ use denote.Ref.{now}
 use lib.ListN.{length, drop}
 use Rattle.machine.specs.Call.{Call}
 use Rattle.machine.specs.Machine as machine
-use Rattle.entry.specs.Entry.{entryRefusalCode}
-use Rattle.entry.specs.declared.EntryRefusal.{EntryRefusal}
+use Rattle.run_result.specs.Entry.{entryRefusalCode}
+use Rattle.run_result.specs.declared.EntryRefusal.{EntryRefusal}
 use Rattle.cutting.specs.Cutting.{callOf}
 use Rattle.cutting.specs.declared.Second.{Second}
 use Rattle.answers.specs.Answer.{answerWords}
@@ -20,7 +20,7 @@ use Rattle.kernel.specs.Step.{stepEntryCode, StepPromise}
 use Rattle.answers.specs.declared.Answer.{Answer}
 use Rattle.kernel.specs.declared.Stepped.{Stepped}
 use Rattle.kernel.specs.declared.Stepped.the-variants.{Refused, Answered}
-use Rattle.entry.proofs.Refusals.{entry-refusal-code}
+use Rattle.run_result.proofs.Refusals.{entry-refusal-code}
 use Rattle.step_export.specs.Exported.{secondGiven, exportedCode, Exported}
 use Rattle.step_export.proofs.balkwizu_test_step.Statement.{statement}
 use Rattle.step_export.proofs.balkwizu_test_step.Tie as tie

@@ -9,9 +9,9 @@ use lib.ListN.{length}
 use Rattle.machine.specs.Table.{domains}
 use Rattle.machine.specs.Check.{Accepted}
 use Rattle.machine.specs.Call.{cut}
-use Rattle.table.specs.Checked.{checkedCode}
-use Rattle.table.proofs.Refusals.{refusal-code}
-use Rattle.turn_order.specs.Turns.{isOneOf}
+use Rattle.table_check.specs.Checked.{checkedCode}
+use Rattle.table_check.proofs.Refusals.{refusal-code}
+use Rattle.turns_theory.specs.Turns.{isOneOf}
 use Rattle.turn_state.specs.State.{stateLength}
 use Rattle.turn_state.proofs.Blocks.{added-none, added-there}
 use Rattle.turns.proofs.Codes.{hands-table, hands-domain, hands-call, hands-size, hands-room, hands-fine, hand-in-refused, hand-in-done}

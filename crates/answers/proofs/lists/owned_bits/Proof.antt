@@ -10,7 +10,7 @@ use Rattle.machine.specs.Word.{fieldB}
 use Rattle.machine.specs.Table.{endpoint}
 use Rattle.machine.specs.Queue.{owner}
 use Rattle.machine.specs.Machine.{ownedBits}
-use Rattle.layout.proofs.Places.{endpoint-read}
+use Rattle.table_layout.proofs.Places.{endpoint-read}
 use Rattle.answers.proofs.Digits.{digitSum, Kept, none-kept, one-kept, all-kept}
 use Rattle.answers.proofs.AnswerWords.{ownsAt, owned-digits, bit-more, no-bit-more}
 use Rattle.answers.proofs.lists.owned_bits.Statement.{statement}

@@ -8,7 +8,7 @@ use lib.ListN.{length, getD}
 use borrow.Author.Needs.{needs}
 use Rattle.machine.specs.Word.{payload}
 use Rattle.machine.specs.Machine.{rightsBits}
-use Rattle.layout.proofs.Places.{rights-read}
+use Rattle.table_layout.proofs.Places.{rights-read}
 use Rattle.answers.proofs.Digits.{Kept, none-kept, one-kept, all-kept}
 use Rattle.answers.proofs.AnswerWords.{rightsOn, rights-start, rights-digit, four-more}
 use Rattle.answers.proofs.lists.rights_bits.Statement.{statement}

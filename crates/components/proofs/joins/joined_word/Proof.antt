@@ -4,8 +4,8 @@ use mathlib.Core.Logic.{⊎-elim}
 use Prim.Native.Nat.{_-_, _<_}
 use native.Mathlib.Omega.{arith}
 use borrow.Author.Needs.{needs}
-use Rattle.reach.proofs.Bits.{bit-is}
-use Rattle.isolation.specs.Component.{joined}
+use Rattle.reachability.proofs.Bits.{bit-is}
+use Rattle.isolation_theory.specs.Component.{joined}
 use Rattle.components.proofs.Words.{Gathered, gather-start, gather-room, gather-with, gather-without, gather-end}
 use Rattle.components.proofs.joins.joined_word.Statement.{statement}
 use Rattle.components.proofs.joins.joined_word.Tie as tie

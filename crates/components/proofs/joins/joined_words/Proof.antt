@@ -3,8 +3,8 @@ use mathlib.Core.Path.{refl}
 use Prim.Native.Nat.{_-_}
 use borrow.Author.Needs.{needs}
 use Rattle.machine.specs.Below.{bitsBelow}
-use Rattle.reach.specs.Chain.{wordsOf}
-use Rattle.isolation.specs.Component.{joined}
+use Rattle.reachability.specs.Chain.{wordsOf}
+use Rattle.isolation_theory.specs.Component.{joined}
 use Rattle.components.proofs.Words.{Filled, fill-start, fill-next, fill-end}
 use Rattle.components.proofs.joins.joined_words.Statement.{statement}
 use Rattle.components.proofs.joins.joined_words.Tie as tie

@@ -2,7 +2,7 @@
 use mathlib.Core.Path.{_∙_}
 use native.Mathlib.Omega.{arith}
 use borrow.Author.Needs.{needs}
-use Rattle.reach.proofs.Bits.{bit-is}
+use Rattle.reachability.proofs.Bits.{bit-is}
 use Rattle.components.proofs.Words.{component-read}
 use Rattle.components.proofs.joins.members.Statement.{statement}
 use Rattle.components.proofs.joins.members.Tie as tie

@@ -4,7 +4,7 @@ use Prim.Native.Nat.{_-_, _^_}
 use native.Mathlib.Omega.{arith}
 use borrow.Author.Needs.{needs}
 use lib.ListN.{length}
-use Rattle.reach.proofs.Bits.{bit-is}
+use Rattle.reachability.proofs.Bits.{bit-is}
 use Rattle.holders.proofs.Told.{Within, within-start, within-next, within-not, within-all}
 use Rattle.holders.proofs.asking.bits_within.Statement.{statement}
 use Rattle.holders.proofs.asking.bits_within.Tie as tie

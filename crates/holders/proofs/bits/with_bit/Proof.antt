@@ -1,8 +1,8 @@
 -- `bits::with_bit` meets its contract: the bit is set, or what is taken away is a part of the word. Assumes nothing.
 use borrow.Author.Needs.{needs}
 use lib.Bits.{and-le-l}
-use Rattle.reach.proofs.Bits.{bit-is}
-use Rattle.holder_words.proofs.OneBit.{made-set, made-cleared}
+use Rattle.reachability.proofs.Bits.{bit-is}
+use Rattle.holders_theory.proofs.OneBit.{made-set, made-cleared}
 use Rattle.holders.proofs.bits.with_bit.Statement.{statement}
 use Rattle.holders.proofs.bits.with_bit.Tie as tie
 

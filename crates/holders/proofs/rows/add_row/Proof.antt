@@ -3,7 +3,7 @@ use Prim.Native.Nat.{_-_, _<_}
 use native.Mathlib.Omega.{arith}
 use borrow.Author.Needs.{needs}
 use lib.ListN.{length}
-use Rattle.reach.proofs.Bits.{bit-is}
+use Rattle.reachability.proofs.Bits.{bit-is}
 use Rattle.holders.specs.Rows.{withRow}
 use Rattle.holders.proofs.Filled.{Written, written-start, written-next, written-not-yet, written-end, row-there, row-word}
 use Rattle.holders.proofs.rows.add_row.Statement.{statement}

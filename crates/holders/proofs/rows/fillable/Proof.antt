@@ -2,7 +2,7 @@
 use native.Mathlib.Nat.{mul-le-mul}
 use native.Mathlib.Omega.{arith}
 use borrow.Author.Tests.{lt-leb, le-leb}
-use Rattle.holder_words.specs.Noted.{roomFor}
+use Rattle.holders_theory.specs.Noted.{roomFor}
 use Rattle.holders.proofs.rows.fillable.Statement.{statement}
 use Rattle.holders.proofs.rows.fillable.Tie as tie
 

@@ -4,7 +4,7 @@ use Prim.Native.Nat.{ℕ}
 use native.Mathlib.Omega.{arith}
 use lib.ListN.{getD}
 use Rattle.machine.specs.Word.{payload}
-use Rattle.layout.proofs.Places.{rights-read}
+use Rattle.table_layout.proofs.Places.{rights-read}
 use Rattle.kernel.proofs.Within.{right-in}
 use Rattle.kernel.proofs.moves.held.Statement.{statement}
 use Rattle.kernel.proofs.moves.held.Tie as tie

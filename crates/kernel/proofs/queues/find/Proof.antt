@@ -15,7 +15,7 @@ use Rattle.machine.specs.Table.{endpoint}
 use Rattle.machine.specs.Queue as queue
 use Rattle.machine.specs.Machine.{named}
 use Rattle.rules.specs.Access.{foundOf}
-use Rattle.layout.proofs.Reading.{name-is}
+use Rattle.table_layout.proofs.Reading.{name-is}
 use Rattle.kernel.proofs.Within.{endpoint-in}
 use Rattle.kernel.proofs.Backwards.{From, at-first, passed, failed, all-some, all-none}
 use Rattle.kernel.proofs.queues.find.Statement.{statement}

@@ -15,7 +15,7 @@ use Rattle.rules.specs.Range.{callNumbers}
 use Rattle.rules.specs.Access.{receiveAccess, accessBy}
 use Rattle.rules.proofs.Guards.{outside, within}
 use Rattle.rules.proofs.Places.{decided}
-use Rattle.layout.proofs.Places.{endpoint-read}
+use Rattle.table_layout.proofs.Places.{endpoint-read}
 use Rattle.rules.proofs.Passed.{passed, clear}
 use Rattle.kernel.proofs.Fits.{may-receive-from}
 use Rattle.kernel.proofs.Within.{in-endpoint, endpoint-in, lost-in}

@@ -5,7 +5,7 @@ use mathlib.Core.Path.{_≡_, sym, _∙_}
 use native.Mathlib.Omega.{arith}
 use lib.ListN.{length, take}
 use Rattle.linerun_input.specs.Input.{wanted, mostInput, Needed}
-use Rattle.reading.proofs.Needed.{needed-none}
+use Rattle.input_words.proofs.Needed.{needed-none}
 use Rattle.linerun_input.proofs.InputLaws.{stops-full, needed-step, stops-short}
 use Rattle.linerun_input.proofs.stdin.read_all.Statement.{statement}
 use Rattle.linerun_input.proofs.stdin.read_all.Tie as tie

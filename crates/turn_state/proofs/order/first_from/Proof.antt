@@ -8,8 +8,8 @@ use native.Mathlib.Numerals.{add-one}
 use native.Mathlib.Omega.{arith}
 use lib.Dec.{leb}
 use Rattle.machine.specs.Below.{firstBelow}
-use Rattle.turn_order.specs.Turns.{waits, firstFrom}
-use Rattle.turn_order.proofs.Pending.{first-not, first-found}
+use Rattle.turns_theory.specs.Turns.{waits, firstFrom}
+use Rattle.turns_theory.proofs.Pending.{first-not, first-found}
 use Rattle.turn_state.specs.State.{turnsIn, orNone}
 use Rattle.turn_state.proofs.order.first_from.Statement.{statement}
 use Rattle.turn_state.proofs.order.first_from.Tie as tie

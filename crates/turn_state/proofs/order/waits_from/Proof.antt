@@ -5,7 +5,7 @@ use native.Mathlib.Omega.{arith}
 use borrow.Author.Tests.{le-leb, lt-leb}
 use denote.Ref.{now}
 use Rattle.turn_state.specs.State.{turnsIn}
-use Rattle.turn_order.specs.Turns.{waits}
+use Rattle.turns_theory.specs.Turns.{waits}
 use Rattle.turn_state.proofs.Blocks.{waits-word}
 use Rattle.turn_state.proofs.order.waits_from.Statement.{statement}
 use Rattle.turn_state.proofs.order.waits_from.Tie as tie

@@ -4,9 +4,9 @@ use native.Mathlib.Omega.{arith}
 use borrow.Author.Needs.{needs}
 use borrow.Author.Tests.{eqb-true, eqb-false, not-true, not-false}
 use Rattle.machine.specs.Check.{Accepted}
-use Rattle.table.specs.Checked.{checkedCode}
-use Rattle.table.proofs.Refusals.{refusal-code}
-use Rattle.turn_order.specs.Turns.{turnCode}
+use Rattle.table_check.specs.Checked.{checkedCode}
+use Rattle.table_check.proofs.Refusals.{refusal-code}
+use Rattle.turns_theory.specs.Turns.{turnCode}
 use Rattle.turns.proofs.Codes.{turn-table, turn-space, turn-holders, turn-fine, turns-refused, turns-size, turns-turn}
 use Rattle.turns.proofs.serving.nobody.Statement.{statement}
 use Rattle.turns.proofs.serving.nobody.Tie as tie

@@ -1,0 +1,47 @@
+-- A call's words put into a list, by what the code tests (specs/Put). Assumes nothing.
+use Prim.Native.Nat.{ℕ, _+_, _<_, _≤_}
+use mathlib.Core.Path.{_≡_, _∙_}
+use mathlib.Core.Bool.{true, false, and-false}
+use mathlib.Core.List.{List, [], _∷_, append-assoc}
+use native.Mathlib.Numerals.{add-one}
+use native.Mathlib.Omega.{arith}
+use borrow.Author.Tests.{le-leb, lt-leb}
+use lib.ListN.{length, take, set}
+use lib.Seq.{sets-eq}
+use Rattle.calls.specs.declared.Call.{Call}
+use Rattle.calls.specs.declared.Call.the-variants.{LookUp, Send, Receive, MyEndpoints, MyRights, Grant, Remove, Revoke, Refused}
+use Rattle.written_calls.specs.Words.{fieldsOf, fits, wordsOf}
+use Rattle.call_encode.specs.Put.{pasted, putAt}
+
+-- a kind has four bits
+pub kind-small : (c : Call) → fieldsOf c .kind < 16
+unfolding fieldsOf
+kind-small (LookUp u x) = omega arith
+kind-small (Send u e m) = omega arith
+kind-small (Receive u e) = omega arith
+kind-small (MyEndpoints u) = omega arith
+kind-small (MyRights u) = omega arith
+kind-small (Grant u g h r) = omega arith
+kind-small (Remove u g r) = omega arith
+kind-small (Revoke u g h r) = omega arith
+kind-small (Refused u r) = omega arith
+
+module _ (ws : List ℕ) (at : ℕ) (c : Call) where
+  pub put-unfit : fits c ≡ false → putAt ws at c ≡ ws
+  unfolding putAt
+  put-unfit h = rw h
+
+  pub put-past : length ws < at + length (wordsOf c) → putAt ws at c ≡ ws
+  unfolding putAt
+  put-past h = rw (lt-leb _ _ h, and-false (fits c))
+
+  pub put-there : fits c ≡ true → at + length (wordsOf c) ≤ length ws → putAt ws at c ≡ pasted ws at (wordsOf c)
+  unfolding putAt
+  put-there f h = rw (f, le-leb _ _ h)
+
+-- ---- words written one after the other
+pub one-set : (xs : List ℕ) (at a : ℕ) → at + 1 ≤ length xs → set xs at a ≡ pasted xs at (a ∷ [])
+one-set xs at a h = sets-eq (a ∷ []) xs at h ∙ append-assoc (take at xs) _ _
+
+pub two-sets : (xs : List ℕ) (at a b : ℕ) → at + 2 ≤ length xs → set (set xs at a) (at + 1) b ≡ pasted xs at (a ∷ b ∷ [])
+two-sets xs at a b h = rw (add-one at) (sets-eq (a ∷ b ∷ []) xs at h ∙ append-assoc (take at xs) _ _)

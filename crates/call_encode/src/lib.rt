@@ -1,0 +1,144 @@
+// A call as a value and the words that it is written in (document 02, (c)): the other way round from crate calls, which takes
+// words apart. No table is lent: what is asked of a call is that it is no refused one and that its fields are within their bits.
+use calls::Call;
+use machine::KIND;
+use machine::of_calls::A;
+use machine::of_calls::B;
+use machine::of_calls::CALLER;
+use machine::of_calls::GRANT;
+use machine::of_calls::LOOK_UP;
+use machine::of_calls::MY_ENDPOINTS;
+use machine::of_calls::MY_RIGHTS;
+use machine::of_calls::RECEIVE;
+use machine::of_calls::REMOVE;
+use machine::of_calls::REVOKE;
+use machine::of_calls::SECOND_WORD;
+use machine::of_calls::SEND;
+use written_calls::Fields;
+ghost use mathlib.Core.Path.{_≡_};
+ghost use mathlib.Core.Bool.{true};
+ghost use Prim.Native.Nat.{_+_, _<_, _≤_};
+ghost use lib.ListN.{length};
+ghost use Rattle.machine.specs.Call.{wantsSecond};
+ghost use Rattle.written_calls.specs.Words.{fieldsAt, fieldsOf, withinBits, firstWord, fieldWords, fits, wordsOf};
+ghost use Rattle.call_encode.specs.Put.{pasted, putAt};
+
+// The six fields in the order of their bits.
+fn fields_at(kind: u32, caller: u32, a: u32, b: u32, c: u32, second: u32) -> Fields
+    ensures { λ r. ⌜ r ≡ fieldsAt kind caller a b c second ⌝ }
+{
+    Fields {
+        kind,
+        caller,
+        a,
+        b,
+        c,
+        second,
+    }
+}
+
+// Where each kind of call has its fields.
+pub fn fields_of(call: Call) -> Fields
+    ensures { λ r. ⌜ r ≡ fieldsOf call ⌝ }
+{
+    match call {
+        Call::LookUp { caller, name } => fields_at(LOOK_UP, caller, 0, 0, 0, name),
+        Call::Send {
+            caller,
+            endpoint,
+            message,
+        } => fields_at(SEND, caller, 0, endpoint, 0, message),
+        Call::Receive { caller, endpoint } => fields_at(RECEIVE, caller, 0, endpoint, 0, 0),
+        Call::MyEndpoints { caller } => fields_at(MY_ENDPOINTS, caller, 0, 0, 0, 0),
+        Call::MyRights { caller } => fields_at(MY_RIGHTS, caller, 0, 0, 0, 0),
+        Call::Grant {
+            caller,
+            target,
+            recipient,
+            rights,
+        } => fields_at(GRANT, caller, target, recipient, rights, 0),
+        Call::Remove {
+            caller,
+            target,
+            rights,
+        } => fields_at(REMOVE, caller, target, 0, rights, 0),
+        Call::Revoke {
+            caller,
+            target,
+            holder,
+            rights,
+        } => fields_at(REVOKE, caller, target, holder, rights, 0),
+        Call::Refused { caller, refusal: _ } => fields_at(0, caller, 0, 0, 0, 0),
+    }
+}
+
+// Every field is within its bits, and the call is no refused one.
+fn within_bits(f: Fields) -> bool
+    ensures { λ r. ⌜ r ≡ withinBits f ⌝ }
+{
+    (f.kind != 0) & (f.caller < 64) & (f.a < 64) & (f.b < 256) & (f.c < 256) & (f.second < KIND)
+}
+
+// The call can be written.
+pub fn fits(call: Call) -> bool
+    ensures { λ r. ⌜ r ≡ fits call ⌝ }
+{
+    let fields = fields_of(call);
+    within_bits(fields)
+}
+
+// Kinds 1 and 2 want a second word, as the cutting has it.
+fn wants_second(kind: u32) -> bool
+    ensures { λ r. ⌜ r ≡ wantsSecond kind ⌝ }
+{
+    (kind == LOOK_UP) | (kind == SEND)
+}
+
+// How many words the call is written in.
+pub fn width(call: Call) -> usize
+    ensures { λ r. ⌜ r ≡ length (wordsOf call) ⌝ }
+{
+    let fields = fields_of(call);
+    let kind = fields.kind;
+    if wants_second(kind) { 2 } else { 1 }
+}
+
+// The first word: each field at its bits.
+fn first_word(f: Fields) -> u32
+    requires { ⌜ withinBits f ≡ true ⌝ }
+    requires { ⌜ f .kind < 16 ⌝ }
+    ensures { λ r. ⌜ r ≡ firstWord f ⌝ }
+{
+    f.kind * KIND + (f.caller * CALLER + f.a * A + f.b * B + f.c)
+}
+
+// The words of fields that are within their bits, from a place of the list on.
+fn put_fields(list: &mut [u32], at: usize, f: Fields)
+    requires { ⌜ withinBits f ≡ true ⌝ }
+    requires { ⌜ f .kind < 16 ⌝ }
+    requires { ⌜ at + length (fieldWords f) ≤ length (now list) ⌝ }
+    ensures { λ _. ⌜ now (list .exit) ≡ pasted (now (list .entry)) at (fieldWords f) ⌝ }
+{
+    list[at] = first_word(f);
+    let kind = f.kind;
+    if wants_second(kind) {
+        list[at + 1] = SECOND_WORD + f.second;
+    }
+}
+
+// The words of a call, from a place of the list on. Nothing is written where the call can't be, or its words would pass the end.
+pub fn put(list: &mut [u32], at: usize, call: Call)
+    ensures { λ _. ⌜ now (list .exit) ≡ putAt (now (list .entry)) at call ⌝ }
+{
+    if !fits(call) {
+        return;
+    }
+    if list.len() < at {
+        return;
+    }
+    if list.len() - at < width(call) {
+        return;
+    }
+    let fields = fields_of(call);
+    put_fields(list, at, fields);
+}

@@ -1,0 +1,105 @@
+-- Rows that pin the panel's words, the noting of changes and what is asked, on literal words. Worked out by hand.
+use Prim.Native.Nat.{ℕ}
+use mathlib.Core.Path.{_≡_}
+use mathlib.Core.List.{List, [], _∷_, _++_}
+use lib.ListN.{take, replicate}
+use Rattle.machine.specs.Call.{cut}
+use Rattle.machine.specs.Holders.{holdersOf}
+use Rattle.machine.specs.Examples.{T, L}
+use Rattle.reachability.specs.Examples.{road, ring}
+use Rattle.holders_theory.specs.Noted.{noted, filled, holdersAlong}
+use Rattle.holders_theory.specs.Asked.{askCode, asked}
+
+-- A row: the words of a table; those lent, once a table is worked out into them; those noted along a list that runs from a table;
+-- words before and after new rights of a holder on a target; or what is told of a domain.
+pub data HoldersRow : Type 0 where
+  shows : (table words : List ℕ) → HoldersRow
+  fills : (table lent words : List ℕ) → HoldersRow
+  keeps : (table list words : List ℕ) → HoldersRow
+  notes : (before : List ℕ) (holder target rights : ℕ) (after : List ℕ) → HoldersRow
+  tells : (words : List ℕ) (domain code set : ℕ) → HoldersRow
+
+-- what a row says
+abbrev pub HoldersRowHolds : HoldersRow → Type 0
+HoldersRowHolds (shows t ws) = holdersOf t ≡ ws
+HoldersRowHolds (fills t p ws) = filled t p ≡ ws
+HoldersRowHolds (keeps t l ws) = holdersAlong (holdersOf t) t (cut l) ≡ ws
+HoldersRowHolds (notes p h g s ws) = noted p h g s ≡ ws
+HoldersRowHolds (tells ws d code set) = (askCode ws d ≡ code) × (asked ws d ≡ set)
+
+-- the single claim about a list of such rows: each holds
+abbrev pub EveryHoldersRow : List HoldersRow → Type 0
+EveryHoldersRow [] = Unit {0}
+EveryHoldersRow (r ∷ rs) = HoldersRowHolds r × EveryHoldersRow rs
+
+-- two domains, each with a right on itself alone
+abbrev pub onThemselves : List ℕ
+onThemselves = 0x1000_0200 ∷ 0x2000_0001 ∷ 0x2000_0000 ∷ 0x2000_0000 ∷ 0x2000_0008 ∷ []
+
+-- two domains, of which 0 has SEND, GRANT and REMOVE on 1
+abbrev pub oneOnOther : List ℕ
+oneOnOther = 0x1000_0200 ∷ 0x2000_0000 ∷ 0x2000_0007 ∷ 0x2000_0000 ∷ 0x2000_0000 ∷ []
+
+-- the rows of tables
+abbrev pub tableRows : List HoldersRow
+tableRows =
+    -- table T: 1 has rights on 0 and 2, and 0 on 1
+    shows T (0b010 ∷ 0b001 ∷ 0b010 ∷ [])
+    -- a right on oneself counts like any other
+    ∷ shows onThemselves (0b01 ∷ 0b10 ∷ [])
+    -- sixteen domains with every right on each other
+    ∷ shows (0x1000_1000 ∷ replicate 256 0x2000_000F) (replicate 16 0xFFFF)
+    -- whatever the lent words held
+    ∷ fills T (7 ∷ 0xFFFF_FFFF ∷ 9 ∷ []) (0b010 ∷ 0b001 ∷ 0b010 ∷ [])
+    -- fewer and more than there are domains, a table without its last rights word, none at all, and one of seventeen domains
+    ∷ fills T (7 ∷ 8 ∷ []) (7 ∷ 8 ∷ [])
+    ∷ fills T (7 ∷ 8 ∷ 9 ∷ 10 ∷ []) (7 ∷ 8 ∷ 9 ∷ 10 ∷ [])
+    ∷ fills (take 9 T) (7 ∷ 8 ∷ 9 ∷ []) (7 ∷ 8 ∷ 9 ∷ [])
+    ∷ fills [] (7 ∷ []) (7 ∷ [])
+    ∷ fills (0x1000_1100 ∷ replicate 289 0x2000_0001) (replicate 17 7) (replicate 17 7)
+    -- list L: 0 is given SEND on 2
+    ∷ keeps T L (0b010 ∷ 0b001 ∷ 0b011 ∷ [])
+    -- the bit stays while a right is left, and goes with the last
+    ∷ keeps oneOnOther (0x7001_0001 ∷ []) (0b00 ∷ 0b01 ∷ [])
+    ∷ keeps oneOnOther (0x7001_0001 ∷ 0x7001_0006 ∷ []) (0b00 ∷ 0b00 ∷ [])
+    ∷ []
+
+-- the rows of single changes
+abbrev pub changeRows : List HoldersRow
+changeRows =
+    -- a first right, one of two left, and the last one gone; the other bits stay
+    notes (0b000 ∷ 0b000 ∷ 0b101 ∷ []) 1 2 1 (0b000 ∷ 0b000 ∷ 0b111 ∷ [])
+    ∷ notes (0b000 ∷ 0b000 ∷ 0b111 ∷ []) 1 2 4 (0b000 ∷ 0b000 ∷ 0b111 ∷ [])
+    ∷ notes (0b000 ∷ 0b000 ∷ 0b111 ∷ []) 1 2 0 (0b000 ∷ 0b000 ∷ 0b101 ∷ [])
+    -- none before and none after
+    ∷ notes (0b000 ∷ 0b000 ∷ 0b101 ∷ []) 1 2 0 (0b000 ∷ 0b000 ∷ 0b101 ∷ [])
+    -- a right on oneself
+    ∷ notes (0b00 ∷ 0b00 ∷ []) 1 1 8 (0b00 ∷ 0b10 ∷ [])
+    -- the last bit of a word, a bit that no word has, and a word that isn't there
+    ∷ notes (0 ∷ []) 31 0 1 (0x8000_0000 ∷ [])
+    ∷ notes (0 ∷ []) 32 0 1 (0 ∷ [])
+    ∷ notes (0 ∷ []) 0 1 1 (0 ∷ [])
+    ∷ []
+
+-- the rows of asking
+abbrev pub askingRows : List HoldersRow
+askingRows =
+    -- a chain of length three, one of two, and nobody but the domain itself
+    tells road 3 0 0b1111
+    ∷ tells road 2 0 0b0111
+    ∷ tells road 0 0 0b0001
+    -- table T: its link reaches the drive through 1
+    ∷ tells (0b010 ∷ 0b001 ∷ 0b010 ∷ []) 2 0 0b111
+    ∷ tells (0b010 ∷ 0b001 ∷ 0b010 ∷ []) 0 0 0b011
+    -- a ring of sixteen
+    ∷ tells ring 0 0 0xFFFF
+    ∷ tells ring 9 0 0xFFFF
+    -- every bit that sixteen words can have
+    ∷ tells (replicate 16 0xFFFF) 15 0 0xFFFF
+    -- 32: no word, seventeen words, a bit from their number on, and a number that is no domain's
+    ∷ tells [] 0 32 0
+    ∷ tells (replicate 17 0) 0 32 0
+    ∷ tells (0b00 ∷ 0b100 ∷ []) 0 32 0
+    ∷ tells (replicate 15 0 ++ (0x1_0000 ∷ [])) 0 32 0
+    ∷ tells (0b00 ∷ 0b01 ∷ []) 2 32 0
+    ∷ []

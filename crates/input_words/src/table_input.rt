@@ -1,0 +1,67 @@
+// A table out of a program's input: its length word, then its words.
+use crate::bounds::least;
+use crate::words::fill;
+use crate::words::word_at;
+use machine::of_tables::LONGEST_TABLE;
+ghost use Prim.Native.Nat.{min};
+ghost use mathlib.Core.Path.{_≡_};
+ghost use lib.ListN.{length};
+ghost use Rattle.input_words.specs.TableInput.{noTable, tableEnd, tableOf, afterTable, tableWanted};
+ghost use Rattle.text.specs.Write.{Fills};
+
+// Where the table's bytes end: by the length word, or where the input ends before that.
+fn table_end(bytes: &[u8]) -> usize
+    ensures { λ r. ⌜ r ≡ min (tableEnd (now (bytes .entry))) (length (now (bytes .entry))) ⌝ }
+{
+    let length = word_at(bytes, 0) as usize;
+    least(4 + 4 * length, bytes.len())
+}
+
+// Whether the input has no whole table: under 4 bytes, a length above the longest, or fewer words than that.
+pub fn no_table(bytes: &[u8]) -> bool
+    ensures { λ r. ⌜ r ≡ noTable (now (bytes .entry)) ⌝ }
+{
+    if bytes.len() < 4 {
+        return true;
+    }
+    let length = word_at(bytes, 0) as usize;
+    if LONGEST_TABLE < length {
+        return true;
+    }
+    bytes.len() < 4 + 4 * length
+}
+
+// How many bytes more to read for the length word and then for the table that it announces, where the input so far is bytes.
+pub fn table_wanted(bytes: &[u8]) -> usize
+    ensures { λ r. ⌜ r ≡ tableWanted (now (bytes .entry)) ⌝ }
+{
+    let have = bytes.len();
+    if have < 4 {
+        return 4 - have;
+    }
+    let words = word_at(bytes, 0) as usize;
+    if LONGEST_TABLE < words {
+        return 0;
+    }
+    let end = 4 + 4 * words;
+    if have < end { end - have } else { 0 }
+}
+
+// Fills table from the front with the table's words, as many as there is room for, and answers how many.
+pub fn read_table(bytes: &[u8], table: &mut [u32]) -> usize
+    ensures { λ r. ⌜ Fills (tableOf (now (bytes .entry))) (now (table .entry)) r (now (table .exit)) ⌝ }
+{
+    if bytes.len() < 4 {
+        return 0;
+    }
+    let end = table_end(bytes);
+    fill(&bytes[4..end], table)
+}
+
+// The bytes after the table.
+pub fn after_table(bytes: &[u8]) -> &[u8]
+    ensures { λ r. ⌜ now r ≡ afterTable (now (bytes .entry)) ⌝ }
+{
+    let start = table_end(bytes);
+    &bytes[start..]
+}

@@ -1,0 +1,85 @@
+-- What hangs together by rights in a table, and that no list joins what doesn't (document 02 (j): groups, and walls between them).
+-- A claim about the words that a run left is a predicate of table, calls, answers and end; those that begin with `Every` are closed
+-- and the types of theorems in proofs/Component.
+use Prim.Native.Nat.{ℕ, _<_, _^_}
+use mathlib.Core.Path.{_≡_}
+use mathlib.Core.Bool.{Bool, true, cond, _||_}
+use mathlib.Core.Logic.{_↔_}
+use mathlib.Core.List.{List, [], _∷_, _++_}
+use Rattle.machine.specs.Below.{hasBit}
+use Rattle.machine.specs.Table.{domains}
+use Rattle.machine.specs.Check.{Accepted}
+use Rattle.machine.specs.Call.{Call, callerOf, cut}
+use Rattle.machine.specs.Run as machine
+use Rattle.machine.specs.Influence.{reaches, influences}
+use Rattle.machine.specs.DomainSet.{fromGroup}
+use Rattle.machine.specs.Purge.{view}
+use Rattle.reachability.specs.Closure.{closed}
+use Rattle.reachability.specs.Chain.{Chain, wordsOf, among}
+use Rattle.isolation_theory.specs.PromisedRun.{PromisedRun}
+
+-- two domains are joined in a table when either has a right on the other
+unfoldable pub joined : List ℕ → ℕ → ℕ → Bool
+joined t u v = reaches t u v || reaches t v u
+
+-- the component of the domain d in a table (document 02: its group), as bits: d alone, closed over the joins
+unfoldable pub component : List ℕ → ℕ → ℕ
+component t d = closed (wordsOf (domains t) (joined t)) (2 ^ d)
+
+-- v hangs together with d: there is a chain of joins between them, of any length
+abbrev pub HangsTogether : List ℕ → ℕ → ℕ → Type 0
+HangsTogether t d v = Chain (among (domains t) (joined t)) d v
+
+-- A component is exactly what hangs together with its domain, in any words at all.
+abbrev pub EveryComponent : Type 0
+EveryComponent = (t : List ℕ) (d v : ℕ) → (hasBit (component t d) v ≡ true) ↔ HangsTogether t d v
+
+-- Components stand: at the end no domain influences one outside the component that it had in the table t.
+abbrev pub ComponentsStand : List ℕ → List ℕ → Type 0
+ComponentsStand t end =
+    (u v : ℕ) → u < domains t → v < domains t → influences end u v ≡ true → hasBit (component t u) v ≡ true
+
+-- the calls whose caller is in a set, given as bits; a stray has no caller
+unfoldable pub callsFrom : ℕ → List Call → List Call
+callsFrom set [] = []
+callsFrom set (c ∷ cs) =
+    let rest = callsFrom set cs in
+    cond (fromGroup (hasBit set) (callerOf c)) (c ∷ rest) rest
+
+-- the calls kept for d: those from its component in the table t
+unfoldable pub componentCalls : List ℕ → List Call → ℕ → List Call
+componentCalls t cs d = callsFrom (component t d) cs
+
+-- Noninterference by component: for every domain d, what d sees of the run is what it sees of the machine fed the calls from its
+-- component alone, from the same table.
+abbrev pub ComponentNoninterference : List ℕ → List Call → List ℕ → List ℕ → Type 0
+ComponentNoninterference t cs answers end =
+    (d : ℕ)
+    → d < domains t
+    → view d cs answers end
+    ≡ view d (componentCalls t cs d) (machine.answers t (componentCalls t cs d)) (machine.run t (componentCalls t cs d))
+
+-- ---- of the machine: calls of any number, run from an accepted table; the words rest may follow the answers
+
+abbrev pub EveryRunComponentsStand : Type 0
+EveryRunComponentsStand = (t : List ℕ) (cs : List Call) → Accepted t → ComponentsStand t (machine.run t cs)
+
+abbrev pub EveryRunComponentNoninterference : Type 0
+EveryRunComponentNoninterference =
+    (t : List ℕ) (cs : List Call) (rest : List ℕ)
+    → Accepted t
+    → ComponentNoninterference t cs (machine.answers t cs ++ rest) (machine.run t cs)
+
+-- ---- of the words that the kernel left, for any list that runs
+
+abbrev pub EveryPromisedRunComponentsStand : Type 0
+EveryPromisedRunComponentsStand = (t ws : List ℕ) (p : PromisedRun t ws) → ComponentsStand t (p .end)
+
+abbrev pub EveryPromisedRunComponentNoninterference : Type 0
+EveryPromisedRunComponentNoninterference =
+    (t ws : List ℕ) (p : PromisedRun t ws) → ComponentNoninterference t (cut ws) (p .answers) (p .end)
+
+-- ---- a component holds domains alone, so that a call of an unknown caller is struck whatever the table
+
+abbrev pub EveryComponentOfDomains : Type 0
+EveryComponentOfDomains = (t : List ℕ) (d u : ℕ) → d < domains t → hasBit (component t d) u ≡ true → u < domains t

@@ -1,0 +1,34 @@
+// What linetotals reads: the table, then each list with its length in words before it. What the bytes before a list
+// say, and the reading of standard input.
+pub mod stdin;
+
+use input_words::words::word_at;
+use machine::of_calls::LONGEST_LIST;
+ghost use mathlib.Core.Path.{_≡_};
+ghost use Rattle.linetotals_input.specs.Next.{nextOf};
+
+// What comes next: the lists end, by a number that is 0 at the input's end, or a list of so many words.
+pub enum Next {
+    Ends(u32),
+    Words(usize),
+}
+
+// By the bytes that stand before a list, where so many lists may still come.
+pub fn next_list(left: usize, bytes: &[u8]) -> Next
+    ensures { λ r. ⌜ r ≡ nextOf left (now (bytes .entry)) ⌝ }
+{
+    if bytes.len() == 0 {
+        return Next::Ends(0);
+    }
+    if left == 0 {
+        return Next::Ends(1);
+    }
+    if bytes.len() < 4 {
+        return Next::Ends(7);
+    }
+    let words = word_at(bytes, 0) as usize;
+    if LONGEST_LIST < words {
+        return Next::Ends(1);
+    }
+    Next::Words(words)
+}

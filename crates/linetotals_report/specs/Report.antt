@@ -1,0 +1,48 @@
+-- What is put into a buffer for an input: there are bytes, each of which was needed, of which it is the sheet.
+use Prim.Native.Nat.{ℕ, zero, suc, _≤_}
+use mathlib.Core.List.{List, [], _++_}
+use lib.ListN.{length, getD}
+use Rattle.text.specs.Write.{Writes}
+use Rattle.linetotals_text.specs.Lines.{endpointLine}
+use Rattle.input_words.specs.TableInput.{NeededBy}
+use Rattle.linetotals_input.specs.Input.{Needed}
+use Rattle.linetotals_theory.specs.Sheet.{tableSheet, sheet}
+use Rattle.linetotals_run.specs.Ran.{listsBehind}
+
+-- the most bytes that there are: at most 146 in the line of each of 32 endpoints, 43 in the last
+abbrev pub mostBytes : ℕ
+mostBytes = 4715
+
+-- the line of the endpoint e, by the words of what was counted and of what waited
+unfoldable pub countsLine : List ℕ → List ℕ → List ℕ → List ℕ → List ℕ → ℕ → List ℕ
+countsLine sent received lost start end e =
+    endpointLine e (getD sent e 0) (getD received e 0) (getD lost e 0) (getD start e 0) (getD end e 0)
+
+-- the lines of the endpoints below k
+unfoldable pub countsLines : List ℕ → List ℕ → List ℕ → List ℕ → List ℕ → ℕ → List ℕ
+countsLines sent received lost start end zero = []
+countsLines sent received lost start end (suc k) =
+    countsLines sent received lost start end k ++ countsLine sent received lost start end k
+
+-- there are words for m endpoints, and no more than there can be
+pub record Counted (m : ℕ) (sent received lost start end : List ℕ) : Type 0 where
+  pub few : m ≤ 32
+  pub sentWords : m ≤ length sent
+  pub receivedWords : m ≤ length received
+  pub lostWords : m ≤ length lost
+  pub startWords : m ≤ length start
+  pub endWords : m ≤ length end
+
+-- the sheet of the table t and of the lists that bytes give behind it
+pub record TableReported (t buffer : List ℕ) (count : ℕ) (left : List ℕ) : Type 0 where
+  pub bytes : List ℕ
+  pub needed : NeededBy (λ xs. listsBehind t xs .wanted) bytes
+  pub lines : Writes 0 (tableSheet t (listsBehind t bytes)) buffer count left
+  pub few : count ≤ mostBytes
+
+-- the sheet of bytes
+pub record Reported (buffer : List ℕ) (count : ℕ) (left : List ℕ) : Type 0 where
+  pub bytes : List ℕ
+  pub needed : Needed bytes
+  pub lines : Writes 0 (sheet bytes) buffer count left
+  pub few : count ≤ mostBytes

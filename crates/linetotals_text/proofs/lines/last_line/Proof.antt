@@ -1,0 +1,49 @@
+-- `totals_text::lines::last_line` meets its contract: the pieces of the line are written one after another (`then`). Assumes nothing.
+use Rattle.text.specs.Ascii.{ascii}
+use Rattle.text.proofs.WriteLaws.{then}
+use Rattle.linetotals_text.specs.Lines.{lastLine}
+use borrow.Author.Needs.{needs}
+use Rattle.linetotals_text.proofs.lines.last_line.Statement.{statement}
+use Rattle.linetotals_text.proofs.lines.last_line.Tie as tie
+
+slice-aggregate-put-labelled : tie.Need-slice-aggregate-put-labelled
+slice-aggregate-put-labelled c = search needs
+
+put-labelled-requires : tie.Need-put-labelled-requires
+put-labelled-requires c κs = search needs
+
+slice-aggregate-put-labelled-2 : tie.Need-slice-aggregate-put-labelled-2
+slice-aggregate-put-labelled-2 c = search needs
+
+put-labelled-requires-2 : tie.Need-put-labelled-requires-2
+put-labelled-requires-2 c κs = search needs
+
+slice-aggregate-put : tie.Need-slice-aggregate-put
+slice-aggregate-put c = search needs
+
+put-requires : tie.Need-put-requires
+put-requires c κs = search needs
+
+same-length : tie.Need-same-length
+same-length c = search needs
+
+returns : tie.Need-returns
+unfolding lastLine ascii
+returns c =
+    let newline = c .before .before in
+    let code = newline .before .before .before .before .before in
+    let lists = code .before .before .before .before .before in
+    then (then (lists .put-labelled .ensures) (code .put-labelled2 .ensures)) (newline .put .ensures)
+
+pub last-line-spec : {M : Type 1} → statement M
+last-line-spec =
+    tie.close
+    (tie.spec
+    slice-aggregate-put-labelled
+    put-labelled-requires
+    slice-aggregate-put-labelled-2
+    put-labelled-requires-2
+    slice-aggregate-put
+    put-requires
+    same-length
+    returns)

@@ -1,5 +1,0 @@
--- Laws that the proofs of the functions cite.
-pub mod Cells
-pub mod Loops
-pub mod Settling
-pub mod Told

@@ -1,0 +1,142 @@
+// A queue as a ring, in twelve lent words: eight places with a first place and a count, going round, so that a send and a receive
+// move no other message. Nothing here sees a table. Other than twelve words are left as they are.
+use machine::KIND;
+use machine::of_tables::EMPTY_SLOT;
+use machine::of_tables::ENDPOINT_WORDS;
+use machine::of_tables::NONE_LOST;
+use machine::of_tables::NONE_WAITING;
+use machine::of_tables::SLOT_PLACES;
+use machine::of_tables::SLOTS;
+use queue::lost_after;
+ghost use mathlib.Core.Path.{_≡_};
+ghost use Prim.Native.Nat.{_+_, _-_, _%_};
+ghost use lib.ListN.{length};
+ghost use Rattle.ring_theory.specs.Ring.{firstPlace, count, placeFrom, ringSent, ringOf, slotOut, putOutQueue, ofTwelve};
+ghost use Rattle.ring.specs.Taken.{Taken};
+
+// The word of the i-th place from a first place on, going round.
+fn place_from(first: u32, i: u32) -> usize
+    ensures { λ at. ⌜ at ≡ placeFrom first i ⌝ }
+{
+    4 + ((first % SLOTS + i % SLOTS) % SLOTS) as usize
+}
+
+// The place behind a first one, going round.
+fn next_place(first: u32) -> u32
+    ensures { λ r. ⌜ r ≡ (first + 1) % 8 ⌝ }
+{
+    (first % SLOTS + 1) % SLOTS
+}
+
+// The message goes behind the last; a full ring's oldest message is pushed out.
+pub fn send(ring: &mut [u32], message: u32)
+    ensures { λ _. ⌜ now (ring .exit) ≡ ofTwelve (now (ring .entry)) (ringSent (now (ring .entry)) message) (now (ring .entry)) ⌝ }
+{
+    if ring.len() != ENDPOINT_WORDS {
+        return;
+    }
+    let first = ring[0];
+    let count = ring[1];
+    let lost = ring[2];
+    let most = ring[3] % 256;
+    let last = place_from(first, count);
+    ring[last] = message;
+    if count < most {
+        ring[1] = count + 1;
+        return;
+    }
+    ring[0] = next_place(first);
+    ring[2] = lost_after(lost);
+}
+
+// What a receive shows: the oldest message and the lost count.
+pub struct Received {
+    pub message: u32,
+    pub lost: u32,
+}
+
+fn one_less(count: u32) -> u32
+    ensures { λ r. ⌜ r ≡ count - 1 ⌝ }
+{
+    if count == 0 {
+        return 0;
+    }
+    count - 1
+}
+
+// The oldest message goes out. From an empty ring comes what stands at its first place, and its count stays 0.
+pub fn receive(ring: &mut [u32]) -> Received
+    ensures { λ r. ⌜ Taken (now (ring .entry)) r (now (ring .exit)) ⌝ }
+{
+    if ring.len() != ENDPOINT_WORDS {
+        return Received {
+            message: 0,
+            lost: 0,
+        };
+    }
+    let oldest = ring[0];
+    let count = ring[1];
+    let lost = ring[2];
+    let at = place_from(oldest, 0);
+    let message = ring[at];
+    ring[0] = next_place(oldest);
+    ring[1] = one_less(count);
+    Received { message, lost }
+}
+
+// A ring is made of an endpoint's words.
+pub fn take_in(q: &[u32], ring: &mut [u32])
+    ensures { λ _. ⌜ now (ring .exit) ≡ ofTwelve (now (q .entry)) (ofTwelve (now (ring .entry)) (ringOf (now (q .entry))) (now (ring .entry))) (now (ring .entry)) ⌝ }
+{
+    if q.len() != ENDPOINT_WORDS {
+        return;
+    }
+    if ring.len() != ENDPOINT_WORDS {
+        return;
+    }
+    ring[0] = 0;
+    ring[1] = q[2] % KIND;
+    ring[2] = q[3] % KIND;
+    ring[3] = q[1];
+    let mut i: usize = 0;
+    while i < SLOT_PLACES {
+        ring[4 + i] = q[4 + i] % KIND;
+        i += 1;
+    }
+}
+
+// Slot i of the endpoint that a ring is put out to.
+fn slot_out(ring: &[u32], first: u32, waits: u32, i: u32) -> u32
+    requires { ⌜ length (now ring) ≡ 12 ⌝ }
+    requires { ⌜ first ≡ firstPlace (now ring) ⌝ }
+    requires { ⌜ waits ≡ count (now ring) ⌝ }
+    ensures { λ w. ⌜ w ≡ slotOut (now (ring .entry)) i ⌝ }
+{
+    if i < waits {
+        let at = place_from(first, i);
+        return EMPTY_SLOT + ring[at] % KIND;
+    }
+    EMPTY_SLOT
+}
+
+// A ring is put out to an endpoint's words: the name and the info are left.
+pub fn put_out(ring: &[u32], q: &mut [u32])
+    ensures { λ _. ⌜ now (q .exit) ≡ ofTwelve (now (ring .entry)) (ofTwelve (now (q .entry)) (putOutQueue (now (ring .entry)) (now (q .entry))) (now (q .entry))) (now (q .entry)) ⌝ }
+{
+    if ring.len() != ENDPOINT_WORDS {
+        return;
+    }
+    if q.len() != ENDPOINT_WORDS {
+        return;
+    }
+    let first = ring[0];
+    let count = ring[1];
+    q[2] = NONE_WAITING + count % KIND;
+    q[3] = NONE_LOST + ring[2] % KIND;
+    let mut i: u32 = 0;
+    while i < SLOTS {
+        let slot = 4 + i as usize;
+        q[slot] = slot_out(ring, first, count, i);
+        i += 1;
+    }
+}

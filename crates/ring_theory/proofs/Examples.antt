@@ -1,0 +1,10 @@
+-- The rows of the rings hold: each is computed. Assumes nothing.
+use mathlib.Core.Path.{refl}
+use Rattle.ring_theory.specs.Ring.{firstPlace, count, lostCount, info, ringCapacity, messageAt, putLast, ringSent, ringTake, ringOf, slotOut, putOutQueue}
+use Rattle.machine.specs.Below.{wordsBelow}
+use Rattle.machine.specs.Queue.{waiting, lost}
+use Rattle.ring_theory.specs.Examples.{EveryRing, ringRows}
+
+pub every-ring : EveryRing ringRows
+unfolding firstPlace count lostCount info ringCapacity messageAt putLast ringSent ringTake ringOf slotOut putOutQueue wordsBelow waiting lost
+every-ring = (refl, (refl, (refl, (refl, (refl, (refl, (refl, (refl, (refl, tt)))))))))

@@ -1,0 +1,49 @@
+-- When a ring stands for an endpoint's queue, and what is claimed of it: a ring that is taken in stands for the queue, sends and
+-- receives go along, and what is put out is the queue.
+use Prim.Native.Nat.{ℕ, _+_, _<_, _≤_}
+use mathlib.Core.Path.{_≡_}
+use mathlib.Core.Bool.{true}
+use mathlib.Core.List.{List}
+use lib.ListN.{length, getD, take}
+use Rattle.machine.specs.Word.{payload, mostPayload}
+use Rattle.machine.specs.Queue.{capacity, waiting, lost, sent, received}
+use Rattle.machine.specs.Check.{queueOk}
+use Rattle.ring_theory.specs.Ring as ring
+use Rattle.ring_theory.specs.Ring.{firstPlace, count, lostCount, messageAt, ringSent, ringTake, ringOf, putOutQueue}
+
+-- The ring r stands for the queue of the endpoint's words q: the same counts, the same info, the same messages in their order.
+-- Which place is the first is free, and so is what stands in places behind the count.
+pub record Stands (r q : List ℕ) : Type 0 where
+  pub twelve : length r ≡ 12
+  pub place : firstPlace r < 8
+  pub most : count r ≤ 8
+  pub sameCount : count r ≡ waiting q
+  pub sameLost : lostCount r ≡ lost q
+  pub sameInfo : ring.info r ≡ getD q 1 0
+  pub messages : (i : ℕ) → i < count r → messageAt r i ≡ payload (getD q (4 + i) 0)
+
+-- what is taken in stands for the queue
+abbrev pub TakenInStands : Type 0
+TakenInStands = (q : List ℕ) → waiting q ≤ 8 → Stands (ringOf q) q
+
+-- A send, to a full queue too, and a receive leave a ring that stands for what they leave of the queue.
+abbrev pub QueuesGoAlong : Type 0
+QueuesGoAlong =
+    (q r : List ℕ)
+    → length q ≡ 12
+    → 1 ≤ capacity q
+    → capacity q ≤ 8
+    → Stands r q
+    → ((message : ℕ) → message ≤ mostPayload → Stands (ringSent r message) (sent q message))
+    × (1 ≤ waiting q → Stands (ringTake r) (received q))
+
+-- what is put out, to words with the same name and info, is the queue
+abbrev pub PutOutIsQueue : Type 0
+PutOutIsQueue =
+    (q₀ q r : List ℕ)
+    → length q₀ ≡ 12
+    → length q ≡ 12
+    → take 2 q₀ ≡ take 2 q
+    → queueOk q ≡ true
+    → Stands r q
+    → putOutQueue r q₀ ≡ q

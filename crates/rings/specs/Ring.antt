@@ -1,2 +1,0 @@
--- For callers: the words of a ring, and what is done with them.
-unfoldable pub use Rattle.queue_rings.specs.Ring.{firstPlace, count, lostCount, info, ringOwner, ringCapacity, messageAt, ringSent, ringTake, ringOf, slotOut, putOutQueue, ofTwelve}

@@ -1,2 +1,0 @@
--- For callers: rows hold a table's rights. Assumes nothing.
-pub use Rattle.rights_rows.proofs.Rights.{taken-in-rights, put-is-held, put-out-rights}

@@ -1,2 +1,0 @@
--- For callers: rows, and what is done with them.
-unfoldable pub use Rattle.rights_rows.specs.Rows.{heldIn, withHeld, rowsOf, rowsOut, hasRights}

@@ -1,0 +1,35 @@
+-- A table as little-endian bytes, and the code of its check (document 01, 'Into firmware and onto the bench').
+use Prim.Native.Nat.{ℕ, _*_, _%_, _^_, _<_}
+use mathlib.Core.Path.{_≡_}
+use mathlib.Core.Bool.{true, cond, not, _||_}
+use mathlib.Core.List.{List}
+use lib.ListN.{length, getD}
+use lib.Dec.{eqb, ltb}
+use Rattle.input_words.specs.Bytes.{wordsOf, bytesOf}
+use Rattle.machine.specs.Table.{domains, endpoints, lengthFor}
+use Rattle.machine.specs.Check.{headerOk, tableCode}
+
+-- four times the length that the first word asks for
+unfoldable pub bytesFor : List ℕ → ℕ
+bytesFor t = 4 * lengthFor (domains t) (endpoints t)
+
+-- the check's code: under four bytes is 2, as is a broken first word; a length that isn't four times the right one is 3;
+-- then the words decide
+unfoldable pub bytesCode : List ℕ → ℕ
+bytesCode bytes =
+    let t = wordsOf bytes in
+    cond (ltb (length bytes) 4 || not (headerOk t)) 2
+    (cond (not (eqb (length bytes) (bytesFor t))) 3 (tableCode t))
+
+-- What ties it to the check of words: bytes that are those of words of 32 bits get the code of the words,
+abbrev pub SameCode : Type 0
+SameCode = (ws : List ℕ) → ((i : ℕ) → getD ws i 0 < 2 ^ 32) → bytesCode (bytesOf ws) ≡ tableCode ws
+
+-- and bytes left over behind the last whole word are 3, unless the first word is broken.
+abbrev pub LeftOver : Type 0
+LeftOver = (bytes : List ℕ) → headerOk (wordsOf bytes) ≡ true → (length bytes % 4 ≡ 0 → ⊥) → bytesCode bytes ≡ 3
+
+-- what the tests behind the first two places are told: the places 2 and 3 don't refuse the bytes
+pub record Fitting (bytes : List ℕ) : Type 0 where
+  pub header : headerOk (wordsOf bytes) ≡ true
+  pub size : length bytes ≡ bytesFor (wordsOf bytes)

@@ -1,0 +1,25 @@
+-- `rights_at` meets its contract: the place fits, whoever the holder and the target are. Assumes nothing.
+use Prim.Native.Nat.{_*_, _≤_}
+use native.Mathlib.Omega.{arith}
+use borrow.Author.Needs.{needs}
+use Rattle.table_layout.proofs.Places.{row-fits}
+use Rattle.table_layout.proofs.rights_at.Statement.{statement}
+use Rattle.table_layout.proofs.rights_at.Tie as tie
+
+small : (c : tie.Start) → c .args .holder * c .args .n ≤ 4294967295 * 4294967295
+small c = row-fits _ _ (c .fits .holder .fits) (c .fits .n .fits)
+
+mul-result : tie.Need-mul-result
+mul-result c = omega (arith, small c)
+
+add-result : tie.Need-add-result
+add-result c = omega (arith, small c)
+
+add-result-2 : tie.Need-add-result-2
+add-result-2 c = omega (arith, small c)
+
+returns : tie.Need-returns
+returns c = search needs
+
+pub rights-at-spec : {M : Type 1} → statement M
+rights-at-spec = tie.close (tie.spec mul-result add-result add-result-2 returns)

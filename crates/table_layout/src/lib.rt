@@ -1,0 +1,69 @@
+// Where a table's words stand, and reading them: any words will do as a table, and a word past the end reads as 0. Whoever reads
+// often reads n, the number of domains, once and hands it on. It has eight bits in a table's first word, so only eight are
+// looked at where a square of it is taken.
+use machine::KIND;
+use machine::of_tables::ENDPOINT_WORDS;
+use rights::Rights;
+ghost use mathlib.Core.Path.{_≡_};
+ghost use Prim.Native.Nat.{_+_, _%_};
+ghost use lib.ListN.{getD};
+ghost use Rattle.machine.specs.Word.{payload};
+ghost use Rattle.machine.specs.Table.{domains, endpoints, rightsAt, endpointAt};
+
+// The word at a place, 0 past the end.
+pub fn word(table: &[u32], at: usize) -> u32
+    ensures { λ w. ⌜ w ≡ getD (now (table .entry)) at 0 ⌝ }
+{
+    if at < table.len() {
+        return table[at];
+    }
+    0
+}
+
+// n, the number of domains.
+pub fn domains(table: &[u32]) -> u32
+    ensures { λ n. ⌜ n ≡ domains (now (table .entry)) ⌝ }
+{
+    let header = word(table, 0);
+    header / 256 % 256
+}
+
+// m, the number of endpoints.
+pub fn endpoints(table: &[u32]) -> u32
+    ensures { λ m. ⌜ m ≡ endpoints (now (table .entry)) ⌝ }
+{
+    let header = word(table, 0);
+    header % 256
+}
+
+// Where the rights of a holder on a target stand among n domains.
+pub fn rights_at(n: u32, holder: u32, target: u32) -> usize
+    ensures { λ at. ⌜ at ≡ rightsAt n holder target ⌝ }
+{
+    1 + holder as usize * n as usize + target as usize
+}
+
+// Where the twelve words of an endpoint begin among n domains.
+pub fn endpoint_at(n: u32, e: u32) -> usize
+    ensures { λ at. ⌜ at ≡ endpointAt (n % 256) e ⌝ }
+{
+    let few = (n % 256) as usize;
+    1 + few * few + ENDPOINT_WORDS * e as usize
+}
+
+// The rights of a holder on a target.
+pub fn rights(table: &[u32], n: u32, holder: u32, target: u32) -> Rights
+    ensures { λ r. ⌜ r .bits ≡ payload (getD (now (table .entry)) (rightsAt n holder target) 0) ⌝ }
+{
+    let at = rights_at(n, holder, target);
+    let held = word(table, at);
+    Rights { bits: held % KIND }
+}
+
+// Word i from an endpoint's first word on.
+pub fn endpoint_word(table: &[u32], n: u32, e: u32, i: u32) -> u32
+    ensures { λ w. ⌜ w ≡ getD (now (table .entry)) (endpointAt (n % 256) e + i) 0 ⌝ }
+{
+    let at = endpoint_at(n, e) + i as usize;
+    word(table, at)
+}

@@ -1,0 +1,53 @@
+-- The tally of lists that are run one after another from one table: the totals of its endpoints, and that it can be made up by
+-- adding list after list.
+use Prim.Native.Nat.{ℕ, _*_, _<_}
+use mathlib.Core.Path.{_≡_}
+use mathlib.Core.Bool.{cond}
+use mathlib.Core.List.{List, [], _∷_, _++_}
+use lib.Dec.{ltb}
+use lib.ListN.{length}
+use Rattle.machine.specs.Below.{wordsBelow}
+use Rattle.machine.specs.Table.{endpoints}
+use Rattle.machine.specs.Check.{Accepted}
+use Rattle.machine.specs.Entry.{longestList}
+use Rattle.totals_theory.specs.Totals.{totals, tableAfter}
+use Rattle.totals_theory.specs.Claims.{Few}
+use Rattle.totals_add.specs.declared.Tally.{Tally}
+use Rattle.totals_add.specs.Added.{nothing, ListAdded}
+
+-- f e for each endpoint e below m, in as many words as a table can have endpoints
+unfoldable pub ofEndpoints : ℕ → (ℕ → ℕ) → List ℕ
+ofEndpoints m f = wordsBelow 32 (λ e. cond (ltb e m) (f e) 0)
+
+-- the totals of lists that are run from the table t, of each of its endpoints
+unfoldable pub tallyOf : List ℕ → List (List ℕ) → Tally
+tallyOf t lists =
+    record {
+      sent = ofEndpoints (endpoints t) (λ e. totals e t lists .sent);
+      received = ofEndpoints (endpoints t) (λ e. totals e t lists .received);
+      lost = ofEndpoints (endpoints t) (λ e. totals e t lists .lost);
+    }
+
+-- the tally is that of the lists, and the table is the one that they leave
+pub record Tallied (t : List ℕ) (lists : List (List ℕ)) (tally : Tally) (table : List ℕ) : Type 0 where
+  pub tallyIs : tally ≡ tallyOf t lists
+  pub tableIs : table ≡ tableAfter t lists
+  pub few : (e : ℕ) → Few (totals e t lists) (longestList * length lists)
+
+-- the most lists of which no total can pass 64 bits, each of the longest
+abbrev pub mostAdded : ℕ
+mostAdded = 4503599627370495
+
+-- A tally begins as that of no list; a list that is added and not refused makes it that of one list more.
+pub record ListByList (t : List ℕ) : Type 0 where
+  pub begins : Tallied t [] nothing t
+  pub goesOn : (lists : List (List ℕ)) (ws space holders : List ℕ) (code calls : ℕ) (answers table end kept : List ℕ) (tally tally′ : Tally)
+      → Accepted t
+      → Tallied t lists tally table
+      → length lists < mostAdded
+      → ListAdded table ws space holders code calls answers end kept tally tally′
+      → code ≡ 0
+      → Tallied t (lists ++ (ws ∷ [])) tally′ end
+
+abbrev pub EveryTallyListByList : Type 0
+EveryTallyListByList = (t : List ℕ) → ListByList t

@@ -1,0 +1,57 @@
+// Adds a list to totals: the list is run, and what it counts at each endpoint is added.
+mod counts;
+mod sums;
+
+use choosing::run_by_length;
+use counts::add_counts;
+use run_result::Ran;
+use totals_count::waiting::waiting_counts;
+ghost use mathlib.Core.Path.{_≡_};
+ghost use Rattle.run_result.specs.Entry.{ranCode, ranCalls};
+ghost use Rattle.totals_add.specs.Added.{nothing, ListAdded};
+
+// Totals in 64 bits, for as many endpoints as a table can have: sends answered 0, messages received, messages lost.
+pub struct Tally {
+    pub sent: [u64; 32],
+    pub received: [u64; 32],
+    pub lost: [u64; 32],
+}
+
+impl Tally {
+    // Nothing is counted yet.
+    pub fn new() -> Tally
+        ensures { λ r. ⌜ r ≡ nothing ⌝ }
+    {
+        Tally {
+            sent: [0; 32],
+            received: [0; 32],
+            lost: [0; 32],
+        }
+    }
+}
+
+// What a list came to, and the totals with it.
+pub struct Added {
+    pub ran: Ran,
+    pub tally: Tally,
+}
+
+// Runs a list from a table and adds what it counts to the totals of the table's endpoints. What was lost is told by what was sent,
+// what was received and what waits: the table's own lost count stops at its largest. A refused list adds nothing.
+pub fn add_list(
+    table: &mut [u32],
+    list: &[u32],
+    answers: &mut [u32],
+    holders: &mut [u32],
+    tally: Tally,
+) -> Added
+    ensures { λ r. ⌜ ListAdded (now (table .entry)) (now (list .entry)) (now (answers .entry)) (now (holders .entry)) (ranCode (r .ran)) (ranCalls (r .ran)) (now (answers .exit)) (now (table .exit)) (now (holders .exit)) tally (r .tally) ⌝ }
+{
+    let before = waiting_counts(table);
+    let ran = run_by_length(table, list, answers, holders);
+    if ran.code() != 0 {
+        return Added { ran, tally };
+    }
+    let tally = add_counts(table, list, answers, before, tally);
+    Added { ran, tally }
+}

@@ -1,0 +1,12 @@
+-- What the calls of a list count at each endpoint that a call can name, by their answers.
+use mathlib.Core.Path.{_≡_}
+use mathlib.Core.List.{List}
+use Prim.Native.Nat.{ℕ}
+use Rattle.machine.specs.Below.{wordsBelow}
+use Rattle.machine.specs.Call.{cut}
+use Rattle.machine.specs.Counts.{sentTo, receivedFrom}
+use Rattle.totals_count.specs.declared.calls.Counted.{Counted}
+
+pub record CallsCounted (list answers : List ℕ) (counted : Counted) : Type 0 where
+  pub sentIs : counted .sent ≡ wordsBelow 256 (λ e. sentTo e (cut list) answers)
+  pub receivedIs : counted .received ≡ wordsBelow 256 (λ e. receivedFrom e (cut list) answers)

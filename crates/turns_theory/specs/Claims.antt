@@ -1,0 +1,106 @@
+-- What is claimed of histories of handing in and turns (document 02 (m)), in closed statements. Each is the type of a theorem in proofs/.
+use Prim.Native.Nat.{ℕ, _<_, _≤_}
+use mathlib.Core.Path.{_≡_}
+use mathlib.Core.Bool.{Bool, true, false, _&&_}
+use mathlib.Core.List.{List, [], _∷_, _++_}
+use lib.Dec.{eqb, ltb}
+use lib.ListN.{length, getD, take}
+use Rattle.machine.specs.Table.{domains}
+use Rattle.machine.specs.Check.{Accepted}
+use Rattle.machine.specs.Call.{Call, callerOf, cut}
+use Rattle.machine.specs.Run as machine
+use Rattle.machine.specs.DomainSet.{calledBy}
+use Rattle.machine.specs.RunClaims.{Noninterference}
+use Rattle.turns_theory.specs.Turns.{Turns, Turn, begun, mostPending, turnOf, Turn.idle, Turn.serves}
+use Rattle.turns_theory.specs.History.{Layer, Event, eventCode, afterEvent, after, turnsOf, answersOf, holdersAlong, handedInBy, served, servedOf, holdersEach}
+
+-- Among the turns ts, one of the first m serves the call c of the domain d, and none before it serves d.
+pub record ServedWithin (m d : ℕ) (c : Call) (ts : List Turn) : Type 0 where
+  pub at : ℕ
+  pub soon : at < m
+  pub serves : getD ts at idle ≡ serves d c
+  pub first : servedOf d (take at ts) ≡ []
+
+-- Served in time: the oldest pending call of a domain is served within n turns that aren't refused, whatever is handed in.
+abbrev pub ServedInTime : Type 0
+ServedInTime =
+    (l : Layer) (es : List Event) (d : ℕ) (c : Call) (cs : List Call)
+    → Accepted (l .table)
+    → d < domains (l .table)
+    → cut (l .turns .pending d) ≡ c ∷ cs
+    → domains (l .table) ≤ length (turnsOf l es)
+    → ServedWithin (domains (l .table)) d c (turnsOf l es)
+
+-- The calls served, in order, as one list for the call-by-call machine: its answers, its table at the end, and the holders of its
+-- table after each call.
+pub record OneList (l : Layer) (es : List Event) : Type 0 where
+  pub answers : answersOf l es ≡ machine.answers (l .table) (served (turnsOf l es))
+  pub table : after l es .table ≡ machine.run (l .table) (served (turnsOf l es))
+  pub holders : holdersAlong l es ≡ holdersEach (l .table) (served (turnsOf l es))
+
+-- Of every history, with no limit on its length, from any words as a table.
+abbrev pub AsOneList : Type 0
+AsOneList = (l : Layer) (es : List Event) → OneList l es
+
+-- Noninterference (document 01: the striking rule) of every history from an accepted table: for every domain, what it sees of the
+-- calls served is what it sees of the machine fed those of them alone that are kept.
+abbrev pub EveryHistoryNoninterference : Type 0
+EveryHistoryNoninterference =
+    (l : Layer) (es : List Event)
+    → Accepted (l .table)
+    → Noninterference (l .table) (served (turnsOf l es)) (answersOf l es) (after l es .table)
+
+-- In order: the calls of a domain that were served, and then those still pending, are those that were pending, and then those that it
+-- handed in. So none is lost, none is served twice, and each domain's are served in the order in which they were handed in.
+abbrev pub InOrder : Type 0
+InOrder =
+    (l : Layer) (es : List Event) (d : ℕ)
+    → servedOf d (turnsOf l es) ++ cut (after l es .turns .pending d) ≡ cut (l .turns .pending d) ++ handedInBy d l es
+
+-- A turn is idle exactly where none of the n domains has a call pending.
+abbrev pub IdleExactly : Type 0
+IdleExactly =
+    (n : ℕ) (s : Turns)
+    → (turnOf n s ≡ idle → (d : ℕ) → d < n → s .pending d ≡ []) × (((d : ℕ) → d < n → s .pending d ≡ []) → turnOf n s ≡ idle)
+
+-- A refused event changes nothing.
+abbrev pub RefusedChangesNothing : Type 0
+RefusedChangesNothing = (l : Layer) (e : Event) → eqb (eventCode l e) 0 ≡ false → afterEvent l e ≡ l
+
+-- ---- what a history from the beginning can have made
+
+-- each of the calls has the caller d; none is a stray
+unfoldable pub allOf : ℕ → List Call → Bool
+allOf d [] = true
+allOf d (c ∷ cs) = calledBy d (callerOf c) && allOf d cs
+
+-- Among n domains: each has at most 16 words pending, which are calls of its own, no other number has any, and the place is a domain
+-- or n.
+pub record Proper (n : ℕ) (s : Turns) : Type 0 where
+  pub own : (d : ℕ) → d < n → allOf d (cut (s .pending d)) ≡ true
+  pub few : (d : ℕ) → d < n → length (s .pending d) ≤ mostPending
+  pub others : (d : ℕ) → n ≤ d → s .pending d ≡ []
+  pub place : s .place ≤ n
+
+abbrev pub BeginsProper : Type 0
+BeginsProper = (n : ℕ) → Proper n begun
+
+abbrev pub StaysProper : Type 0
+StaysProper =
+    (l : Layer) (es : List Event)
+    → Accepted (l .table)
+    → Proper (domains (l .table)) (l .turns)
+    → Proper (domains (l .table)) (after l es .turns)
+
+-- every turn that serves a domain serves a call of that domain, which is below n
+unfoldable pub servesOwn : ℕ → List Turn → Bool
+servesOwn n [] = true
+servesOwn n (idle ∷ ts) = servesOwn n ts
+servesOwn n (serves d c ∷ ts) = ltb d n && calledBy d (callerOf c) && servesOwn n ts
+
+abbrev pub ServesOwn : Type 0
+ServesOwn =
+    (l : Layer) (es : List Event)
+    → Accepted (l .table)
+    → Proper (domains (l .table)) (l .turns)
+    → servesOwn (domains (l .table)) (turnsOf l es) ≡ true

@@ -1,0 +1,100 @@
+-- `send` meets its contract: refused by a number, or served beyond the rings or on a ring lent as a part of them. Assumes nothing.
+use mathlib.Core.Path.{ap, _∙_}
+use mathlib.Core.List.{List}
+use Prim.Native.Nat.{ℕ}
+use Rattle.rules.specs.Range.{callNumbers}
+use Rattle.rules.specs.Access.{sendAccess, accessBy}
+use Rattle.rules.proofs.Guards.{outside, within}
+use Rattle.rights_matrix.specs.Rows.{heldIn}
+use Rattle.ring.specs.Ring.{ringOwner}
+use Rattle.working_theory.specs.State.{ringAt}
+use Rattle.working_endpoint_calls.proofs.Parts.{lent, twelve-lent}
+use Rattle.working_endpoint_calls.proofs.Outcomes.{queue-refused, so-decided, ring-back}
+use borrow.Author.Needs.{needs}
+use Rattle.working_endpoint_calls.proofs.send.Statement.{statement}
+use Rattle.working_endpoint_calls.proofs.send.Tie as tie
+
+of-endpoint-requires : tie.Need-of-endpoint-requires
+of-endpoint-requires c κs = search needs
+
+enum-known-range : tie.Need-enum-known-range
+enum-known-range c = search needs
+
+refusal-requires : tie.Need-refusal-requires
+refusal-requires c κs = search needs
+
+returns : tie.Need-returns
+unfolding callNumbers
+returns c = queue-refused _ _ _ _ _ (outside _ (c .before .before .range .given .1) (c .before .before .before .before .of-endpoint .ensures _)) (c .refusal .ensures)
+
+enum-told : tie.Need-enum-told
+enum-told c = search needs
+
+mul-start : tie.Need-mul-start
+mul-start c = search needs
+
+add-end : tie.Need-add-end
+add-end c = search needs
+
+send-beyond-requires : tie.Need-send-beyond-requires
+send-beyond-requires c κs = c .before .if1 .taken
+
+same-length : tie.Need-same-length
+same-length c = search needs
+
+returns-2 : tie.Need-returns-2
+unfolding callNumbers accessBy
+returns-2 c =
+    let told = c .before .before .before in
+    let a = told .before .before .before .before .args in
+    so-decided (sendAccess (heldIn (a .rows .now) (a .caller) (ringOwner (ringAt (a .rings .now) (a .e)))) (a .e) (a .message)) _ _ _ _ _ (within _ (told .enum-told .given .1) (told .before .before .of-endpoint .ensures _)) (c .send-beyond .ensures)
+
+mul-send-on : tie.Need-mul-send-on
+mul-send-on c = search needs
+
+sub-send-on : tie.Need-sub-send-on
+sub-send-on c = search needs
+
+part-send-on-start : tie.Need-part-send-on-start
+part-send-on-start c = search needs
+
+part-send-on-end : tie.Need-part-send-on-end
+part-send-on-end c = search needs
+
+send-on-requires : tie.Need-send-on-requires
+send-on-requires c κs = twelve-lent _ _ (c .before .if1 .left)
+
+same-length-2 : tie.Need-same-length-2
+same-length-2 c = search needs
+
+returns-3 : tie.Need-returns-3
+unfolding callNumbers accessBy
+returns-3 c =
+    let lend = c .before .before in
+    let told = lend .before .before .before in
+    let a = told .before .before .before .before .args in
+    ring-back (a .rings .now) (a .e) _ _ _ _ _
+    (ap (λ (r : List ℕ). sendAccess (heldIn (a .rows .now) (a .caller) (ringOwner r)) (a .e) (a .message)) (lent (a .rings .now) (a .e)) ∙ within _ (told .enum-told .given .1) (told .before .before .of-endpoint .ensures _))
+    (lend .send-on .ensures)
+
+pub send-spec : {M : Type 1} → statement M
+send-spec =
+    tie.close
+    (tie.spec
+    of-endpoint-requires
+    enum-known-range
+    refusal-requires
+    returns
+    enum-told
+    mul-start
+    add-end
+    send-beyond-requires
+    same-length
+    returns-2
+    mul-send-on
+    sub-send-on
+    part-send-on-start
+    part-send-on-end
+    send-on-requires
+    same-length-2
+    returns-3)

@@ -1,0 +1,126 @@
+-- `rings_out` meets its contract: the rings are put out one after the other. Assumes nothing.
+use mathlib.Core.Path.{sym, _∙_}
+use Prim.Native.Nat.{_+_, _-_, _%_, _≤_}
+use native.Mathlib.Omega.{arith}
+use borrow.Author.Tests.{not-true, not-false}
+use lib.ListN.{length}
+use Rattle.working_load.proofs.Places.{HasQueues, has-queues, words-within}
+use Rattle.working_load.proofs.PuttingOut.{Out, out-start, put-next, out-end, out-none, out-all}
+use borrow.Author.Needs.{needs}
+use Rattle.working_load.proofs.rings_out.Statement.{statement}
+use Rattle.working_load.proofs.rings_out.Tie as tie
+
+abbrev Inv-loop : tie.InvT-loop
+Inv-loop rings n m table₀ e₀ table e = Out (n % 256) m rings table₀ table e × HasQueues (n % 256) m (length table₀) (length rings) × (e ≤ m)
+
+abbrev μ-loop : tie.MeasureT-loop
+μ-loop rings n m table₀ e₀ table e = m - e
+
+-- the parts that are lent lie within the table and the rings
+end-within : (c : tie.After-endpoint-at Inv-loop μ-loop) → c .endpoint-at .result + 12 ≤ length (c .before .before .loop .table)
+end-within c =
+    omega (arith, c .endpoint-at .ensures, words-within _ _ _ _ _ (c .before .before .loop .inv .1) (c .before .loop-test .taken), c .before .before .loop .inv .0 .size)
+
+small : (c : tie.In-loop Inv-loop μ-loop) → c .before .loop .e ≤ 31
+small c = omega (arith, c .before .loop .inv .1 .few, c .loop-test .taken)
+
+has-queues-requires : tie.Need-has-queues-requires Inv-loop μ-loop
+has-queues-requires c κs = search needs
+
+returns : tie.Need-returns Inv-loop μ-loop
+returns c = out-none _ _ (c .before .before .before .before .args .rings .now) (c .before .before .before .before .args .table .now) (sym (c .before .has-queues .ensures) ∙ not-true _ (c .if1 .taken))
+
+loop-holds : tie.Need-loop-holds Inv-loop μ-loop
+loop-holds c = (out-start _ _ _ _, has-queues _ _ _ _ (sym (c .before .has-queues .ensures) ∙ not-false _ (c .if1 .left)), omega arith)
+
+cast-place : tie.Need-cast-place Inv-loop μ-loop
+cast-place c = omega arith
+
+mul-place : tie.Need-mul-place Inv-loop μ-loop
+mul-place c = omega (arith, small c)
+
+add-behind : tie.Need-add-behind Inv-loop μ-loop
+add-behind c = omega (arith, small c)
+
+endpoint-at-requires : tie.Need-endpoint-at-requires Inv-loop μ-loop
+endpoint-at-requires c κs = search needs
+
+add-next : tie.Need-add-next Inv-loop μ-loop
+add-next c = omega (arith, end-within c)
+
+mul-put-out : tie.Need-mul-put-out Inv-loop μ-loop
+mul-put-out c = omega (arith, small (c .before))
+
+sub-put-out : tie.Need-sub-put-out Inv-loop μ-loop
+sub-put-out c = omega arith
+
+part-put-out-start : tie.Need-part-put-out-start Inv-loop μ-loop
+part-put-out-start c = omega arith
+
+part-put-out-end : tie.Need-part-put-out-end Inv-loop μ-loop
+part-put-out-end c = omega (arith, c .before .before .loop .inv .1 .twelve, c .before .loop-test .taken)
+
+mul-put-out-2 : tie.Need-mul-put-out-2 Inv-loop μ-loop
+mul-put-out-2 c = omega (arith, end-within (c .before))
+
+sub-put-out-2 : tie.Need-sub-put-out-2 Inv-loop μ-loop
+sub-put-out-2 c = omega arith
+
+part-put-out-start-2 : tie.Need-part-put-out-start-2 Inv-loop μ-loop
+part-put-out-start-2 c = omega arith
+
+part-put-out-end-2 : tie.Need-part-put-out-end-2 Inv-loop μ-loop
+part-put-out-end-2 c = end-within (c .before)
+
+put-out-requires : tie.Need-put-out-requires Inv-loop μ-loop
+put-out-requires c κs = search needs
+
+add-e : tie.Need-add-e Inv-loop μ-loop
+add-e c = omega arith
+
+loop-less : tie.Need-loop-less Inv-loop μ-loop
+loop-less c = omega arith
+
+loop-again : tie.Need-loop-again Inv-loop μ-loop
+loop-again c =
+    let call = c .before .before in
+    let at = call .before .before .before in
+    let inv = at .before .before .loop .inv in
+    (put-next _ _ _ _ _ _ (inv .0) (inv .1) (at .before .loop-test .taken) _ (at .endpoint-at .ensures) _ (call .put-out .ensures), inv .1, omega arith)
+
+same-length : tie.Need-same-length Inv-loop μ-loop
+same-length c = c .before .loop .inv .0 .size
+
+returns-2 : tie.Need-returns-2 Inv-loop μ-loop
+returns-2 c =
+    let inv = c .before .loop .inv in
+    out-all _ _ (c .before .before .before .before .before .before .args .rings .now) (c .before .before .before .before .before .before .args .table .now) _ (sym (c .before .before .before .has-queues .ensures) ∙ not-false _ (c .before .before .if1 .left)) (out-end _ _ _ _ _ _ (inv .0) (omega arith))
+
+pub rings-out-spec : {M : Type 1} → statement M
+rings-out-spec =
+    tie.close
+    (tie.spec
+    Inv-loop
+    μ-loop
+    has-queues-requires
+    returns
+    loop-holds
+    cast-place
+    mul-place
+    add-behind
+    endpoint-at-requires
+    add-next
+    mul-put-out
+    sub-put-out
+    part-put-out-start
+    part-put-out-end
+    mul-put-out-2
+    sub-put-out-2
+    part-put-out-start-2
+    part-put-out-end-2
+    put-out-requires
+    add-e
+    loop-less
+    loop-again
+    same-length
+    returns-2)

@@ -1,0 +1,31 @@
+-- What is claimed of taking in and putting out: what is taken in stands for the table, and what stands for a table, put out to one
+-- with the same unchanging parts, is that table.
+use Prim.Native.Nat.{ℕ}
+use mathlib.Core.Path.{_≡_}
+use mathlib.Core.List.{List}
+use Rattle.machine.specs.Table.{domains, endpoints}
+use Rattle.machine.specs.Check.{Accepted}
+use Rattle.machine.specs.SameParts.{SameFrame}
+use Rattle.rights_matrix.specs.Rows.{rowsOf, rowsOut}
+use Rattle.working_theory.specs.Represents.{Represents}
+use Rattle.working_load.specs.Layout.{ringsOf, queuesOut, namesOf, ownedOf}
+
+-- what is taken in stands for the table
+abbrev pub TakenInStands : Type 0
+TakenInStands =
+    (t : List ℕ)
+    → Accepted t
+    → Represents (domains t) (endpoints t) (rowsOf (domains t) t) (ringsOf (domains t) (endpoints t) t)
+    (namesOf (domains t) (endpoints t) t)
+    (ownedOf (domains t) (endpoints t) t)
+    t
+
+-- what is put out is the table that the state stands for
+abbrev pub PutOutIsTable : Type 0
+PutOutIsTable =
+    (t₀ t : List ℕ) (n m : ℕ) (rows : List (List ℕ)) (rings names owned : List ℕ)
+    → Accepted t₀
+    → Accepted t
+    → SameFrame t t₀
+    → Represents n m rows rings names owned t
+    → queuesOut n m rings (rowsOut n rows t₀) ≡ t

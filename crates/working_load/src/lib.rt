@@ -1,0 +1,103 @@
+// A table's endpoints taken in from it and put out to it: the queues as rings, the names side by side, and for each domain the
+// endpoints that it owns as bits. Any words will do as a table.
+use machine::KIND;
+use machine::of_tables::ENDPOINT_WORDS;
+use machine::of_tables::MOST_ENDPOINTS;
+use reachability::bit;
+use table_layout::endpoint_at;
+use table_layout::endpoint_word;
+ghost use mathlib.Core.Path.{_≡_};
+ghost use mathlib.Core.Bool.{cond};
+ghost use Prim.Native.Nat.{_%_, min};
+ghost use lib.ListN.{length};
+ghost use Rattle.working_load.specs.Layout.{hasQueues, ringsOf, queuesOut, namesOf, ownedOf};
+
+// At most 32 endpoints, words enough for them in the table, and twelve lent for each.
+fn has_queues(n: u32, m: u32, size: usize, lent: usize) -> bool
+    ensures { λ b. ⌜ b ≡ hasQueues (n % 256) m size lent ⌝ }
+{
+    if MOST_ENDPOINTS < m {
+        return false;
+    }
+    let end = endpoint_at(n, m);
+    (end <= size) & (lent == ENDPOINT_WORDS * m as usize)
+}
+
+// The rings of the table's queues. They stay as they are where they or the table aren't of the right length.
+pub fn rings_in(table: &[u32], n: u32, m: u32, rings: &mut [u32])
+    ensures { λ _. ⌜ now (rings .exit) ≡ cond (hasQueues (n % 256) m (length (now (table .entry))) (length (now (rings .entry)))) (ringsOf (n % 256) m (now (table .entry))) (now (rings .entry)) ⌝ }
+{
+    if !has_queues(n, m, table.len(), rings.len()) {
+        return;
+    }
+    let mut e: u32 = 0;
+    while e < m {
+        let start = endpoint_at(n, e);
+        let end = start + ENDPOINT_WORDS;
+        let from = ENDPOINT_WORDS * e as usize;
+        let to = from + ENDPOINT_WORDS;
+        ring::take_in(&table[start..end], &mut rings[from..to]);
+        e += 1;
+    }
+}
+
+// The rings put out to the table's queues. It stays as it is where it or the rings aren't of the right length.
+pub fn rings_out(rings: &[u32], n: u32, m: u32, table: &mut [u32])
+    ensures { λ _. ⌜ now (table .exit) ≡ cond (hasQueues (n % 256) m (length (now (table .entry))) (length (now (rings .entry)))) (queuesOut (n % 256) m (now (rings .entry)) (now (table .entry))) (now (table .entry)) ⌝ }
+{
+    if !has_queues(n, m, table.len(), rings.len()) {
+        return;
+    }
+    let mut e: u32 = 0;
+    while e < m {
+        let place = ENDPOINT_WORDS * e as usize;
+        let behind = place + ENDPOINT_WORDS;
+        let first = endpoint_at(n, e);
+        let next = first + ENDPOINT_WORDS;
+        ring::put_out(&rings[place..behind], &mut table[first..next]);
+        e += 1;
+    }
+}
+
+// At most 32.
+fn at_most(m: u32) -> u32
+    ensures { λ r. ⌜ r ≡ min m 32 ⌝ }
+{
+    if m < MOST_ENDPOINTS {
+        return m;
+    }
+    MOST_ENDPOINTS
+}
+
+// The endpoints' names, side by side; 0 where there is none.
+pub fn names_in(table: &[u32], n: u32, m: u32) -> [u32; 32]
+    ensures { λ r. ⌜ r ≡ namesOf (n % 256) m (now (table .entry)) ⌝ }
+{
+    let mut names = [0u32; 32];
+    let few = at_most(m);
+    let mut e: u32 = 0;
+    while e < few {
+        let word = endpoint_word(table, n, e, 0);
+        let at = e as usize;
+        names[at] = word % KIND;
+        e += 1;
+    }
+    names
+}
+
+// What each domain owns, a bit for each endpoint. Of an owner's number four bits count.
+pub fn owned_in(table: &[u32], n: u32, m: u32) -> [u32; 16]
+    ensures { λ r. ⌜ r ≡ ownedOf (n % 256) m (now (table .entry)) ⌝ }
+{
+    let mut owned = [0u32; 16];
+    let few = at_most(m);
+    let mut e: u32 = 0;
+    while e < few {
+        let info = endpoint_word(table, n, e, 1);
+        let u = (info / 256 % 256 % 16) as usize;
+        let one = bit(e);
+        owned[u] = owned[u] + one;
+        e += 1;
+    }
+    owned
+}
