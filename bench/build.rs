@@ -8,8 +8,8 @@
 //! proved one. Each compiler's functions get a prefix of their own, so that all of them
 //! stand in one program.
 //!
-//! Where they are there, the archives of the crates step_export, queue_export and
-//! test_check_export are linked too: they have the kernel's public step for `bench step`, the
+//! Where they are there, the archives of the crates test_export and test_check_export
+//! are linked too: they have the kernel's public step for `bench step`, the
 //! queue's functions for `bench queue` and the check of a table's words for `bench speed`,
 //! which the firmware's archive hasn't got. An archive of the kit shows its exported
 //! functions only, so they don't meet.
@@ -57,28 +57,24 @@ const TURNS: Archive = Archive {
     exports: &["balkwizu_turns_begin", "balkwizu_hand_in", "balkwizu_turn"],
 };
 
-/// An archive for tests alone, and what the program is told where it is linked.
+/// An archive for tests alone, and the flag that the program is compiled with where it is linked.
 struct TestArchive {
     archive: Archive,
-    told: &'static str,
+    flag: &'static str,
 }
 
-const TEST_ARCHIVES: [TestArchive; 3] = [
+const TEST_ARCHIVES: [TestArchive; 2] = [
     TestArchive {
         archive: Archive {
-            name: "step_export",
-            variable: "BALKWIZU_STEP_ARCHIVE",
-            exports: &["balkwizu_test_step"],
+            name: "test_export",
+            variable: "BALKWIZU_TEST_ARCHIVE",
+            exports: &[
+                "balkwizu_test_step",
+                "balkwizu_test_send",
+                "balkwizu_test_receive",
+            ],
         },
-        told: "step",
-    },
-    TestArchive {
-        archive: Archive {
-            name: "queue_export",
-            variable: "BALKWIZU_QUEUE_ARCHIVE",
-            exports: &["balkwizu_test_send", "balkwizu_test_receive"],
-        },
-        told: "queue",
+        flag: "test_export",
     },
     TestArchive {
         archive: Archive {
@@ -86,7 +82,7 @@ const TEST_ARCHIVES: [TestArchive; 3] = [
             variable: "BALKWIZU_CHECK_ARCHIVE",
             exports: &["balkwizu_test_check"],
         },
-        told: "check",
+        flag: "check",
     },
 ];
 
@@ -111,7 +107,7 @@ fn main() {
     }
     for test in &TEST_ARCHIVES {
         println!("cargo::rerun-if-env-changed={}", test.archive.variable);
-        println!("cargo::rustc-check-cfg=cfg({})", test.told);
+        println!("cargo::rustc-check-cfg=cfg({})", test.flag);
     }
     println!("cargo::rerun-if-changed=build.rs");
     println!("cargo::rerun-if-changed=c");
@@ -228,7 +224,7 @@ fn link_test_archive(out: &Path, wanted: &TestArchive) -> Result<(), Box<dyn Err
         println!("cargo::rerun-if-changed={}", path.display());
         return Ok(());
     };
-    println!("cargo::rustc-cfg={}", wanted.told);
+    println!("cargo::rustc-cfg={}", wanted.flag);
     wanted.archive.link(out, &path, &bytes)
 }
 

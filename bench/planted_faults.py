@@ -20,8 +20,8 @@ none may be told as one that is right when it is tried by itself.
 
 The copy and its build stand under build/planted. The kernel is the archive
 target/staticlib/libbalkwizu.a, or the one that BALKWIZU_ARCHIVE names; its turns, its
-step and its queue are libbalkwizu_turns.a, libstep_export.a and libqueue_export.a beside
-it, or what BALKWIZU_TURNS_ARCHIVE, BALKWIZU_STEP_ARCHIVE and BALKWIZU_QUEUE_ARCHIVE name.
+step and its queue are libbalkwizu_turns.a and libtest_export.a beside it, or what
+BALKWIZU_TURNS_ARCHIVE and BALKWIZU_TEST_ARCHIVE name.
 """
 
 import os
@@ -35,8 +35,7 @@ from edits import ROOT, Copy, Wrong, edit_files, run, try_all  # noqa: E402
 ARCHIVES = {
     "BALKWIZU_ARCHIVE": "libbalkwizu.a",
     "BALKWIZU_TURNS_ARCHIVE": "libbalkwizu_turns.a",
-    "BALKWIZU_STEP_ARCHIVE": "libstep_export.a",
-    "BALKWIZU_QUEUE_ARCHIVE": "libqueue_export.a",
+    "BALKWIZU_TEST_ARCHIVE": "libtest_export.a",
 }
 FUZZ = "fuzz --seed 20 --cases 10000 --table-checks 10000 --lists 0".split()
 WORKING = "fuzz --seed 20 --cases 500 --table-checks 0 --kernel balkwizu-working".split()

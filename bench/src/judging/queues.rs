@@ -200,7 +200,7 @@ fn compare(
     ))
 }
 
-#[cfg(all(test, queue))]
+#[cfg(all(test, test_export))]
 mod tests {
     use super::*;
     use crate::judging::trying::tests::draws;

@@ -279,7 +279,7 @@ fn with_words(case: &Case, call: &Call, told: &str) -> String {
     )
 }
 
-#[cfg(all(test, step))]
+#[cfg(all(test, test_export))]
 mod tests {
     use super::*;
     use crate::judging::trying::tests::draws;

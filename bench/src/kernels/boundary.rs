@@ -210,10 +210,10 @@ pub type Step = fn(table: &mut [u32], call: &Call, answer: &mut [u32], holders: 
 pub const NO_SPACE: u32 = 99;
 
 /// The public step of the proved kernel, where the program was built with it.
-#[cfg(not(step))]
+#[cfg(not(test_export))]
 pub const PROVED_STEP: Option<Step> = None;
 
-#[cfg(step)]
+#[cfg(test_export)]
 pub const PROVED_STEP: Option<Step> = Some(|table, call, answer, holders| {
     extern "C" {
         fn balkwizu_test_step(
@@ -352,10 +352,10 @@ pub struct Queue {
 }
 
 /// The queue's functions of the proved kernel, where the program was built with them.
-#[cfg(not(queue))]
+#[cfg(not(test_export))]
 pub const PROVED_QUEUE: Option<Queue> = None;
 
-#[cfg(queue)]
+#[cfg(test_export)]
 pub const PROVED_QUEUE: Option<Queue> = Some(Queue {
     send: |words, message| {
         extern "C" {

@@ -39,7 +39,7 @@ pub extern "C" fn balkwizu_run_by_length(
 ) -> u32
     ensures { λ r. ⌜ RunPromise (now (table .entry)) (now (list .entry)) (now (answers .entry)) (now (holders .entry)) (r % 65536) (r / 65536) (now (answers .exit)) (now (table .exit)) (now (holders .exit)) ⌝ }
 {
-    let ran = choosing::run_by_length(table, list, answers, holders);
+    let ran = working::by_length::run_by_length(table, list, answers, holders);
     let code = ran.code();
     let number = ran.calls();
     code + 65536 * number as u32

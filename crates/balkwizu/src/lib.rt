@@ -6,7 +6,7 @@ mod release;
 ghost use mathlib.Core.Path.{_≡_};
 ghost use Prim.Native.Nat.{_/_, _%_, min};
 ghost use Rattle.machine.specs.Promise.{RunPromise};
-ghost use Rattle.call_rows.specs.Rows.{RowsPromise};
+ghost use Rattle.writer.specs.Rows.{RowsPromise};
 ghost use Rattle.holders.specs.Asked.{ReachTold};
 ghost use Rattle.components.specs.Told.{ComponentTold};
 ghost use Rattle.table_check_bytes.specs.Bytes.{bytesCode};
@@ -150,7 +150,7 @@ fn in_16_bits(number: usize) -> u32
 pub extern "C" fn balkwizu_write(calls: &[u32], list: &mut [u32]) -> u32
     ensures { λ r. ⌜ RowsPromise (now (calls .entry)) (now (list .entry)) (r % 65536) (r / 65536) (now (list .exit)) ⌝ }
 {
-    let written = call_rows::write_rows(calls, list);
+    let written = writer::rows::write_rows(calls, list);
     let code = written.code();
     let number = written.number();
     let told = in_16_bits(number);

@@ -10,7 +10,7 @@ use lib.ListN.{length, take, set}
 use lib.Seq.{sets-eq}
 use Rattle.calls.specs.declared.Call.{Call}
 use Rattle.calls.specs.declared.Call.the-variants.{LookUp, Send, Receive, MyEndpoints, MyRights, Grant, Remove, Revoke, Refused}
-use Rattle.written_calls.specs.Words.{fieldsOf, fits, wordsOf}
+use Rattle.writer_theory.specs.Words.{fieldsOf, fits, wordsOf}
 use Rattle.call_encode.specs.Put.{pasted, putAt}
 
 -- a kind has four bits

@@ -5,7 +5,7 @@ use mathlib.Core.List.{List, _++_}
 use lib.Dec.{leb}
 use lib.ListN.{length, take, drop}
 use Rattle.calls.specs.declared.Call.{Call}
-use Rattle.written_calls.specs.Words.{fits, wordsOf}
+use Rattle.writer_theory.specs.Words.{fits, wordsOf}
 
 -- a list with other words in the place of its own, from a place on
 abbrev pub pasted : List ℕ → ℕ → List ℕ → List ℕ

@@ -14,13 +14,13 @@ use machine::of_calls::REMOVE;
 use machine::of_calls::REVOKE;
 use machine::of_calls::SECOND_WORD;
 use machine::of_calls::SEND;
-use written_calls::Fields;
+use writer_theory::Fields;
 ghost use mathlib.Core.Path.{_≡_};
 ghost use mathlib.Core.Bool.{true};
 ghost use Prim.Native.Nat.{_+_, _<_, _≤_};
 ghost use lib.ListN.{length};
 ghost use Rattle.machine.specs.Call.{wantsSecond};
-ghost use Rattle.written_calls.specs.Words.{fieldsAt, fieldsOf, withinBits, firstWord, fieldWords, fits, wordsOf};
+ghost use Rattle.writer_theory.specs.Words.{fieldsAt, fieldsOf, withinBits, firstWord, fieldWords, fits, wordsOf};
 ghost use Rattle.call_encode.specs.Put.{pasted, putAt};
 
 // The six fields in the order of their bits.

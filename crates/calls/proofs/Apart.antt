@@ -12,12 +12,12 @@ use borrow.Author.Tests.{eqb-true, eqb-false, eq-eqb, ne-eqb}
 use Rattle.machine.specs.Word.{kind, caller, fieldA, fieldB, fieldC}
 use Rattle.machine.specs.Call.{Kind, kindOf, unusedFields, allZero, hasSecond}
 use Rattle.calls.specs.Apart.{needsSecond, whole, ofKind, apart}
-use Rattle.cutting.specs.Cutting.{callOf}
+use Rattle.calls.specs.Cutting.{callOf}
 use Rattle.calls.specs.declared.Call.{Call}
 use Rattle.calls.specs.declared.Call.the-variants.{Refused}
 use Rattle.calls.specs.declared.Refusal.the-variants.{UnknownKind, UnusedField, NoSecondWord}
-use Rattle.cutting.specs.declared.Second.{Second}
-use Rattle.cutting.specs.declared.Second.the-variants.{Nothing}
+use Rattle.calls.specs.declared.split.Second.{Second}
+use Rattle.calls.specs.declared.split.Second.the-variants.{Nothing}
 
 abbrev pub total : List ℕ → ℕ
 total [] = 0

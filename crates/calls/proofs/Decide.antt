@@ -10,13 +10,13 @@ use Rattle.machine.specs.Call.{Kind, callKind, kindOf, allZero, unusedFields, w
 use Rattle.machine.specs.Call.{Kind.lookUp, Kind.send, Kind.receive, Kind.myEndpoints, Kind.myRights, Kind.grant, Kind.remove, Kind.revoke, Kind.stray, Kind.unknown}
 use Rattle.machine.specs.Machine.{Decision, Decision.refused, framed, places, decide}
 use Rattle.calls.specs.Apart.{needsSecond, whole, ofKind, apart}
-use Rattle.cutting.specs.Cutting.{callOf}
+use Rattle.calls.specs.Cutting.{callOf}
 use Rattle.calls.specs.Decide.{knownCaller, refusedCall, decideCall}
 use Rattle.calls.specs.declared.Call.{Call}
 use Rattle.calls.specs.declared.Call.the-variants.{Refused}
 use Rattle.calls.specs.declared.Refusal.the-variants.{UnusedField, NoSecondWord}
-use Rattle.cutting.specs.declared.Second.{Second}
-use Rattle.cutting.proofs.CutAt.{first-of}
+use Rattle.calls.specs.declared.split.Second.{Second}
+use Rattle.calls.proofs.CutAt.{first-of}
 
 -- a kind of call wants a second word exactly if a word of its number does
 wants-second : (n : ℕ) → wantsSecond n ≡ needsSecond (kindOf n)

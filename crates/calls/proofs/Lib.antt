@@ -2,3 +2,5 @@
 pub mod Apart
 pub mod Decide
 pub mod Numbers
+pub mod Counted
+pub mod CutAt

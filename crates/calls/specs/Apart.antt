@@ -8,8 +8,8 @@ use Rattle.machine.specs.Call.{Kind.lookUp, Kind.send, Kind.receive, Kind.myEnd
 use Rattle.calls.specs.declared.Call.{Call}
 use Rattle.calls.specs.declared.Call.the-variants.{LookUp, Send, Receive, MyEndpoints, MyRights, Grant, Remove, Revoke, Refused}
 use Rattle.calls.specs.declared.Refusal.the-variants.{Stray, UnknownKind, UnusedField, NoSecondWord}
-use Rattle.cutting.specs.Cutting.{callOf}
-use Rattle.cutting.specs.declared.Second.{Second}
+use Rattle.calls.specs.Cutting.{callOf}
+use Rattle.calls.specs.declared.split.Second.{Second}
 
 -- the kinds of call that want a second word
 unfoldable pub needsSecond : machine.Kind → Bool

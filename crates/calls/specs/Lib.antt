@@ -2,3 +2,4 @@
 pub mod Number
 pub mod Apart
 pub mod Decide
+pub mod Cutting

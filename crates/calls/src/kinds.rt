@@ -3,14 +3,14 @@
 // zero when bits 21–0 are, two of them when their sum is.
 use crate::Call;
 use crate::Refusal;
-use cutting::Second;
+use crate::split::Second;
 use machine::KIND;
 use machine::of_calls::A;
 use machine::of_calls::B;
 use machine::of_calls::CALLER;
 ghost use mathlib.Core.Path.{_≡_};
 ghost use Rattle.machine.specs.Call.{Kind.lookUp, Kind.send, Kind.receive, Kind.myEndpoints, Kind.myRights, Kind.grant, Kind.remove, Kind.revoke};
-ghost use Rattle.cutting.specs.declared.Second.{Second as AnySecond};
+ghost use Rattle.calls.specs.declared.split.Second.{Second as AnySecond};
 ghost use Rattle.calls.specs.Apart.{ofKind};
 
 // Returns the look up that the words ask for, or its refusal by 13 or 14.

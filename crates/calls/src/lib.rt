@@ -1,8 +1,9 @@
 // The calls of documents 01 and 02, taken apart without a table: what a call asks for, as one choice among its kinds, or the refusal
 // by a place that needs no table (10, 11, 13 and 14). Crate rules puts 12, which needs one, between 11 and 13.
 pub mod kinds;
+pub mod split;
 
-use cutting::Second;
+use crate::split::Second;
 use kinds::grant;
 use kinds::look_up;
 use kinds::my_endpoints;

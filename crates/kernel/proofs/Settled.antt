@@ -10,9 +10,9 @@ use Rattle.machine.specs.Machine as machine
 use Rattle.machine.specs.Machine.{Decision, answerTo, answerWord, shownCaller, after, effect}
 use Rattle.machine.specs.Holders.{holdersOf}
 use Rattle.machine.proofs.Step.{stays-accepted}
-use Rattle.cutting.specs.Cutting.{callOf, secondAt, widthOf}
-use Rattle.cutting.specs.declared.Second.{Second}
-use Rattle.cutting.specs.declared.Second.the-variants.{Nothing, Word}
+use Rattle.calls.specs.Cutting.{callOf, secondAt, widthOf}
+use Rattle.calls.specs.declared.split.Second.{Second}
+use Rattle.calls.specs.declared.split.Second.the-variants.{Nothing, Word}
 use Rattle.calls.specs.Apart.{apart}
 use Rattle.calls.specs.Decide.{decideCall}
 use Rattle.calls.specs.declared.Call.{Call}

@@ -10,9 +10,9 @@ use Rattle.machine.specs.Call.{cut}
 use Rattle.machine.specs.Holders.{holdersOf}
 use Rattle.machine.proofs.Cut.{Running, running-start, running-next, running-end}
 use Rattle.machine.proofs.Step.{stays-accepted}
-use Rattle.cutting.specs.Cutting.{callOf, secondAt, widthOf}
-use Rattle.cutting.specs.declared.Second.{Second}
-use Rattle.cutting.proofs.CutAt.{CutAt, cut-at}
+use Rattle.calls.specs.Cutting.{callOf, secondAt, widthOf}
+use Rattle.calls.specs.declared.split.Second.{Second}
+use Rattle.calls.proofs.CutAt.{CutAt, cut-at}
 use Rattle.kernel.specs.Step.{Served}
 use Rattle.kernel.specs.Run.{AllRun}
 

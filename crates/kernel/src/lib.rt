@@ -7,7 +7,7 @@ mod serve;
 mod space;
 
 use answers::Answer;
-use cutting::Second;
+use calls::split::Second;
 use holders::fill;
 use list::run_calls;
 use machine::of_calls::LONGEST_LIST;
@@ -24,7 +24,7 @@ ghost use Rattle.machine.specs.Check.{tableCode};
 ghost use Rattle.machine.specs.Entry.{entryCode};
 ghost use Rattle.machine.specs.Promise.{RunPromise};
 ghost use Rattle.table_check.specs.Checked.{checkedCode};
-ghost use Rattle.cutting.specs.Cutting.{callOf};
+ghost use Rattle.calls.specs.Cutting.{callOf};
 ghost use Rattle.kernel.specs.Step.{StepPromise};
 ghost use Rattle.kernel.specs.Entered.{enteredCode};
 ghost use Rattle.run_result.specs.Entry.{ranCode, ranCalls};

@@ -1,8 +1,8 @@
 // The calls of a list one after the other, in the lent table's own words, with the holders worked out first and kept call by call.
 use crate::serve::serve;
 use answers::given::put;
-use cutting::second_at;
-use cutting::width;
+use calls::split::second_at;
+use calls::split::width;
 use holders::fill;
 use table_layout::domains;
 use table_layout::endpoints;

@@ -1,5 +1,5 @@
 // What a run must be lent besides its table and its list: space for the answers, and one word a domain for the holders.
-use cutting::count;
+use calls::split::count;
 use table_layout::domains;
 ghost use mathlib.Core.Path.{_≡_};
 ghost use mathlib.Core.Bool.{not};

@@ -9,14 +9,14 @@ use native.Mathlib.Omega.{arith}
 use borrow.Author.Tests.{lt-ltb, le-ltb}
 use lib.ListN.{length, drop}
 use Rattle.machine.proofs.Bools.{either}
-use Rattle.mended.specs.Mend.{mended, mendable}
-use Rattle.repaired.specs.Changes.{differing, changes}
-use Rattle.repaired.specs.Repair.{altered, alteredCount, repairCode, refusal, repaired, repair, RepairPromise}
+use Rattle.repair_theory.specs.Mend.{mended, mendable}
+use Rattle.repair_theory.specs.Changes.{differing, changes}
+use Rattle.repair_theory.specs.Repair.{altered, alteredCount, repairCode, refusal, repaired, repair, RepairPromise}
 use Rattle.repair.specs.Answer.{repairedCode}
 use Rattle.repair.specs.declared.Repaired.{Repaired}
 use Rattle.repair.specs.declared.Repaired.the-variants.{Done, BadFrame, ListTooShort}
-use Rattle.repaired.proofs.Outcomes.{altered-length, altered-few, mendable-small}
-pub use Rattle.repaired.proofs.Outcomes.{count-small}
+use Rattle.repair_theory.proofs.Outcomes.{altered-length, altered-few, mendable-small}
+pub use Rattle.repair_theory.proofs.Outcomes.{count-small}
 
 module _ (t list : List ℕ) where
   pub bad-frame : mendable t ≡ false → RepairPromise t list 33 0 t list

@@ -10,8 +10,8 @@ use borrow.Author.Tests.{eq-eqb, ne-eqb}
 use lib.ListN.{length, getD, take, drop, set, length-append, length-set}
 use lib.Seq.{take-length, drop-length, take-at, drop-at, drop-drop, drop-cons, getD-at, set-getD, set-at, sets-eq, take-suc, append-snoc, length-take-le}
 use Rattle.machine.specs.Below.{numbersBelow}
-use Rattle.repaired.specs.Changes.{differing, pairs, changes}
-use Rattle.repaired.proofs.Changes.{differsAt, lists-numbers, pairs-length, pairs-append}
+use Rattle.repair_theory.specs.Changes.{differing, pairs, changes}
+use Rattle.repair_theory.proofs.Changes.{differsAt, lists-numbers, pairs-length, pairs-append}
 
 -- ---- a word more is looked at
 

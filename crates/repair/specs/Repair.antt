@@ -1,2 +1,2 @@
 -- For callers: what is promised of a repair.
-pub use Rattle.repaired.specs.Repair.{RepairPromise}
+pub use Rattle.repair_theory.specs.Repair.{RepairPromise}

@@ -1,16 +1,18 @@
 // The repair of a table from a worn card (document 02 (k)). The table is mended in a copy; where the check accepts that and the lent
 // list has room for what is altered, the words that differ go into the table, and two words for each into the list: its place and its
 // old content, from which the old table can be had back. A refusal alters nothing.
+pub mod mend;
+
+use crate::mend::mend;
 use machine::of_tables::LONGEST_TABLE;
-use mending::mend;
 use table_check::check;
 ghost use mathlib.Core.Path.{_≡_};
 ghost use mathlib.Core.List.{_++_};
 ghost use Prim.Native.Nat.{_≤_};
 ghost use lib.ListN.{length, drop};
-ghost use Rattle.mended.specs.Mend.{mended, mendable};
-ghost use Rattle.repaired.specs.Changes.{differing, changes};
-ghost use Rattle.repaired.specs.Repair.{RepairPromise};
+ghost use Rattle.repair_theory.specs.Mend.{mended, mendable};
+ghost use Rattle.repair_theory.specs.Changes.{differing, changes};
+ghost use Rattle.repair_theory.specs.Repair.{RepairPromise};
 ghost use Rattle.repair.specs.Answer.{repairedCode, repairedCount};
 
 // What a repair came to.

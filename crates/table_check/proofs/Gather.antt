@@ -15,7 +15,7 @@ use Rattle.machine.specs.Queue.{name}
 use Rattle.machine.specs.Check.{endpointOk, nameNew, endpointsOk}
 use Rattle.machine.proofs.Below.{all-same, all-fails}
 use Rattle.table_check.specs.Names.{newAt, allDifferent}
-use Rattle.endpoint_words.proofs.Scan.{Scanned, scan-end}
+use Rattle.table_words.proofs.Scan.{Scanned, scan-end}
 use Rattle.table_check.proofs.Fill.{Filled}
 
 and-swap : (a b c d : Bool) → ((a && b) && (c && d)) ≡ ((a && c) && (b && d))

@@ -1,12 +1,12 @@
 // The table check: it accepts or refuses a lent table, place by place.
 use crate::names::all_different;
-use endpoint_words::endpoint_ok;
 use machine::KIND;
 use machine::of_tables::ENDPOINT_PLACES;
 use machine::of_tables::ENDPOINT_WORDS;
 use rights::Rights;
-use words::header_word_ok;
-use words::rights_wrong;
+use table_words::endpoint::endpoint_ok;
+use table_words::header_word_ok;
+use table_words::rights_wrong;
 
 pub mod names;
 

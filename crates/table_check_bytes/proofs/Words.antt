@@ -10,7 +10,7 @@ use Rattle.machine.specs.Below.{allBelow}
 use Rattle.machine.specs.Word.{word}
 use Rattle.machine.specs.Check.{nameWordOk, infoWordOk, waitingWordOk, lostWordOk, slotWordOk, identityOk, endpointOk}
 use Rattle.machine.proofs.Below.{all-same}
-use Rattle.endpoint_words.proofs.Counted.{by-waiting}
+use Rattle.table_words.proofs.Counted.{by-waiting}
 
 -- the words of a part of twelve, by their place
 part-word : (t : List ℕ) (start k i : ℕ) → k < 12 → start + k ≡ i → getD (take 12 (drop start t)) k 0 ≡ getD t i 0

@@ -3,7 +3,7 @@ use crate::Tally;
 use crate::sums::add_each;
 use crate::sums::losses;
 use table_layout::endpoints;
-use totals_count::calls::count_calls;
+use totals_count::count_calls::count_calls;
 use totals_count::waiting::waiting_counts;
 ghost use Rattle.totals_add.specs.Counts.{Countable, CountsAdded};
 

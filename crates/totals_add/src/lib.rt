@@ -2,10 +2,10 @@
 mod counts;
 mod sums;
 
-use choosing::run_by_length;
 use counts::add_counts;
 use run_result::Ran;
 use totals_count::waiting::waiting_counts;
+use working::by_length::run_by_length;
 ghost use mathlib.Core.Path.{_≡_};
 ghost use Rattle.run_result.specs.Entry.{ranCode, ranCalls};
 ghost use Rattle.totals_add.specs.Added.{nothing, ListAdded};

@@ -20,8 +20,8 @@ use Rattle.machine.proofs.Table.{equal-either}
 use Rattle.machine.proofs.Decide.{kind-elim}
 use Rattle.machine.proofs.Cut.{cut-few}
 use Rattle.totals_theory.proofs.TotalsLaws.{done-few}
-use Rattle.cutting.specs.Cutting.{callOf, secondAt, widthOf}
-use Rattle.cutting.proofs.CutAt.{first-of, cut-at}
+use Rattle.calls.specs.Cutting.{callOf, secondAt, widthOf}
+use Rattle.calls.proofs.CutAt.{first-of, cut-at}
 
 -- the next call begins at place i of the list, its answer at place at of the answers
 pub record Counting (is : Kind → Bool) (list answers counts : List ℕ) (at i : ℕ) : Type 0 where

@@ -5,7 +5,7 @@ use Prim.Native.Nat.{ℕ}
 use Rattle.machine.specs.Below.{wordsBelow}
 use Rattle.machine.specs.Call.{cut}
 use Rattle.machine.specs.Counts.{sentTo, receivedFrom}
-use Rattle.totals_count.specs.declared.calls.Counted.{Counted}
+use Rattle.totals_count.specs.declared.count_calls.Counted.{Counted}
 
 pub record CallsCounted (list answers : List ℕ) (counted : Counted) : Type 0 where
   pub sentIs : counted .sent ≡ wordsBelow 256 (λ e. sentTo e (cut list) answers)

@@ -1,3 +1,3 @@
 // Counts over a list and a table, whatever their words: what calls were done at each endpoint, and what waits there.
-pub mod calls;
+pub mod count_calls;
 pub mod waiting;

@@ -13,12 +13,12 @@ use Rattle.machine.specs.Call.{cut}
 use Rattle.machine.specs.Entry.{holdersCode}
 use Rattle.kernel.specs.Step.{stepEntryCode}
 use Rattle.turns_theory.specs.Turns.{mostPending, isOneOf, turnCode}
-use Rattle.pending.specs.Pending.{blockLength, count, pendingIn, enqueuable}
-use Rattle.pending.proofs.Laws.{may-enqueue, pending-length}
-use Rattle.turn_state.specs.State.{stateLength, block, stateHandedIn}
+use Rattle.turns_state.specs.Pending.{blockLength, count, pendingIn, enqueuable}
+use Rattle.turns_state.proofs.Laws.{may-enqueue, pending-length}
+use Rattle.turns_state.specs.State.{stateLength, block, stateHandedIn}
 use Rattle.turns.specs.Told.{badTurns}
 use Rattle.turns.specs.Promise.{handsInCode, HandInPromise, turnsCode}
-use Rattle.turn_state.proofs.Blocks.{block-length}
+use Rattle.turns_state.proofs.Blocks.{block-length}
 
 -- ---- handing in
 

@@ -4,8 +4,8 @@ use Rattle.machine.specs.Below.{wordsBelow, bitsBelow}
 use Rattle.machine.specs.Holders.{holdersOf}
 use Rattle.machine.proofs.Everything.{everything}
 use Rattle.turns_theory.specs.Turns as order
-use Rattle.pending.specs.Pending as pending
-use Rattle.turn_state.specs.State as state
+use Rattle.turns_state.specs.Pending as pending
+use Rattle.turns_state.specs.State as state
 use Rattle.turns.specs.Promise.{handsInCode, turnsCode, servedBy, spaceAfter}
 use Rattle.turns.specs.Examples.{EveryRow, handInRows, turnRows}
 

@@ -3,3 +3,5 @@ pub mod Codes
 pub mod Serves
 pub mod Outcomes
 pub mod Examples
+pub mod Claims
+pub mod Happened

@@ -15,15 +15,15 @@ use Rattle.run_result.specs.declared.EntryRefusal.{EntryRefusal}
 use Rattle.run_result.proofs.Refusals.{entry-refusal-code}
 use Rattle.answers.specs.declared.Answer.{Answer}
 use Rattle.answers.specs.Answer.{answerWords}
-use Rattle.cutting.specs.Cutting.{widthOf}
+use Rattle.calls.specs.Cutting.{widthOf}
 use Rattle.kernel.specs.Step.{stepEntryCode, StepPromise}
 use Rattle.kernel.specs.declared.Stepped.the-variants.{Refused, Answered}
 use Rattle.turns_theory.specs.Turns.{tableAfter, holdersAfter, Turn.idle}
 use Rattle.turns_theory.proofs.Pending.{turn-idle}
-use Rattle.pending.specs.Pending.{secondOfOldest}
-use Rattle.turn_state.specs.State.{block, turnsIn, turnIn, stateAfter, removedFrom, nextToServe}
-use Rattle.turn_state.proofs.Next.{next-none, next-waiting}
-use Rattle.turn_state.proofs.Oldest.{oldest-call, oldest-turn, oldest-left}
+use Rattle.turns_state.specs.Pending.{secondOfOldest}
+use Rattle.turns_state.specs.State.{block, turnsIn, turnIn, stateAfter, removedFrom, nextToServe}
+use Rattle.turns_state.proofs.Next.{next-none, next-waiting}
+use Rattle.turns_state.proofs.Oldest.{oldest-call, oldest-turn, oldest-left}
 use Rattle.turns.specs.Promise.{turnsCode, servedBy, spaceAfter, TurnPromise, MayServe}
 use Rattle.turns.proofs.Codes.{turn-step, turns-turn, turns-let}
 

@@ -2,3 +2,5 @@
 pub mod Told
 pub mod Promise
 pub mod Examples
+pub mod Claims
+pub mod Happened

@@ -11,8 +11,8 @@ use Rattle.machine.specs.Check.{tableCode}
 use Rattle.machine.specs.Call.{cut}
 use Rattle.machine.specs.Machine.{answer}
 use Rattle.turns_theory.specs.Turns.{Turn, mostPending, isOneOf, firstWaiting, turnCode, tableAfter, holdersAfter, Turn.idle, Turn.serves}
-use Rattle.pending.specs.Pending.{pendingIn}
-use Rattle.turn_state.specs.State.{stateLength, block, turnsIn, turnIn, stateHandedIn, stateAfter}
+use Rattle.turns_state.specs.Pending.{pendingIn}
+use Rattle.turns_state.specs.State.{stateLength, block, turnsIn, turnIn, stateHandedIn, stateAfter}
 use Rattle.turns.specs.Told.{badTurns}
 
 -- ---- handing in

@@ -9,8 +9,8 @@ use Rattle.machine.specs.Machine.{Decision}
 use Rattle.machine.specs.SameParts.{SameFrame}
 use Rattle.machine.proofs.Frame.{frame-refl, frame-trans}
 use Rattle.machine.proofs.Step.{stays-accepted}
-use Rattle.cutting.specs.Cutting.{callOf, secondAt, widthOf}
-use Rattle.cutting.specs.declared.Second.{Second}
+use Rattle.calls.specs.Cutting.{callOf, secondAt, widthOf}
+use Rattle.calls.specs.declared.split.Second.{Second}
 use Rattle.calls.specs.Apart.{apart}
 use Rattle.holders.specs.Noted.{holdersAfter}
 use Rattle.kernel.specs.Step as kernel

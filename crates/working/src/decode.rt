@@ -10,7 +10,7 @@ use calls::kinds::receive;
 use calls::kinds::remove;
 use calls::kinds::revoke;
 use calls::kinds::send;
-use cutting::Second;
+use calls::split::Second;
 use machine::KIND;
 use machine::of_calls::CALLER;
 use machine::of_calls::GRANT;

@@ -1,6 +1,7 @@
 // The run of a list on a working layout: the lent table is taken in once, after the entry's checks, and put out once, at the end.
 // In between no word of it is read or written: the calls run on the rights as rows, the queues as rings, the names and the
 // endpoints owned.
+pub mod by_length;
 mod decode;
 mod list;
 mod serve;

@@ -1,8 +1,8 @@
 // The calls of a list one after the other, on a working state.
 use crate::serve::serve;
 use answers::given::put;
-use cutting::second_at;
-use cutting::width;
+use calls::split::second_at;
+use calls::split::width;
 ghost use mathlib.Core.Path.{_≡_};
 ghost use mathlib.Core.List.{List};
 ghost use Prim.Native.Nat.{ℕ, _*_, _≤_};

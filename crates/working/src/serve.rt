@@ -4,7 +4,7 @@ use crate::decode::take_apart;
 use answers::Answer;
 use answers::given::refuse;
 use calls::Call;
-use cutting::Second;
+use calls::split::Second;
 use working_endpoint_calls::look_up;
 use working_endpoint_calls::my_endpoints;
 use working_endpoint_calls::receive;

@@ -28,9 +28,9 @@ use Rattle.machine.proofs.Right.{adds-within, without-le}
 use Rattle.machine.proofs.Step.{rights-held, stays-accepted}
 use Rattle.machine.proofs.Table as table
 use Rattle.machine.proofs.Table.{Sized, endpoint-length}
-use Rattle.cutting.specs.Cutting.{callOf}
-use Rattle.cutting.specs.declared.Second.{Second}
-use Rattle.cutting.specs.declared.Second.the-variants.{Nothing, Word}
+use Rattle.calls.specs.Cutting.{callOf}
+use Rattle.calls.specs.declared.split.Second.{Second}
+use Rattle.calls.specs.declared.split.Second.the-variants.{Nothing, Word}
 use Rattle.answers.proofs.Digits.{digits-below}
 use Rattle.holders.specs.Noted.{noted, holdersAfter}
 use Rattle.holders.proofs.Kept.{holders-kept}

@@ -19,8 +19,8 @@ use Rattle.machine.specs.Machine.{named, decide}
 use Rattle.machine.proofs.Accepted.{accepted-counts, accepted-owner, accepted-name}
 use Rattle.machine.proofs.Below.{first-same, all-at}
 use Rattle.machine.proofs.Bools.{and-left, and-right, cond-elim}
-use Rattle.cutting.specs.Cutting.{callOf}
-use Rattle.cutting.specs.declared.Second.{Second}
+use Rattle.calls.specs.Cutting.{callOf}
+use Rattle.calls.specs.declared.split.Second.{Second}
 use Rattle.calls.specs.Apart.{apart}
 use Rattle.calls.proofs.Decide.{decided}
 use Rattle.rules.specs.Access.{decidedBy}

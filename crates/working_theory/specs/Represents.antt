@@ -9,8 +9,8 @@ use Rattle.machine.specs.Queue.{name}
 use Rattle.machine.specs.Check.{Accepted}
 use Rattle.machine.specs.Machine.{ownedBits, decide, step, answer}
 use Rattle.machine.specs.Holders.{holdersOf}
-use Rattle.cutting.specs.Cutting.{callOf}
-use Rattle.cutting.specs.declared.Second.{Second}
+use Rattle.calls.specs.Cutting.{callOf}
+use Rattle.calls.specs.declared.split.Second.{Second}
 use Rattle.calls.specs.Apart.{apart}
 use Rattle.rules.specs.Access.{decidedBy}
 use Rattle.holders.specs.Noted.{holdersAfter}

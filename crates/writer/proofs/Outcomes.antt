@@ -15,14 +15,14 @@ use lib.Seq.{take-all}
 use Rattle.machine.specs.Entry.{longestList}
 use Rattle.machine.proofs.Bools.{or-none-right}
 use Rattle.calls.specs.declared.Call.{Call}
-use Rattle.written_calls.specs.Words.{allFit, written}
+use Rattle.writer_theory.specs.Words.{allFit, written}
 use Rattle.writer.specs.declared.Written.{Written}
 use Rattle.writer.specs.declared.Written.the-variants.{Done, BadCall, TooLong}
 use Rattle.writer.specs.declared.Measured.the-variants.{Words, Unfit}
-use Rattle.written_lists.specs.Write.{firstUnfit, tooLong, wordsPut, writing, WritePromise}
+use Rattle.writer_theory.specs.Write.{firstUnfit, tooLong, wordsPut, writing, WritePromise}
 use Rattle.writer.specs.Answer.{writtenCode}
 use Rattle.writer.specs.FirstPass.{found, measured}
-use Rattle.written_lists.proofs.Claims.{none-unfit}
+use Rattle.writer_theory.proofs.ListClaims.{none-unfit}
 
 -- an array of 4,096 calls holds the first count of them, or all of them
 pub held-calls : (calls : List Call) (count : ℕ) → length calls ≡ 4096 → take (min count 4096) calls ≡ take count calls

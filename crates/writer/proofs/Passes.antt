@@ -10,11 +10,11 @@ use lib.ListN.{length, getD, take, drop, length-append, drop-of-length-le}
 use lib.Seq.{drop-cons, getD-take, length-take-le, take-at, drop-at, drop-drop}
 use Rattle.machine.proofs.Bools.{and-left, and-right}
 use Rattle.calls.specs.declared.Call.{Call}
-use Rattle.written_calls.specs.Words.{fits, wordsOf, allFit, written}
+use Rattle.writer_theory.specs.Words.{fits, wordsOf, allFit, written}
 use Rattle.call_encode.specs.Put.{putAt}
 use Rattle.call_encode.proofs.Putting.{put-there}
 use Rattle.writer.specs.declared.Measured.the-variants.{Words, Unfit}
-use Rattle.written_lists.specs.Write.{unfitFrom, firstUnfit}
+use Rattle.writer_theory.specs.Write.{unfitFrom, firstUnfit}
 use Rattle.writer.specs.FirstPass.{found, measured}
 
 -- the call at place i of the first n of some calls, and those behind it

@@ -4,10 +4,10 @@ use mathlib.Core.List.{List}
 use mathlib.Core.Option.{Option, none, some}
 use lib.ListN.{length}
 use Rattle.calls.specs.declared.Call.{Call}
-use Rattle.written_calls.specs.Words.{written}
+use Rattle.writer_theory.specs.Words.{written}
 use Rattle.writer.specs.declared.Measured.{Measured}
 use Rattle.writer.specs.declared.Measured.the-variants.{Words, Unfit}
-use Rattle.written_lists.specs.Write.{firstUnfit}
+use Rattle.writer_theory.specs.Write.{firstUnfit}
 
 -- the first call that can't be written, or how many words the calls want
 abbrev pub found : Option ℕ → ℕ → Measured

@@ -1,6 +1,8 @@
 // The writer of call lists (document 02, (c)): calls as values go in and words come out, those that the reader takes past 10,
 // 11, 13 and 14. It is lent no table. Two passes: the first finds a call that can't be written and counts the words, and only
 // then are words written.
+pub mod rows;
+
 use call_encode::fits;
 use call_encode::put;
 use call_encode::width;
@@ -11,8 +13,8 @@ ghost use mathlib.Core.Bool.{true};
 ghost use mathlib.Core.List.{_++_};
 ghost use Prim.Native.Nat.{_≤_, min};
 ghost use lib.ListN.{length, take, drop};
-ghost use Rattle.written_calls.specs.Words.{allFit, written};
-ghost use Rattle.written_lists.specs.Write.{tooLong, WritePromise};
+ghost use Rattle.writer_theory.specs.Words.{allFit, written};
+ghost use Rattle.writer_theory.specs.Write.{tooLong, WritePromise};
 ghost use Rattle.writer.specs.Answer.{writtenCode, writtenNumber};
 ghost use Rattle.writer.specs.FirstPass.{measured};
 

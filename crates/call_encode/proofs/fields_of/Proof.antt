@@ -1,7 +1,7 @@
 -- `fields_of` meets its contract: each arm is one case of `fieldsOf`.
 -- Assumes nothing.
 use mathlib.Core.Path.{_∙_, sym, ap}
-use Rattle.written_calls.specs.Words.{fieldsOf}
+use Rattle.writer_theory.specs.Words.{fieldsOf}
 use Rattle.call_encode.proofs.fields_of.Statement.{statement}
 use Rattle.call_encode.proofs.fields_of.Tie as tie
 

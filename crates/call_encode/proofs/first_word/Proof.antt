@@ -1,8 +1,8 @@
 -- `first_word` meets its contract: fields within their bits make a word of 32 bits. Assumes nothing.
 use mathlib.Core.Path.{refl}
 use native.Mathlib.Omega.{arith}
-use Rattle.written_calls.specs.Words.{firstWord}
-use Rattle.written_calls.proofs.FieldWords.{Bounds, bounds}
+use Rattle.writer_theory.specs.Words.{firstWord}
+use Rattle.writer_theory.proofs.FieldWords.{Bounds, bounds}
 use Rattle.call_encode.proofs.first_word.Statement.{statement}
 use Rattle.call_encode.proofs.first_word.Tie as tie
 

@@ -1,7 +1,7 @@
 -- `fits` meets its contract: its fields are within their bits. Assumes nothing.
 use mathlib.Core.Path.{_∙_, ap}
 use borrow.Author.Needs.{needs}
-use Rattle.written_calls.specs.Words.{fits, withinBits}
+use Rattle.writer_theory.specs.Words.{fits, withinBits}
 use Rattle.call_encode.proofs.fits.Statement.{statement}
 use Rattle.call_encode.proofs.fits.Tie as tie
 

@@ -7,8 +7,8 @@ use borrow.Author.Needs.{needs}
 use borrow.Author.Tests.{not-true, not-false}
 use denote.Ref.{now}
 use lib.ListN.{length}
-use Rattle.written_calls.specs.declared.Fields.{Fields}
-use Rattle.written_calls.specs.Words.{fits, wordsOf, withinBits, fieldWords}
+use Rattle.writer_theory.specs.declared.Fields.{Fields}
+use Rattle.writer_theory.specs.Words.{fits, wordsOf, withinBits, fieldWords}
 use Rattle.call_encode.specs.Put.{pasted}
 use Rattle.call_encode.proofs.Putting.{kind-small, put-unfit, put-past, put-there}
 use Rattle.call_encode.proofs.put.Statement.{statement}

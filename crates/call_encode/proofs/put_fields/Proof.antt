@@ -8,9 +8,9 @@ use lib.ListN.{length, length-set}
 use denote.Ref.{now}
 use Rattle.machine.specs.Word.{word}
 use Rattle.machine.specs.Call.{wantsSecond}
-use Rattle.written_calls.specs.Words.{firstWord, fieldWords}
+use Rattle.writer_theory.specs.Words.{firstWord, fieldWords}
 use Rattle.call_encode.specs.Put.{pasted}
-use Rattle.written_calls.proofs.FieldWords.{bounds, width-of}
+use Rattle.writer_theory.proofs.FieldWords.{bounds, width-of}
 use Rattle.call_encode.proofs.Putting.{one-set, two-sets}
 use Rattle.call_encode.proofs.put_fields.Statement.{statement}
 use Rattle.call_encode.proofs.put_fields.Tie as tie

@@ -2,9 +2,9 @@
 use mathlib.Core.Path.{_≡_, _∙_, sym, ap}
 use mathlib.Core.Bool.{Bool, cond}
 use lib.ListN.{length}
-use Rattle.written_calls.specs.Words.{wordsOf, fieldWords}
-use Rattle.written_calls.specs.declared.Fields.{Fields}
-use Rattle.written_calls.proofs.FieldWords.{width-of}
+use Rattle.writer_theory.specs.Words.{wordsOf, fieldWords}
+use Rattle.writer_theory.specs.declared.Fields.{Fields}
+use Rattle.writer_theory.proofs.FieldWords.{width-of}
 use Rattle.call_encode.proofs.width.Statement.{statement}
 use Rattle.call_encode.proofs.width.Tie as tie
 

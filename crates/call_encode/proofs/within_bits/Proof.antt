@@ -1,6 +1,6 @@
 -- `within_bits` is the definition of the same name. Assumes nothing.
 use mathlib.Core.Path.{refl}
-use Rattle.written_calls.specs.Words.{withinBits}
+use Rattle.writer_theory.specs.Words.{withinBits}
 use Rattle.call_encode.proofs.within_bits.Statement.{statement}
 use Rattle.call_encode.proofs.within_bits.Tie as tie
 

@@ -5,8 +5,8 @@ use native.Mathlib.Omega.{arith}
 use lib.Dec.{eqb}
 use lib.ListN.{length}
 use Rattle.machine.specs.Check.{tableCode}
-use Rattle.mended.specs.Mend.{mended}
-use Rattle.mended.proofs.Claims.{accepted-exactly}
+use Rattle.repair_theory.specs.Mend.{mended}
+use Rattle.repair_theory.proofs.Claims.{accepted-exactly}
 use Rattle.repair.proofs.Passes.{Copied, copied-start, copied-next, copied-end}
 use Rattle.repair.proofs.mend_copy.Statement.{statement}
 use Rattle.repair.proofs.mend_copy.Tie as tie

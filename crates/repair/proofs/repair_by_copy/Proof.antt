@@ -5,8 +5,8 @@ use native.Mathlib.Omega.{arith}
 use borrow.Author.Tests.{not-true, not-false}
 use denote.Ref.{now}
 use lib.ListN.{length}
-use Rattle.mended.specs.Mend.{mended, mendable}
-use Rattle.mended.proofs.Mended.{mended-length}
+use Rattle.repair_theory.specs.Mend.{mended, mendable}
+use Rattle.repair_theory.proofs.Mended.{mended-length}
 use Rattle.repair.proofs.Outcomes.{bad-frame, count-fits, list-too-short, room, done}
 use Rattle.repair.proofs.repair_by_copy.Statement.{statement}
 use Rattle.repair.proofs.repair_by_copy.Tie as tie

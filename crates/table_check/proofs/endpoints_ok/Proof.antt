@@ -13,7 +13,7 @@ use Rattle.machine.specs.Table.{domains, endpoints}
 use Rattle.machine.specs.Check.{endpointOk}
 use Rattle.table_check.proofs.Places.{headed-most, headed-size}
 use Rattle.table_check.proofs.Bounds.{count-fits, from-fits, words-fit, start-fits, end-fits, bytes-fit, start-within, end-within, name-fits, next-fits}
-use Rattle.endpoint_words.proofs.Scan.{scan-start, scan-next}
+use Rattle.table_words.proofs.Scan.{scan-start, scan-next}
 use Rattle.table_check.proofs.Fill.{fill-start, fill-next}
 use Rattle.table_check.proofs.Gather.{Gathered, part, part-name, names-decide, wrong-decides}
 use Rattle.table_check.proofs.endpoints_ok.Statement.{statement}

@@ -7,10 +7,10 @@ use lib.ListN.{getD, length}
 use Rattle.machine.specs.Right.{allRights}
 use Rattle.machine.specs.Table.{domains}
 use Rattle.machine.specs.Check.{rightsWordOk, rightsOk}
-use Rattle.words.proofs.Wrong.{rights-gathered}
+use Rattle.table_words.proofs.Wrong.{rights-gathered}
 use Rattle.table_check.proofs.Places.{headed-size, headed-rights}
 use Rattle.table_check.proofs.Bounds.{count-fits, rights-fits, rights-bytes-fit, rights-next-fits, rights-within}
-use Rattle.endpoint_words.proofs.Scan.{Scanned, scan-start, scan-next, scan-end}
+use Rattle.table_words.proofs.Scan.{Scanned, scan-start, scan-next, scan-end}
 use Rattle.table_check.proofs.rights_ok.Statement.{statement}
 use Rattle.table_check.proofs.rights_ok.Tie as tie
 

@@ -9,7 +9,7 @@ use borrow.Author.Count.{falls}
 use borrow.Author.Tests.{not-true, not-false}
 use Rattle.machine.specs.Check.{endpointOk}
 use Rattle.table_check.proofs.Bounds.{count-fits, from-fits, words-fit, start-fits, name-fits, next-fits}
-use Rattle.endpoint_words.proofs.Scan.{scan-start, scan-next}
+use Rattle.table_words.proofs.Scan.{scan-start, scan-next}
 use Rattle.table_check.proofs.Fill.{fill-start, fill-next}
 use Rattle.table_check.proofs.Gather.{Gathered, names-decide, wrong-decides}
 use Rattle.input_words.specs.Bytes.{wordsOf}

@@ -9,9 +9,9 @@ use lib.ListN.{getD, length}
 use Rattle.machine.specs.Right.{allRights}
 use Rattle.machine.specs.Table.{domains}
 use Rattle.machine.specs.Check.{rightsWordOk, rightsOk}
-use Rattle.words.proofs.Wrong.{rights-gathered}
+use Rattle.table_words.proofs.Wrong.{rights-gathered}
 use Rattle.table_check.proofs.Bounds.{count-fits, rights-fits, rights-next-fits}
-use Rattle.endpoint_words.proofs.Scan.{Scanned, scan-start, scan-next, scan-end}
+use Rattle.table_words.proofs.Scan.{Scanned, scan-start, scan-next, scan-end}
 use Rattle.input_words.specs.Bytes.{wordsOf}
 use Rattle.table_check_bytes.proofs.Places.{header-four, fitting-counted}
 use Rattle.table_check_bytes.proofs.rights_ok.Statement.{statement}

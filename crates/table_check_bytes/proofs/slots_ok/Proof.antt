@@ -7,8 +7,8 @@ use lib.Dec.{eqb}
 use lib.ListN.{getD}
 use Rattle.machine.specs.Word.{word}
 use Rattle.machine.specs.Check.{slotWordOk}
-use Rattle.words.proofs.Wrong.{none-gathered}
-use Rattle.endpoint_words.proofs.Scan.{Scanned, scan-start, scan-next, scan-end}
+use Rattle.table_words.proofs.Wrong.{none-gathered}
+use Rattle.table_words.proofs.Scan.{Scanned, scan-start, scan-next, scan-end}
 use Rattle.input_words.specs.Bytes.{wordsOf}
 use Rattle.table_check_bytes.proofs.slots_ok.Statement.{statement}
 use Rattle.table_check_bytes.proofs.slots_ok.Tie as tie

@@ -12,8 +12,8 @@ use Rattle.machine.specs.Call.{cut}
 use Rattle.table_check.specs.Checked.{checkedCode}
 use Rattle.table_check.proofs.Refusals.{refusal-code}
 use Rattle.turns_theory.specs.Turns.{isOneOf}
-use Rattle.turn_state.specs.State.{stateLength}
-use Rattle.turn_state.proofs.Blocks.{added-none, added-there}
+use Rattle.turns_state.specs.State.{stateLength}
+use Rattle.turns_state.proofs.Blocks.{added-none, added-there}
 use Rattle.turns.proofs.Codes.{hands-table, hands-domain, hands-call, hands-size, hands-room, hands-fine, hand-in-refused, hand-in-done}
 use Rattle.turns.proofs.hand_in.Statement.{statement}
 use Rattle.turns.proofs.hand_in.Tie as tie

@@ -3,7 +3,7 @@ use mathlib.Core.Path.{sym, _∙_}
 use borrow.Author.Needs.{needs}
 use lib.ListN.{length}
 use denote.Ref.{now}
-use Rattle.turn_state.proofs.Next.{next-may}
+use Rattle.turns_state.proofs.Next.{next-may}
 use Rattle.turns.proofs.Serves.{served-nobody}
 use Rattle.turns.proofs.turn.Statement.{statement}
 use Rattle.turns.proofs.turn.Tie as tie

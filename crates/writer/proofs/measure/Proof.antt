@@ -7,7 +7,7 @@ use borrow.Author.Tests.{not-true, not-false}
 use lib.ListN.{length, getD, take, drop}
 use lib.Seq.{length-take-le}
 use Rattle.calls.specs.declared.Call.{Call}
-use Rattle.written_calls.proofs.FieldWords.{one-or-two}
+use Rattle.writer_theory.proofs.FieldWords.{one-or-two}
 use Rattle.writer.proofs.Passes.{front-of, Measuring, measuring-start, measured-unfit, measuring-next, measured-all}
 use Rattle.writer.proofs.measure.Statement.{statement}
 use Rattle.writer.proofs.measure.Tie as tie

@@ -1,6 +1,6 @@
 -- `too_long` is the definition of the same name. Assumes nothing.
 use mathlib.Core.Path.{refl}
-use Rattle.written_lists.specs.Write.{tooLong}
+use Rattle.writer_theory.specs.Write.{tooLong}
 use Rattle.writer.proofs.too_long.Statement.{statement}
 use Rattle.writer.proofs.too_long.Tie as tie
 

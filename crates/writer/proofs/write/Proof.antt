@@ -8,7 +8,7 @@ use borrow.Author.Needs.{needs}
 use denote.Ref.{now}
 use lib.ListN.{length, take}
 use Rattle.writer.specs.declared.Measured.the-variants.{Words}
-use Rattle.written_lists.specs.Write.{tooLong}
+use Rattle.writer_theory.specs.Write.{tooLong}
 use Rattle.writer.specs.FirstPass.{measured}
 use Rattle.writer.proofs.Outcomes.{held-calls, unfit, all-fit, too-long, room, done}
 use Rattle.writer.proofs.write.Statement.{statement}

@@ -6,7 +6,7 @@ use lib.ListN.{length}
 use borrow.Author.Needs.{needs}
 use Rattle.machine.proofs.Cut.{cut-few}
 use Rattle.holders.proofs.Filled.{filled-accepted}
-use Rattle.cutting.proofs.CutAt.{wide}
+use Rattle.calls.proofs.CutAt.{wide}
 use Rattle.answers.proofs.Space.{lent-back}
 use Rattle.kernel.proofs.Underway.{underway-start, room, underway-end}
 use Rattle.kernel.proofs.Settled.{OnItsWay, way-next}

@@ -8,7 +8,7 @@ use lib.Dec.{eqb}
 use lib.ListN.{getD}
 use Rattle.machine.proofs.Below.{all-fails}
 use Rattle.table_check.specs.Names.{newAt}
-use Rattle.endpoint_words.proofs.Scan.{Scanned, scan-start, scan-next, scan-end}
+use Rattle.table_words.proofs.Scan.{Scanned, scan-start, scan-next, scan-end}
 use Rattle.table_check.proofs.names.is_new.Statement.{statement}
 use Rattle.table_check.proofs.names.is_new.Tie as tie
 

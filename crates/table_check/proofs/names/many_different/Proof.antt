@@ -7,7 +7,7 @@ use borrow.Author.Tests.{not-true, not-false}
 use lib.ListN.{length}
 use Rattle.machine.proofs.Below.{all-fails}
 use Rattle.table_check.specs.Names.{newAt, allDifferent, Flagged}
-use Rattle.endpoint_words.proofs.Scan.{Scanned, scan-start, scan-next, scan-end}
+use Rattle.table_words.proofs.Scan.{Scanned, scan-start, scan-next, scan-end}
 use Rattle.table_check.proofs.Flags.{flag-below, flag-start, flag-next}
 use Rattle.table_check.proofs.names.many_different.Statement.{statement}
 use Rattle.table_check.proofs.names.many_different.Tie as tie

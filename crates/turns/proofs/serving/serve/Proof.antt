@@ -3,11 +3,11 @@ use mathlib.Core.Path.{_≡_, ap, ap₂, subst₂, _∙_}
 use borrow.Author.Needs.{needs}
 use denote.Ref.{now}
 use Rattle.machine.specs.Call.{Call}
-use Rattle.cutting.specs.Cutting.{callOf, widthOf}
+use Rattle.calls.specs.Cutting.{callOf, widthOf}
 use Rattle.answers.proofs.Space.{put-whole}
 use Rattle.kernel.specs.Step.{StepPromise}
 use Rattle.kernel.specs.declared.Stepped.{Stepped}
-use Rattle.turn_state.proofs.Oldest.{oldest-call}
+use Rattle.turns_state.proofs.Oldest.{oldest-call}
 use Rattle.turns.proofs.Serves.{serve-refused, serve-answered}
 use Rattle.turns.proofs.serving.serve.Statement.{statement}
 use Rattle.turns.proofs.serving.serve.Tie as tie

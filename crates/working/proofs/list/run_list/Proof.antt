@@ -6,7 +6,7 @@ use native.Mathlib.Omega.{arith}
 use lib.ListN.{length}
 use borrow.Author.Needs.{needs}
 use Rattle.machine.proofs.Cut.{cut-few}
-use Rattle.cutting.proofs.CutAt.{wide}
+use Rattle.calls.proofs.CutAt.{wide}
 use Rattle.answers.proofs.Space.{lent-back}
 use Rattle.kernel.proofs.Underway.{room}
 use Rattle.working.specs.Run.{StandsFor}

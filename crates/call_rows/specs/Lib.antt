@@ -1,2 +1,0 @@
--- For callers, what is promised of rows.
-pub mod Rows

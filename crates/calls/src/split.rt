@@ -1,0 +1,86 @@
+// The cutting of a list into calls. It looks at kinds only, so it can't depend on a table: no function here is lent one.
+use machine::KIND;
+use machine::of_calls::LOOK_UP;
+use machine::of_calls::SECOND;
+use machine::of_calls::SEND;
+ghost use mathlib.Core.Path.{_≡_};
+ghost use mathlib.Core.Bool.{cond};
+ghost use lib.ListN.{length};
+ghost use Rattle.machine.specs.Call.{wantsSecond, pairs, cut};
+ghost use Rattle.calls.specs.Cutting.{secondAt, widthOf};
+
+// A call's second word, if it has one.
+pub enum Second {
+    Nothing,
+    Word(u32),
+}
+
+// Kinds 1 and 2 want a second word.
+fn wants_second(kind: u32) -> bool
+    ensures { λ r. ⌜ r ≡ wantsSecond kind ⌝ }
+{
+    kind == LOOK_UP || kind == SEND
+}
+
+// The words first and next, one directly after the other, make one call of both.
+pub fn make_one_call(first: u32, next: u32) -> bool
+    ensures { λ r. ⌜ r ≡ pairs first next ⌝ }
+{
+    let kind = next / KIND;
+    if kind == SECOND {
+        wants_second(first / KIND)
+    } else {
+        false
+    }
+}
+
+// How many calls the word begins that stands behind the word before: one, or none where the two make one call.
+fn begun(before: u32, word: u32) -> usize
+    ensures { λ r. ⌜ r ≡ cond (pairs before word) 0 1 ⌝ }
+{
+    if make_one_call(before, word) { 0 } else { 1 }
+}
+
+// How many calls a list has: every word begins one, but for a word that makes one call with the word before it.
+pub fn count(list: &[u32]) -> usize
+    ensures { λ r. ⌜ r ≡ length (cut (now (list .entry))) ⌝ }
+{
+    let mut calls: usize = 0;
+    let mut before: u32 = 0;
+    let mut i: usize = 0;
+    while i < list.len() {
+        let word = list[i];
+        calls += begun(before, word);
+        before = word;
+        i += 1;
+    }
+    calls
+}
+
+// The second word of the call that begins at place i of a list, if it has one; nothing behind the list's end.
+pub fn second_at(list: &[u32], i: usize) -> Second
+    ensures { λ r. ⌜ r ≡ secondAt (now (list .entry)) i ⌝ }
+{
+    if list.len() <= i {
+        return Second::Nothing;
+    }
+    if list.len() - i == 1 {
+        return Second::Nothing;
+    }
+    let next = list[i + 1];
+    if make_one_call(list[i], next) {
+        Second::Word(next)
+    } else {
+        Second::Nothing
+    }
+}
+
+// How many words a call is.
+pub fn width(second: Second) -> usize
+    ensures { λ r. ⌜ r ≡ widthOf second ⌝ }
+{
+    match second {
+        Second::Nothing => 1,
+        Second::Word(_) => 2,
+    }
+}

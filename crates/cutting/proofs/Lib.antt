@@ -1,3 +1,0 @@
--- What is proved of the cutting.
-pub mod Counted
-pub mod CutAt

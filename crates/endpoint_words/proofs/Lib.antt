@@ -1,4 +1,0 @@
--- Laws that the proofs of several functions cite.
-pub mod Scan
-pub mod Short
-pub mod Counted

@@ -1,4 +1,0 @@
--- The claims about mending hold, and laws of it that the proofs of functions cite.
-pub mod Places
-pub mod Mended
-pub mod Claims

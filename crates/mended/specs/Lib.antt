@@ -1,3 +1,0 @@
--- What becomes of a table's words when it is mended, and what is claimed of it.
-pub mod Mend
-pub mod Claims

@@ -1,2 +1,0 @@
--- What the passes over a table's words leave.
-pub mod Passes

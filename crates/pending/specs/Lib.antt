@@ -1,3 +1,0 @@
--- What the contracts of a domain's pending words cite, and rows that pin it.
-pub mod Pending
-pub mod Examples

@@ -1,2 +1,0 @@
--- What the exported send and receive promise.
-pub mod Exported

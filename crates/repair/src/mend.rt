@@ -1,0 +1,87 @@
+// A table's broken words put right in place, without ever adding a right (document 02 (k)): a broken rights word becomes one with no
+// right, and the queue of an endpoint with a broken waiting, lost or slot word is emptied. Any words will do as a table.
+use machine::of_tables::EMPTY_SLOT;
+use machine::of_tables::ENDPOINT_WORDS;
+use machine::of_tables::NO_RIGHT;
+use machine::of_tables::NONE_LOST;
+use machine::of_tables::NONE_WAITING;
+use machine::of_tables::SLOT_PLACES;
+use table_check::check;
+use table_words::endpoint::queue_ok;
+use table_words::rights_word_ok;
+ghost use mathlib.Core.Path.{_≡_};
+ghost use Prim.Native.Nat.{_*_};
+ghost use lib.ListN.{length};
+ghost use Rattle.machine.specs.Table.{domains, endpoints};
+ghost use Rattle.table_check.specs.Checked.{Headed};
+ghost use Rattle.repair_theory.specs.Mend.{mendedRights, mendedEndpoint, mended};
+ghost use Rattle.repair.specs.Passes.{RightsMended, EndpointsMended};
+
+// What becomes of a rights word.
+fn mended_rights(word: u32) -> u32
+    ensures { λ r. ⌜ r ≡ mendedRights word ⌝ }
+{
+    if rights_word_ok(word) { word } else { NO_RIGHT }
+}
+
+// Every rights word.
+fn mend_rights(table: &mut [u32])
+    requires { ⌜ Headed (now table) ⌝ }
+    ensures { λ _. ⌜ RightsMended (now (table .entry)) (now (table .exit)) (domains (now (table .entry)) * domains (now (table .entry))) ⌝ }
+{
+    let header = table[0];
+    let n = (header / 256 % 256) as usize;
+    let count = n * n;
+    let mut i: usize = 0;
+    while i < count {
+        table[1 + i] = mended_rights(table[1 + i]);
+        i += 1;
+    }
+}
+
+// An endpoint's twelve words: one broken word of the queue, and the whole queue is emptied.
+fn mend_endpoint(q: &mut [u32])
+    requires { ⌜ length (now q) ≡ 12 ⌝ }
+    ensures { λ _. ⌜ now (q .exit) ≡ mendedEndpoint (now (q .entry)) ⌝ }
+{
+    if queue_ok(q) {
+        return;
+    }
+    q[2] = NONE_WAITING;
+    q[3] = NONE_LOST;
+    let mut i: usize = 0;
+    while i < SLOT_PLACES {
+        q[4 + i] = EMPTY_SLOT;
+        i += 1;
+    }
+}
+
+// Every endpoint, lent as a part of the table.
+fn mend_endpoints(table: &mut [u32])
+    requires { ⌜ Headed (now table) ⌝ }
+    ensures { λ _. ⌜ EndpointsMended (now (table .entry)) (now (table .exit)) (endpoints (now (table .entry))) ⌝ }
+{
+    let header = table[0];
+    let n = (header / 256 % 256) as usize;
+    let m = (header % 256) as usize;
+    let from = 1 + n * n;
+    let mut e: usize = 0;
+    while e < m {
+        let start = from + ENDPOINT_WORDS * e;
+        let end = start + ENDPOINT_WORDS;
+        mend_endpoint(&mut table[start..end]);
+        e += 1;
+    }
+}
+
+// The table mended. One that is sound stays, and so does one whose word 0 or length is wrong.
+pub fn mend(table: &mut [u32])
+    ensures { λ _. ⌜ now (table .exit) ≡ mended (now (table .entry)) ⌝ }
+{
+    let checked = check(table);
+    if checked.code() < 4 {
+        return;
+    }
+    mend_rights(table);
+    mend_endpoints(table);
+}

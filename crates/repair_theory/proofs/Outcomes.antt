@@ -1,0 +1,63 @@
+-- What a repair comes to: a refusal or a repaired table (specs/Repair), and its numbers are small.
+-- Assumes nothing.
+use Prim.Native.Nat.{ℕ, _*_, _≤_}
+use mathlib.Core.Path.{_≡_, refl}
+use mathlib.Core.Bool.{Bool, true, false, cond, not}
+use mathlib.Core.List.{List}
+use native.Mathlib.Nat.{mul-le-mul}
+use native.Mathlib.Omega.{arith}
+use borrow.Author.Tests.{ltb-false, eqb-true, eqb-false}
+use lib.Dec.{eqb, ltb}
+use lib.ListN.{length}
+use Rattle.machine.proofs.Bools.{cond-elim}
+use Rattle.machine.proofs.Accepted.{accepted-sized, accepted-counts}
+use Rattle.repair_theory.specs.Mend.{mended, mendable}
+use Rattle.repair_theory.proofs.Mended.{mended-length}
+use Rattle.repair_theory.proofs.Claims.{mended-accepted}
+use Rattle.repair_theory.specs.Changes.{differing, changes}
+use Rattle.repair_theory.specs.Repair.{altered, alteredCount, repairCode, Outcome, refusal, repaired, repair}
+use Rattle.repair_theory.proofs.Changes.{lists-numbers, pairs-length}
+
+-- two words for each word altered
+pub altered-length : (t : List ℕ) → length (altered t) ≡ 2 * alteredCount t
+unfolding altered alteredCount changes
+altered-length t = pairs-length t (differing t (mended t))
+
+-- no more words are altered than there are
+pub altered-few : (t : List ℕ) → alteredCount t ≤ length t
+unfolding alteredCount differing
+altered-few t = lists-numbers (length t) _ .few
+
+-- a table that can be mended has at most 641 words
+pub mendable-small : (t : List ℕ) → mendable t ≡ true → length t ≤ 641
+mendable-small t can =
+    let a = mended-accepted t can in
+    let (some, n, m) = accepted-counts (mended t) a in
+    omega (arith, mended-length t, accepted-sized (mended t) a, mul-le-mul n n)
+
+-- where the code is 0 mending is enough and there is room for the pairs
+not-refused : (t : List ℕ) (size : ℕ) → repairCode t size ≡ 0 → (mendable t ≡ true) × (length (altered t) ≤ size)
+unfolding repairCode
+not-refused t size = go (mendable t) refl (ltb size (length (altered t))) refl
+  where
+    go : (a : Bool) → mendable t ≡ a → (b : Bool) → ltb size (length (altered t)) ≡ b → _≡_ {A = ℕ} (cond (not a) 33 (cond b 34 0)) 0 → (mendable t ≡ true) × (length (altered t) ≤ size)
+    go true can true short z = absurd (omega arith)
+    go true can false room z = (can, ltb-false _ _ room)
+    go false can b _ z = absurd (omega arith)
+
+-- what is so of a refusal and of a repaired table is so of a repair
+pub repair-elim : (t list : List ℕ) (P : Outcome → Type 0)
+    → (mendable t ≡ true → length (altered t) ≤ length list → P (repaired t list))
+    → ((n : ℕ) → (n ≡ 0 → ⊥) → n ≡ repairCode t (length list) → P (refusal n t list))
+    → P (repair t list)
+unfolding repair
+repair-elim t list P done refused =
+    cond-elim P (eqb (repairCode t (length list)) 0)
+    (λ none. let (can, room) = not-refused t (length list) (eqb-true _ _ none) in done can room)
+    (λ some. refused (repairCode t (length list)) (eqb-false _ _ some) refl)
+
+-- the number of words altered fits the high half of an answer
+pub count-small : (t list : List ℕ) → repair t list .count ≤ 641
+unfolding repaired refusal
+count-small t list =
+    repair-elim t list (λ o. o .count ≤ 641) (λ can _. omega (arith, altered-few t, mendable-small t can)) (λ n _ _. omega arith)

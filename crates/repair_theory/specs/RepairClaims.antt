@@ -1,0 +1,67 @@
+-- What is claimed of a repair: of whoever keeps the promise, for any words as a table and any lent list. Each claim that begins with
+-- `Every` is closed and the type of a theorem in proofs/Claims.
+use Prim.Native.Nat.{ℕ, _+_, _*_, _<_}
+use mathlib.Core.Path.{_≡_}
+use mathlib.Core.List.{List}
+use lib.ListN.{length, getD, take, drop}
+use Rattle.machine.specs.Check.{Accepted}
+use Rattle.repair_theory.specs.Claims.{AddsNoRight, AddsNoRightInAnyReading, AltersOnlyBroken}
+use Rattle.repair_theory.specs.Changes.{putBack}
+use Rattle.repair_theory.specs.Repair.{RepairPromise}
+
+-- A repair of the table t with the lent words list, by whoever keeps the promise.
+pub record PromisedRepair (t list : List ℕ) : Type 0 where
+  pub code : ℕ
+  pub count : ℕ
+  pub end : List ℕ
+  pub told : List ℕ
+  pub kept : RepairPromise t list code count end told
+
+-- What results passes the check.
+abbrev pub EveryRepairAccepted : Type 0
+EveryRepairAccepted = (t list : List ℕ) (r : PromisedRepair t list) → r .code ≡ 0 → Accepted (r .end)
+
+-- A refusal alters neither the table nor the list.
+abbrev pub EveryRefusalAltersNothing : Type 0
+EveryRefusalAltersNothing =
+    (t list : List ℕ) (r : PromisedRepair t list)
+    → (r .code ≡ 0 → ⊥)
+    → (r .count ≡ 0) × (r .end ≡ t) × (r .told ≡ list)
+
+-- A sound table stays and yields an empty list.
+abbrev pub EverySoundTableStays : Type 0
+EverySoundTableStays =
+    (t list : List ℕ) (r : PromisedRepair t list)
+    → Accepted t
+    → (r .code ≡ 0) × (r .count ≡ 0) × (r .end ≡ t) × (r .told ≡ list)
+
+-- No holder has a right at the end that its word didn't show before, read by its bits or in any other way.
+abbrev pub EveryRepairAddsNoRight : Type 0
+EveryRepairAddsNoRight =
+    (t list : List ℕ) (r : PromisedRepair t list) → AddsNoRight t (r .end) × AddsNoRightInAnyReading t (r .end)
+
+-- Only broken words, and the queue words of an endpoint with one, are altered.
+abbrev pub EveryRepairAltersOnlyBroken : Type 0
+EveryRepairAltersOnlyBroken = (t list : List ℕ) (r : PromisedRepair t list) → AltersOnlyBroken t (r .end)
+
+-- The first words of a list are count pairs that tell just the words in which a new table differs from the old one, lowest place
+-- first, each by its place and its old content.
+pub record TellsChanges (old new list : List ℕ) (count : ℕ) : Type 0 where
+  pub differs : (j : ℕ) → j < count → getD new (getD list (2 * j) 0) 0 ≡ getD old (getD list (2 * j) 0) 0 → ⊥
+  pub content : (j : ℕ) → j < count → getD list (2 * j + 1) 0 ≡ getD old (getD list (2 * j) 0) 0
+  pub ascending : (j : ℕ) → j + 1 < count → getD list (2 * j) 0 < getD list (2 * (j + 1)) 0
+  pub every : (i : ℕ) → (getD new i 0 ≡ getD old i 0 → ⊥) → (j : ℕ) × (j < count) × (getD list (2 * j) 0 ≡ i)
+
+-- The pairs in front of the list tell just the words that were altered, and the words past them stay.
+pub record ToldExactly (t end list told : List ℕ) (count : ℕ) : Type 0 where
+  pub pairs : TellsChanges t end told count
+  pub past : drop (2 * count) told ≡ drop (2 * count) list
+  pub size : length told ≡ length list
+
+abbrev pub EveryRepairToldExactly : Type 0
+EveryRepairToldExactly =
+    (t list : List ℕ) (r : PromisedRepair t list) → ToldExactly t (r .end) list (r .told) (r .count)
+
+-- The old table can be had back: the pairs put back into the table that was left give the table that came.
+abbrev pub EveryRepairPutBack : Type 0
+EveryRepairPutBack = (t list : List ℕ) (r : PromisedRepair t list) → putBack (r .end) (take (2 * r .count) (r .told)) ≡ t

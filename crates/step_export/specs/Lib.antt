@@ -1,2 +1,0 @@
--- What the exported step promises.
-pub mod Exported

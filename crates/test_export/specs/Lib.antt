@@ -1,0 +1,3 @@
+-- What the exported step promises.
+pub mod Exported
+pub mod ExportedQueues

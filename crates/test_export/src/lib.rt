@@ -1,0 +1,53 @@
+// The public step behind a C function, for the bench alone: no header declares it and the archive for the firmware hasn't
+// got it (`rt staticlib test_export` makes an archive of its own). It is how `kernel::step` is run beside the separate machine.
+pub mod queues;
+
+use answers::given::put;
+use calls::split::Second;
+use kernel::Stepped;
+ghost use mathlib.Core.Path.{_≡_};
+ghost use Rattle.calls.specs.Cutting.{callOf};
+ghost use Rattle.test_export.specs.Exported.{secondGiven, Exported};
+
+// A second word as C hands it over: the word counts where the number beside it isn't 0.
+fn given(word: u32, has: u32) -> Second
+    ensures { λ r. ⌜ r ≡ secondGiven word has ⌝ }
+{
+    if has == 0 {
+        Second::Nothing
+    } else {
+        Second::Word(word)
+    }
+}
+
+// One call on any table.
+// C: uint32_t balkwizu_test_step(uint32_t *table, size_t table_len, uint32_t first, uint32_t second, uint32_t has,
+//                                uint32_t *answer, size_t answer_len, uint32_t *holders, size_t holders_len)
+//
+// The result is 0, or the table's 2 to 5, or 6 for other than one word a domain as the holders; 99, which no paper uses, is for an
+// answer space under three words. Where it isn't 0 nothing is changed. Answer words behind the third are left as they were. Table,
+// answer and holders may not overlap.
+#[no_mangle]
+pub extern "C" fn balkwizu_test_step(
+    table: &mut [u32],
+    first: u32,
+    second: u32,
+    has: u32,
+    answer: &mut [u32],
+    holders: &mut [u32],
+) -> u32
+    ensures { λ r. ⌜ Exported (now (table .entry)) (callOf first (secondGiven second has)) (now (answer .entry)) (now (holders .entry)) r (now (table .exit)) (now (answer .exit)) (now (holders .exit)) ⌝ }
+{
+    if answer.len() < 3 {
+        return 99;
+    }
+    let word = given(second, has);
+    let stepped = kernel::step(table, first, word, holders);
+    match stepped {
+        Stepped::Refused(refusal) => refusal.code(),
+        Stepped::Answered(words) => {
+            put(answer, words);
+            0
+        }
+    }
+}

@@ -1,0 +1,52 @@
+// What the calls of a list count at each endpoint, by their answers.
+use calls::split::second_at;
+use calls::split::width;
+use machine::KIND;
+use machine::of_answers::CODE;
+use machine::of_calls::B;
+use machine::of_calls::RECEIVE;
+use machine::of_calls::SEND;
+use table_layout::word;
+ghost use mathlib.Core.Path.{_≡_};
+ghost use mathlib.Core.Bool.{cond, _&&_};
+ghost use lib.Dec.{eqb};
+ghost use Rattle.machine.specs.Word.{kind as kindOf, answerCode};
+ghost use Rattle.totals_count.specs.Counted.{CallsCounted};
+
+// How many sends to each endpoint and receives from it were answered 0: field B of a call's first word names one of 256.
+pub struct Counted {
+    pub sent: [u64; 256],
+    pub received: [u64; 256],
+}
+
+// 1 for a call of a kind that was answered 0, by its first word and the first word of its answer.
+fn done(first: u32, answer: u32, kind: u32) -> u64
+    ensures { λ r. ⌜ r ≡ cond (eqb (kindOf first) kind && eqb (answerCode answer) 0) 1 0 ⌝ }
+{
+    if first / KIND == kind {
+        if answer % CODE == 0 {
+            return 1;
+        }
+    }
+    0
+}
+
+// The calls of a list, whose answers stand three words for each call.
+pub fn count_calls(list: &[u32], answers: &[u32]) -> Counted
+    ensures { λ r. ⌜ CallsCounted (now (list .entry)) (now (answers .entry)) r ⌝ }
+{
+    let mut sent = [0u64; 256];
+    let mut received = [0u64; 256];
+    let mut at: usize = 0;
+    let mut i: usize = 0;
+    while i < list.len() {
+        let first = list[i];
+        let answer = word(answers, at);
+        let e = (first / B % 256) as usize;
+        sent[e] += done(first, answer, SEND);
+        received[e] += done(first, answer, RECEIVE);
+        at += 3;
+        i += width(second_at(list, i));
+    }
+    Counted { sent, received }
+}

@@ -1,3 +1,0 @@
--- What is proved of histories of words.
-pub mod Claims
-pub mod Happened

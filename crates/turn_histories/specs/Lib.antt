@@ -1,3 +1,0 @@
--- What is claimed of histories of words.
-pub mod Claims
-pub mod Happened

@@ -1,2 +1,0 @@
--- What the contracts about a state cite.
-pub mod State

@@ -1,0 +1,56 @@
+// The domains of a table and what one of them hands in. Any words will do as a table.
+use calls::split::second_at;
+use calls::split::width;
+use machine::KIND;
+use machine::of_calls::CALLER;
+use machine::of_calls::SECOND;
+ghost use mathlib.Core.Path.{_≡_};
+ghost use lib.Dec.{eqb};
+ghost use Rattle.machine.specs.Table as machine;
+ghost use Rattle.machine.specs.Call.{cut};
+ghost use Rattle.turns_theory.specs.Turns.{isOneOf};
+ghost use Rattle.turns_state.specs.State.{stateLength, isCallOf};
+
+// n, the number of domains: it has eight bits in a table's first word.
+pub fn number(table: &[u32]) -> u8
+    ensures { λ n. ⌜ n ≡ machine.domains (now (table .entry)) ⌝ }
+{
+    if table.len() == 0 {
+        return 0;
+    }
+    let header = table[0];
+    (header / 256 % 256) as u8
+}
+
+// A state's size is the one that the table's n domains ask for.
+pub fn fits(table: &[u32], size: usize) -> bool
+    ensures { λ b. ⌜ b ≡ eqb size (stateLength (machine.domains (now (table .entry)))) ⌝ }
+{
+    let n = number(table);
+    size == 1 + 17 * n as usize
+}
+
+// A first word is no stray, and its caller is the domain.
+fn is_call_of(first: u32, domain: u32) -> bool
+    ensures { λ b. ⌜ b ≡ isCallOf first domain ⌝ }
+{
+    let kind = first / KIND;
+    if kind == SECOND {
+        return false;
+    }
+    first / CALLER % 64 == domain
+}
+
+// The words are exactly one call, no stray, with the domain as its caller.
+pub fn is_one_call(words: &[u32], domain: u32) -> bool
+    ensures { λ b. ⌜ b ≡ isOneOf domain (cut (now (words .entry))) ⌝ }
+{
+    if words.len() == 0 {
+        return false;
+    }
+    if !is_call_of(words[0], domain) {
+        return false;
+    }
+    let second = second_at(words, 0);
+    words.len() == width(second)
+}

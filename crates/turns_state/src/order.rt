@@ -1,0 +1,65 @@
+// Whose turn is next.
+use crate::domain::number;
+ghost use mathlib.Core.Path.{_≡_};
+ghost use mathlib.Core.Bool.{_&&_};
+ghost use Prim.Native.Nat.{_<_};
+ghost use lib.Dec.{leb};
+ghost use lib.ListN.{length};
+ghost use Rattle.machine.specs.Table as machine;
+ghost use Rattle.turns_theory.specs.Turns.{waits, firstFrom, firstWaiting};
+ghost use Rattle.turns_state.specs.State.{stateLength, turnsIn, orNone, nextToServe};
+
+// The domain d isn't before the place and has a call pending.
+fn waits_from(state: &[u32], n: u8, place: u32, d: u8) -> bool
+    requires { ⌜ length (now state) ≡ stateLength n ⌝ }
+    requires { ⌜ d < n ⌝ }
+    ensures { λ b. ⌜ b ≡ (leb place d && waits (turnsIn (now (state .entry))) d) ⌝ }
+{
+    if (d as u32) < place {
+        return false;
+    }
+    state[1 + 17 * d as usize] != 0
+}
+
+// The first of the n domains, from a place on, that has a call pending; n where there is none.
+fn first_from(state: &[u32], n: u8, place: u32) -> u8
+    requires { ⌜ length (now state) ≡ stateLength n ⌝ }
+    ensures { λ r. ⌜ r ≡ orNone n (firstFrom n (turnsIn (now (state .entry))) place) ⌝ }
+{
+    let mut d: u8 = 0;
+    while d < n {
+        if waits_from(state, n, place, d) {
+            return d;
+        }
+        d += 1;
+    }
+    n
+}
+
+// The first from the place of the turn on, up and then round to 0; n where there is none.
+fn first_waiting(state: &[u32], n: u8) -> u8
+    requires { ⌜ length (now state) ≡ stateLength n ⌝ }
+    ensures { λ r. ⌜ r ≡ orNone n (firstWaiting n (turnsIn (now (state .entry)))) ⌝ }
+{
+    let place = state[0];
+    let first = first_from(state, n, place);
+    if first == n {
+        return first_from(state, n, 0);
+    }
+    first
+}
+
+// Whom a turn on the table is to serve, with so many words for the answer; n where it is nobody, be it that nothing is pending, that the
+// state's length isn't the one for n domains, or that the answer has no space.
+pub fn next_to_serve(table: &[u32], state: &[u32], space: usize) -> u8
+    ensures { λ r. ⌜ r ≡ nextToServe (machine.domains (now (table .entry))) (now (state .entry)) space ⌝ }
+{
+    let n = number(table);
+    if state.len() != 1 + 17 * n as usize {
+        return n;
+    }
+    if space < 3 {
+        return n;
+    }
+    first_waiting(state, n)
+}

@@ -1,7 +1,0 @@
--- `rights_wrong` has rights alone where the machine's `rightsWordOk` holds. Assumes nothing.
-use Rattle.words.proofs.Wrong.{rights-right}
-use Rattle.words.proofs.rights_wrong.Statement.{statement}
-use Rattle.words.proofs.rights_wrong.Tie as tie
-
-pub rights-wrong-spec : {M : Type 1} → statement M
-rights-wrong-spec = tie.close (tie.spec (λ c. rights-right _))

@@ -1,0 +1,192 @@
+// Calls as C hands them to the writer: five words a call, here a row (document 02, (c)). The writer's two passes go over the
+// rows as they are lent: a call is taken from its row in each, and none is kept, so that little stack is needed.
+use crate::Measured;
+use crate::Written;
+use crate::too_long;
+use call_encode::fits;
+use call_encode::put;
+use call_encode::width;
+use calls::Call;
+use calls::Refusal;
+use machine::of_calls::GRANT;
+use machine::of_calls::LOOK_UP;
+use machine::of_calls::MY_ENDPOINTS;
+use machine::of_calls::MY_RIGHTS;
+use machine::of_calls::RECEIVE;
+use machine::of_calls::REMOVE;
+use machine::of_calls::REVOKE;
+use machine::of_calls::SEND;
+ghost use mathlib.Core.Path.{_≡_};
+ghost use mathlib.Core.Bool.{true};
+ghost use mathlib.Core.List.{_++_};
+ghost use Prim.Native.Nat.{_<_, _≤_};
+ghost use lib.ListN.{length, drop};
+ghost use Rattle.writer_theory.specs.Words.{allFit, written};
+ghost use Rattle.writer.specs.Answer.{writtenCode, writtenNumber};
+ghost use Rattle.writer_theory.specs.Write.{WritePromise};
+ghost use Rattle.writer.specs.FirstPass.{measured};
+ghost use Rattle.writer_theory.specs.Rows.{whereZero, rowCall, callAt, handedIn};
+
+// What stands for a row that is no call.
+const NO_CALL: Call = Call::Refused {
+    caller: 0,
+    refusal: Refusal::UnknownKind,
+};
+
+// The call where its unused columns are zero; 0 is given for a column that its kind uses.
+fn where_zero(a: u32, b: u32, c: u32, call: Call) -> Call
+    ensures { λ r. ⌜ r ≡ whereZero a b c call ⌝ }
+{
+    if (a == 0) & (b == 0) & (c == 0) {
+        call
+    } else {
+        NO_CALL
+    }
+}
+
+// The call of a row of kind 1, 2 or 3; kind 0 is no call.
+fn endpoint_row(kind: u32, caller: u32, a: u32, b: u32, c: u32) -> Call
+    requires { ⌜ kind < 4 ⌝ }
+    ensures { λ r. ⌜ r ≡ rowCall kind caller a b c ⌝ }
+{
+    match kind {
+        LOOK_UP => where_zero(a, b, 0, Call::LookUp { caller, name: c }),
+        SEND => where_zero(
+            a,
+            0,
+            0,
+            Call::Send {
+                caller,
+                endpoint: b,
+                message: c,
+            },
+        ),
+        RECEIVE => where_zero(
+            a,
+            0,
+            c,
+            Call::Receive {
+                caller,
+                endpoint: b,
+            },
+        ),
+        _ => NO_CALL,
+    }
+}
+
+// The call of a row of a kind from 4 on; one above the last kind is no call.
+fn rights_row(kind: u32, caller: u32, a: u32, b: u32, c: u32) -> Call
+    requires { ⌜ 4 ≤ kind ⌝ }
+    ensures { λ r. ⌜ r ≡ rowCall kind caller a b c ⌝ }
+{
+    match kind {
+        MY_ENDPOINTS => where_zero(a, b, c, Call::MyEndpoints { caller }),
+        MY_RIGHTS => where_zero(a, b, c, Call::MyRights { caller }),
+        GRANT => Call::Grant {
+            caller,
+            target: a,
+            recipient: b,
+            rights: c,
+        },
+        REMOVE => where_zero(
+            0,
+            b,
+            0,
+            Call::Remove {
+                caller,
+                target: a,
+                rights: c,
+            },
+        ),
+        REVOKE => Call::Revoke {
+            caller,
+            target: a,
+            holder: b,
+            rights: c,
+        },
+        _ => NO_CALL,
+    }
+}
+
+// The call of a row.
+fn row_call(kind: u32, caller: u32, a: u32, b: u32, c: u32) -> Call
+    ensures { λ r. ⌜ r ≡ rowCall kind caller a b c ⌝ }
+{
+    if kind < MY_ENDPOINTS {
+        endpoint_row(kind, caller, a, b, c)
+    } else {
+        rights_row(kind, caller, a, b, c)
+    }
+}
+
+// The call that begins at a place.
+fn call_at(rows: &[u32], at: usize) -> Call
+    requires { ⌜ at ≤ length (now rows) ⌝ }
+    ensures { λ r. ⌜ r ≡ callAt (now (rows .entry)) at ⌝ }
+{
+    if rows.len() - at < 5 {
+        return NO_CALL;
+    }
+    row_call(
+        rows[at],
+        rows[at + 1],
+        rows[at + 2],
+        rows[at + 3],
+        rows[at + 4],
+    )
+}
+
+// The first pass, over all rows, also past the 4,096th.
+fn measure(rows: &[u32]) -> Measured
+    ensures { λ r. ⌜ r ≡ measured (handedIn (now (rows .entry))) ⌝ }
+{
+    let mut words: usize = 0;
+    let mut from: usize = 0;
+    let mut i: usize = 0;
+    while from < rows.len() {
+        let call = call_at(rows, from);
+        if !fits(call) {
+            return Measured::Unfit(i);
+        }
+        words += width(call);
+        from += 5;
+        i += 1;
+    }
+    Measured::Words(words)
+}
+
+// The second pass: the words of the calls, which fit and have space.
+fn put_all(rows: &[u32], list: &mut [u32])
+    requires { ⌜ allFit (handedIn (now rows)) ≡ true ⌝ }
+    requires { ⌜ length (written (handedIn (now rows))) ≤ length (now list) ⌝ }
+    ensures { λ _. ⌜ now (list .exit) ≡ written (handedIn (now (rows .entry))) ++ drop (length (written (handedIn (now (rows .entry))))) (now (list .entry)) ⌝ }
+{
+    let mut from: usize = 0;
+    let mut at: usize = 0;
+    while from < rows.len() {
+        let call = call_at(rows, from);
+        put(list, at, call);
+        at += width(call);
+        from += 5;
+    }
+}
+
+// The calls of the rows, written into the front of the list; its words past them are left. A refusal writes no word. A bad call
+// is looked for among all rows before their words are too many. That there are more than 4,096 rows isn't looked at by itself:
+// each wants a word at least.
+pub fn write_rows(rows: &[u32], list: &mut [u32]) -> Written
+    ensures { λ r. ⌜ WritePromise (handedIn (now (rows .entry))) (length (handedIn (now (rows .entry)))) (now (list .entry)) (writtenCode r) (writtenNumber r) (now (list .exit)) ⌝ }
+{
+    let measured = measure(rows);
+    match measured {
+        Measured::Unfit(i) => Written::BadCall(i),
+        Measured::Words(words) => {
+            let size = list.len();
+            if too_long(words, words, size) {
+                return Written::TooLong;
+            }
+            put_all(rows, list);
+            Written::Done(words)
+        }
+    }
+}

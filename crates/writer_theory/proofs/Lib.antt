@@ -1,0 +1,7 @@
+-- What is proved of the words of a call.
+pub mod FieldWords
+pub mod Reading
+pub mod Writing
+pub mod ListClaims
+pub mod Examples
+pub mod RowExamples

@@ -1,0 +1,111 @@
+-- The claims hold of whoever keeps the promise (specs/Claims). Assumes nothing.
+use Prim.Native.Nat.{ℕ, _+_, _≤_}
+use mathlib.Core.Path.{_≡_, refl, sym, ap, ap₂, _∙_}
+use mathlib.Core.Bool.{Bool, true, false, cond, _&&_}
+use mathlib.Core.List.{List, [], _∷_}
+use mathlib.Core.Option.{Option, none, some}
+use native.Mathlib.Nat.{min-eq-left}
+use native.Mathlib.Omega.{arith}
+use borrow.Author.Tests.{le-ltb, ltb-false, eqb-false}
+use lib.Dec.{ltb}
+use lib.ListN.{length, take, length-append, length-map}
+use lib.Seq.{take-at}
+use Rattle.machine.specs.Call.{cut}
+use Rattle.machine.specs.Entry.{longestList}
+use Rattle.machine.proofs.Bools.{and-left, and-right, or-none-left, or-none-right, cond-elim}
+use Rattle.machine.proofs.Cut.{cut-few}
+use Rattle.calls.specs.declared.Call.{Call}
+use Rattle.writer_theory.specs.Words.{fits, wordsOf, allFit, written}
+use Rattle.writer_theory.specs.Claims.{takenApart, readFrom}
+use Rattle.writer_theory.proofs.FieldWords.{one-or-two}
+use Rattle.writer_theory.proofs.Reading.{reads-back}
+use Rattle.writer_theory.proofs.Writing.{writes-back}
+use Rattle.writer_theory.specs.Write.{unfitFrom, firstUnfit, tooLong, Outcome, wordsPut, afterUnfit, writing}
+use Rattle.writer_theory.specs.Rows.{handedIn, writingRows}
+use Rattle.writer_theory.specs.ListClaims.{WrittenReadsBack, WrittenAsItCame, EachWantsAWord, RowsReadBack}
+
+-- where no call is found unfit, all fit
+pub none-unfit : (i : ℕ) (cs : List Call) → unfitFrom i cs ≡ none → allFit cs ≡ true
+unfolding unfitFrom allFit
+none-unfit i [] h = refl
+none-unfit i (c ∷ cs) h = go (fits c) h (none-unfit (i + 1) cs)
+  where
+    go : (b : Bool) → cond b (unfitFrom (i + 1) cs) (some i) ≡ none → (unfitFrom (i + 1) cs ≡ none → allFit cs ≡ true) → (b && allFit cs) ≡ true
+    go true e later = later e
+    go false e later = let z : _≡_ {A = ℕ} 0 1 = cc in absurd (omega arith)
+
+-- where the code is 0 the words are in front
+in-front : (count : ℕ) (ws list : List ℕ) → wordsPut count ws list .code ≡ 0 → take (wordsPut count ws list .number) (wordsPut count ws list .list) ≡ ws
+unfolding wordsPut
+in-front count ws list =
+    cond-elim (λ (o : Outcome). o .code ≡ 0 → take (o .number) (o .list) ≡ ws) (tooLong count (length ws) (length list))
+    (λ _ e. absurd (eqb-false 31 0 refl e))
+    (λ _ _. take-at ws _ _ refl)
+
+-- and no call was found unfit
+written-whole : (o : Option ℕ) (count : ℕ) (ws list : List ℕ) → afterUnfit o count ws list .code ≡ 0
+    → (o ≡ none) × (take (afterUnfit o count ws list .number) (afterUnfit o count ws list .list) ≡ ws)
+written-whole none count ws list e = (refl, in-front count ws list e)
+written-whole (some i) count ws list e = absurd (eqb-false 30 0 refl e)
+
+-- and there are no more of them than a list may have
+pub words-few : (cs : List Call) (count : ℕ) (list : List ℕ) → writing cs count list .code ≡ 0 → writing cs count list .number ≤ longestList
+unfolding writing wordsPut tooLong
+words-few cs count list = go (firstUnfit cs)
+  where
+    put : wordsPut count (written cs) list .code ≡ 0 → wordsPut count (written cs) list .number ≤ longestList
+    put =
+        cond-elim (λ (o : Outcome). o .code ≡ 0 → o .number ≤ longestList) (tooLong count (length (written cs)) (length list))
+        (λ _ e. absurd (eqb-false 31 0 refl e))
+        (λ short _. ltb-false longestList (length (written cs)) (or-none-right (ltb longestList count) _ (or-none-left _ _ short)))
+
+    go : (o : Option ℕ) → afterUnfit o count (written cs) list .code ≡ 0 → afterUnfit o count (written cs) list .number ≤ longestList
+    go none e = put e
+    go (some i) e = absurd (eqb-false 30 0 refl e)
+
+pub written-reads-back : WrittenReadsBack
+unfolding firstUnfit writing
+written-reads-back cs count list code number end p zero =
+    let whole = written-whole (firstUnfit cs) count (written cs) list (sym (p .sameCode) ∙ zero) in
+    ap readFrom (ap₂ take (p .sameNumber) (p .sameWords) ∙ whole .1) ∙ reads-back cs (none-unfit 0 cs (whole .0))
+
+-- where all fit, no call is found unfit
+all-fit : (i : ℕ) (cs : List Call) → allFit cs ≡ true → unfitFrom i cs ≡ none
+unfolding unfitFrom allFit
+all-fit i [] h = refl
+all-fit i (c ∷ cs) h = rw (and-left (fits c) (allFit cs) h) (all-fit (i + 1) cs (and-right (fits c) (allFit cs) h))
+
+pub each-wants-a-word : EachWantsAWord
+unfolding written
+each-wants-a-word [] = omega arith
+each-wants-a-word (c ∷ cs) =
+    omega (arith, one-or-two c .0, each-wants-a-word cs, length-append (wordsOf c) (written cs))
+
+-- as many calls as words at most
+few-calls : (ws : List ℕ) → length (readFrom ws) ≤ length ws
+unfolding readFrom
+few-calls ws = omega (arith, length-map (cut ws) takenApart, cut-few ws)
+
+pub written-as-it-came : WrittenAsItCame
+unfolding firstUnfit writing wordsPut tooLong
+written-as-it-came ws list h short room =
+    let back = writes-back ws h in
+    let fit = all-fit 0 (readFrom ws) (back .0) in
+    rw (
+      fit,
+      back .1,
+      le-ltb longestList (length (readFrom ws)) (omega (arith, few-calls ws)),
+      le-ltb longestList (length ws) short,
+      le-ltb (length list) (length ws) room,
+    )
+
+-- ---- rows
+
+-- as many words as a list may have are told as they are
+pub rows-read-back : RowsReadBack
+rows-read-back rows list code number end p zero =
+    let few = words-few (handedIn rows) (length (handedIn rows)) list (sym (p .sameCode) ∙ zero) in
+    let told : writingRows rows list .number ≤ 65535 = omega (arith, few) in
+    written-reads-back (handedIn rows) (length (handedIn rows)) list code number end
+    (record { sameCode = p .sameCode; sameNumber = p .sameNumber ∙ min-eq-left told; sameWords = p .sameWords })
+    zero

@@ -1,0 +1,8 @@
+-- The words of a call, and what is claimed of them.
+pub mod Words
+pub mod Claims
+pub mod Write
+pub mod Rows
+pub mod ListClaims
+pub mod Examples
+pub mod RowExamples

@@ -1,0 +1,41 @@
+-- What the claims about the words of calls (crate written_calls) come to for whoever keeps the promise of writing, or of rows.
+use Prim.Native.Nat.{ℕ, _≤_}
+use mathlib.Core.Path.{_≡_}
+use mathlib.Core.Bool.{true}
+use mathlib.Core.List.{List, _++_}
+use lib.ListN.{length, take, drop}
+use Rattle.machine.specs.Entry.{longestList}
+use Rattle.calls.specs.declared.Call.{Call}
+use Rattle.writer_theory.specs.Words.{written}
+use Rattle.writer_theory.specs.Claims.{readFrom, allPast}
+use Rattle.writer_theory.specs.Write.{writing, WritePromise}
+use Rattle.writer_theory.specs.Rows.{handedIn, RowsPromise}
+
+-- Where the answer is 0, taking apart as many words as it says gives the calls that were handed in.
+abbrev pub WrittenReadsBack : Type 0
+WrittenReadsBack =
+    (cs : List Call) (count : ℕ) (list : List ℕ) (code number : ℕ) (end : List ℕ)
+    → WritePromise cs count list code number end
+    → code ≡ 0
+    → readFrom (take number end) ≡ cs
+
+-- A list that is read as calls past the four is written out as it came, where it has the space and is no longer than a list may be.
+abbrev pub WrittenAsItCame : Type 0
+WrittenAsItCame =
+    (ws list : List ℕ)
+    → allPast (readFrom ws) ≡ true
+    → length ws ≤ longestList
+    → length ws ≤ length list
+    → writing (readFrom ws) (length (readFrom ws)) list ≡ record { code = 0; number = length ws; list = ws ++ drop (length ws) list }
+
+-- A call wants a word at least: so where all calls are there, more than 4,096 of them are more than 4,096 words.
+abbrev pub EachWantsAWord : Type 0
+EachWantsAWord = (cs : List Call) → length cs ≤ length (written cs)
+
+-- Of rows: where the answer is 0, taking apart as many words as it says gives the calls of the rows.
+abbrev pub RowsReadBack : Type 0
+RowsReadBack =
+    (rows list : List ℕ) (code number : ℕ) (end : List ℕ)
+    → RowsPromise rows list code number end
+    → code ≡ 0
+    → readFrom (take number end) ≡ handedIn rows

@@ -1,0 +1,75 @@
+-- Rows of five words and the calls that they are, and what comes of writing them. Worked out by hand from document 02, (c).
+use Prim.Native.Nat.{ℕ, zero, suc}
+use mathlib.Core.Path.{_≡_}
+use mathlib.Core.List.{List, [], _∷_, _++_}
+use lib.ListN.{replicate}
+use Rattle.calls.specs.declared.Call.the-variants.{LookUp, Send, Receive, MyEndpoints, MyRights, Grant, Remove, Revoke}
+use Rattle.writer_theory.specs.Write.{Outcome, refusal}
+use Rattle.writer_theory.specs.Rows.{noCall, handedIn, writingRows}
+
+-- one call of each kind, with a field of every column that it uses; a number is handed in as it is, whether it fits or not
+abbrev pub EachKindHandedIn : Type 0
+EachKindHandedIn =
+    handedIn
+    (1 ∷ 9 ∷ 0 ∷ 0 ∷ 268435456
+    ∷ 2 ∷ 9 ∷ 0 ∷ 8 ∷ 7
+    ∷ 3 ∷ 9 ∷ 0 ∷ 256 ∷ 0
+    ∷ 4 ∷ 64 ∷ 0 ∷ 0 ∷ 0
+    ∷ 5 ∷ 9 ∷ 0 ∷ 0 ∷ 0
+    ∷ 6 ∷ 9 ∷ 6 ∷ 8 ∷ 7
+    ∷ 7 ∷ 9 ∷ 6 ∷ 0 ∷ 7
+    ∷ 8 ∷ 9 ∷ 6 ∷ 8 ∷ 7
+    ∷ [])
+    ≡ LookUp 9 268435456 ∷ Send 9 8 7 ∷ Receive 9 256 ∷ MyEndpoints 64 ∷ MyRights 9 ∷ Grant 9 6 8 7 ∷ Remove 9 6 7 ∷ Revoke 9 6 8 7 ∷ []
+
+-- no calls: kinds that aren't one; each column that a kind doesn't use; and four words left over
+abbrev pub noCalls : List ℕ
+noCalls =
+    0 ∷ 0 ∷ 0 ∷ 0 ∷ 0
+    ∷ 9 ∷ 0 ∷ 0 ∷ 0 ∷ 0
+    ∷ 14 ∷ 0 ∷ 0 ∷ 0 ∷ 0
+    ∷ 15 ∷ 0 ∷ 0 ∷ 0 ∷ 0
+    ∷ 16 ∷ 0 ∷ 0 ∷ 0 ∷ 0
+    ∷ 4294967295 ∷ 0 ∷ 0 ∷ 0 ∷ 0
+    ∷ 1 ∷ 0 ∷ 1 ∷ 0 ∷ 0
+    ∷ 1 ∷ 0 ∷ 0 ∷ 1 ∷ 0
+    ∷ 2 ∷ 0 ∷ 1 ∷ 0 ∷ 0
+    ∷ 3 ∷ 0 ∷ 1 ∷ 0 ∷ 0
+    ∷ 3 ∷ 0 ∷ 0 ∷ 0 ∷ 1
+    ∷ 4 ∷ 0 ∷ 1 ∷ 0 ∷ 0
+    ∷ 4 ∷ 0 ∷ 0 ∷ 1 ∷ 0
+    ∷ 4 ∷ 0 ∷ 0 ∷ 0 ∷ 1
+    ∷ 5 ∷ 0 ∷ 1 ∷ 0 ∷ 0
+    ∷ 5 ∷ 0 ∷ 0 ∷ 1 ∷ 0
+    ∷ 5 ∷ 0 ∷ 0 ∷ 0 ∷ 1
+    ∷ 7 ∷ 0 ∷ 0 ∷ 1 ∷ 0
+    ∷ 4 ∷ 0 ∷ 0 ∷ 0
+    ∷ []
+
+abbrev pub NoCallsHandedIn : Type 0
+NoCallsHandedIn = handedIn noCalls ≡ replicate 19 noCall
+
+-- rows, lent words, and everything that comes of them
+pub record Row : Type 0 where
+  pub rows : List ℕ
+  pub list : List ℕ
+  pub leaves : Outcome
+
+abbrev pub EveryRow : List Row → Type 0
+EveryRow [] = Unit {0}
+EveryRow (r ∷ rs) = (writingRows (r .rows) (r .list) ≡ r .leaves) × EveryRow rs
+
+-- so many calls of one word each
+unfoldable pub myRights : ℕ → List ℕ
+myRights zero = []
+myRights (suc n) = 5 ∷ 0 ∷ 0 ∷ 0 ∷ 0 ∷ myRights n
+
+abbrev pub writtenRows : List Row
+writtenRows =
+    record { rows = 2 ∷ 1 ∷ 0 ∷ 3 ∷ 5 ∷ 3 ∷ 2 ∷ 0 ∷ 1 ∷ 0 ∷ []; list = 7 ∷ 7 ∷ 7 ∷ 7 ∷ []; leaves = record { code = 0; number = 3; list = 0x2040_0300 ∷ 0xF000_0005 ∷ 0x3080_0100 ∷ 7 ∷ [] } }
+    -- one word over is a third call that is none
+    ∷ record { rows = 2 ∷ 1 ∷ 0 ∷ 3 ∷ 5 ∷ 3 ∷ 2 ∷ 0 ∷ 1 ∷ 0 ∷ 5 ∷ []; list = 7 ∷ 7 ∷ 7 ∷ 7 ∷ []; leaves = refusal 30 2 (7 ∷ 7 ∷ 7 ∷ 7 ∷ []) }
+    -- 4,097 calls: 31, and 30 where the last of them is bad
+    ∷ record { rows = myRights 4097; list = 7 ∷ []; leaves = refusal 31 0 (7 ∷ []) }
+    ∷ record { rows = myRights 4096 ++ (5 ∷ 64 ∷ 0 ∷ 0 ∷ 0 ∷ []); list = 7 ∷ []; leaves = refusal 30 4096 (7 ∷ []) }
+    ∷ []

@@ -1,0 +1,58 @@
+-- The writing of a list of calls: from any calls and any lent words to the code, the number that goes with it, and every word
+-- at the end (document 02, (c)).
+use Prim.Native.Nat.{ℕ, _+_}
+use mathlib.Core.Path.{_≡_}
+use mathlib.Core.Bool.{Bool, cond, _||_}
+use mathlib.Core.List.{List, [], _∷_, _++_}
+use mathlib.Core.Option.{Option, none, some}
+use lib.Dec.{ltb}
+use lib.ListN.{length, drop}
+use Rattle.machine.specs.Entry.{longestList}
+use Rattle.calls.specs.declared.Call.{Call}
+use Rattle.writer_theory.specs.Words.{fits, written}
+
+-- the number of the first call that can't be written, where the first of them is number i
+unfoldable pub unfitFrom : ℕ → List Call → Option ℕ
+unfitFrom i [] = none
+unfitFrom i (c ∷ cs) = cond (fits c) (unfitFrom (i + 1) cs) (some i)
+
+-- the number from 0 of the first call that can't be written
+unfoldable pub firstUnfit : List Call → Option ℕ
+firstUnfit cs = unfitFrom 0 cs
+
+-- 31: more calls than a list may have words, or words that pass that or the lent space
+unfoldable pub tooLong : ℕ → ℕ → ℕ → Bool
+tooLong count words size = ltb longestList count || ltb longestList words || ltb size words
+
+-- what writing answers and leaves: the code, the number that goes with it, and the lent words
+pub record Outcome : Type 0 where
+  pub code : ℕ
+  pub number : ℕ
+  pub list : List ℕ
+
+-- a refusal writes no word
+abbrev pub refusal : ℕ → ℕ → List ℕ → Outcome
+refusal n i list = record { code = n; number = i; list = list }
+
+-- the words ws of so many calls: in front of the lent words, those past them left, or refused by 31
+unfoldable pub wordsPut : ℕ → List ℕ → List ℕ → Outcome
+wordsPut count ws list =
+    cond (tooLong count (length ws) (length list)) (refusal 31 0 list)
+    (record { code = 0; number = length ws; list = ws ++ drop (length ws) list })
+
+-- 30 with the number of the first call that can't be written, before 31 is looked at
+abbrev pub afterUnfit : Option ℕ → ℕ → List ℕ → List ℕ → Outcome
+afterUnfit none count ws list = wordsPut count ws list
+afterUnfit (some i) count ws list = refusal 30 i list
+
+-- The writing of count calls into lent words. The calls cs are those of them that are there: an array may hold fewer than are
+-- counted, and for the others 31 is due, since each call wants a word at least.
+unfoldable pub writing : List Call → ℕ → List ℕ → Outcome
+writing cs count list = afterUnfit (firstUnfit cs) count (written cs) list
+
+-- What is promised of whoever writes count calls, of which cs are there, into the words list: it answered a code and a number
+-- and left the words as end.
+pub record WritePromise (cs : List Call) (count : ℕ) (list : List ℕ) (code number : ℕ) (end : List ℕ) : Type 0 where
+  pub sameCode : code ≡ writing cs count list .code
+  pub sameNumber : number ≡ writing cs count list .number
+  pub sameWords : end ≡ writing cs count list .list

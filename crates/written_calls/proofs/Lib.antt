@@ -1,4 +1,0 @@
--- What is proved of the words of a call.
-pub mod FieldWords
-pub mod Reading
-pub mod Writing

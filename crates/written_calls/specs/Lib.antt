@@ -1,3 +1,0 @@
--- The words of a call, and what is claimed of them.
-pub mod Words
-pub mod Claims
