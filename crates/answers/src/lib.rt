@@ -4,12 +4,12 @@ pub mod given;
 mod lists;
 
 use calls::Refusal;
+use format::KIND_UNIT;
+use format::calls::CALLER_UNIT;
+use format::calls::KIND_SECOND;
 use given::done;
 use lists::owned_bits;
 use lists::rights_bits;
-use machine::KIND;
-use machine::of_calls::CALLER;
-use machine::of_calls::SECOND;
 use table_layout::domains;
 use table_layout::endpoint_at;
 use table_layout::endpoints;
@@ -36,11 +36,11 @@ pub struct Answer {
 fn head(first: u32) -> u32
     ensures { λ r. ⌜ r ≡ headOf first ⌝ }
 {
-    let kind = first / KIND;
-    if kind == SECOND {
-        return first - first % KIND;
+    let kind = first / KIND_UNIT;
+    if kind == KIND_SECOND {
+        return first - first % KIND_UNIT;
     }
-    first - first % CALLER
+    first - first % CALLER_UNIT
 }
 
 // Adds a refusal's number to a first word without one; the data words are 0.

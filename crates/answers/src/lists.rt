@@ -1,6 +1,6 @@
 // What a domain has, as the bits of a data word: the endpoints that it owns and its rights on eight targets. Both go from the last to
 // the first, so each step moves up what is there; what goes past 32 bits is cut off. The callers have seen that the words are in the table.
-use machine::KIND;
+use format::KIND_UNIT;
 use table_layout::endpoint_at;
 use table_layout::rights_at;
 ghost use mathlib.Core.Path.{_≡_};
@@ -42,7 +42,7 @@ pub fn rights_bits(table: &[u32], n: u32, caller: u32, low: u32, high: u32) -> u
     while low < target {
         target -= 1;
         let at = rights_at(n, caller, target);
-        let held = table[at] % KIND;
+        let held = table[at] % KIND_UNIT;
         bits = ((bits as u64 * 16 + held as u64) % 0x1_0000_0000) as u32;
     }
     bits

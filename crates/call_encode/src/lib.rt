@@ -1,19 +1,19 @@
 // A call as a value and the words that it is written in (document 02, (c)): the other way round from crate calls, which takes
 // words apart. No table is lent: what is asked of a call is that it is no refused one and that its fields are within their bits.
 use calls::Call;
-use machine::KIND;
-use machine::of_calls::A;
-use machine::of_calls::B;
-use machine::of_calls::CALLER;
-use machine::of_calls::GRANT;
-use machine::of_calls::LOOK_UP;
-use machine::of_calls::MY_ENDPOINTS;
-use machine::of_calls::MY_RIGHTS;
-use machine::of_calls::RECEIVE;
-use machine::of_calls::REMOVE;
-use machine::of_calls::REVOKE;
-use machine::of_calls::SECOND_WORD;
-use machine::of_calls::SEND;
+use format::KIND_UNIT;
+use format::calls::A_UNIT;
+use format::calls::B_UNIT;
+use format::calls::CALLER_UNIT;
+use format::calls::KIND_GRANT;
+use format::calls::KIND_LOOK_UP;
+use format::calls::KIND_MY_ENDPOINTS;
+use format::calls::KIND_MY_RIGHTS;
+use format::calls::KIND_RECEIVE;
+use format::calls::KIND_REMOVE;
+use format::calls::KIND_REVOKE;
+use format::calls::KIND_SEND;
+use format::calls::SECOND_WORD;
 use writer_theory::Fields;
 ghost use mathlib.Core.Path.{_≡_};
 ghost use mathlib.Core.Bool.{true};
@@ -42,32 +42,32 @@ pub fn fields_of(call: Call) -> Fields
     ensures { λ r. ⌜ r ≡ fieldsOf call ⌝ }
 {
     match call {
-        Call::LookUp { caller, name } => fields_at(LOOK_UP, caller, 0, 0, 0, name),
+        Call::LookUp { caller, name } => fields_at(KIND_LOOK_UP, caller, 0, 0, 0, name),
         Call::Send {
             caller,
             endpoint,
             message,
-        } => fields_at(SEND, caller, 0, endpoint, 0, message),
-        Call::Receive { caller, endpoint } => fields_at(RECEIVE, caller, 0, endpoint, 0, 0),
-        Call::MyEndpoints { caller } => fields_at(MY_ENDPOINTS, caller, 0, 0, 0, 0),
-        Call::MyRights { caller } => fields_at(MY_RIGHTS, caller, 0, 0, 0, 0),
+        } => fields_at(KIND_SEND, caller, 0, endpoint, 0, message),
+        Call::Receive { caller, endpoint } => fields_at(KIND_RECEIVE, caller, 0, endpoint, 0, 0),
+        Call::MyEndpoints { caller } => fields_at(KIND_MY_ENDPOINTS, caller, 0, 0, 0, 0),
+        Call::MyRights { caller } => fields_at(KIND_MY_RIGHTS, caller, 0, 0, 0, 0),
         Call::Grant {
             caller,
             target,
             recipient,
             rights,
-        } => fields_at(GRANT, caller, target, recipient, rights, 0),
+        } => fields_at(KIND_GRANT, caller, target, recipient, rights, 0),
         Call::Remove {
             caller,
             target,
             rights,
-        } => fields_at(REMOVE, caller, target, 0, rights, 0),
+        } => fields_at(KIND_REMOVE, caller, target, 0, rights, 0),
         Call::Revoke {
             caller,
             target,
             holder,
             rights,
-        } => fields_at(REVOKE, caller, target, holder, rights, 0),
+        } => fields_at(KIND_REVOKE, caller, target, holder, rights, 0),
         Call::Refused { caller, refusal: _ } => fields_at(0, caller, 0, 0, 0, 0),
     }
 }
@@ -76,7 +76,12 @@ pub fn fields_of(call: Call) -> Fields
 fn within_bits(f: Fields) -> bool
     ensures { λ r. ⌜ r ≡ withinBits f ⌝ }
 {
-    (f.kind != 0) & (f.caller < 64) & (f.a < 64) & (f.b < 256) & (f.c < 256) & (f.second < KIND)
+    (f.kind != 0)
+        & (f.caller < 64)
+        & (f.a < 64)
+        & (f.b < 256)
+        & (f.c < 256)
+        & (f.second < KIND_UNIT)
 }
 
 // The call can be written.
@@ -91,7 +96,7 @@ pub fn fits(call: Call) -> bool
 fn wants_second(kind: u32) -> bool
     ensures { λ r. ⌜ r ≡ wantsSecond kind ⌝ }
 {
-    (kind == LOOK_UP) | (kind == SEND)
+    (kind == KIND_LOOK_UP) | (kind == KIND_SEND)
 }
 
 // How many words the call is written in.
@@ -109,7 +114,7 @@ fn first_word(f: Fields) -> u32
     requires { ⌜ f .kind < 16 ⌝ }
     ensures { λ r. ⌜ r ≡ firstWord f ⌝ }
 {
-    f.kind * KIND + (f.caller * CALLER + f.a * A + f.b * B + f.c)
+    f.kind * KIND_UNIT + (f.caller * CALLER_UNIT + f.a * A_UNIT + f.b * B_UNIT + f.c)
 }
 
 // The words of fields that are within their bits, from a place of the list on.

@@ -4,10 +4,10 @@
 use crate::Call;
 use crate::Refusal;
 use crate::split::Second;
-use machine::KIND;
-use machine::of_calls::A;
-use machine::of_calls::B;
-use machine::of_calls::CALLER;
+use format::KIND_UNIT;
+use format::calls::A_UNIT;
+use format::calls::B_UNIT;
+use format::calls::CALLER_UNIT;
 ghost use mathlib.Core.Path.{_≡_};
 ghost use Rattle.machine.specs.Call.{Kind.lookUp, Kind.send, Kind.receive, Kind.myEndpoints, Kind.myRights, Kind.grant, Kind.remove, Kind.revoke};
 ghost use Rattle.calls.specs.declared.split.Second.{Second as AnySecond};
@@ -17,8 +17,8 @@ ghost use Rattle.calls.specs.Apart.{ofKind};
 pub fn look_up(first: u32, second: Second) -> Call
     ensures { λ r. ⌜ r ≡ ofKind first second lookUp ⌝ }
 {
-    let caller = first / CALLER % 64;
-    if first % CALLER != 0 {
+    let caller = first / CALLER_UNIT % 64;
+    if first % CALLER_UNIT != 0 {
         return Call::Refused {
             caller,
             refusal: Refusal::UnusedField,
@@ -27,7 +27,7 @@ pub fn look_up(first: u32, second: Second) -> Call
     match second {
         Second::Word(word) => Call::LookUp {
             caller,
-            name: word % KIND,
+            name: word % KIND_UNIT,
         },
         Second::Nothing => Call::Refused {
             caller,
@@ -40,10 +40,10 @@ pub fn look_up(first: u32, second: Second) -> Call
 pub fn send(first: u32, second: Second) -> Call
     ensures { λ r. ⌜ r ≡ ofKind first second send ⌝ }
 {
-    let caller = first / CALLER % 64;
-    let a = first / A % 64;
-    let endpoint = first / B % 256;
-    let c = first % B;
+    let caller = first / CALLER_UNIT % 64;
+    let a = first / A_UNIT % 64;
+    let endpoint = first / B_UNIT % 256;
+    let c = first % B_UNIT;
     if a + c != 0 {
         return Call::Refused {
             caller,
@@ -54,7 +54,7 @@ pub fn send(first: u32, second: Second) -> Call
         Second::Word(word) => Call::Send {
             caller,
             endpoint,
-            message: word % KIND,
+            message: word % KIND_UNIT,
         },
         Second::Nothing => Call::Refused {
             caller,
@@ -68,10 +68,10 @@ pub fn send(first: u32, second: Second) -> Call
 pub fn receive(first: u32) -> Call
     ensures { λ r. ⌜ ((second : AnySecond) → r ≡ ofKind first second receive) ⌝ }
 {
-    let caller = first / CALLER % 64;
-    let a = first / A % 64;
-    let endpoint = first / B % 256;
-    let c = first % B;
+    let caller = first / CALLER_UNIT % 64;
+    let a = first / A_UNIT % 64;
+    let endpoint = first / B_UNIT % 256;
+    let c = first % B_UNIT;
     if a + c != 0 {
         return Call::Refused {
             caller,
@@ -85,8 +85,8 @@ pub fn receive(first: u32) -> Call
 pub fn my_endpoints(first: u32) -> Call
     ensures { λ r. ⌜ ((second : AnySecond) → r ≡ ofKind first second myEndpoints) ⌝ }
 {
-    let caller = first / CALLER % 64;
-    if first % CALLER != 0 {
+    let caller = first / CALLER_UNIT % 64;
+    if first % CALLER_UNIT != 0 {
         return Call::Refused {
             caller,
             refusal: Refusal::UnusedField,
@@ -99,8 +99,8 @@ pub fn my_endpoints(first: u32) -> Call
 pub fn my_rights(first: u32) -> Call
     ensures { λ r. ⌜ ((second : AnySecond) → r ≡ ofKind first second myRights) ⌝ }
 {
-    let caller = first / CALLER % 64;
-    if first % CALLER != 0 {
+    let caller = first / CALLER_UNIT % 64;
+    if first % CALLER_UNIT != 0 {
         return Call::Refused {
             caller,
             refusal: Refusal::UnusedField,
@@ -114,10 +114,10 @@ pub fn grant(first: u32) -> Call
     ensures { λ r. ⌜ ((second : AnySecond) → r ≡ ofKind first second grant) ⌝ }
 {
     Call::Grant {
-        caller: first / CALLER % 64,
-        target: first / A % 64,
-        recipient: first / B % 256,
-        rights: first % B,
+        caller: first / CALLER_UNIT % 64,
+        target: first / A_UNIT % 64,
+        recipient: first / B_UNIT % 256,
+        rights: first % B_UNIT,
     }
 }
 
@@ -125,10 +125,10 @@ pub fn grant(first: u32) -> Call
 pub fn remove(first: u32) -> Call
     ensures { λ r. ⌜ ((second : AnySecond) → r ≡ ofKind first second remove) ⌝ }
 {
-    let caller = first / CALLER % 64;
-    let target = first / A % 64;
-    let b = first / B % 256;
-    let rights = first % B;
+    let caller = first / CALLER_UNIT % 64;
+    let target = first / A_UNIT % 64;
+    let b = first / B_UNIT % 256;
+    let rights = first % B_UNIT;
     if b != 0 {
         return Call::Refused {
             caller,
@@ -147,9 +147,9 @@ pub fn revoke(first: u32) -> Call
     ensures { λ r. ⌜ ((second : AnySecond) → r ≡ ofKind first second revoke) ⌝ }
 {
     Call::Revoke {
-        caller: first / CALLER % 64,
-        target: first / A % 64,
-        holder: first / B % 256,
-        rights: first % B,
+        caller: first / CALLER_UNIT % 64,
+        target: first / A_UNIT % 64,
+        holder: first / B_UNIT % 256,
+        rights: first % B_UNIT,
     }
 }

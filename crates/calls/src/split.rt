@@ -1,8 +1,8 @@
 // The cutting of a list into calls. It looks at kinds only, so it can't depend on a table: no function here is lent one.
-use machine::KIND;
-use machine::of_calls::LOOK_UP;
-use machine::of_calls::SECOND;
-use machine::of_calls::SEND;
+use format::KIND_UNIT;
+use format::calls::KIND_LOOK_UP;
+use format::calls::KIND_SECOND;
+use format::calls::KIND_SEND;
 ghost use mathlib.Core.Path.{_≡_};
 ghost use mathlib.Core.Bool.{cond};
 ghost use lib.ListN.{length};
@@ -19,16 +19,16 @@ pub enum Second {
 fn wants_second(kind: u32) -> bool
     ensures { λ r. ⌜ r ≡ wantsSecond kind ⌝ }
 {
-    kind == LOOK_UP || kind == SEND
+    kind == KIND_LOOK_UP || kind == KIND_SEND
 }
 
 // The words first and next, one directly after the other, make one call of both.
 pub fn make_one_call(first: u32, next: u32) -> bool
     ensures { λ r. ⌜ r ≡ pairs first next ⌝ }
 {
-    let kind = next / KIND;
-    if kind == SECOND {
-        wants_second(first / KIND)
+    let kind = next / KIND_UNIT;
+    if kind == KIND_SECOND {
+        wants_second(first / KIND_UNIT)
     } else {
         false
     }

@@ -1,5 +1,5 @@
 // When words can be asked about a domain.
-use machine::of_tables::DOMAIN_PLACES;
+use format::tables::DOMAIN_PLACES;
 use reachability::bit;
 ghost use mathlib.Core.Path.{_≡_};
 ghost use Prim.Native.Nat.{_≤_};

@@ -1,5 +1,5 @@
 // Sets of domains as words, with a bit for each member.
-use machine::KIND;
+use format::KIND_UNIT;
 use reachability::bit;
 ghost use mathlib.Core.Path.{_≡_};
 ghost use mathlib.Core.Bool.{cond};
@@ -24,7 +24,7 @@ pub fn with_bit(word: u32, i: u32, set: bool) -> u32
 pub fn held(rights: u32, holder: u32) -> u32
     ensures { λ r. ⌜ r ≡ cond (hasAny (payload rights)) holder 0 ⌝ }
 {
-    if rights % KIND != 0 {
+    if rights % KIND_UNIT != 0 {
         return holder;
     }
     0

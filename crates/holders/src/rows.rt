@@ -1,6 +1,6 @@
 // The words worked out from a table, row by row: the rights that one domain holds stand side by side.
 use crate::bits::held;
-use machine::of_tables::MOST_DOMAINS;
+use format::tables::MOST_DOMAINS;
 use reachability::bit;
 use table_layout::rights_at;
 ghost use mathlib.Core.Path.{_≡_};

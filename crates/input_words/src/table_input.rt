@@ -2,7 +2,7 @@
 use crate::bounds::least;
 use crate::words::fill;
 use crate::words::word_at;
-use machine::of_tables::LONGEST_TABLE;
+use format::tables::LONGEST_TABLE;
 ghost use Prim.Native.Nat.{min};
 ghost use mathlib.Core.Path.{_≡_};
 ghost use lib.ListN.{length};

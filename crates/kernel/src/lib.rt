@@ -8,9 +8,9 @@ mod space;
 
 use answers::Answer;
 use calls::split::Second;
+use format::calls::LONGEST_LIST;
 use holders::fill;
 use list::run_calls;
-use machine::of_calls::LONGEST_LIST;
 use run_result::EntryRefusal;
 use run_result::Ran;
 use serve::serve;

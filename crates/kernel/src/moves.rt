@@ -4,9 +4,9 @@ use answers::Answer;
 use answers::given::done;
 use answers::given::refusal;
 use answers::rights_listed;
+use format::KIND_UNIT;
+use format::tables::NO_RIGHT;
 use holders::note;
-use machine::KIND;
-use machine::of_tables::NO_RIGHT;
 use rights::Rights;
 use rules::Decision;
 use rules::access;
@@ -36,7 +36,9 @@ pub fn held(table: &[u32], n: u32, holder: u32, target: u32) -> Rights
 {
     let at = rights_at(n, holder, target);
     let word = table[at];
-    Rights { bits: word % KIND }
+    Rights {
+        bits: word % KIND_UNIT,
+    }
 }
 
 // Writes a holder's rights on a target, and notes them in the holders.

@@ -6,9 +6,9 @@ use answers::endpoints_listed;
 use answers::given::done;
 use answers::given::refusal;
 use calls::Refusal;
-use machine::KIND;
-use machine::of_tables::ENDPOINT_WORDS;
-use machine::of_tables::NONE_LOST;
+use format::KIND_UNIT;
+use format::tables::ENDPOINT_WORDS;
+use format::tables::NONE_LOST;
 use rules::Decision;
 use rules::access;
 use rules::access::Found;
@@ -43,7 +43,7 @@ fn find(table: &[u32], n: u32, m: u32, name: u32) -> Found
         e -= 1;
         let at = endpoint_at(n, e);
         let word = table[at];
-        found = if word % KIND == name { e } else { found };
+        found = if word % KIND_UNIT == name { e } else { found };
     }
     if found < m {
         return Found::At(found);
@@ -115,7 +115,7 @@ pub fn receive(table: &mut [u32], n: u32, m: u32, first: u32, caller: u32, e: u3
     let start = endpoint_at(n, e);
     let info = table[start + 1];
     let count = table[start + 2];
-    let decision = access::receive(caller, info / 256 % 256, count % KIND, e);
+    let decision = access::receive(caller, info / 256 % 256, count % KIND_UNIT, e);
     if let Decision::Refused(refused) = decision {
         return refusal(first, refused);
     }
@@ -125,7 +125,7 @@ pub fn receive(table: &mut [u32], n: u32, m: u32, first: u32, caller: u32, e: u3
     queue::receive(&mut table[start..end]);
     // Subtracts the kind, where the message has a remainder: two words side by side that are cut alike become one read of 64 bits,
     // which waits for the 32-bit write of the message.
-    done(first, message % KIND, lost - NONE_LOST)
+    done(first, message % KIND_UNIT, lost - NONE_LOST)
 }
 
 // Answers my endpoints.

@@ -3,6 +3,7 @@
 // linerun_report's; here the one is handed to the other, and the lines are written, some at a time.
 mod lines;
 
+use format::answers::MOST_ANSWER_WORDS;
 use libc::STDERR_FILENO;
 use libc::STDOUT_FILENO;
 use linerun_input::stdin::Input;
@@ -11,7 +12,6 @@ use linerun_input::stdin::read_input;
 use linerun_report::Told;
 use linerun_report::answer;
 use lines::lines_between;
-use machine::of_answers::MOST_ANSWER_WORDS;
 ghost use Prim.Native.Nat.{_+_, _≤_, _<_};
 ghost use mathlib.Core.Path.{_≡_};
 ghost use lib.ListN.{length, take};

@@ -2,10 +2,10 @@
 // the reading of standard input by it.
 pub mod stdin;
 
+use format::calls::LONGEST_LIST;
 use input_words::table_input::after_table;
 use input_words::table_input::no_table;
 use input_words::table_input::table_wanted;
-use machine::of_calls::LONGEST_LIST;
 ghost use mathlib.Core.Path.{_≡_};
 ghost use Rattle.linerun_input.specs.Input.{unreadable, wanted};
 

@@ -1,9 +1,9 @@
 // Standard input, read in steps: the length word, the table, the list. Each step asks for what the bytes read so far leave wanted
 // and for no byte more, so that the program never waits for one that can't matter.
 use crate::wanted;
+use format::calls::LONGEST_LIST;
+use format::tables::LONGEST_TABLE;
 use libc::STDIN_FILENO;
-use machine::of_calls::LONGEST_LIST;
-use machine::of_tables::LONGEST_TABLE;
 ghost use Prim.Native.Nat.{_+_, _≤_};
 ghost use mathlib.Core.Path.{_≡_};
 ghost use lib.ListN.{length, take};

@@ -1,12 +1,12 @@
 // What linerun answers to what it read: the program without its reading and writing.
+use format::calls::LONGEST_LIST;
+use format::tables::DOMAIN_PLACES;
+use format::tables::LONGEST_TABLE;
 use input_words::table_input::after_table;
 use input_words::table_input::read_table;
 use input_words::words::fill;
 use kernel::run;
 use linerun_input::unreadable;
-use machine::of_calls::LONGEST_LIST;
-use machine::of_tables::DOMAIN_PLACES;
-use machine::of_tables::LONGEST_TABLE;
 use table_layout::domains;
 ghost use mathlib.Core.Path.{_≡_};
 ghost use Prim.Native.Nat.{_≤_, min};

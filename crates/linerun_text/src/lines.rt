@@ -1,7 +1,7 @@
 // The lines that linerun prints, into a lent buffer from a place on.
-use machine::KIND;
-use machine::of_answers::CODE;
-use machine::of_calls::CALLER;
+use format::KIND_UNIT;
+use format::answers::CODE;
+use format::calls::CALLER_UNIT;
 use text::write::put;
 use text::write::put_labelled;
 ghost use Rattle.text.specs.Write.{Writes};
@@ -20,8 +20,8 @@ pub fn first_line(calls: usize, code: u32, out: &mut [u8], at: usize) -> usize
 pub fn call_line(i: usize, w: u32, x: u32, y: u32, out: &mut [u8], at: usize) -> usize
     ensures { λ r. ⌜ Writes at (callLine i w x y) (now (out .entry)) r (now (out .exit)) ⌝ }
 {
-    let caller = w / CALLER % 64;
-    let kind = w / KIND;
+    let caller = w / CALLER_UNIT % 64;
+    let kind = w / KIND_UNIT;
     let code = w % CODE;
     let call_end = put_labelled(b"call ", i as u64, out, at);
     let caller_end = put_labelled(b" caller ", caller as u64, out, call_end);

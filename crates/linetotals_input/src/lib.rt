@@ -2,8 +2,8 @@
 // say, and the reading of standard input.
 pub mod stdin;
 
+use format::calls::LONGEST_LIST;
 use input_words::words::word_at;
-use machine::of_calls::LONGEST_LIST;
 ghost use mathlib.Core.Path.{_≡_};
 ghost use Rattle.linetotals_input.specs.Next.{nextOf};
 

@@ -1,8 +1,8 @@
 // Standard input, read in steps: the length word, the table, then each list together with what stands before the next. Each step
 // asks for what can't but be wanted and for no byte more, so that the program never waits for one that can't matter.
+use format::calls::LONGEST_LIST;
 use input_words::table_input::table_wanted;
 use libc::STDIN_FILENO;
-use machine::of_calls::LONGEST_LIST;
 ghost use Prim.Native.Nat.{_+_, _≤_};
 ghost use mathlib.Core.Path.{_≡_};
 ghost use lib.ListN.{length, take};

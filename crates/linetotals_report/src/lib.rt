@@ -1,6 +1,7 @@
 // What linetotals prints for its standard input, as bytes: the whole program without its writing.
 mod lines;
 
+use format::tables::LONGEST_TABLE;
 use input_words::table_input::no_table;
 use input_words::table_input::read_table;
 use lines::endpoint_lines;
@@ -8,7 +9,6 @@ use linetotals_input::stdin::MOST_READ;
 use linetotals_input::stdin::read_table_input;
 use linetotals_run::run_lists;
 use linetotals_text::lines::last_line;
-use machine::of_tables::LONGEST_TABLE;
 use totals_count::waiting::waiting_counts;
 ghost use Rattle.linetotals_report.specs.Report.{TableReported, Reported};
 

@@ -2,15 +2,15 @@
 // held at a time, however many come.
 mod list;
 
+use format::answers::MOST_ANSWER_WORDS;
+use format::calls::LONGEST_LIST;
+use format::tables::DOMAIN_PLACES;
 use kernel::check;
 use linetotals_input::Next;
 use linetotals_input::next_list;
 use linetotals_input::stdin::MOST_READ;
 use linetotals_input::stdin::read_list;
 use list::add_words;
-use machine::of_answers::MOST_ANSWER_WORDS;
-use machine::of_calls::LONGEST_LIST;
-use machine::of_tables::DOMAIN_PLACES;
 use table_layout::domains;
 use table_layout::endpoints;
 use totals_add::Tally;

@@ -1,5 +1,5 @@
 // An access matrix in lent words: the rights of a holder on a target among n domains, n × n sets, holder by holder.
-use machine::KIND;
+use format::KIND_UNIT;
 use table_layout::word;
 ghost use mathlib.Core.Path.{_≡_};
 ghost use Prim.Native.Nat.{_*_, _^_, _<_, _≤_};
@@ -30,7 +30,7 @@ pub fn fill(table: &[u32], rights: &mut [u32])
     let mut i: usize = 0;
     while i < rights.len() {
         let held = word(table, 1 + i);
-        rights[i] = held % KIND;
+        rights[i] = held % KIND_UNIT;
         i += 1;
     }
 }

@@ -1,13 +1,13 @@
 // An endpoint's twelve words, lent as a part of the table: what a send and a receive make of them. Nothing here sees the
 // rest of the table. Each tests the words first: other words stay as they are, and the answer is false.
 // A word of kind k that holds p is k × KIND + p.
-use machine::KIND;
-use machine::of_tables::EMPTY_SLOT;
-use machine::of_tables::ENDPOINT_WORDS;
-use machine::of_tables::MOST_LOST;
-use machine::of_tables::NONE_LOST;
-use machine::of_tables::NONE_WAITING;
-use machine::of_tables::SLOTS;
+use format::KIND_UNIT;
+use format::tables::EMPTY_SLOT;
+use format::tables::ENDPOINT_WORDS;
+use format::tables::MOST_LOST;
+use format::tables::NONE_LOST;
+use format::tables::NONE_WAITING;
+use format::tables::SLOTS;
 ghost use mathlib.Core.Path.{_≡_};
 ghost use Prim.Native.Nat.{_+_, min};
 ghost use Rattle.machine.specs.Queue.{mostLost, sendWithSpace, sendToFull, received};
@@ -22,7 +22,7 @@ fn sendable(q: &[u32], message: u32) -> bool
         return false;
     }
     let most = q[1] % 256;
-    let count = q[2] % KIND;
+    let count = q[2] % KIND_UNIT;
     (1 <= most) & (most <= SLOTS) & (count <= SLOTS) & (message <= MOST_LOST)
 }
 
@@ -31,7 +31,7 @@ fn send_with_space(q: &mut [u32], message: u32)
     requires { ⌜ HasRoom (now q) message ⌝ }
     ensures { λ _. ⌜ now (q .exit) ≡ sendWithSpace (now (q .entry)) message ⌝ }
 {
-    let count = q[2] % KIND;
+    let count = q[2] % KIND_UNIT;
     let slot = 4 + count as usize;
     q[slot] = EMPTY_SLOT + message;
     q[2] = NONE_WAITING + (count + 1);
@@ -52,7 +52,7 @@ fn send_to_full(q: &mut [u32], message: u32)
     requires { ⌜ MayPushOut (now q) message ⌝ }
     ensures { λ _. ⌜ now (q .exit) ≡ sendToFull (now (q .entry)) message ⌝ }
 {
-    let count = q[3] % KIND;
+    let count = q[3] % KIND_UNIT;
     let lost = lost_after(count);
     take_oldest(q);
     send_with_space(q, message);
@@ -67,7 +67,7 @@ pub fn send(q: &mut [u32], message: u32) -> bool
     if !sendable(q, message) {
         return false;
     }
-    let count = q[2] % KIND;
+    let count = q[2] % KIND_UNIT;
     let most = q[1] % 256;
     if most <= count {
         send_to_full(q, message);
@@ -84,7 +84,7 @@ fn receivable(q: &[u32]) -> bool
     if q.len() != ENDPOINT_WORDS {
         return false;
     }
-    let count = q[2] % KIND;
+    let count = q[2] % KIND_UNIT;
     (1 <= count) & (count <= SLOTS)
 }
 
@@ -94,7 +94,7 @@ fn take_oldest(q: &mut [u32])
     requires { ⌜ MayReceive (now q) ⌝ }
     ensures { λ _. ⌜ now (q .exit) ≡ received (now (q .entry)) ⌝ }
 {
-    let left = q[2] % KIND - 1;
+    let left = q[2] % KIND_UNIT - 1;
     let last = left as usize;
     let mut i: usize = 0;
     while i < last {

@@ -4,7 +4,7 @@
 pub mod mend;
 
 use crate::mend::mend;
-use machine::of_tables::LONGEST_TABLE;
+use format::tables::LONGEST_TABLE;
 use table_check::check;
 ghost use mathlib.Core.Path.{_≡_};
 ghost use mathlib.Core.List.{_++_};

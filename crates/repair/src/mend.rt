@@ -1,11 +1,11 @@
 // A table's broken words put right in place, without ever adding a right (document 02 (k)): a broken rights word becomes one with no
 // right, and the queue of an endpoint with a broken waiting, lost or slot word is emptied. Any words will do as a table.
-use machine::of_tables::EMPTY_SLOT;
-use machine::of_tables::ENDPOINT_WORDS;
-use machine::of_tables::NO_RIGHT;
-use machine::of_tables::NONE_LOST;
-use machine::of_tables::NONE_WAITING;
-use machine::of_tables::SLOT_PLACES;
+use format::tables::EMPTY_SLOT;
+use format::tables::ENDPOINT_WORDS;
+use format::tables::NO_RIGHT;
+use format::tables::NONE_LOST;
+use format::tables::NONE_WAITING;
+use format::tables::SLOT_PLACES;
 use table_check::check;
 use table_words::endpoint::queue_ok;
 use table_words::rights_word_ok;

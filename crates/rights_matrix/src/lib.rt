@@ -1,7 +1,7 @@
 // The rights of up to sixteen domains as sixteen rows of sixteen small numbers, by value: row h has what the domain h holds, and
 // place g of it the rights on g. Any words will do as a table.
-use machine::of_tables::MOST_DOMAINS;
-use machine::of_tables::NO_RIGHT;
+use format::tables::MOST_DOMAINS;
+use format::tables::NO_RIGHT;
 use rights::Rights;
 use table_layout::rights_at;
 ghost use mathlib.Core.Path.{_≡_};

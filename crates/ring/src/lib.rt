@@ -1,12 +1,12 @@
 // A queue as a ring, in twelve lent words: eight places with a first place and a count, going round, so that a send and a receive
 // move no other message. Nothing here sees a table. Other than twelve words are left as they are.
-use machine::KIND;
-use machine::of_tables::EMPTY_SLOT;
-use machine::of_tables::ENDPOINT_WORDS;
-use machine::of_tables::NONE_LOST;
-use machine::of_tables::NONE_WAITING;
-use machine::of_tables::SLOT_PLACES;
-use machine::of_tables::SLOTS;
+use format::KIND_UNIT;
+use format::tables::EMPTY_SLOT;
+use format::tables::ENDPOINT_WORDS;
+use format::tables::NONE_LOST;
+use format::tables::NONE_WAITING;
+use format::tables::SLOT_PLACES;
+use format::tables::SLOTS;
 use queue::lost_after;
 ghost use mathlib.Core.Path.{_≡_};
 ghost use Prim.Native.Nat.{_+_, _-_, _%_};
@@ -95,12 +95,12 @@ pub fn take_in(q: &[u32], ring: &mut [u32])
         return;
     }
     ring[0] = 0;
-    ring[1] = q[2] % KIND;
-    ring[2] = q[3] % KIND;
+    ring[1] = q[2] % KIND_UNIT;
+    ring[2] = q[3] % KIND_UNIT;
     ring[3] = q[1];
     let mut i: usize = 0;
     while i < SLOT_PLACES {
-        ring[4 + i] = q[4 + i] % KIND;
+        ring[4 + i] = q[4 + i] % KIND_UNIT;
         i += 1;
     }
 }
@@ -114,7 +114,7 @@ fn slot_out(ring: &[u32], first: u32, waits: u32, i: u32) -> u32
 {
     if i < waits {
         let at = place_from(first, i);
-        return EMPTY_SLOT + ring[at] % KIND;
+        return EMPTY_SLOT + ring[at] % KIND_UNIT;
     }
     EMPTY_SLOT
 }
@@ -131,8 +131,8 @@ pub fn put_out(ring: &[u32], q: &mut [u32])
     }
     let first = ring[0];
     let count = ring[1];
-    q[2] = NONE_WAITING + count % KIND;
-    q[3] = NONE_LOST + ring[2] % KIND;
+    q[2] = NONE_WAITING + count % KIND_UNIT;
+    q[3] = NONE_LOST + ring[2] % KIND_UNIT;
     let mut i: u32 = 0;
     while i < SLOTS {
         let slot = 4 + i as usize;

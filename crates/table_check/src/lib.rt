@@ -1,8 +1,8 @@
 // The table check: it accepts or refuses a lent table, place by place.
 use crate::names::all_different;
-use machine::KIND;
-use machine::of_tables::ENDPOINT_PLACES;
-use machine::of_tables::ENDPOINT_WORDS;
+use format::KIND_UNIT;
+use format::tables::ENDPOINT_PLACES;
+use format::tables::ENDPOINT_WORDS;
 use rights::Rights;
 use table_words::endpoint::endpoint_ok;
 use table_words::header_word_ok;
@@ -116,7 +116,7 @@ fn endpoints_ok(table: &[u32]) -> bool
         if !endpoint_ok(n, &table[start..end]) {
             return false;
         }
-        names[e] = table[start] % KIND;
+        names[e] = table[start] % KIND_UNIT;
         e += 1;
     }
     all_different(&names[0..m])

@@ -1,10 +1,10 @@
 // A table's check over its image, its words as little-endian bytes. The words are taken out of the bytes where they stand: only
 // the loops are here, and every test of a word is crate words'.
+use format::KIND_UNIT;
+use format::tables::ENDPOINT_PLACES;
+use format::tables::ENDPOINT_WORDS;
+use format::tables::SLOTS;
 use input_words::words::word;
-use machine::KIND;
-use machine::of_tables::ENDPOINT_PLACES;
-use machine::of_tables::ENDPOINT_WORDS;
-use machine::of_tables::SLOTS;
 use rights::Rights;
 use table_check::Checked;
 use table_check::TableRefusal;
@@ -123,7 +123,7 @@ fn endpoints_ok(bytes: &[u8]) -> bool
         if !endpoint_ok(bytes, start, n) {
             return false;
         }
-        names[e] = nth_word(bytes, start) % KIND;
+        names[e] = nth_word(bytes, start) % KIND_UNIT;
         e += 1;
     }
     all_different(&names[0..m])

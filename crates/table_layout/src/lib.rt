@@ -1,8 +1,8 @@
 // Where a table's words stand, and reading them: any words will do as a table, and a word past the end reads as 0. Whoever reads
 // often reads n, the number of domains, once and hands it on. It has eight bits in a table's first word, so only eight are
 // looked at where a square of it is taken.
-use machine::KIND;
-use machine::of_tables::ENDPOINT_WORDS;
+use format::KIND_UNIT;
+use format::tables::ENDPOINT_WORDS;
 use rights::Rights;
 ghost use mathlib.Core.Path.{_≡_};
 ghost use Prim.Native.Nat.{_+_, _%_};
@@ -57,7 +57,9 @@ pub fn rights(table: &[u32], n: u32, holder: u32, target: u32) -> Rights
 {
     let at = rights_at(n, holder, target);
     let held = word(table, at);
-    Rights { bits: held % KIND }
+    Rights {
+        bits: held % KIND_UNIT,
+    }
 }
 
 // Word i from an endpoint's first word on.

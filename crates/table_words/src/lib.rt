@@ -3,18 +3,18 @@
 // `slot_wrong` answer with the bits that are wrong, for the loops that gather them.
 pub mod endpoint;
 
-use machine::KIND;
-use machine::of_tables::EMPTY_SLOT;
-use machine::of_tables::HEADER;
-use machine::of_tables::INFO;
-use machine::of_tables::LOST;
-use machine::of_tables::MOST_DOMAINS;
-use machine::of_tables::MOST_ENDPOINTS;
-use machine::of_tables::NAME;
-use machine::of_tables::NO_RIGHT;
-use machine::of_tables::RIGHTS;
-use machine::of_tables::SLOTS;
-use machine::of_tables::WAITING;
+use format::KIND_UNIT;
+use format::tables::EMPTY_SLOT;
+use format::tables::KIND_HEADER;
+use format::tables::KIND_INFO;
+use format::tables::KIND_LOST;
+use format::tables::KIND_NAME;
+use format::tables::KIND_RIGHTS;
+use format::tables::KIND_WAITING;
+use format::tables::MOST_DOMAINS;
+use format::tables::MOST_ENDPOINTS;
+use format::tables::NO_RIGHT;
+use format::tables::SLOTS;
 use rights::Rights;
 ghost use mathlib.Core.Path.{_≡_};
 ghost use mathlib.Core.Bool.{cond};
@@ -25,14 +25,14 @@ ghost use Rattle.machine.specs.Right.{allRights};
 ghost use Rattle.machine.specs.Check.{headerWordOk, rightsWordOk, nameWordOk, infoWordOk, waitingWordOk, lostWordOk, slotWordOk};
 
 // The waiting word where no message waits, in 64 bits.
-const NONE_WAITING: u64 = machine::of_tables::NONE_WAITING as u64;
+const NONE_WAITING: u64 = format::tables::NONE_WAITING as u64;
 
 // Word 0: kind 1, bits 27–16 zero, 1 to 16 domains, at most 32 endpoints.
 pub fn header_word_ok(w: u32) -> bool
     ensures { λ b. ⌜ b ≡ headerWordOk w ⌝ }
 {
     let n = w / 256 % 256;
-    (w / KIND == HEADER)
+    (w / KIND_UNIT == KIND_HEADER)
         & (w / 65536 % 4096 == 0)
         & (1 <= n)
         & (n <= MOST_DOMAINS)
@@ -43,7 +43,7 @@ pub fn header_word_ok(w: u32) -> bool
 pub fn rights_word_ok(w: u32) -> bool
     ensures { λ b. ⌜ b ≡ rightsWordOk w ⌝ }
 {
-    (w / KIND == RIGHTS) & (w % KIND <= Rights::ALL.bits)
+    (w / KIND_UNIT == KIND_RIGHTS) & (w % KIND_UNIT <= Rights::ALL.bits)
 }
 
 // The bits in which a rights word differs from one that has no right: rights alone where it is right. A loop gathers the bits of all
@@ -58,7 +58,7 @@ pub fn rights_wrong(w: u32) -> u32
 pub fn name_word_ok(w: u32) -> bool
     ensures { λ b. ⌜ b ≡ nameWordOk w ⌝ }
 {
-    (w / KIND == NAME) & (w % KIND != 0)
+    (w / KIND_UNIT == KIND_NAME) & (w % KIND_UNIT != 0)
 }
 
 // An endpoint's info, among n domains: kind 4, bits 27–16 zero, the owner below n, the capacity 1 to 8.
@@ -66,7 +66,7 @@ pub fn info_word_ok(n: u32, w: u32) -> bool
     ensures { λ b. ⌜ b ≡ infoWordOk n w ⌝ }
 {
     let capacity = w % 256;
-    (w / KIND == INFO)
+    (w / KIND_UNIT == KIND_INFO)
         & (w / 65536 % 4096 == 0)
         & (w / 256 % 256 < n)
         & (1 <= capacity)
@@ -77,14 +77,14 @@ pub fn info_word_ok(n: u32, w: u32) -> bool
 pub fn waiting_word_ok(capacity: u32, w: u32) -> bool
     ensures { λ b. ⌜ b ≡ waitingWordOk capacity w ⌝ }
 {
-    (w / KIND == WAITING) & (w % KIND <= capacity)
+    (w / KIND_UNIT == KIND_WAITING) & (w % KIND_UNIT <= capacity)
 }
 
 // An endpoint's lost count: kind 6.
 pub fn lost_word_ok(w: u32) -> bool
     ensures { λ b. ⌜ b ≡ lostWordOk w ⌝ }
 {
-    w / KIND == LOST
+    w / KIND_UNIT == KIND_LOST
 }
 
 // The bits of a slot that have to be those of an empty one: where a message waits in it those of the kind, else all.

@@ -1,11 +1,11 @@
 // What the calls of a list count at each endpoint, by their answers.
 use calls::split::second_at;
 use calls::split::width;
-use machine::KIND;
-use machine::of_answers::CODE;
-use machine::of_calls::B;
-use machine::of_calls::RECEIVE;
-use machine::of_calls::SEND;
+use format::KIND_UNIT;
+use format::answers::CODE;
+use format::calls::B_UNIT;
+use format::calls::KIND_RECEIVE;
+use format::calls::KIND_SEND;
 use table_layout::word;
 ghost use mathlib.Core.Path.{_≡_};
 ghost use mathlib.Core.Bool.{cond, _&&_};
@@ -23,7 +23,7 @@ pub struct Counted {
 fn done(first: u32, answer: u32, kind: u32) -> u64
     ensures { λ r. ⌜ r ≡ cond (eqb (kindOf first) kind && eqb (answerCode answer) 0) 1 0 ⌝ }
 {
-    if first / KIND == kind {
+    if first / KIND_UNIT == kind {
         if answer % CODE == 0 {
             return 1;
         }
@@ -42,9 +42,9 @@ pub fn count_calls(list: &[u32], answers: &[u32]) -> Counted
     while i < list.len() {
         let first = list[i];
         let answer = word(answers, at);
-        let e = (first / B % 256) as usize;
-        sent[e] += done(first, answer, SEND);
-        received[e] += done(first, answer, RECEIVE);
+        let e = (first / B_UNIT % 256) as usize;
+        sent[e] += done(first, answer, KIND_SEND);
+        received[e] += done(first, answer, KIND_RECEIVE);
         at += 3;
         i += width(second_at(list, i));
     }

@@ -1,5 +1,5 @@
 // What waits at the endpoints of a table.
-use machine::KIND;
+use format::KIND_UNIT;
 use table_layout::domains;
 use table_layout::endpoint_word;
 ghost use mathlib.Core.Path.{_≡_};
@@ -15,7 +15,7 @@ pub fn waiting_counts(table: &[u32]) -> [u64; 32]
     let mut counts = [0u64; 32];
     for e in 0..32 {
         let word = endpoint_word(table, n, e as u32, 2);
-        counts[e] = (word % KIND) as u64;
+        counts[e] = (word % KIND_UNIT) as u64;
     }
     counts
 }

@@ -1,9 +1,9 @@
 // The domains of a table and what one of them hands in. Any words will do as a table.
 use calls::split::second_at;
 use calls::split::width;
-use machine::KIND;
-use machine::of_calls::CALLER;
-use machine::of_calls::SECOND;
+use format::KIND_UNIT;
+use format::calls::CALLER_UNIT;
+use format::calls::KIND_SECOND;
 ghost use mathlib.Core.Path.{_≡_};
 ghost use lib.Dec.{eqb};
 ghost use Rattle.machine.specs.Table as machine;
@@ -34,11 +34,11 @@ pub fn fits(table: &[u32], size: usize) -> bool
 fn is_call_of(first: u32, domain: u32) -> bool
     ensures { λ b. ⌜ b ≡ isCallOf first domain ⌝ }
 {
-    let kind = first / KIND;
-    if kind == SECOND {
+    let kind = first / KIND_UNIT;
+    if kind == KIND_SECOND {
         return false;
     }
-    first / CALLER % 64 == domain
+    first / CALLER_UNIT % 64 == domain
 }
 
 // The words are exactly one call, no stray, with the domain as its caller.

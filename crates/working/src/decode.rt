@@ -11,16 +11,16 @@ use calls::kinds::remove;
 use calls::kinds::revoke;
 use calls::kinds::send;
 use calls::split::Second;
-use machine::KIND;
-use machine::of_calls::CALLER;
-use machine::of_calls::GRANT;
-use machine::of_calls::LOOK_UP;
-use machine::of_calls::MY_ENDPOINTS;
-use machine::of_calls::MY_RIGHTS;
-use machine::of_calls::RECEIVE;
-use machine::of_calls::REMOVE;
-use machine::of_calls::SECOND;
-use machine::of_calls::SEND;
+use format::KIND_UNIT;
+use format::calls::CALLER_UNIT;
+use format::calls::KIND_GRANT;
+use format::calls::KIND_LOOK_UP;
+use format::calls::KIND_MY_ENDPOINTS;
+use format::calls::KIND_MY_RIGHTS;
+use format::calls::KIND_RECEIVE;
+use format::calls::KIND_REMOVE;
+use format::calls::KIND_SECOND;
+use format::calls::KIND_SEND;
 ghost use mathlib.Core.Path.{_≡_};
 ghost use Rattle.calls.specs.Apart.{apart};
 
@@ -28,10 +28,10 @@ ghost use Rattle.calls.specs.Apart.{apart};
 pub fn take_apart(first: u32, second: Second) -> Call
     ensures { λ r. ⌜ r ≡ apart first second ⌝ }
 {
-    let kind = first / KIND;
-    let caller = first / CALLER % 64;
+    let kind = first / KIND_UNIT;
+    let caller = first / CALLER_UNIT % 64;
     match kind {
-        SECOND => Call::Refused {
+        KIND_SECOND => Call::Refused {
             caller: 0,
             refusal: Refusal::Stray,
         },
@@ -39,13 +39,13 @@ pub fn take_apart(first: u32, second: Second) -> Call
             caller,
             refusal: Refusal::UnknownKind,
         },
-        LOOK_UP => look_up(first, second),
-        SEND => send(first, second),
-        RECEIVE => receive(first),
-        MY_ENDPOINTS => my_endpoints(first),
-        MY_RIGHTS => my_rights(first),
-        GRANT => grant(first),
-        REMOVE => remove(first),
+        KIND_LOOK_UP => look_up(first, second),
+        KIND_SEND => send(first, second),
+        KIND_RECEIVE => receive(first),
+        KIND_MY_ENDPOINTS => my_endpoints(first),
+        KIND_MY_RIGHTS => my_rights(first),
+        KIND_GRANT => grant(first),
+        KIND_REMOVE => remove(first),
         _ => revoke(first),
     }
 }

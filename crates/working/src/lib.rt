@@ -6,12 +6,12 @@ mod decode;
 mod list;
 mod serve;
 
+use format::tables::ENDPOINT_PLACES;
+use format::tables::ENDPOINT_WORDS;
 use holders::fill;
 use kernel::Entered;
 use kernel::enter;
 use list::run_list;
-use machine::of_tables::ENDPOINT_PLACES;
-use machine::of_tables::ENDPOINT_WORDS;
 use run_result::Ran;
 use table_layout::domains;
 use table_layout::endpoints;

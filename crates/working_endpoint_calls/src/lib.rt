@@ -4,7 +4,7 @@ use answers::Answer;
 use answers::given::done;
 use answers::given::refusal;
 use calls::Refusal;
-use machine::of_tables::ENDPOINT_WORDS;
+use format::tables::ENDPOINT_WORDS;
 use rights_matrix::held;
 use rules::Decision;
 use rules::access;

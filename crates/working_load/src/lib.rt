@@ -1,8 +1,8 @@
 // A table's endpoints taken in from it and put out to it: the queues as rings, the names side by side, and for each domain the
 // endpoints that it owns as bits. Any words will do as a table.
-use machine::KIND;
-use machine::of_tables::ENDPOINT_WORDS;
-use machine::of_tables::MOST_ENDPOINTS;
+use format::KIND_UNIT;
+use format::tables::ENDPOINT_WORDS;
+use format::tables::MOST_ENDPOINTS;
 use reachability::bit;
 use table_layout::endpoint_at;
 use table_layout::endpoint_word;
@@ -79,7 +79,7 @@ pub fn names_in(table: &[u32], n: u32, m: u32) -> [u32; 32]
     while e < few {
         let word = endpoint_word(table, n, e, 0);
         let at = e as usize;
-        names[at] = word % KIND;
+        names[at] = word % KIND_UNIT;
         e += 1;
     }
     names

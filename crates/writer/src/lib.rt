@@ -7,7 +7,7 @@ use call_encode::fits;
 use call_encode::put;
 use call_encode::width;
 use calls::Call;
-use machine::of_calls::LONGEST_LIST;
+use format::calls::LONGEST_LIST;
 ghost use mathlib.Core.Path.{_≡_};
 ghost use mathlib.Core.Bool.{true};
 ghost use mathlib.Core.List.{_++_};

@@ -8,14 +8,14 @@ use call_encode::put;
 use call_encode::width;
 use calls::Call;
 use calls::Refusal;
-use machine::of_calls::GRANT;
-use machine::of_calls::LOOK_UP;
-use machine::of_calls::MY_ENDPOINTS;
-use machine::of_calls::MY_RIGHTS;
-use machine::of_calls::RECEIVE;
-use machine::of_calls::REMOVE;
-use machine::of_calls::REVOKE;
-use machine::of_calls::SEND;
+use format::calls::KIND_GRANT;
+use format::calls::KIND_LOOK_UP;
+use format::calls::KIND_MY_ENDPOINTS;
+use format::calls::KIND_MY_RIGHTS;
+use format::calls::KIND_RECEIVE;
+use format::calls::KIND_REMOVE;
+use format::calls::KIND_REVOKE;
+use format::calls::KIND_SEND;
 ghost use mathlib.Core.Path.{_≡_};
 ghost use mathlib.Core.Bool.{true};
 ghost use mathlib.Core.List.{_++_};
@@ -50,8 +50,8 @@ fn endpoint_row(kind: u32, caller: u32, a: u32, b: u32, c: u32) -> Call
     ensures { λ r. ⌜ r ≡ rowCall kind caller a b c ⌝ }
 {
     match kind {
-        LOOK_UP => where_zero(a, b, 0, Call::LookUp { caller, name: c }),
-        SEND => where_zero(
+        KIND_LOOK_UP => where_zero(a, b, 0, Call::LookUp { caller, name: c }),
+        KIND_SEND => where_zero(
             a,
             0,
             0,
@@ -61,7 +61,7 @@ fn endpoint_row(kind: u32, caller: u32, a: u32, b: u32, c: u32) -> Call
                 message: c,
             },
         ),
-        RECEIVE => where_zero(
+        KIND_RECEIVE => where_zero(
             a,
             0,
             c,
@@ -80,15 +80,15 @@ fn rights_row(kind: u32, caller: u32, a: u32, b: u32, c: u32) -> Call
     ensures { λ r. ⌜ r ≡ rowCall kind caller a b c ⌝ }
 {
     match kind {
-        MY_ENDPOINTS => where_zero(a, b, c, Call::MyEndpoints { caller }),
-        MY_RIGHTS => where_zero(a, b, c, Call::MyRights { caller }),
-        GRANT => Call::Grant {
+        KIND_MY_ENDPOINTS => where_zero(a, b, c, Call::MyEndpoints { caller }),
+        KIND_MY_RIGHTS => where_zero(a, b, c, Call::MyRights { caller }),
+        KIND_GRANT => Call::Grant {
             caller,
             target: a,
             recipient: b,
             rights: c,
         },
-        REMOVE => where_zero(
+        KIND_REMOVE => where_zero(
             0,
             b,
             0,
@@ -98,7 +98,7 @@ fn rights_row(kind: u32, caller: u32, a: u32, b: u32, c: u32) -> Call
                 rights: c,
             },
         ),
-        REVOKE => Call::Revoke {
+        KIND_REVOKE => Call::Revoke {
             caller,
             target: a,
             holder: b,
@@ -112,7 +112,7 @@ fn rights_row(kind: u32, caller: u32, a: u32, b: u32, c: u32) -> Call
 fn row_call(kind: u32, caller: u32, a: u32, b: u32, c: u32) -> Call
     ensures { λ r. ⌜ r ≡ rowCall kind caller a b c ⌝ }
 {
-    if kind < MY_ENDPOINTS {
+    if kind < KIND_MY_ENDPOINTS {
         endpoint_row(kind, caller, a, b, c)
     } else {
         rights_row(kind, caller, a, b, c)

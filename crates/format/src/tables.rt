@@ -1,30 +1,30 @@
 // Document 01, 'The table'.
-use crate::KIND;
+use crate::KIND_UNIT;
 
 // The kinds of a table's words: word 0, a rights word, and an endpoint's name, info, waiting count, lost count and slots.
-pub const HEADER: u32 = 1;
+pub const KIND_HEADER: u32 = 1;
 
-pub const RIGHTS: u32 = 2;
+pub const KIND_RIGHTS: u32 = 2;
 
-pub const NAME: u32 = 3;
+pub const KIND_NAME: u32 = 3;
 
-pub const INFO: u32 = 4;
+pub const KIND_INFO: u32 = 4;
 
-pub const WAITING: u32 = 5;
+pub const KIND_WAITING: u32 = 5;
 
-pub const LOST: u32 = 6;
+pub const KIND_LOST: u32 = 6;
 
-pub const SLOT: u32 = 15;
+pub const KIND_SLOT: u32 = 15;
 
 // A rights word with no right, and the words of an empty queue: nothing waits, nothing was lost, a slot has no message. What such a
 // word holds otherwise is added to it.
-pub const NO_RIGHT: u32 = RIGHTS * KIND;
+pub const NO_RIGHT: u32 = KIND_RIGHTS * KIND_UNIT;
 
-pub const NONE_WAITING: u32 = WAITING * KIND;
+pub const NONE_WAITING: u32 = KIND_WAITING * KIND_UNIT;
 
-pub const NONE_LOST: u32 = LOST * KIND;
+pub const NONE_LOST: u32 = KIND_LOST * KIND_UNIT;
 
-pub const EMPTY_SLOT: u32 = SLOT * KIND;
+pub const EMPTY_SLOT: u32 = KIND_SLOT * KIND_UNIT;
 
 // The largest lost count, and the largest message: 28 bits.
 pub const MOST_LOST: u32 = 268435455;

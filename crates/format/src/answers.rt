@@ -1,5 +1,5 @@
 // Document 01, 'The calls': the answer words of a call.
-use crate::of_calls::LONGEST_LIST;
+use crate::calls::LONGEST_LIST;
 
 // An answer's code, bits 15–0 of its first word, is the remainder by this.
 pub const CODE: u32 = 0x1_0000;
