@@ -6,7 +6,7 @@ use native.Mathlib.Omega.{arith}
 use lib.ListN.{length, take, drop, set, length-take, length-drop, drop-of-length-le}
 use lib.Seq.{drop-drop}
 use borrow.Author.Tests.{lt-ltb, le-ltb}
-use Rattle.machine.proofs.Cut.{three-sets}
+use Rattle.machine.proofs.Split.{three-sets}
 use Rattle.answers.specs.Answer.{answersPut}
 
 pub too-short : (space words : List ℕ) → length space < 3 → space ≡ answersPut space words

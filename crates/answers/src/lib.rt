@@ -1,15 +1,15 @@
 // A call's three answer words: made of its first word and of plain values, or of what a table says of the caller. Any words will do
 // as a table: data that isn't in it is 0, and data of more than 32 bits, which no accepted table has, is cut.
-pub mod given;
-mod lists;
+pub mod by_value;
+mod data_bits;
 
+use by_value::done;
 use calls::Refusal;
+use data_bits::owned_bits;
+use data_bits::rights_bits;
 use format::KIND_UNIT;
 use format::calls::CALLER_UNIT;
 use format::calls::KIND_SECOND;
-use given::done;
-use lists::owned_bits;
-use lists::rights_bits;
 use table_layout::domains;
 use table_layout::endpoint_at;
 use table_layout::endpoints;

@@ -8,10 +8,10 @@ ghost use Prim.Native.Nat.{_/_, _%_, min};
 ghost use Rattle.machine.specs.Promise.{RunPromise};
 ghost use Rattle.writer.specs.Rows.{RowsPromise};
 ghost use Rattle.holders.specs.Asked.{ReachTold};
-ghost use Rattle.components.specs.Told.{ComponentTold};
+ghost use Rattle.components.specs.Reported.{ComponentTold};
 ghost use Rattle.table_check_bytes.specs.Bytes.{bytesCode};
 ghost use Rattle.repair.specs.Repair.{RepairPromise};
-ghost use Rattle.potential.specs.Told.{PotentialTold};
+ghost use Rattle.potential.specs.Reported.{PotentialTold};
 
 // The check of a table before the kernel runs on it. C: uint32_t balkwizu_table_check(const uint8_t *bytes, size_t length).
 //

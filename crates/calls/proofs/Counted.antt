@@ -14,7 +14,7 @@ use lib.Seq.{drop-cons}
 use Rattle.machine.specs.Word.{kind}
 use Rattle.machine.specs.Call.{wantsSecond, pairs, cut}
 use Rattle.machine.proofs.Bools.{and-right}
-use Rattle.machine.proofs.Cut.{cut-one, cut-two}
+use Rattle.machine.proofs.Split.{cut-one, cut-two}
 
 -- how many calls begin among the words ws, which stand behind the word p
 unfoldable pub begunAfter : ℕ → List ℕ → ℕ

@@ -1,6 +1,6 @@
 -- What is proved of taking a call apart.
-pub mod Apart
-pub mod Decide
+pub mod Decode
+pub mod Decided
 pub mod Numbers
 pub mod Counted
-pub mod CutAt
+pub mod SplitAt

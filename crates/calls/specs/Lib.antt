@@ -1,5 +1,5 @@
 -- What the contracts of the calls cite.
 pub mod Number
-pub mod Apart
+pub mod Decode
 pub mod Decide
-pub mod Cutting
+pub mod Split

@@ -1,30 +1,10 @@
 // The calls of documents 01 and 02, taken apart without a table: what a call asks for, as one choice among its kinds, or the refusal
 // by a place that needs no table (10, 11, 13 and 14). Crate rules puts 12, which needs one, between 11 and 13.
-pub mod kinds;
+pub mod decode;
 pub mod split;
 
-use crate::split::Second;
-use format::KIND_UNIT;
-use format::calls::CALLER_UNIT;
-use format::calls::KIND_GRANT;
-use format::calls::KIND_LOOK_UP;
-use format::calls::KIND_MY_ENDPOINTS;
-use format::calls::KIND_MY_RIGHTS;
-use format::calls::KIND_RECEIVE;
-use format::calls::KIND_REMOVE;
-use format::calls::KIND_SECOND;
-use format::calls::KIND_SEND;
-use kinds::grant;
-use kinds::look_up;
-use kinds::my_endpoints;
-use kinds::my_rights;
-use kinds::receive;
-use kinds::remove;
-use kinds::revoke;
-use kinds::send;
 ghost use mathlib.Core.Path.{_≡_};
 ghost use Rattle.calls.specs.Number.{numberOf};
-ghost use Rattle.calls.specs.Apart.{apart};
 
 // Why a call is refused, named by what is wrong.
 pub enum Refusal {
@@ -109,31 +89,5 @@ pub fn number(refusal: Refusal) -> u32
         Refusal::BadRights => 21,
         Refusal::LacksRight => 22,
         Refusal::NoInfluence => 23,
-    }
-}
-
-// Takes a call of one or two words apart. Any words will do: what the cutting of a list gives is a special case.
-pub fn take_apart(first: u32, second: Second) -> Call
-    ensures { λ r. ⌜ r ≡ apart first second ⌝ }
-{
-    let kind = first / KIND_UNIT;
-    let caller = first / CALLER_UNIT % 64;
-    match kind {
-        KIND_SECOND => Call::Refused {
-            caller: 0,
-            refusal: Refusal::Stray,
-        },
-        0 | 9..=14 => Call::Refused {
-            caller,
-            refusal: Refusal::UnknownKind,
-        },
-        KIND_LOOK_UP => look_up(first, second),
-        KIND_SEND => send(first, second),
-        KIND_RECEIVE => receive(first),
-        KIND_MY_ENDPOINTS => my_endpoints(first),
-        KIND_MY_RIGHTS => my_rights(first),
-        KIND_GRANT => grant(first),
-        KIND_REMOVE => remove(first),
-        _ => revoke(first),
     }
 }

@@ -7,7 +7,7 @@ ghost use mathlib.Core.Path.{_≡_};
 ghost use mathlib.Core.Bool.{cond};
 ghost use lib.ListN.{length};
 ghost use Rattle.machine.specs.Call.{wantsSecond, pairs, cut};
-ghost use Rattle.calls.specs.Cutting.{secondAt, widthOf};
+ghost use Rattle.calls.specs.Split.{secondAt, widthOf};
 
 // A call's second word, if it has one.
 pub enum Second {

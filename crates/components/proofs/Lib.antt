@@ -1,3 +1,3 @@
 -- Laws that the proofs of the functions cite.
 pub mod Words
-pub mod Told
+pub mod Reported

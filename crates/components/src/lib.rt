@@ -1,14 +1,14 @@
 // The component of a domain: all that hang together with it by rights in a table, in either direction (document 02 (j): its
 // group). Any words will do as a table, and any number as a domain.
-mod joins;
+mod connections;
 
-use joins::members;
+use connections::members;
 use table_check::Checked;
 use table_check::TableRefusal;
 use table_check::check;
 use table_layout::domains;
 ghost use mathlib.Core.Path.{_≡_};
-ghost use Rattle.components.specs.Told.{ComponentTold, componentCode, componentMembers};
+ghost use Rattle.components.specs.Reported.{ComponentTold, componentCode, componentMembers};
 
 // What is told of a domain's component.
 pub enum Component {

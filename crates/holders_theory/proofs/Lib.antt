@@ -2,5 +2,5 @@
 pub mod OneBit
 pub mod Filled
 pub mod Kept
-pub mod Told
+pub mod Reported
 pub mod Examples

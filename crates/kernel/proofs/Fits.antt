@@ -21,9 +21,9 @@ use Rattle.machine.proofs.Bools.{cond-elim}
 use Rattle.machine.proofs.Queue.{message-small, waiting-most}
 use Rattle.machine.proofs.Step.{rights-held}
 use Rattle.machine.proofs.Table.{rights-below, endpoint-length}
-use Rattle.calls.specs.Cutting.{callOf}
+use Rattle.calls.specs.Split.{callOf}
 use Rattle.calls.specs.declared.split.Second.{Second}
-use Rattle.calls.specs.Apart.{needsSecond, whole, ofKind, apart}
+use Rattle.calls.specs.Decode.{needsSecond, whole, ofKind, apart}
 use Rattle.calls.specs.declared.Call.{Call}
 use Rattle.calls.specs.declared.Call.the-variants.{LookUp, Send, Receive, MyEndpoints, MyRights, Grant, Remove, Revoke, Refused}
 use Rattle.calls.specs.declared.Refusal.the-variants.{UnusedField, NoSecondWord}

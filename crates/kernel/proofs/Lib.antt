@@ -1,9 +1,9 @@
 -- What is proved of the kernel besides its functions.
 pub mod Fits
-pub mod Written
-pub mod Underway
+pub mod WrittenWords
+pub mod RunInvariant
 pub mod Entries
-pub mod Within
+pub mod Ranges
 pub mod Outcomes
-pub mod Settled
-pub mod Backwards
+pub mod OutcomeLaws
+pub mod LastToFirst

@@ -16,7 +16,7 @@ use Rattle.calls.specs.declared.Call.the-variants.{Refused}
 use Rattle.calls.specs.declared.Refusal.{Refusal}
 use Rattle.rules.specs.Range.{callerNumber, refusedNumbers}
 use Rattle.holders.specs.Noted.{noted, holdersAfter}
-use Rattle.kernel.specs.Settled.{Settled}
+use Rattle.kernel.specs.Outcome.{Settled}
 
 module _ (t p : List ℕ) (w : ℕ) (d : Decision) (words : List ℕ) where
   pub settled-refused : (k : ℕ) → machine.refused k ≡ d → words ≡ answerWord (one w) k ∷ 0 ∷ 0 ∷ [] → Settled t p w d words t p

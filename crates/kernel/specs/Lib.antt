@@ -1,5 +1,5 @@
 -- What the kernel's contracts cite.
 pub mod Step
-pub mod Settled
+pub mod Outcome
 pub mod Run
 pub mod Entered

@@ -1,21 +1,21 @@
 // The kernel: what a call and a list of calls do to a lent table and to the holders kept beside it, and what they answer. A table
 // is checked before any call runs.
-mod list;
-mod moves;
-mod queues;
+mod endpoint_calls;
+mod lent_lengths;
+mod rights_calls;
+mod run_list;
 mod serve;
-mod space;
 
 use answers::Answer;
 use calls::split::Second;
 use format::calls::LONGEST_LIST;
 use holders::fill;
-use list::run_calls;
+use lent_lengths::has_space;
+use lent_lengths::one_a_domain;
+use run_list::run_calls;
 use run_result::EntryRefusal;
 use run_result::Ran;
 use serve::serve;
-use space::has_space;
-use space::one_a_domain;
 use table_check::Checked;
 use table_layout::domains;
 use table_layout::endpoints;
@@ -24,7 +24,7 @@ ghost use Rattle.machine.specs.Check.{tableCode};
 ghost use Rattle.machine.specs.Entry.{entryCode};
 ghost use Rattle.machine.specs.Promise.{RunPromise};
 ghost use Rattle.table_check.specs.Checked.{checkedCode};
-ghost use Rattle.calls.specs.Cutting.{callOf};
+ghost use Rattle.calls.specs.Split.{callOf};
 ghost use Rattle.kernel.specs.Step.{StepPromise};
 ghost use Rattle.kernel.specs.Entered.{enteredCode};
 ghost use Rattle.run_result.specs.Entry.{ranCode, ranCalls};

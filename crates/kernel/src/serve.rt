@@ -1,25 +1,25 @@
 // One call on an accepted table: it is taken apart into one choice among its kinds, and each kind is served by a function of its own,
 // which tests the call's numbers, then what the table holds, and writes and answers.
-use crate::moves::grant;
-use crate::moves::my_rights;
-use crate::moves::remove;
-use crate::moves::revoke;
-use crate::queues::look_up;
-use crate::queues::my_endpoints;
-use crate::queues::receive;
-use crate::queues::send;
+use crate::endpoint_calls::look_up;
+use crate::endpoint_calls::my_endpoints;
+use crate::endpoint_calls::receive;
+use crate::endpoint_calls::send;
+use crate::rights_calls::grant;
+use crate::rights_calls::my_rights;
+use crate::rights_calls::remove;
+use crate::rights_calls::revoke;
 use answers::Answer;
-use answers::given::refuse;
+use answers::by_value::refuse;
 use calls::Call;
 use calls::split::Second;
-use calls::take_apart;
+use calls::decode::decode;
 ghost use mathlib.Core.Path.{_≡_};
 ghost use Rattle.machine.specs.Table.{domains, endpoints};
 ghost use Rattle.machine.specs.Check.{Accepted};
 ghost use Rattle.answers.specs.Answer.{answerWords};
-ghost use Rattle.calls.specs.Apart.{apart};
+ghost use Rattle.calls.specs.Decode.{apart};
 ghost use Rattle.calls.specs.Decide.{decideCall};
-ghost use Rattle.kernel.specs.Settled.{Settled};
+ghost use Rattle.kernel.specs.Outcome.{Settled};
 
 // Serves the call of a first word and, if there is one, a second, and returns its answer.
 pub fn serve(
@@ -35,7 +35,7 @@ pub fn serve(
     requires { ⌜ m ≡ endpoints (now table) ⌝ }
     ensures { λ a. ⌜ Settled (now (table .entry)) (now (holders .entry)) first (decideCall (now (table .entry)) (apart first second)) (answerWords a) (now (table .exit)) (now (holders .exit)) ⌝ }
 {
-    let call = take_apart(first, second);
+    let call = decode(first, second);
     match call {
         Call::Refused { caller, refusal } => refuse(n, first, caller, refusal),
         Call::LookUp { caller, name } => look_up(table, n, m, first, caller, name),

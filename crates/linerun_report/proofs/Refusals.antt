@@ -15,7 +15,7 @@ use Rattle.machine.specs.Table.{domains}
 use Rattle.machine.specs.Check.{headerOk, lengthOk, rightsOk, endpointsOk, tableCode, Accepted}
 use Rattle.machine.specs.Entry.{longestList, spaceCode, entryCode, refusal, entry}
 use Rattle.machine.proofs.Bools.{cond-elim}
-use Rattle.machine.proofs.Cut.{cut-few}
+use Rattle.machine.proofs.Split.{cut-few}
 use Rattle.machine.proofs.Accepted.{accepted-counts}
 use Rattle.machine.proofs.Promise.{entry-code, entry-refused, code-long, holders-fit}
 use Rattle.input_words.specs.Bytes.{wordsOf}

@@ -1,5 +1,5 @@
 -- What is proved of linetotals' input as definitions: laws that the program's proofs cite.
 pub mod ListLaws
 pub mod InputLaws
-pub mod Going
+pub mod ListLoop
 pub mod Examples

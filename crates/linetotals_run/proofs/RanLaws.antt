@@ -11,7 +11,7 @@ use Rattle.machine.specs.Table.{domains, endpoints}
 use Rattle.machine.specs.Check.{tableCode, Accepted}
 use Rattle.machine.specs.Entry.{longestList}
 use Rattle.machine.specs.Promise.{RunPromise}
-use Rattle.machine.proofs.Cut.{cut-few}
+use Rattle.machine.proofs.Split.{cut-few}
 use Rattle.machine.proofs.Step.{run-accepted}
 use Rattle.machine.proofs.Promise.{entry-code, code-holders, holders-fit}
 use Rattle.input_words.specs.Bytes.{wordsOf}
@@ -26,7 +26,7 @@ use Rattle.linetotals_input.specs.Input.{mostLists, headWanted, stopped}
 use Rattle.linetotals_input.specs.Next.{nextOf}
 use Rattle.linetotals_input.specs.Read.{listBytes}
 use Rattle.linetotals_input.specs.declared.Next.the-variants.{Ends, Words}
-use Rattle.linetotals_input.proofs.Going.{AtHead, Going, Over, at-start, goes-on, list-taken, list-short}
+use Rattle.linetotals_input.proofs.ListLoop.{AtHead, Going, Over, at-start, goes-on, list-taken, list-short}
 use Rattle.linetotals_run.specs.Ran.{HasRoom, WordsAdded, AllRan, listsBehind, ListsRan}
 
 -- a part that is lent, as what was read from a place on

@@ -1,7 +1,8 @@
 // Runs the lists of standard input one after another from one table, each as it is read, and adds up what they count. One list is
 // held at a time, however many come.
-mod list;
+mod add_words;
 
+use add_words::add_words;
 use format::answers::MOST_ANSWER_WORDS;
 use format::calls::LONGEST_LIST;
 use format::tables::DOMAIN_PLACES;
@@ -10,7 +11,6 @@ use linetotals_input::Next;
 use linetotals_input::next_list;
 use linetotals_input::stdin::MOST_READ;
 use linetotals_input::stdin::read_list;
-use list::add_words;
 use table_layout::domains;
 use table_layout::endpoints;
 use totals_add::Tally;

@@ -15,6 +15,6 @@ pub mod Purge
 pub mod Unwinding
 pub mod Noninterference
 pub mod Trail
-pub mod Cut
+pub mod Split
 pub mod Counts
 pub mod Promise

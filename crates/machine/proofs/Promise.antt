@@ -18,7 +18,7 @@ use Rattle.machine.specs.Holders.{holdersOf}
 use Rattle.machine.specs.RunClaims.{Noninterference, NoRightFromNowhere, CountsBorneOut, InTurn}
 use Rattle.machine.specs.Promise.{RunPromise}
 use Rattle.machine.proofs.Bools.{cond-elim}
-use Rattle.machine.proofs.Cut.{cut-few}
+use Rattle.machine.proofs.Split.{cut-few}
 use Rattle.machine.proofs.Counts.{counts-borne-out, in-turn}
 use Rattle.machine.proofs.Trail.{no-right-from-nowhere}
 use Rattle.machine.proofs.Noninterference.{noninterference}

@@ -2,4 +2,4 @@
 pub mod Cells
 pub mod Loops
 pub mod Settling
-pub mod Told
+pub mod Reported

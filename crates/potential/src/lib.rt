@@ -11,7 +11,7 @@ use table_check::TableRefusal;
 use table_check::check;
 use table_layout::domains;
 ghost use mathlib.Core.Path.{_≡_};
-ghost use Rattle.potential.specs.Told.{PotentialTold, potentialCode};
+ghost use Rattle.potential.specs.Reported.{PotentialTold, potentialCode};
 
 // What is told of the potential rights.
 pub enum Potential {

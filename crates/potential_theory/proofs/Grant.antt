@@ -17,7 +17,7 @@ use Rattle.machine.specs.Call.{Call.one, first, kindOf, callKind, callerOf, cut
 use Rattle.machine.specs.Machine.{place, rightsPlaces, grantPlaces, framed, places, decide, effect, after, step, code, Decision.grants}
 use Rattle.machine.specs.Influence.{reaches, influences}
 use Rattle.machine.proofs.Bools.{and-intro, or-right}
-use Rattle.machine.proofs.Cut.{cut-last, cut-one}
+use Rattle.machine.proofs.Split.{cut-last, cut-one}
 use Rattle.machine.proofs.Right.{holds-le, rights-payload, adds-within}
 use Rattle.machine.proofs.Table as table
 use Rattle.machine.proofs.Accepted.{accepted-sized, accepted-counts}

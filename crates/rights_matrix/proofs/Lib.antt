@@ -2,6 +2,6 @@
 pub mod Filling
 pub mod Parts
 pub mod RowWords
-pub mod TakingIn
-pub mod PuttingOut
+pub mod LoadLoop
+pub mod StoreLoop
 pub mod Rights

@@ -1,3 +1,3 @@
 -- Laws of rings that the proofs of several functions, and other crates, cite.
 pub mod Words
-pub mod Along
+pub mod Simulation

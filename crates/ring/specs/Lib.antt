@@ -1,4 +1,4 @@
 -- What a receive shows and leaves, and for callers the rings and what they stand for.
 pub mod Ring
-pub mod Taken
+pub mod Received
 pub mod Claims

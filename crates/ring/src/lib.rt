@@ -12,7 +12,7 @@ ghost use mathlib.Core.Path.{_≡_};
 ghost use Prim.Native.Nat.{_+_, _-_, _%_};
 ghost use lib.ListN.{length};
 ghost use Rattle.ring_theory.specs.Ring.{firstPlace, count, placeFrom, ringSent, ringOf, slotOut, putOutQueue, ofTwelve};
-ghost use Rattle.ring.specs.Taken.{Taken};
+ghost use Rattle.ring.specs.Received.{Taken};
 
 // The word of the i-th place from a first place on, going round.
 fn place_from(first: u32, i: u32) -> usize

@@ -2,11 +2,11 @@
 // got it (`rt staticlib test_export` makes an archive of its own). It is how `kernel::step` is run beside the separate machine.
 pub mod queues;
 
-use answers::given::put;
+use answers::by_value::put;
 use calls::split::Second;
 use kernel::Stepped;
 ghost use mathlib.Core.Path.{_≡_};
-ghost use Rattle.calls.specs.Cutting.{callOf};
+ghost use Rattle.calls.specs.Split.{callOf};
 ghost use Rattle.test_export.specs.Exported.{secondGiven, Exported};
 
 // A second word as C hands it over: the word counts where the number beside it isn't 0.

@@ -18,10 +18,10 @@ use Rattle.machine.specs.Counts.{isSend, isReceive, doneOn, countDone}
 use Rattle.machine.proofs.Below.{words-length, words-at}
 use Rattle.machine.proofs.Table.{equal-either}
 use Rattle.machine.proofs.Decide.{kind-elim}
-use Rattle.machine.proofs.Cut.{cut-few}
+use Rattle.machine.proofs.Split.{cut-few}
 use Rattle.totals_theory.proofs.TotalsLaws.{done-few}
-use Rattle.calls.specs.Cutting.{callOf, secondAt, widthOf}
-use Rattle.calls.proofs.CutAt.{first-of, cut-at}
+use Rattle.calls.specs.Split.{callOf, secondAt, widthOf}
+use Rattle.calls.proofs.SplitAt.{first-of, cut-at}
 
 -- the next call begins at place i of the list, its answer at place at of the answers
 pub record Counting (is : Kind → Bool) (list answers counts : List ℕ) (at i : ℕ) : Type 0 where

@@ -12,7 +12,7 @@ use Rattle.machine.specs.Machine.{step}
 use Rattle.machine.specs.Run.{run, answers}
 use Rattle.machine.specs.Counts.{isSend, isReceive, doneOn, countDone, sentTo, receivedFrom, pushesOut, fullSends}
 use Rattle.machine.specs.RunClaims.{CountsBorneOut}
-use Rattle.machine.proofs.Cut.{cut-few}
+use Rattle.machine.proofs.Split.{cut-few}
 use Rattle.machine.proofs.Counts.{counts-borne-out, run-append, answers-append, count-append, full-append}
 use Rattle.totals_theory.specs.Totals.{Totals, nothing, together, listTotals, tableAfter, totals, callsOf}
 use Rattle.totals_theory.specs.Claims.{SheetHolds, OneRun, ListByList, Few}

@@ -16,7 +16,7 @@ use Rattle.turns_theory.specs.Turns.{mostPending, isOneOf, turnCode}
 use Rattle.turns_state.specs.Pending.{blockLength, count, pendingIn, enqueuable}
 use Rattle.turns_state.proofs.Laws.{may-enqueue, pending-length}
 use Rattle.turns_state.specs.State.{stateLength, block, stateHandedIn}
-use Rattle.turns.specs.Told.{badTurns}
+use Rattle.turns.specs.Codes.{badTurns}
 use Rattle.turns.specs.Promise.{handsInCode, HandInPromise, turnsCode}
 use Rattle.turns_state.proofs.Blocks.{block-length}
 

@@ -4,4 +4,4 @@ pub mod Serves
 pub mod Outcomes
 pub mod Examples
 pub mod Claims
-pub mod Happened
+pub mod WordHistory

@@ -10,7 +10,7 @@ use Rattle.run_result.specs.declared.EntryRefusal.the-variants.{ListTooLong, Ba
 use Rattle.turns.specs.declared.Turned.{Turned}
 use Rattle.turns.specs.declared.Turned.the-variants.{Refused, Idle, Served}
 use Rattle.turns.specs.declared.TurnRefusal.the-variants.{Entry, BadTurns}
-use Rattle.turns.specs.Told.{turnedCode, turnedServed}
+use Rattle.turns.specs.Codes.{turnedCode, turnedServed}
 
 table-code : (r : TableRefusal) → refusalCode r ≤ 99
 table-code BadHeader = omega arith

@@ -15,7 +15,7 @@ use Rattle.run_result.specs.declared.EntryRefusal.{EntryRefusal}
 use Rattle.run_result.proofs.Refusals.{entry-refusal-code}
 use Rattle.answers.specs.declared.Answer.{Answer}
 use Rattle.answers.specs.Answer.{answerWords}
-use Rattle.calls.specs.Cutting.{widthOf}
+use Rattle.calls.specs.Split.{widthOf}
 use Rattle.kernel.specs.Step.{stepEntryCode, StepPromise}
 use Rattle.kernel.specs.declared.Stepped.the-variants.{Refused, Answered}
 use Rattle.turns_theory.specs.Turns.{tableAfter, holdersAfter, Turn.idle}

@@ -1,6 +1,6 @@
 -- What the contracts of handing in and turns cite.
-pub mod Told
+pub mod Codes
 pub mod Promise
 pub mod Examples
 pub mod Claims
-pub mod Happened
+pub mod WordHistory

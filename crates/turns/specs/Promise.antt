@@ -13,7 +13,7 @@ use Rattle.machine.specs.Machine.{answer}
 use Rattle.turns_theory.specs.Turns.{Turn, mostPending, isOneOf, firstWaiting, turnCode, tableAfter, holdersAfter, Turn.idle, Turn.serves}
 use Rattle.turns_state.specs.Pending.{pendingIn}
 use Rattle.turns_state.specs.State.{stateLength, block, turnsIn, turnIn, stateHandedIn, stateAfter}
-use Rattle.turns.specs.Told.{badTurns}
+use Rattle.turns.specs.Codes.{badTurns}
 
 -- ---- handing in
 

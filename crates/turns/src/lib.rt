@@ -16,7 +16,7 @@ use turns_state::domain::number;
 use turns_state::order::next_to_serve;
 ghost use mathlib.Core.Path.{_≡_};
 ghost use lib.ListN.{length, replicate};
-ghost use Rattle.turns.specs.Told.{handInRefusalCode, handedInCode, turnRefusalCode, turnedCode, turnedServed};
+ghost use Rattle.turns.specs.Codes.{handInRefusalCode, handedInCode, turnRefusalCode, turnedCode, turnedServed};
 ghost use Rattle.turns.specs.Promise.{HandInPromise, TurnPromise};
 
 // Why words aren't handed in.

@@ -1,7 +1,7 @@
 // A turn that serves nobody, and one that serves a domain.
 use crate::TurnRefusal;
 use crate::Turned;
-use answers::given::put;
+use answers::by_value::put;
 use calls::split::width;
 use kernel::Stepped;
 use kernel::check;
@@ -14,7 +14,7 @@ use turns_state::first_of_oldest;
 use turns_state::remove;
 use turns_state::second_of_oldest;
 ghost use mathlib.Core.Path.{_≡_};
-ghost use Rattle.turns.specs.Told.{turnedCode, turnedServed};
+ghost use Rattle.turns.specs.Codes.{turnedCode, turnedServed};
 ghost use Rattle.turns.specs.Promise.{turnsCode, MayServe, TurnPromise};
 
 // A turn that serves nobody: its refusal, or idle.

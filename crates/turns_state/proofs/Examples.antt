@@ -1,7 +1,7 @@
 -- The rows of pending words hold, each by computation (specs/Examples). Assumes nothing.
 use mathlib.Core.Path.{refl}
 use Rattle.machine.proofs.Everything.{everything}
-use Rattle.calls.specs.Cutting.{secondAt}
+use Rattle.calls.specs.Split.{secondAt}
 use Rattle.turns_state.specs.Pending.{count, pendingIn, enqueuable, enqueued, leftByEnqueue, dequeuable, dequeued, leftByDequeue, secondOfOldest}
 use Rattle.turns_state.specs.Examples.{EveryPendingRow, pendingRows}
 

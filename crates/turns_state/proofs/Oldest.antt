@@ -14,7 +14,7 @@ use Rattle.machine.specs.Table.{domains}
 use Rattle.machine.specs.Call.{Call, cut}
 use Rattle.machine.proofs.Bools.{and-intro}
 use Rattle.calls.specs.declared.split.Second.{Second}
-use Rattle.calls.specs.Cutting.{callOf, secondAt, widthOf}
+use Rattle.calls.specs.Split.{callOf, secondAt, widthOf}
 use Rattle.turns_theory.specs.Turns.{waits, firstWaiting, servesOldest, Turn.serves}
 use Rattle.turns_theory.proofs.Pending.{cut-oldest, oldest-width, turn-of}
 use Rattle.turns_state.specs.Pending.{blockLength, count, pendingIn, dequeuable, secondOfOldest}

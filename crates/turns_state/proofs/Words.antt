@@ -12,7 +12,7 @@ use lib.ListN.{length, getD, drop, length-drop}
 use Rattle.machine.specs.Word.{kind, caller}
 use Rattle.machine.specs.Call.{Call, first, callerOf, pairs, cut, Call.one, Call.two}
 use Rattle.machine.specs.DomainSet.{calledBy}
-use Rattle.calls.specs.Cutting.{callOf, secondAt, widthOf}
+use Rattle.calls.specs.Split.{callOf, secondAt, widthOf}
 use Rattle.calls.specs.declared.split.Second.{Second}
 use Rattle.calls.specs.declared.split.Second.the-variants.{Nothing, Word}
 use Rattle.turns_theory.specs.Turns.{isOneOf, width}

@@ -9,7 +9,7 @@ use lib.Dec.{eqb, leb}
 use lib.ListN.{length, getD, take, drop}
 use Rattle.calls.specs.declared.split.Second.{Second}
 use Rattle.calls.specs.declared.split.Second.the-variants.{Nothing}
-use Rattle.calls.specs.Cutting.{secondAt}
+use Rattle.calls.specs.Split.{secondAt}
 use Rattle.turns_theory.specs.Turns.{mostPending}
 
 -- how many words a domain has in the state, and how many of them are pending: its first word says, and above 16 it says 16

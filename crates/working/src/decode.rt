@@ -1,15 +1,15 @@
-// A call taken apart, for the calls on a working state: the same `match` as `calls::take_apart`. A function that both runs of an
+// A call taken apart, for the calls on a working state: the same `match` as `calls::decode::decode`. A function that both runs of an
 // archive call is inlined in neither, and then each call of a list costs half as much again (docs/DECISIONS.md).
 use calls::Call;
 use calls::Refusal;
-use calls::kinds::grant;
-use calls::kinds::look_up;
-use calls::kinds::my_endpoints;
-use calls::kinds::my_rights;
-use calls::kinds::receive;
-use calls::kinds::remove;
-use calls::kinds::revoke;
-use calls::kinds::send;
+use calls::decode::grant;
+use calls::decode::look_up;
+use calls::decode::my_endpoints;
+use calls::decode::my_rights;
+use calls::decode::receive;
+use calls::decode::remove;
+use calls::decode::revoke;
+use calls::decode::send;
 use calls::split::Second;
 use format::KIND_UNIT;
 use format::calls::CALLER_UNIT;
@@ -22,10 +22,10 @@ use format::calls::KIND_REMOVE;
 use format::calls::KIND_SECOND;
 use format::calls::KIND_SEND;
 ghost use mathlib.Core.Path.{_≡_};
-ghost use Rattle.calls.specs.Apart.{apart};
+ghost use Rattle.calls.specs.Decode.{apart};
 
 // Takes a call of one or two words apart, whatever the words, and returns it as one choice among its kinds.
-pub fn take_apart(first: u32, second: Second) -> Call
+pub fn decode(first: u32, second: Second) -> Call
     ensures { λ r. ⌜ r ≡ apart first second ⌝ }
 {
     let kind = first / KIND_UNIT;

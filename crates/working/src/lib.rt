@@ -3,7 +3,7 @@
 // endpoints owned.
 pub mod by_length;
 mod decode;
-mod list;
+mod run_list;
 mod serve;
 
 use format::tables::ENDPOINT_PLACES;
@@ -11,7 +11,7 @@ use format::tables::ENDPOINT_WORDS;
 use holders::fill;
 use kernel::Entered;
 use kernel::enter;
-use list::run_list;
+use run_list::run_list;
 use run_result::Ran;
 use table_layout::domains;
 use table_layout::endpoints;

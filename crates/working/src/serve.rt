@@ -1,8 +1,8 @@
 // One call on a working state: it is taken apart into one choice among its kinds, and each kind is served by a function of its own.
 // It accepts any numbers and words.
-use crate::decode::take_apart;
+use crate::decode::decode;
 use answers::Answer;
-use answers::given::refuse;
+use answers::by_value::refuse;
 use calls::Call;
 use calls::split::Second;
 use working_endpoint_calls::look_up;
@@ -14,7 +14,7 @@ use working_rights_calls::my_rights;
 use working_rights_calls::remove;
 use working_rights_calls::revoke;
 ghost use Rattle.answers.specs.Answer.{answerWords};
-ghost use Rattle.calls.specs.Apart.{apart};
+ghost use Rattle.calls.specs.Decode.{apart};
 ghost use Rattle.working_theory.specs.State.{namedIn};
 ghost use Rattle.working.specs.Served.{Served};
 
@@ -33,7 +33,7 @@ pub fn serve(
 ) -> Answer
     ensures { λ a. ⌜ Served n m (now (rows .entry)) (now (rings .entry)) (namedIn m (now (names .entry)) (now (hints .entry))) (now (owned .entry)) (now (holders .entry)) first (apart first second) (answerWords a) (now (rows .exit)) (now (rings .exit)) (now (holders .exit)) ⌝ }
 {
-    let call = take_apart(first, second);
+    let call = decode(first, second);
     match call {
         Call::Refused { caller, refusal } => refuse(n, first, caller, refusal),
         Call::LookUp { caller, name } => look_up(n, m, names, hints, first, caller, name),

@@ -1,8 +1,8 @@
 // The calls about endpoints, on a working state: each tests the call's numbers, then what the rows and the ring hold; a send and a
 // receive lend the endpoint's ring once. It accepts any numbers and words.
 use answers::Answer;
-use answers::given::done;
-use answers::given::refusal;
+use answers::by_value::done;
+use answers::by_value::refusal;
 use calls::Refusal;
 use format::tables::ENDPOINT_WORDS;
 use rights_matrix::held;

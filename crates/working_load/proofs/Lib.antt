@@ -1,7 +1,7 @@
 -- Laws of taking in and putting out.
 pub mod Places
-pub mod TakingIn
-pub mod PuttingOut
+pub mod LoadLoop
+pub mod StoreLoop
 pub mod Gathering
-pub mod Stands
-pub mod PutOut
+pub mod Loaded
+pub mod Stored

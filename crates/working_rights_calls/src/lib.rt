@@ -1,8 +1,8 @@
 // The calls about rights, on a working state: each tests the call's numbers, then what the rows hold, writes one place of a row and
 // notes the change in the holders. It accepts any numbers and words.
 use answers::Answer;
-use answers::given::done;
-use answers::given::refusal;
+use answers::by_value::done;
+use answers::by_value::refusal;
 use holders::note;
 use rights::Rights;
 use rights_matrix::held;

@@ -2,5 +2,5 @@
 pub mod Rings
 pub mod Reading
 pub mod Answered
-pub mod Along
-pub mod TwoWays
+pub mod Simulation
+pub mod TwoRuns

@@ -19,10 +19,10 @@ use Rattle.machine.specs.Machine.{named, decide}
 use Rattle.machine.proofs.Accepted.{accepted-counts, accepted-owner, accepted-name}
 use Rattle.machine.proofs.Below.{first-same, all-at}
 use Rattle.machine.proofs.Bools.{and-left, and-right, cond-elim}
-use Rattle.calls.specs.Cutting.{callOf}
+use Rattle.calls.specs.Split.{callOf}
 use Rattle.calls.specs.declared.split.Second.{Second}
-use Rattle.calls.specs.Apart.{apart}
-use Rattle.calls.proofs.Decide.{decided}
+use Rattle.calls.specs.Decode.{apart}
+use Rattle.calls.proofs.Decided.{decided}
 use Rattle.rules.specs.Access.{decidedBy}
 use Rattle.rules.specs.Readings.{SameReading}
 use Rattle.rules.proofs.Places.{readingOf, decide-places}

@@ -9,9 +9,9 @@ use Rattle.machine.specs.Queue.{name}
 use Rattle.machine.specs.Check.{Accepted}
 use Rattle.machine.specs.Machine.{ownedBits, decide, step, answer}
 use Rattle.machine.specs.Holders.{holdersOf}
-use Rattle.calls.specs.Cutting.{callOf}
+use Rattle.calls.specs.Split.{callOf}
 use Rattle.calls.specs.declared.split.Second.{Second}
-use Rattle.calls.specs.Apart.{apart}
+use Rattle.calls.specs.Decode.{apart}
 use Rattle.rules.specs.Access.{decidedBy}
 use Rattle.holders.specs.Noted.{holdersAfter}
 use Rattle.rights_matrix.specs.Claims.{SameRights}

@@ -13,7 +13,7 @@ use lib.Seq.{take-at}
 use Rattle.machine.specs.Call.{cut}
 use Rattle.machine.specs.Entry.{longestList}
 use Rattle.machine.proofs.Bools.{and-left, and-right, or-none-left, or-none-right, cond-elim}
-use Rattle.machine.proofs.Cut.{cut-few}
+use Rattle.machine.proofs.Split.{cut-few}
 use Rattle.calls.specs.declared.Call.{Call}
 use Rattle.writer_theory.specs.Words.{fits, wordsOf, allFit, written}
 use Rattle.writer_theory.specs.Claims.{takenApart, readFrom}

@@ -8,11 +8,11 @@ use Rattle.machine.specs.Word.{kind, word}
 use Rattle.machine.specs.Call as machine
 use Rattle.machine.specs.Call.{pairs, cut, wantsSecond, kindOf, unusedFields, allZero, hasSecond, secondPayload}
 use Rattle.machine.proofs.Bools.{and-left, and-right, and-intro}
-use Rattle.machine.proofs.Cut.{cut-last, cut-one, cut-two}
-use Rattle.calls.specs.Cutting.{callOf}
+use Rattle.machine.proofs.Split.{cut-last, cut-one, cut-two}
+use Rattle.calls.specs.Split.{callOf}
 use Rattle.calls.specs.declared.split.Second.{Second}
 use Rattle.calls.specs.declared.split.Second.the-variants.{Nothing, Word}
-use Rattle.calls.specs.Apart.{needsSecond, whole, ofKind, apart}
+use Rattle.calls.specs.Decode.{needsSecond, whole, ofKind, apart}
 use Rattle.calls.specs.declared.Call.{Call}
 use Rattle.calls.specs.declared.Call.the-variants.{LookUp, Send, Receive, MyEndpoints, MyRights, Grant, Remove, Revoke, Refused}
 use Rattle.writer_theory.specs.declared.Fields.{Fields}

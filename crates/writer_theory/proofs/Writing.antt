@@ -13,12 +13,12 @@ use Rattle.machine.specs.Word.{kind, payload, caller, fieldA, fieldB, fieldC, w
 use Rattle.machine.specs.Call.{Kind, pairs, cut, wantsSecond, unusedFields, allZero, hasSecond, secondPayload}
 use Rattle.machine.specs.Call.{Kind.lookUp, Kind.send, Kind.receive, Kind.myEndpoints, Kind.myRights, Kind.grant, Kind.remove, Kind.revoke}
 use Rattle.machine.proofs.Bools.{and-left, and-right, and-intro}
-use Rattle.machine.proofs.Cut.{cut-last, cut-one, cut-two}
+use Rattle.machine.proofs.Split.{cut-last, cut-one, cut-two}
 use Rattle.machine.proofs.Decide.{kind-elim}
-use Rattle.calls.specs.Cutting.{callOf}
+use Rattle.calls.specs.Split.{callOf}
 use Rattle.calls.specs.declared.split.Second.{Second}
 use Rattle.calls.specs.declared.split.Second.the-variants.{Nothing, Word}
-use Rattle.calls.specs.Apart.{needsSecond, whole, ofKind, apart}
+use Rattle.calls.specs.Decode.{needsSecond, whole, ofKind, apart}
 use Rattle.calls.specs.declared.Call.{Call}
 use Rattle.calls.specs.declared.Call.the-variants.{Refused}
 use Rattle.calls.specs.declared.Refusal.the-variants.{UnusedField, NoSecondWord}

@@ -8,7 +8,7 @@ use lib.Dec.{eqb}
 use Rattle.machine.specs.Call as machine
 use Rattle.calls.specs.declared.split.Second.the-variants.{Nothing, Word}
 use Rattle.calls.specs.Number.{numberOf}
-use Rattle.calls.specs.Apart.{apart}
+use Rattle.calls.specs.Decode.{apart}
 use Rattle.calls.specs.declared.Call.{Call}
 use Rattle.calls.specs.declared.Call.the-variants.{LookUp, Send, Receive, MyEndpoints, MyRights, Grant, Remove, Revoke, Refused}
 use Rattle.writer_theory.specs.Words.{allFit, written}

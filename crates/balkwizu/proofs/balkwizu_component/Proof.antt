@@ -5,8 +5,8 @@ use mathlib.Core.Path.{sym, subst₂, _∙_}
 use native.Mathlib.Omega.{arith}
 use borrow.Author.Needs.{needs}
 use denote.Ref.{now}
-use Rattle.components.specs.Told.{ComponentTold}
-use Rattle.components.proofs.Told.{code-small, members-small}
+use Rattle.components.specs.Reported.{ComponentTold}
+use Rattle.components.proofs.Reported.{code-small, members-small}
 use Rattle.balkwizu.proofs.Halves.{low, high}
 use Rattle.balkwizu.proofs.balkwizu_component.Statement.{statement}
 use Rattle.balkwizu.proofs.balkwizu_component.Tie as tie

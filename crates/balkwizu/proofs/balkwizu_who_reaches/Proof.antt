@@ -6,7 +6,7 @@ use native.Mathlib.Omega.{arith}
 use borrow.Author.Needs.{needs}
 use denote.Ref.{now}
 use Rattle.holders.specs.Asked.{ReachTold}
-use Rattle.holders.proofs.Told.{code-small, asked-small}
+use Rattle.holders.proofs.Reported.{code-small, asked-small}
 use Rattle.balkwizu.proofs.Halves.{low, high}
 use Rattle.balkwizu.proofs.balkwizu_who_reaches.Statement.{statement}
 use Rattle.balkwizu.proofs.balkwizu_who_reaches.Tie as tie

@@ -7,7 +7,7 @@ use Rattle.machine.specs.Check.{Accepted}
 use Rattle.machine.proofs.Accepted.{accepted-counts}
 use Rattle.table_check.specs.Checked.{checkedCode}
 use Rattle.table_check.proofs.Refusals.{refusal-code}
-use Rattle.components.proofs.Told.{told-refused, told-none, told}
+use Rattle.components.proofs.Reported.{told-refused, told-none, told}
 use Rattle.components.proofs.component_of.Statement.{statement}
 use Rattle.components.proofs.component_of.Tie as tie
 

@@ -5,8 +5,8 @@ use borrow.Author.Tests.{not-true, not-false}
 use borrow.Author.Needs.{needs}
 use Rattle.reachability.specs.Closure.{closed}
 use Rattle.reachability.proofs.Bits.{bit-is}
-use Rattle.holders_theory.proofs.Told.{askable-parts}
-use Rattle.holders.proofs.Told.{told-nothing, told}
+use Rattle.holders_theory.proofs.Reported.{askable-parts}
+use Rattle.holders.proofs.Reported.{told-nothing, told}
 use Rattle.holders.proofs.who_reaches.Statement.{statement}
 use Rattle.holders.proofs.who_reaches.Tie as tie
 

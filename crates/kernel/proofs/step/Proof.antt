@@ -11,7 +11,7 @@ use Rattle.table_check.specs.Checked.{checkedCode}
 use Rattle.table_check.proofs.Refusals.{refusal-code}
 use Rattle.holders.proofs.Filled.{filled-accepted}
 use Rattle.kernel.proofs.Entries.{step-table, step-holders, step-refused, step-served}
-use Rattle.kernel.proofs.Settled.{served}
+use Rattle.kernel.proofs.OutcomeLaws.{served}
 use Rattle.kernel.proofs.step.Statement.{statement}
 use Rattle.kernel.proofs.step.Tie as tie
 

@@ -11,7 +11,7 @@ use Rattle.table_check.specs.Checked.{checkedCode}
 use Rattle.table_check.proofs.Refusals.{refusal-code}
 use Rattle.potential_theory.specs.Closure.{Proper}
 use Rattle.potential_theory.proofs.Matrix.{matrix-proper}
-use Rattle.potential.proofs.Told.{told-refused, told-space, told-not-domains, told}
+use Rattle.potential.proofs.Reported.{told-refused, told-space, told-not-domains, told}
 use Rattle.potential.proofs.potential_of.Statement.{statement}
 use Rattle.potential.proofs.potential_of.Tie as tie
 

@@ -5,8 +5,8 @@ use native.Mathlib.Omega.{arith}
 use borrow.Author.Tests.{not-true, not-false}
 use lib.ListN.{length}
 use Rattle.machine.specs.Table.{rightsAt}
-use Rattle.rights_matrix.proofs.TakingIn.{HasRights, has-rights, row-within, row-short}
-use Rattle.rights_matrix.proofs.PuttingOut.{Out, out-start, out-row, out-end, out-none, out-all}
+use Rattle.rights_matrix.proofs.LoadLoop.{HasRights, has-rights, row-within, row-short}
+use Rattle.rights_matrix.proofs.StoreLoop.{Out, out-start, out-row, out-end, out-none, out-all}
 use borrow.Author.Needs.{needs}
 use Rattle.rights_matrix.proofs.put_out.Statement.{statement}
 use Rattle.rights_matrix.proofs.put_out.Tie as tie

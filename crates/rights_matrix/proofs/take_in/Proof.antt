@@ -8,7 +8,7 @@ use lib.ListN.{length}
 use Rattle.machine.specs.Table.{rightsAt}
 use Rattle.rights_matrix_theory.specs.Rows.{rowOf}
 use Rattle.rights_matrix.proofs.Filling.{Filling, filling-start, filling-next}
-use Rattle.rights_matrix.proofs.TakingIn.{HasRights, has-rights, row-within, row-part, row-short, rowAt, rows-filled, taken-none, taken-all}
+use Rattle.rights_matrix.proofs.LoadLoop.{HasRights, has-rights, row-within, row-part, row-short, rowAt, rows-filled, taken-none, taken-all}
 use borrow.Author.Needs.{needs}
 use Rattle.rights_matrix.proofs.take_in.Statement.{statement}
 use Rattle.rights_matrix.proofs.take_in.Tie as tie

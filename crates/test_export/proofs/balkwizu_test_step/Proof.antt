@@ -12,7 +12,7 @@ use Rattle.machine.specs.Call.{Call}
 use Rattle.machine.specs.Machine as machine
 use Rattle.run_result.specs.Entry.{entryRefusalCode}
 use Rattle.run_result.specs.declared.EntryRefusal.{EntryRefusal}
-use Rattle.calls.specs.Cutting.{callOf}
+use Rattle.calls.specs.Split.{callOf}
 use Rattle.calls.specs.declared.split.Second.{Second}
 use Rattle.answers.specs.Answer.{answerWords}
 use Rattle.answers.proofs.Space.{put-whole}

@@ -2,7 +2,7 @@
 -- run. Assumes nothing.
 use mathlib.Core.Path.{_∙_}
 use Rattle.holders.proofs.Filled.{filled-accepted}
-use Rattle.working.proofs.Taken.{taken-in, put-out}
+use Rattle.working.proofs.LoadStore.{taken-in, put-out}
 use Rattle.working.proofs.run_on_rings.Statement.{statement}
 use Rattle.working.proofs.run_on_rings.Tie as tie
 

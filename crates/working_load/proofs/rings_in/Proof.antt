@@ -5,7 +5,7 @@ use native.Mathlib.Omega.{arith}
 use borrow.Author.Tests.{not-true, not-false}
 use lib.ListN.{length}
 use Rattle.working_load.proofs.Places.{HasQueues, has-queues, words-within}
-use Rattle.working_load.proofs.TakingIn.{Taking, taking-start, taken-next, taking-end, taken-none, taken-all}
+use Rattle.working_load.proofs.LoadLoop.{Taking, taking-start, taken-next, taking-end, taken-none, taken-all}
 use borrow.Author.Needs.{needs}
 use Rattle.working_load.proofs.rings_in.Statement.{statement}
 use Rattle.working_load.proofs.rings_in.Tie as tie

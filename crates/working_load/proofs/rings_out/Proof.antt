@@ -5,7 +5,7 @@ use native.Mathlib.Omega.{arith}
 use borrow.Author.Tests.{not-true, not-false}
 use lib.ListN.{length}
 use Rattle.working_load.proofs.Places.{HasQueues, has-queues, words-within}
-use Rattle.working_load.proofs.PuttingOut.{Out, out-start, put-next, out-end, out-none, out-all}
+use Rattle.working_load.proofs.StoreLoop.{Out, out-start, put-next, out-end, out-none, out-all}
 use borrow.Author.Needs.{needs}
 use Rattle.working_load.proofs.rings_out.Statement.{statement}
 use Rattle.working_load.proofs.rings_out.Tie as tie

@@ -7,7 +7,7 @@ use borrow.Author.Needs.{needs}
 use borrow.Author.Tests.{lt-ltb, le-ltb}
 use denote.Ref.{now}
 use lib.ListN.{length}
-use Rattle.calls.specs.Cutting.{secondAt}
+use Rattle.calls.specs.Split.{secondAt}
 use Rattle.calls.proofs.split.second_at.Statement.{statement}
 use Rattle.calls.proofs.split.second_at.Tie as tie
 

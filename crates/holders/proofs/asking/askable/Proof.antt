@@ -1,8 +1,8 @@
 -- `asking::askable` meets its contract: each test refuses by itself. Assumes nothing.
 use mathlib.Core.Path.{_∙_}
 use borrow.Author.Needs.{needs}
-use Rattle.holders_theory.proofs.Told.{by-bits}
-use Rattle.holders.proofs.Told.{too-many, no-domain}
+use Rattle.holders_theory.proofs.Reported.{by-bits}
+use Rattle.holders.proofs.Reported.{too-many, no-domain}
 use Rattle.holders.proofs.asking.askable.Statement.{statement}
 use Rattle.holders.proofs.asking.askable.Tie as tie
 

@@ -5,7 +5,7 @@ use native.Mathlib.Omega.{arith}
 use borrow.Author.Needs.{needs}
 use lib.ListN.{length}
 use Rattle.reachability.proofs.Bits.{bit-is}
-use Rattle.holders.proofs.Told.{Within, within-start, within-next, within-not, within-all}
+use Rattle.holders.proofs.Reported.{Within, within-start, within-next, within-not, within-all}
 use Rattle.holders.proofs.asking.bits_within.Statement.{statement}
 use Rattle.holders.proofs.asking.bits_within.Tie as tie
 

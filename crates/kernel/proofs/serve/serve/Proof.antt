@@ -2,12 +2,12 @@
 use borrow.Author.Needs.{needs}
 use Rattle.kernel.proofs.Fits.{message-fits}
 use Rattle.kernel.proofs.Outcomes.{settled-unread}
-use Rattle.kernel.proofs.Settled.{here}
+use Rattle.kernel.proofs.OutcomeLaws.{here}
 use Rattle.kernel.proofs.serve.serve.Statement.{statement}
 use Rattle.kernel.proofs.serve.serve.Tie as tie
 
-take-apart-requires : tie.Need-take-apart-requires
-take-apart-requires c κs = search needs
+decode-requires : tie.Need-decode-requires
+decode-requires c κs = search needs
 
 enum-known-call : tie.Need-enum-known-call
 enum-known-call c = search needs
@@ -28,7 +28,7 @@ send-requires : tie.Need-send-requires
 send-requires c κs =
     let x = c .before .before in
     let s = x .before .before .before .before .before in
-    (s .pre .0, (s .pre .1 .0, (s .pre .1 .1, message-fits _ _ (x .call3 .given .1) (x .before .before .take-apart .ensures))))
+    (s .pre .0, (s .pre .1 .0, (s .pre .1 .1, message-fits _ _ (x .call3 .given .1) (x .before .before .decode .ensures))))
 
 enum-known-call-4 : tie.Need-enum-known-call-4
 enum-known-call-4 c = search needs
@@ -70,7 +70,7 @@ returns : tie.Need-returns
 returns c =
     let x = c .before .before in
     let s = x .before .before .before .before .before in
-    here (x .call .given .1) (x .before .before .take-apart .ensures) (settled-unread _ _ _ _ _ _ _ (s .pre .1 .0) (c .refuse .ensures))
+    here (x .call .given .1) (x .before .before .decode .ensures) (settled-unread _ _ _ _ _ _ _ (s .pre .1 .0) (c .refuse .ensures))
 
 same-length : tie.Need-same-length
 same-length c = search needs
@@ -78,7 +78,7 @@ same-length c = search needs
 returns-2 : tie.Need-returns-2
 returns-2 c =
     let x = c .before .before .before in
-    here (x .call2 .given .1) (x .before .before .take-apart .ensures) (c .look-up .ensures _)
+    here (x .call2 .given .1) (x .before .before .decode .ensures) (c .look-up .ensures _)
 
 same-length-2 : tie.Need-same-length-2
 same-length-2 c = search needs
@@ -86,7 +86,7 @@ same-length-2 c = search needs
 returns-3 : tie.Need-returns-3
 returns-3 c =
     let x = c .before .before .before .before .before in
-    here (x .call3 .given .1) (x .before .before .take-apart .ensures) (c .before .before .send .ensures _)
+    here (x .call3 .given .1) (x .before .before .decode .ensures) (c .before .before .send .ensures _)
 
 same-length-3 : tie.Need-same-length-3
 same-length-3 c = search needs
@@ -94,7 +94,7 @@ same-length-3 c = search needs
 returns-4 : tie.Need-returns-4
 returns-4 c =
     let x = c .before .before .before .before .before in
-    here (x .call4 .given .1) (x .before .before .take-apart .ensures) (c .before .before .receive .ensures _)
+    here (x .call4 .given .1) (x .before .before .decode .ensures) (c .before .before .receive .ensures _)
 
 same-length-4 : tie.Need-same-length-4
 same-length-4 c = search needs
@@ -102,7 +102,7 @@ same-length-4 c = search needs
 returns-5 : tie.Need-returns-5
 returns-5 c =
     let x = c .before .before .before in
-    here (x .call5 .given .1) (x .before .before .take-apart .ensures) (c .my-endpoints .ensures _)
+    here (x .call5 .given .1) (x .before .before .decode .ensures) (c .my-endpoints .ensures _)
 
 same-length-5 : tie.Need-same-length-5
 same-length-5 c = search needs
@@ -110,7 +110,7 @@ same-length-5 c = search needs
 returns-6 : tie.Need-returns-6
 returns-6 c =
     let x = c .before .before .before in
-    here (x .call6 .given .1) (x .before .before .take-apart .ensures) (c .my-rights .ensures _)
+    here (x .call6 .given .1) (x .before .before .decode .ensures) (c .my-rights .ensures _)
 
 same-length-6 : tie.Need-same-length-6
 same-length-6 c = search needs
@@ -121,7 +121,7 @@ same-length-7 c = search needs
 returns-7 : tie.Need-returns-7
 returns-7 c =
     let x = c .before .before .before .before .before .before .before .before in
-    here (x .call7 .given .1) (x .before .before .take-apart .ensures) (c .before .before .before .before .grant .ensures)
+    here (x .call7 .given .1) (x .before .before .decode .ensures) (c .before .before .before .before .grant .ensures)
 
 same-length-8 : tie.Need-same-length-8
 same-length-8 c = search needs
@@ -132,7 +132,7 @@ same-length-9 c = search needs
 returns-8 : tie.Need-returns-8
 returns-8 c =
     let x = c .before .before .before .before .before .before .before .before in
-    here (x .call8 .given .1) (x .before .before .take-apart .ensures) (c .before .before .before .before .remove .ensures)
+    here (x .call8 .given .1) (x .before .before .decode .ensures) (c .before .before .before .before .remove .ensures)
 
 same-length-10 : tie.Need-same-length-10
 same-length-10 c = search needs
@@ -143,13 +143,13 @@ same-length-11 c = search needs
 returns-9 : tie.Need-returns-9
 returns-9 c =
     let x = c .before .before .before .before .before .before .before .before in
-    here (x .call9 .given .1) (x .before .before .take-apart .ensures) (c .before .before .before .before .revoke .ensures)
+    here (x .call9 .given .1) (x .before .before .decode .ensures) (c .before .before .before .before .revoke .ensures)
 
 pub serve-spec : {M : Type 1} → statement M
 serve-spec =
     tie.close
     (tie.spec
-    take-apart-requires
+    decode-requires
     enum-known-call
     refuse-requires
     enum-known-call-2

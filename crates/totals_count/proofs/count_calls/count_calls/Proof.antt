@@ -5,8 +5,8 @@ use mathlib.Core.Path.{_≡_, ap, _∙_}
 use native.Mathlib.Omega.{arith}
 use lib.ListN.{length, getD}
 use Rattle.machine.specs.Counts.{isSend, isReceive}
-use Rattle.calls.specs.Cutting.{secondAt, widthOf}
-use Rattle.calls.proofs.CutAt as cutting
+use Rattle.calls.specs.Split.{secondAt, widthOf}
+use Rattle.calls.proofs.SplitAt as cutting
 use Rattle.totals_count.proofs.CountLaws.{Counting, one, addsAt, counting-start, counting-next, counting-end, counted-few, sends-are, receives-are}
 use Rattle.totals_count.proofs.count_calls.count_calls.Statement.{statement}
 use Rattle.totals_count.proofs.count_calls.count_calls.Tie as tie

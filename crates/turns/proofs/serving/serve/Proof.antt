@@ -3,7 +3,7 @@ use mathlib.Core.Path.{_≡_, ap, ap₂, subst₂, _∙_}
 use borrow.Author.Needs.{needs}
 use denote.Ref.{now}
 use Rattle.machine.specs.Call.{Call}
-use Rattle.calls.specs.Cutting.{callOf, widthOf}
+use Rattle.calls.specs.Split.{callOf, widthOf}
 use Rattle.answers.proofs.Space.{put-whole}
 use Rattle.kernel.specs.Step.{StepPromise}
 use Rattle.kernel.specs.declared.Stepped.{Stepped}

@@ -5,7 +5,7 @@ use borrow.Author.Needs.{needs}
 use borrow.Author.Tests.{not-true, not-false}
 use lib.Dec.{eqb}
 use lib.ListN.{length}
-use Rattle.calls.specs.Cutting.{widthOf}
+use Rattle.calls.specs.Split.{widthOf}
 use Rattle.turns_state.proofs.Words.{no-call, not-its-call, its-call}
 use Rattle.turns_state.proofs.domain.is_one_call.Statement.{statement}
 use Rattle.turns_state.proofs.domain.is_one_call.Tie as tie

@@ -6,7 +6,7 @@ use borrow.Author.Needs.{needs}
 use borrow.Author.Tests.{eq-eqb, ne-eqb}
 use lib.ListN.{take, drop}
 use denote.Ref.{now}
-use Rattle.calls.specs.Cutting.{secondAt}
+use Rattle.calls.specs.Split.{secondAt}
 use Rattle.turns_state.specs.Pending.{count, pendingIn, secondOfOldest}
 use Rattle.turns_state.proofs.Laws.{count-most}
 use Rattle.turns_state.proofs.pending.second_of_oldest.Statement.{statement}

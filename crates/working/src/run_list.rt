@@ -1,0 +1,54 @@
+// The calls of a list one after the other, on a working state.
+use crate::serve::serve;
+use answers::by_value::put;
+use calls::split::second_at;
+use calls::split::width;
+ghost use mathlib.Core.Path.{_≡_};
+ghost use mathlib.Core.List.{List};
+ghost use Prim.Native.Nat.{ℕ, _*_, _≤_};
+ghost use lib.ListN.{length};
+ghost use Rattle.machine.specs.Call.{cut};
+ghost use Rattle.working.specs.Run.{StandsFor, Stand, Left};
+
+// Runs the calls of a list and returns how many they were.
+pub fn run_list(
+    n: u32,
+    m: u32,
+    rows: &mut [[u8; 16]; 16],
+    rings: &mut [u32],
+    names: &[u32; 32],
+    hints: &[u8; 1024],
+    owned: &[u32; 16],
+    list: &[u32],
+    answers: &mut [u32],
+    holders: &mut [u32],
+) -> usize
+    requires { ⌜ Stand n m (now rows) (now rings) (now names) (now owned) (now holders) ⌝ }
+    requires { ⌜ length (now list) ≤ 4096 ⌝ }
+    requires { ⌜ 3 * length (cut (now list)) ≤ length (now answers) ⌝ }
+    ensures { λ k. ⌜ ((t : List ℕ) → StandsFor n m (now (rows .entry)) (now (rings .entry)) (now (names .entry)) (now (owned .entry)) (now (holders .entry)) t → Left n m (now (names .entry)) (now (owned .entry)) t (now (list .entry)) (now (answers .entry)) k (now (rows .exit)) (now (rings .exit)) (now (answers .exit)) (now (holders .exit))) ⌝ }
+{
+    let mut calls: usize = 0;
+    let mut i: usize = 0;
+    while i < list.len() {
+        let second = second_at(list, i);
+        let words = serve(
+            n,
+            m,
+            rows,
+            rings,
+            names,
+            hints,
+            owned,
+            holders,
+            list[i],
+            second,
+        );
+        let at = 3 * calls;
+        let end = at + 3;
+        put(&mut answers[at..end], words);
+        i += width(second);
+        calls += 1;
+    }
+    calls
+}
