@@ -7,11 +7,11 @@ ghost use mathlib.Core.Path.{_≡_};
 ghost use Prim.Native.Nat.{_/_, _%_, min};
 ghost use Rattle.machine.specs.Promise.{RunPromise};
 ghost use Rattle.writer.specs.Rows.{RowsPromise};
-ghost use Rattle.holders.specs.Asked.{ReachTold};
-ghost use Rattle.components.specs.Reported.{ComponentTold};
+ghost use Rattle.holders.specs.Asked.{ReachReported};
+ghost use Rattle.components.specs.Reported.{ComponentReported};
 ghost use Rattle.table_check_bytes.specs.Bytes.{bytesCode};
 ghost use Rattle.repair.specs.Repair.{RepairPromise};
-ghost use Rattle.potential.specs.Reported.{PotentialTold};
+ghost use Rattle.potential.specs.Reported.{PotentialReported};
 
 // The check of a table before the kernel runs on it. C: uint32_t balkwizu_table_check(const uint8_t *bytes, size_t length).
 //
@@ -65,7 +65,7 @@ pub extern "C" fn balkwizu_run(
 // It is defined for any words in a slice of any length and for any number as the domain, writes nothing and keeps nothing.
 #[no_mangle]
 pub extern "C" fn balkwizu_who_reaches(holders: &[u32], domain: u32) -> u32
-    ensures { λ r. ⌜ ReachTold (now (holders .entry)) domain (r % 65536) (r / 65536) ⌝ }
+    ensures { λ r. ⌜ ReachReported (now (holders .entry)) domain (r % 65536) (r / 65536) ⌝ }
 {
     let asked = holders::who_reaches(holders, domain);
     let code = asked.code();
@@ -81,7 +81,7 @@ pub extern "C" fn balkwizu_who_reaches(holders: &[u32], domain: u32) -> u32
 // It is defined for any words in a slice of any length and for any number as the domain, writes nothing and keeps nothing.
 #[no_mangle]
 pub extern "C" fn balkwizu_component(table: &[u32], domain: u32) -> u32
-    ensures { λ r. ⌜ ComponentTold (now (table .entry)) domain (r % 65536) (r / 65536) ⌝ }
+    ensures { λ r. ⌜ ComponentReported (now (table .entry)) domain (r % 65536) (r / 65536) ⌝ }
 {
     let told = components::component_of(table, domain);
     let code = told.code();
@@ -123,7 +123,7 @@ pub extern "C" fn balkwizu_repair(table: &mut [u32], changes: &mut [u32]) -> u32
 // It is defined for any words in slices of any length and for any number as actors. Table and rights may not overlap.
 #[no_mangle]
 pub extern "C" fn balkwizu_potential(table: &[u32], actors: u32, rights: &mut [u32]) -> u32
-    ensures { λ r. ⌜ PotentialTold (now (table .entry)) actors (now (rights .entry)) r (now (rights .exit)) ⌝ }
+    ensures { λ r. ⌜ PotentialReported (now (table .entry)) actors (now (rights .entry)) r (now (rights .exit)) ⌝ }
 {
     let told = potential::potential_of(table, actors, rights);
     told.code()

@@ -10,7 +10,7 @@ use lib.ListN.{length, take, set}
 use lib.Seq.{sets-eq}
 use Rattle.calls.specs.declared.Call.{Call}
 use Rattle.calls.specs.declared.Call.the-variants.{LookUp, Send, Receive, MyEndpoints, MyRights, Grant, Remove, Revoke, Refused}
-use Rattle.writer_theory.specs.Words.{fieldsOf, fits, wordsOf}
+use Rattle.writer_theory.specs.Words.{fieldsOf, fits, encodedWords}
 use Rattle.call_encode.specs.Put.{pasted, putAt}
 
 -- a kind has four bits
@@ -31,11 +31,11 @@ module _ (ws : List ℕ) (at : ℕ) (c : Call) where
   unfolding putAt
   put-unfit h = rw h
 
-  pub put-past : length ws < at + length (wordsOf c) → putAt ws at c ≡ ws
+  pub put-past : length ws < at + length (encodedWords c) → putAt ws at c ≡ ws
   unfolding putAt
   put-past h = rw (lt-leb _ _ h, and-false (fits c))
 
-  pub put-there : fits c ≡ true → at + length (wordsOf c) ≤ length ws → putAt ws at c ≡ pasted ws at (wordsOf c)
+  pub put-there : fits c ≡ true → at + length (encodedWords c) ≤ length ws → putAt ws at c ≡ pasted ws at (encodedWords c)
   unfolding putAt
   put-there f h = rw (f, le-leb _ _ h)
 

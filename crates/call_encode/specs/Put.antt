@@ -5,7 +5,7 @@ use mathlib.Core.List.{List, _++_}
 use lib.Dec.{leb}
 use lib.ListN.{length, take, drop}
 use Rattle.calls.specs.declared.Call.{Call}
-use Rattle.writer_theory.specs.Words.{fits, wordsOf}
+use Rattle.writer_theory.specs.Words.{fits, encodedWords}
 
 -- a list with other words in the place of its own, from a place on
 abbrev pub pasted : List ℕ → ℕ → List ℕ → List ℕ
@@ -13,4 +13,4 @@ pasted ws at vs = take at ws ++ (vs ++ drop (at + length vs) ws)
 
 -- a list with the words of a call from a place on; as it was where the call can't be written, or the words would pass the end
 unfoldable pub putAt : List ℕ → ℕ → Call → List ℕ
-putAt ws at c = cond (fits c && leb (at + length (wordsOf c)) (length ws)) (pasted ws at (wordsOf c)) ws
+putAt ws at c = cond (fits c && leb (at + length (encodedWords c)) (length ws)) (pasted ws at (encodedWords c)) ws

@@ -20,7 +20,7 @@ ghost use mathlib.Core.Bool.{true};
 ghost use Prim.Native.Nat.{_+_, _<_, _≤_};
 ghost use lib.ListN.{length};
 ghost use Rattle.machine.specs.Call.{wantsSecond};
-ghost use Rattle.writer_theory.specs.Words.{fieldsAt, fieldsOf, withinBits, firstWord, fieldWords, fits, wordsOf};
+ghost use Rattle.writer_theory.specs.Words.{fieldsAt, fieldsOf, withinBits, firstWord, fieldWords, fits, encodedWords};
 ghost use Rattle.call_encode.specs.Put.{pasted, putAt};
 
 // The six fields in the order of their bits.
@@ -101,7 +101,7 @@ fn wants_second(kind: u32) -> bool
 
 // How many words the call is written in.
 pub fn width(call: Call) -> usize
-    ensures { λ r. ⌜ r ≡ length (wordsOf call) ⌝ }
+    ensures { λ r. ⌜ r ≡ length (encodedWords call) ⌝ }
 {
     let fields = fields_of(call);
     let kind = fields.kind;

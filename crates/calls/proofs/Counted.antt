@@ -12,9 +12,9 @@ use lib.Dec.{eqb}
 use lib.ListN.{length, getD, drop, drop-of-length-le}
 use lib.Seq.{drop-cons}
 use Rattle.machine.specs.Word.{kind}
-use Rattle.machine.specs.Call.{wantsSecond, pairs, cut}
+use Rattle.machine.specs.Call.{wantsSecond, pairs, split}
 use Rattle.machine.proofs.Bools.{and-right}
-use Rattle.machine.proofs.Split.{cut-one, cut-two}
+use Rattle.machine.proofs.Split.{split-one, split-two}
 
 -- how many calls begin among the words ws, which stand behind the word p
 unfoldable pub begunAfter : ℕ → List ℕ → ℕ
@@ -35,29 +35,29 @@ zero-pairs w = refl
 
 begun-two :
     (w v : ℕ) (ws : List ℕ)
-    → (pairs w v ≡ true → begunAfter v ws ≡ length (cut ws))
-    → begunAfter 0 (v ∷ ws) ≡ length (cut (v ∷ ws))
-    → 1 + begunAfter w (v ∷ ws) ≡ length (cut (w ∷ (v ∷ ws)))
+    → (pairs w v ≡ true → begunAfter v ws ≡ length (split ws))
+    → begunAfter 0 (v ∷ ws) ≡ length (split (v ∷ ws))
+    → 1 + begunAfter w (v ∷ ws) ≡ length (split (w ∷ (v ∷ ws)))
 unfolding begunAfter
 begun-two w v ws both alone = go (pairs w v) refl
   where
-    next : 1 + begunAfter v ws ≡ length (cut (v ∷ ws))
+    next : 1 + begunAfter v ws ≡ length (split (v ∷ ws))
     next = rw (zero-pairs v) at alone
 
-    go : (b : Bool) → pairs w v ≡ b → 1 + (cond b 0 1 + begunAfter v ws) ≡ length (cut (w ∷ (v ∷ ws)))
-    go true h = omega (arith, both h, ap length (cut-two w v ws h))
-    go false h = omega (arith, next, ap length (cut-one w v ws h))
+    go : (b : Bool) → pairs w v ≡ b → 1 + (cond b 0 1 + begunAfter v ws) ≡ length (split (w ∷ (v ∷ ws)))
+    go true h = omega (arith, both h, ap length (split-two w v ws h))
+    go false h = omega (arith, next, ap length (split-one w v ws h))
 
 -- behind a word that makes no call with the next, every call of the words begins
-begun-all : (p : ℕ) (ws : List ℕ) → ((w : ℕ) → pairs p w ≡ false) → begunAfter p ws ≡ length (cut ws)
-unfolding begunAfter cut
+begun-all : (p : ℕ) (ws : List ℕ) → ((w : ℕ) → pairs p w ≡ false) → begunAfter p ws ≡ length (split ws)
+unfolding begunAfter split
 begun-all p [] f = refl
 begun-all p (w ∷ []) f = rw (f w)
 begun-all p (w ∷ (v ∷ ws)) f =
     rw (f w) (begun-two w v ws (λ h. begun-all v ws (λ x. second-pairs w v x h)) (begun-all 0 (v ∷ ws) zero-pairs))
 
 abbrev pub Counted : List ℕ → ℕ → ℕ → ℕ → Type 0
-Counted list calls before i = calls + begunAfter before (drop i list) ≡ length (cut list)
+Counted list calls before i = calls + begunAfter before (drop i list) ≡ length (split list)
 
 pub counted-none : (list : List ℕ) → Counted list 0 0 0
 counted-none list = omega (arith, begun-all 0 list zero-pairs)
@@ -72,7 +72,7 @@ pub one-at-most : (b : Bool) → cond b 0 1 ≤ 1
 one-at-most true = omega arith
 one-at-most false = omega arith
 
-pub counted-all : (list : List ℕ) (calls before i : ℕ) → length list ≤ i → Counted list calls before i → calls ≡ length (cut list)
+pub counted-all : (list : List ℕ) (calls before i : ℕ) → length list ≤ i → Counted list calls before i → calls ≡ length (split list)
 unfolding begunAfter
 counted-all list calls before i l h =
     let none : begunAfter before (drop i list) ≡ 0 = rw (drop-of-length-le list l) refl in

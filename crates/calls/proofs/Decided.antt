@@ -1,4 +1,4 @@
--- To decide on a call is to take it apart and then to decide on what that gives.
+-- To decide on a call is to take it decoded and then to decide on what that gives.
 -- Assumes nothing.
 use Prim.Native.Nat.{ℕ}
 use mathlib.Core.Path.{_≡_, refl, sym}
@@ -9,7 +9,7 @@ use Rattle.machine.specs.Word.{kind, caller}
 use Rattle.machine.specs.Call.{Kind, callKind, kindOf, allZero, unusedFields, wantsSecond, hasSecond, wordPlaces}
 use Rattle.machine.specs.Call.{Kind.lookUp, Kind.send, Kind.receive, Kind.myEndpoints, Kind.myRights, Kind.grant, Kind.remove, Kind.revoke, Kind.stray, Kind.unknown}
 use Rattle.machine.specs.Machine.{Decision, Decision.refused, framed, places, decide}
-use Rattle.calls.specs.Decode.{needsSecond, whole, ofKind, apart}
+use Rattle.calls.specs.Decode.{needsSecond, whole, ofKind, decoded}
 use Rattle.calls.specs.Split.{callOf}
 use Rattle.calls.specs.Decide.{knownCaller, refusedCall, decideCall}
 use Rattle.calls.specs.declared.Call.{Call}
@@ -78,6 +78,6 @@ module _ (t : List ℕ) (w : ℕ) (s : Second) where
   by-kind remove wants = rw (first-of w s) (framed-whole remove _ _ wants refl)
   by-kind revoke wants = rw (first-of w s) (framed-whole revoke _ _ wants refl)
 
-pub decided : (t : List ℕ) (w : ℕ) (s : Second) → decide t (callOf w s) ≡ decideCall t (apart w s)
-unfolding decide callKind apart
+pub decided : (t : List ℕ) (w : ℕ) (s : Second) → decide t (callOf w s) ≡ decideCall t (decoded w s)
+unfolding decide callKind decoded
 decided t w s = rw (first-of w s) (by-kind t w s (kindOf (kind w)) (wants-second (kind w)))

@@ -1,5 +1,5 @@
 -- What is proved of taking a call apart.
-pub mod Decode
+pub mod DecodeLaws
 pub mod Decided
 pub mod Numbers
 pub mod Counted

@@ -1,4 +1,4 @@
--- A call taken apart: what it asks for, or its refusal by one of the places that need no table: 10, 11, 13 and 14, in this
+-- A call taken decoded: what it asks for, or its refusal by one of the places that need no table: 10, 11, 13 and 14, in this
 -- order (document 01, 'The calls' and 'Where each number is checked').
 use Prim.Native.Nat.{ℕ}
 use mathlib.Core.Bool.{Bool, true, false, cond, not, _&&_}
@@ -44,5 +44,5 @@ ofKind w s remove = whole w s remove (Remove (caller w) (fieldA w) (fieldC w))
 ofKind w s revoke = whole w s revoke (Revoke (caller w) (fieldA w) (fieldB w) (fieldC w))
 
 -- the call of a first word and, if there is one, a second
-unfoldable pub apart : ℕ → Second → Call
-apart w s = ofKind w s (machine.kindOf (kind w))
+unfoldable pub decoded : ℕ → Second → Call
+decoded w s = ofKind w s (machine.kindOf (kind w))

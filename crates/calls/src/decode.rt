@@ -19,7 +19,7 @@ use format::calls::KIND_SEND;
 ghost use mathlib.Core.Path.{_≡_};
 ghost use Rattle.machine.specs.Call.{Kind.lookUp, Kind.send, Kind.receive, Kind.myEndpoints, Kind.myRights, Kind.grant, Kind.remove, Kind.revoke};
 ghost use Rattle.calls.specs.declared.split.Second.{Second as AnySecond};
-ghost use Rattle.calls.specs.Decode.{ofKind, apart};
+ghost use Rattle.calls.specs.Decode.{ofKind, decoded};
 
 // Returns the look up that the words ask for, or its refusal by 13 or 14.
 pub fn look_up(first: u32, second: Second) -> Call
@@ -162,9 +162,9 @@ pub fn revoke(first: u32) -> Call
     }
 }
 
-// Takes a call of one or two words apart. Any words will do: what the cutting of a list gives is a special case.
+// Takes a call of one or two words decoded. Any words will do: what the cutting of a list gives is a special case.
 pub fn decode(first: u32, second: Second) -> Call
-    ensures { λ r. ⌜ r ≡ apart first second ⌝ }
+    ensures { λ r. ⌜ r ≡ decoded first second ⌝ }
 {
     let kind = first / KIND_UNIT;
     let caller = first / CALLER_UNIT % 64;

@@ -6,7 +6,7 @@ use format::calls::KIND_SEND;
 ghost use mathlib.Core.Path.{_≡_};
 ghost use mathlib.Core.Bool.{cond};
 ghost use lib.ListN.{length};
-ghost use Rattle.machine.specs.Call.{wantsSecond, pairs, cut};
+ghost use Rattle.machine.specs.Call.{wantsSecond, pairs, split};
 ghost use Rattle.calls.specs.Split.{secondAt, widthOf};
 
 // A call's second word, if it has one.
@@ -43,7 +43,7 @@ fn begun(before: u32, word: u32) -> usize
 
 // How many calls a list has: every word begins one, but for a word that makes one call with the word before it.
 pub fn count(list: &[u32]) -> usize
-    ensures { λ r. ⌜ r ≡ length (cut (now (list .entry))) ⌝ }
+    ensures { λ r. ⌜ r ≡ length (split (now (list .entry))) ⌝ }
 {
     let mut calls: usize = 0;
     let mut before: u32 = 0;

@@ -16,31 +16,31 @@ use Rattle.isolation_theory.specs.Component.{joined, component}
 use Rattle.table_check.specs.Checked.{refusalCode}
 use Rattle.table_check.specs.declared.TableRefusal.{TableRefusal}
 use Rattle.table_check.specs.declared.TableRefusal.the-variants.{BadHeader, BadLength, BadRights, BadEndpoint}
-use Rattle.components.specs.Reported.{toldCode, toldMembers, ComponentTold, componentCode}
+use Rattle.components.specs.Reported.{reportedCode, reportedMembers, ComponentReported, componentCode}
 use Rattle.components.specs.declared.Component.{Component}
 use Rattle.components.specs.declared.Component.the-variants.{Of, BadTable, NotADomain}
 
 module _ (t : List ℕ) (d : ℕ) where
   -- a table that is refused by its code
-  pub told-refused : (code : ℕ) → code ≡ tableCode t → (code ≡ 0 → ⊥) → ComponentTold t d code 0
-  unfolding toldMembers toldCode
+  pub told-refused : (code : ℕ) → code ≡ tableCode t → (code ≡ 0 → ⊥) → ComponentReported t d code 0
+  unfolding reportedMembers reportedCode
   told-refused code e n =
       let bad = ne-eqb (tableCode t) 0 (λ none. n (e ∙ none)) in
       record { sameCode = rw bad e; sameMembers = rw (bad, bad) }
 
   module _ (a : Accepted t) where
     -- a number that is no domain's
-    pub told-none : domains t ≤ d → ComponentTold t d 32 0
-    unfolding toldMembers toldCode
+    pub told-none : domains t ≤ d → ComponentReported t d 32 0
+    unfolding reportedMembers reportedCode
     told-none l = record { sameCode = rw (a, le-ltb d (domains t) l); sameMembers = rw (a, le-ltb d (domains t) l) }
 
-    pub told : d < domains t → (members : ℕ) → members ≡ component t d → ComponentTold t d 0 members
-    unfolding toldMembers toldCode
+    pub told : d < domains t → (members : ℕ) → members ≡ component t d → ComponentReported t d 0 members
+    unfolding reportedMembers reportedCode
     told l members e = record { sameCode = rw (a, lt-ltb d (domains t) l); sameMembers = rw (a, lt-ltb d (domains t) l) e }
 
   -- where the code is 0 the table is accepted and d is a domain
-  told-of : toldCode t d ≡ 0 → Accepted t × (d < domains t)
-  unfolding toldCode
+  told-of : reportedCode t d ≡ 0 → Accepted t × (d < domains t)
+  unfolding reportedCode
   told-of =
       cond-elim (λ n. n ≡ 0 → Accepted t × (d < domains t)) (eqb (tableCode t) 0)
       (λ a.
@@ -50,10 +50,10 @@ module _ (t : List ℕ) (d : ℕ) where
       (λ n h. absurd (eqb-false _ _ n h))
 
   -- the members are bits below sixteen
-  pub members-small : toldMembers t d < 65536
-  unfolding toldMembers component
+  pub members-small : reportedMembers t d < 65536
+  unfolding reportedMembers component
   members-small =
-      cond-elim (λ n. n < 65536) (eqb (toldCode t d) 0)
+      cond-elim (λ n. n < 65536) (eqb (reportedCode t d) 0)
       (λ e.
       let (a, l) = told-of (eqb-true _ _ e) in
       lt-of-lt-of-le (relation-lt (domains t) (joined t) d l) (pow-mono (accepted-counts t a .1)))

@@ -18,7 +18,7 @@ use Rattle.machine.specs.Table.{domains, rightsAt, rightsWord, rights}
 use Rattle.machine.specs.Influence.{reaches}
 use Rattle.machine.proofs.Below.{bits-lt}
 use Rattle.reachability.specs.Closure.{closed}
-use Rattle.reachability.specs.Chain.{wordsOf}
+use Rattle.reachability.specs.Chain.{linkWords}
 use Rattle.isolation_theory.specs.Component.{joined, component}
 
 -- two rights sets as they are read from a table of n domains
@@ -88,7 +88,7 @@ module _ (f : ℕ → ℕ) (n : ℕ) (ws : List ℕ) (v : ℕ) (x : Filled f n w
 pub component-read :
     (t ws : List ℕ) (n d alone : ℕ)
     → n ≡ domains t
-    → take n ws ≡ wordsOf n (joined t)
+    → take n ws ≡ linkWords n (joined t)
     → alone ≡ 2 ^ d
     → closed (take (n - 0) (drop 0 ws)) alone ≡ component t d
 unfolding component

@@ -12,17 +12,17 @@ use Rattle.components.specs.declared.Component.{Component}
 use Rattle.components.specs.declared.Component.the-variants.{Of, BadTable, NotADomain}
 
 -- the code: the table's 2 to 5, then 32 where d isn't below n, else 0
-unfoldable pub toldCode : List ℕ → ℕ → ℕ
-toldCode t d = cond (eqb (tableCode t) 0) (cond (ltb d (domains t)) 0 32) (tableCode t)
+unfoldable pub reportedCode : List ℕ → ℕ → ℕ
+reportedCode t d = cond (eqb (tableCode t) 0) (cond (ltb d (domains t)) 0 32) (tableCode t)
 
 -- the members: none where the code isn't 0
-unfoldable pub toldMembers : List ℕ → ℕ → ℕ
-toldMembers t d = cond (eqb (toldCode t d) 0) (component t d) 0
+unfoldable pub reportedMembers : List ℕ → ℕ → ℕ
+reportedMembers t d = cond (eqb (reportedCode t d) 0) (component t d) 0
 
 -- Of the domain d in the words t, a code and members were told: these.
-pub record ComponentTold (t : List ℕ) (d code members : ℕ) : Type 0 where
-  pub sameCode : code ≡ toldCode t d
-  pub sameMembers : members ≡ toldMembers t d
+pub record ComponentReported (t : List ℕ) (d code members : ℕ) : Type 0 where
+  pub sameCode : code ≡ reportedCode t d
+  pub sameMembers : members ≡ reportedMembers t d
 
 -- the number of an answer
 abbrev pub componentCode : Component → ℕ

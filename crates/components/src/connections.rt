@@ -8,7 +8,7 @@ ghost use Prim.Native.Nat.{_<_, _≤_};
 ghost use lib.ListN.{take};
 ghost use Rattle.machine.specs.Below.{bitsBelow};
 ghost use Rattle.machine.specs.Table.{domains};
-ghost use Rattle.reachability.specs.Chain.{wordsOf};
+ghost use Rattle.reachability.specs.Chain.{linkWords};
 ghost use Rattle.isolation_theory.specs.Component.{joined, component};
 
 // Either of two domains has a right on the other.
@@ -45,7 +45,7 @@ fn joined_word(table: &[u32], n: u32, v: u32) -> u32
 fn joined_words(table: &[u32], n: u32) -> [u32; 16]
     requires { ⌜ n ≡ domains (now table) ⌝ }
     requires { ⌜ n ≤ 16 ⌝ }
-    ensures { λ r. ⌜ take n r ≡ wordsOf n (joined (now (table .entry))) ⌝ }
+    ensures { λ r. ⌜ take n r ≡ linkWords n (joined (now (table .entry))) ⌝ }
 {
     let mut words = [0; 16];
     let mut v = 0;

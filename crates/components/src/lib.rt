@@ -8,7 +8,7 @@ use table_check::TableRefusal;
 use table_check::check;
 use table_layout::domains;
 ghost use mathlib.Core.Path.{_≡_};
-ghost use Rattle.components.specs.Reported.{ComponentTold, componentCode, componentMembers};
+ghost use Rattle.components.specs.Reported.{ComponentReported, componentCode, componentMembers};
 
 // What is told of a domain's component.
 pub enum Component {
@@ -46,7 +46,7 @@ impl Component {
 
 // The component of a domain in a table.
 pub fn component_of(table: &[u32], domain: u32) -> Component
-    ensures { λ r. ⌜ ComponentTold (now (table .entry)) domain (componentCode r) (componentMembers r) ⌝ }
+    ensures { λ r. ⌜ ComponentReported (now (table .entry)) domain (componentCode r) (componentMembers r) ⌝ }
 {
     let checked = check(table);
     if let Checked::Refused(refusal) = checked {

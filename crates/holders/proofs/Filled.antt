@@ -22,7 +22,7 @@ use Rattle.machine.proofs.Below.{words-at, words-same, words-length}
 use Rattle.machine.proofs.Table.{rights-below}
 use Rattle.table_layout.proofs.Places.{rights-read}
 use Rattle.holders_theory.specs.Noted.{roomFor}
-use Rattle.holders.specs.Rows.{HasRoom, withRow}
+use Rattle.holders.specs.Rows.{HoldersFit, withRow}
 use Rattle.holders_theory.proofs.OneBit.{bits-next}
 pub use Rattle.holders_theory.proofs.Filled.{filled-accepted}
 
@@ -64,7 +64,7 @@ module _ (f : ℕ → ℕ) (ws ps : List ℕ) (g : ℕ) (x : Written f ws ps g) 
       sym (take-all g ps (omega (arith, x .size))) ∙ x .front ∙ ap (λ k. wordsBelow k f) all
 
 -- ---- one row: its words are in the table, and each adds the holder's bit to a word
-pub row-there : (t : List ℕ) (n : ℕ) (ps : List ℕ) (h g at : ℕ) → HasRoom t n ps → at ≡ rightsAt n h g → h < n → g < n → at < length t
+pub row-there : (t : List ℕ) (n : ℕ) (ps : List ℕ) (h g at : ℕ) → HoldersFit t n ps → at ≡ rightsAt n h g → h < n → g < n → at < length t
 row-there t n ps h g at room e p q = omega (arith, room .table, rights-below n h g p q)
 
 pub row-word :
@@ -114,7 +114,7 @@ module _ (t : List ℕ) (n : ℕ) (ps : List ℕ) (h : ℕ) (x : Gathered t n ps
 
 -- ---- whether the words are worked out at all
 
-pub has-room : (t : List ℕ) (n : ℕ) (p : List ℕ) → roomFor n (length t) (length p) ≡ true → HasRoom t n p
+pub has-room : (t : List ℕ) (n : ℕ) (p : List ℕ) → roomFor n (length t) (length p) ≡ true → HoldersFit t n p
 unfolding roomFor
 has-room t n p h =
     let both = and-left (leb n 16 && eqb (length p) n) (ltb (n * n) (length t)) h in

@@ -13,7 +13,7 @@ use Rattle.machine.proofs.Below.{all-fails}
 use Rattle.reachability.specs.Closure.{closed}
 use Rattle.holders.specs.declared.Asked.{Asked}
 use Rattle.holders.specs.declared.Asked.the-variants.{Reach, NotAskable}
-use Rattle.holders_theory.specs.Asked.{bitsWithin, askable, askCode, asked, ReachTold}
+use Rattle.holders_theory.specs.Asked.{bitsWithin, askable, askCode, asked, ReachReported}
 use Rattle.holders.specs.Asked.{askedCode}
 pub use Rattle.holders_theory.proofs.Reported.{asked-small}
 
@@ -54,11 +54,11 @@ module _ (ws : List ℕ) (d : ℕ) where
 
   -- ---- what is told
 
-  pub told-nothing : false ≡ askable ws d → ReachTold ws d 32 0
+  pub told-nothing : false ≡ askable ws d → ReachReported ws d 32 0
   unfolding askCode asked
   told-nothing h = record { sameCode = rw (← h); sameSet = rw (← h) }
 
-  pub told : true ≡ askable ws d → (set : ℕ) → set ≡ closed ws (2 ^ d) → ReachTold ws d 0 set
+  pub told : true ≡ askable ws d → (set : ℕ) → set ≡ closed ws (2 ^ d) → ReachReported ws d 0 set
   unfolding askCode asked
   told h set e = record { sameCode = rw (← h); sameSet = rw (← h) e }
 

@@ -2,7 +2,7 @@
 use Prim.Native.Nat.{ℕ}
 use Rattle.holders.specs.declared.Asked.{Asked}
 use Rattle.holders.specs.declared.Asked.the-variants.{Reach, NotAskable}
-pub use Rattle.holders_theory.specs.Asked.{ReachTold}
+pub use Rattle.holders_theory.specs.Asked.{ReachReported}
 
 -- the number of an answer
 abbrev pub askedCode : Asked → ℕ

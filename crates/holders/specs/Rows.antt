@@ -10,7 +10,7 @@ use Rattle.machine.specs.Right.{hasAny}
 use Rattle.machine.specs.Table.{rightsAt}
 
 -- As much is lent: the words p are those of n domains, at most 16, and the table t has all their rights words.
-pub record HasRoom (t : List ℕ) (n : ℕ) (p : List ℕ) : Type 0 where
+pub record HoldersFit (t : List ℕ) (n : ℕ) (p : List ℕ) : Type 0 where
   pub few : n ≤ 16
   pub words : length p ≡ n
   pub table : n * n < length t

@@ -14,7 +14,7 @@ use rows::fillable;
 use table_layout::domains;
 ghost use mathlib.Core.Path.{_≡_};
 ghost use Rattle.holders_theory.specs.Noted.{noted, filled};
-ghost use Rattle.holders_theory.specs.Asked.{ReachTold};
+ghost use Rattle.holders_theory.specs.Asked.{ReachReported};
 ghost use Rattle.holders.specs.Asked.{askedCode, askedSet};
 
 // What the table says, worked out afresh. Where the words aren't those of the table's domains, or the table has not all its rights
@@ -76,7 +76,7 @@ impl Asked {
 
 // Every domain with a chain of rights to a given one, in the words lent.
 pub fn who_reaches(words: &[u32], domain: u32) -> Asked
-    ensures { λ r. ⌜ ReachTold (now (words .entry)) domain (askedCode r) (askedSet r) ⌝ }
+    ensures { λ r. ⌜ ReachReported (now (words .entry)) domain (askedCode r) (askedSet r) ⌝ }
 {
     if !askable(words, domain) {
         return Asked::NotAskable;

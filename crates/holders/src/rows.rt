@@ -10,7 +10,7 @@ ghost use Rattle.machine.specs.Below.{wordsBelow};
 ghost use Rattle.machine.specs.Table.{domains};
 ghost use Rattle.machine.specs.Holders.{holdersOf};
 ghost use Rattle.holders_theory.specs.Noted.{roomFor};
-ghost use Rattle.holders.specs.Rows.{HasRoom, withRow};
+ghost use Rattle.holders.specs.Rows.{HoldersFit, withRow};
 
 // As many words are lent as there are domains, at most 16, and the table has their rights words.
 pub fn fillable(n: u32, size: usize, lent: usize) -> bool
@@ -36,7 +36,7 @@ fn clear(holders: &mut [u32])
 
 // What one domain holds is added.
 fn add_row(table: &[u32], n: u32, h: u32, holders: &mut [u32])
-    requires { ⌜ HasRoom (now table) n (now holders) ⌝ }
+    requires { ⌜ HoldersFit (now table) n (now holders) ⌝ }
     requires { ⌜ h < n ⌝ }
     ensures { λ _. ⌜ now (holders .exit) ≡ wordsBelow n (withRow (now (table .entry)) n h (now (holders .entry))) ⌝ }
 {
@@ -53,7 +53,7 @@ fn add_row(table: &[u32], n: u32, h: u32, holders: &mut [u32])
 
 // The words of all n domains.
 pub fn fill_rows(table: &[u32], n: u32, holders: &mut [u32])
-    requires { ⌜ HasRoom (now table) n (now holders) ⌝ }
+    requires { ⌜ HoldersFit (now table) n (now holders) ⌝ }
     requires { ⌜ n ≡ domains (now table) ⌝ }
     ensures { λ _. ⌜ now (holders .exit) ≡ holdersOf (now (table .entry)) ⌝ }
 {

@@ -23,7 +23,7 @@ use Rattle.machine.proofs.Table.{equal-either}
 use Rattle.machine.proofs.Right.{rights-payload}
 use Rattle.machine.proofs.Accepted.{accepted-sized, accepted-counts}
 use Rattle.machine.proofs.Step.{InOrder, call-in-order, stays-accepted}
-use Rattle.holders_theory.specs.Noted.{withBit, noted, holdersAfter, holdersAlong}
+use Rattle.holders_theory.specs.Noted.{withBit, noted, holdersAfter, holdersAfterCalls}
 use Rattle.holders_theory.specs.Claims.{HoldersKept, HoldersKeptAlong}
 use Rattle.holders_theory.proofs.OneBit.{bits-with}
 use Rattle.holders_theory.proofs.Filled.{holders-length}
@@ -137,11 +137,11 @@ pub holders-kept : HoldersKept
 unfolding step
 holders-kept t c a = effect-kept t a (effect t (decide t c)) (call-in-order t c a)
 
-along : (t : List ℕ) (cs : List Call) → Accepted t → holdersAlong (holdersOf t) t cs ≡ holdersOf (run t cs)
-unfolding holdersAlong run
+along : (t : List ℕ) (cs : List Call) → Accepted t → holdersAfterCalls (holdersOf t) t cs ≡ holdersOf (run t cs)
+unfolding holdersAfterCalls run
 along t [] a = refl
 along t (c ∷ cs) a =
-    ap (λ p. holdersAlong p (step t c) cs) (holders-kept t c a) ∙ along (step t c) cs (stays-accepted t c a .accepted)
+    ap (λ p. holdersAfterCalls p (step t c) cs) (holders-kept t c a) ∙ along (step t c) cs (stays-accepted t c a .accepted)
 
 pub holders-kept-along : HoldersKeptAlong
 holders-kept-along t cs k a = along t (take k cs) a

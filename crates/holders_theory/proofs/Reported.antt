@@ -18,7 +18,7 @@ use Rattle.machine.specs.Holders.{holdersOf}
 use Rattle.machine.proofs.Bools.{and-left, and-right, cond-elim}
 use Rattle.machine.proofs.Below.{all-at, all-of, bits-lt, words-at}
 use Rattle.machine.proofs.Accepted.{accepted-counts}
-use Rattle.reachability.specs.Chain.{Chain, linked, wordsOf}
+use Rattle.reachability.specs.Chain.{Chain, linked, linkWords}
 use Rattle.reachability.proofs.Bits.{bit-own, bit-other}
 use Rattle.reachability.proofs.Bounds.{closed-lt}
 use Rattle.reachability.proofs.Chain.{closed-exactly, relation-closed-exactly}
@@ -80,7 +80,7 @@ holders-askable t d a l =
     (bits-lt (domains t) (λ h. reaches t h v))))
 
 pub asked-now : AskedNow
-unfolding askCode asked holdersOf wordsOf
+unfolding askCode asked holdersOf linkWords
 asked-now t d u a l =
     let h = holders-askable t d a l in
     (rw h, rw h (relation-closed-exactly (domains t) (reaches t) d u))

@@ -25,6 +25,6 @@ unfoldable pub asked : List ℕ → ℕ → ℕ
 asked ws d = cond (askable ws d) (closed ws (2 ^ d)) 0
 
 -- Of d a code and a set were told out of the words ws: these.
-pub record ReachTold (ws : List ℕ) (d code set : ℕ) : Type 0 where
+pub record ReachReported (ws : List ℕ) (d code set : ℕ) : Type 0 where
   pub sameCode : code ≡ askCode ws d
   pub sameSet : set ≡ asked ws d

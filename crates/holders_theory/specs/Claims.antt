@@ -14,7 +14,7 @@ use Rattle.machine.specs.Run.{run}
 use Rattle.machine.specs.Influence.{reaches}
 use Rattle.machine.specs.Holders.{holdersOf}
 use Rattle.reachability.specs.Chain.{Chain, linked, among}
-use Rattle.holders_theory.specs.Noted.{holdersAfter, holdersAlong}
+use Rattle.holders_theory.specs.Noted.{holdersAfter, holdersAfterCalls}
 use Rattle.holders_theory.specs.Asked.{askable, askCode, asked}
 
 -- Noting what a call alters makes of the words of the table before it those of the table after it, worked out afresh.
@@ -26,7 +26,7 @@ abbrev pub HoldersKeptAlong : Type 0
 HoldersKeptAlong =
     (t : List ℕ) (cs : List Call) (k : ℕ)
     → Accepted t
-    → holdersAlong (holdersOf t) t (take k cs) ≡ holdersOf (run t (take k cs))
+    → holdersAfterCalls (holdersOf t) t (take k cs) ≡ holdersOf (run t (take k cs))
 
 -- Asked of any words that can be asked, the set holds exactly those that have a chain in these words, d itself among them.
 abbrev pub AskedExactly : Type 0

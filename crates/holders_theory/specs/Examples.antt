@@ -3,11 +3,11 @@ use Prim.Native.Nat.{ℕ}
 use mathlib.Core.Path.{_≡_}
 use mathlib.Core.List.{List, [], _∷_, _++_}
 use lib.ListN.{take, replicate}
-use Rattle.machine.specs.Call.{cut}
+use Rattle.machine.specs.Call.{split}
 use Rattle.machine.specs.Holders.{holdersOf}
 use Rattle.machine.specs.Examples.{T, L}
 use Rattle.reachability.specs.Examples.{road, ring}
-use Rattle.holders_theory.specs.Noted.{noted, filled, holdersAlong}
+use Rattle.holders_theory.specs.Noted.{noted, filled, holdersAfterCalls}
 use Rattle.holders_theory.specs.Asked.{askCode, asked}
 
 -- A row: the words of a table; those lent, once a table is worked out into them; those noted along a list that runs from a table;
@@ -23,7 +23,7 @@ pub data HoldersRow : Type 0 where
 abbrev pub HoldersRowHolds : HoldersRow → Type 0
 HoldersRowHolds (shows t ws) = holdersOf t ≡ ws
 HoldersRowHolds (fills t p ws) = filled t p ≡ ws
-HoldersRowHolds (keeps t l ws) = holdersAlong (holdersOf t) t (cut l) ≡ ws
+HoldersRowHolds (keeps t l ws) = holdersAfterCalls (holdersOf t) t (split l) ≡ ws
 HoldersRowHolds (notes p h g s ws) = noted p h g s ≡ ws
 HoldersRowHolds (tells ws d code set) = (askCode ws d ≡ code) × (asked ws d ≡ set)
 

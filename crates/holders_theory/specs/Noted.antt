@@ -37,6 +37,6 @@ holdersAfter p (newRights h g s) = noted p h g s
 holdersAfter p (newEndpoint e q) = p
 
 -- the words p after the calls, of which each is noted on the table that it finds, the first on t
-unfoldable pub holdersAlong : List ℕ → List ℕ → List Call → List ℕ
-holdersAlong p t [] = p
-holdersAlong p t (c ∷ cs) = holdersAlong (holdersAfter p (effect t (decide t c))) (step t c) cs
+unfoldable pub holdersAfterCalls : List ℕ → List ℕ → List Call → List ℕ
+holdersAfterCalls p t [] = p
+holdersAfterCalls p t (c ∷ cs) = holdersAfterCalls (holdersAfter p (effect t (decide t c))) (step t c) cs

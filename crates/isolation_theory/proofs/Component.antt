@@ -14,7 +14,7 @@ use Rattle.machine.specs.Below.{hasBit}
 use Rattle.machine.specs.Right.{holds}
 use Rattle.machine.specs.Table.{domains, rights}
 use Rattle.machine.specs.Check.{Accepted}
-use Rattle.machine.specs.Call.{Call, callerOf, cut}
+use Rattle.machine.specs.Call.{Call, callerOf, split}
 use Rattle.machine.specs.Machine.{step}
 use Rattle.machine.specs.Run as machine
 use Rattle.machine.specs.Influence.{reaches, influences}
@@ -34,9 +34,9 @@ use Rattle.machine.proofs.Noninterference.{Alike, conditions, same-view}
 use Rattle.reachability.specs.Chain.{Chain.end, Chain.link, among}
 use Rattle.reachability.proofs.Bits.{some-bit}
 use Rattle.reachability.proofs.Chain.{chain-trans, relation-closed-exactly}
-use Rattle.isolation_theory.specs.Component.{joined, component, HangsTogether, EveryComponent, ComponentsStand, callsFrom, componentCalls}
-use Rattle.isolation_theory.specs.Component.{EveryRunComponentsStand, EveryRunComponentNoninterference}
-use Rattle.isolation_theory.specs.Component.{EveryPromisedRunComponentsStand, EveryPromisedRunComponentNoninterference, EveryComponentOfDomains}
+use Rattle.isolation_theory.specs.Component.{joined, component, Connected, EveryComponent, ComponentsStay, callsFrom, componentCalls}
+use Rattle.isolation_theory.specs.Component.{EveryRunComponentsStay, EveryRunComponentNoninterference}
+use Rattle.isolation_theory.specs.Component.{EveryPromisedRunComponentsStay, EveryPromisedRunComponentNoninterference, EveryComponentOfDomains}
 use Rattle.isolation_theory.proofs.Ran.{ran-accepted, ran-table, ran-answers}
 
 pub every-component : EveryComponent
@@ -51,7 +51,7 @@ module _ (t : List ℕ) where
   unfolding among
   join u v lu lv j = and-intro (and-intro (lt-ltb u _ lu) (lt-ltb v _ lv)) j
 
-  right-joins : (u v : ℕ) → u < domains t → v < domains t → reaches t u v ≡ true → HangsTogether t v u
+  right-joins : (u v : ℕ) → u < domains t → v < domains t → reaches t u v ≡ true → Connected t v u
   unfolding joined
   right-joins u v lu lv r = link (join u v lu lv (rw r)) end
 
@@ -61,15 +61,15 @@ module _ (t : List ℕ) where
   turned u v h =
       ap₂ _&&_ (and-comm (ltb v (domains t)) (ltb u (domains t))) (or-comm (reaches t v u) (reaches t u v)) ∙ h
 
-  hangs-back : {u v : ℕ} → HangsTogether t u v → HangsTogether t v u
-  hangs-back end = end
-  hangs-back (link {u = a} {v = b} l c) = chain-trans (link (turned a b l) end) (hangs-back c)
+  connected-back : {u v : ℕ} → Connected t u v → Connected t v u
+  connected-back end = end
+  connected-back (link {u = a} {v = b} l c) = chain-trans (link (turned a b l) end) (connected-back c)
 
   -- a chain to a domain is one of domains
-  hangs-below : {d u : ℕ} → d < domains t → HangsTogether t d u → u < domains t
+  connected-below : {d u : ℕ} → d < domains t → Connected t d u → u < domains t
   unfolding among
-  hangs-below b end = b
-  hangs-below b (link {u = a} {v = v} l c) =
+  connected-below b end = b
+  connected-below b (link {u = a} {v = v} l c) =
       ltb-true _ _ (and-left (ltb a (domains t)) _ (and-left (ltb a (domains t) && ltb v (domains t)) (joined t a v) l))
 
 -- ---- one call
@@ -89,23 +89,23 @@ right-reaches s h g k b = holds-any (rights s h g) (2 ^ k) (λ e. omega (arith, 
 record Within (t s : List ℕ) : Type 0 where
   pub accepted : Accepted s
   pub count : domains s ≡ domains t
-  pub right : (h g : ℕ) → h < domains t → g < domains t → reaches s h g ≡ true → HangsTogether t g h
+  pub right : (h g : ℕ) → h < domains t → g < domains t → reaches s h g ≡ true → Connected t g h
 
 module _ (t s : List ℕ) (w : Within t s) where
   -- whoever influences a domain hangs together with it
-  influence-within : (u v : ℕ) → u < domains t → v < domains t → influences s u v ≡ true → HangsTogether t v u
+  influence-within : (u v : ℕ) → u < domains t → v < domains t → influences s u v ≡ true → Connected t v u
   unfolding influences
   influence-within u v lu lv i =
-      ⊎-elim (λ e. subst (HangsTogether t v) (sym (eqb-true u v e)) end) (w .right u v lu lv)
+      ⊎-elim (λ e. subst (Connected t v) (sym (eqb-true u v e)) end) (w .right u v lu lv)
       (or-cases (eqb u v) (reaches s u v) i)
 
   -- the giver holds the right on the target and influences the recipient
   given-within :
-      (c : Call) (h g k : ℕ) → h < domains t → g < domains t → GivenBy h g (2 ^ k) s c → HangsTogether t g h
+      (c : Call) (h g k : ℕ) → h < domains t → g < domains t → GivenBy h g (2 ^ k) s c → Connected t g h
   given-within c h g k lh lg x =
       let lu : x .caller < domains t = subst (λ n. x .caller < n) (w .count) (x .below) in
       chain-trans (w .right (x .caller) g lu lg (right-reaches s (x .caller) g k (x .held)))
-      (hangs-back t (influence-within (x .caller) h lu lh (x .toward)))
+      (connected-back t (influence-within (x .caller) h lu lh (x .toward)))
 
   step-within : (c : Call) → Within t (step s c)
   step-within c =
@@ -132,17 +132,17 @@ run-within t s (c ∷ cs) w = run-within t (step s c) cs (step-within t s w c)
 
 -- ---- components stand
 
-pub components-stand : EveryRunComponentsStand
-components-stand t cs a u v lu lv i =
+pub components-stay : EveryRunComponentsStay
+components-stay t cs a u v lu lv i =
     let w = run-within t t cs (start-within t a) in
-    every-component t u v .1 (hangs-back t (influence-within t (machine.run t cs) w u v lu lv i))
+    every-component t u v .1 (connected-back t (influence-within t (machine.run t cs) w u v lu lv i))
 
-pub promised-components-stand : EveryPromisedRunComponentsStand
-promised-components-stand t ws p =
-    subst (ComponentsStand t) (sym (ran-table t ws p)) (components-stand t (cut ws) (ran-accepted t ws p))
+pub promised-components-stay : EveryPromisedRunComponentsStay
+promised-components-stay t ws p =
+    subst (ComponentsStay t) (sym (ran-table t ws p)) (components-stay t (split ws) (ran-accepted t ws p))
 
 pub component-of-domains : EveryComponentOfDomains
-component-of-domains t d u b h = hangs-below t b (every-component t d u .0 h)
+component-of-domains t d u b h = connected-below t b (every-component t d u .0 h)
 
 -- ---- noninterference by component
 
@@ -188,4 +188,4 @@ component-noninterference t cs rest a d b =
 
 pub promised-component-noninterference : EveryPromisedRunComponentNoninterference
 promised-component-noninterference t ws p =
-    rw (ran-answers t ws p, ran-table t ws p) (component-noninterference t (cut ws) _ (ran-accepted t ws p))
+    rw (ran-answers t ws p, ran-table t ws p) (component-noninterference t (split ws) _ (ran-accepted t ws p))

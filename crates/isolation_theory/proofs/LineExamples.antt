@@ -15,7 +15,7 @@ use Rattle.machine.specs.Table.{domains, endpoints, rightsWord, endpoint}
 use Rattle.machine.specs.Queue.{name, owner, capacity}
 use Rattle.machine.specs.Check.{Accepted}
 use Rattle.machine.specs.DomainSet.{member}
-use Rattle.machine.specs.Call.{Call, cut}
+use Rattle.machine.specs.Call.{Call, split}
 use Rattle.machine.specs.Purge.{rightsOf, View}
 use Rattle.machine.specs.SameParts.{SamePart, Agree}
 use Rattle.machine.specs.PurgeExamples.{bitsOf}
@@ -86,7 +86,7 @@ agree v other held on =
       onIt = on;
     }
 
-sources-met : AgreeOnSources 0 (cut sharedList) bareLine busyLine
+sources-met : AgreeOnSources 0 (split sharedList) bareLine busyLine
 unfolding everything EachOf
 sources-met =
     each-of (λ v. Agree v bareLine busyLine) (1 ∷ 0 ∷ [])
@@ -114,7 +114,7 @@ unfolding everything EachOf sameAt waits
 parts-are-not-enough rule =
     let parts = each-of (λ v. SamePart v closedLine openLine) (0 ∷ []) (same-part, tt) in
     let both = lines closedLine openLine (refl, refl) (refl, refl) (refl, refl, refl) in
-    let same = rule closedLine openLine (cut oneSend) 0 both (omega arith) parts in
+    let same = rule closedLine openLine (split oneSend) 0 both (omega arith) parts in
     let waiting : _≡_ {A = ℕ} 0x5000_0000 0x5000_0001 = ap waits same in
     omega arith
 
@@ -127,11 +127,11 @@ same-zero =
     }
 
 -- domain 0 has a right on 2 in the end, on the second line alone
-rights-differ : (condition : ℕ → List Call → List ℕ → List ℕ → Type 0) → condition 0 (cut giveAndGo) poorLine richLine → RuleWith condition → ⊥
+rights-differ : (condition : ℕ → List Call → List ℕ → List ℕ → Type 0) → condition 0 (split giveAndGo) poorLine richLine → RuleWith condition → ⊥
 unfolding everything sameAt onTwo
 rights-differ condition met rule =
     let both = lines poorLine richLine (refl, refl) (refl, refl) (refl, refl, refl) in
-    let same = rule poorLine richLine (cut giveAndGo) 0 both (omega arith) met in
+    let same = rule poorLine richLine (split giveAndGo) 0 both (omega arith) met in
     let right : _≡_ {A = ℕ} 0x2000_0000 0x2000_0001 = ap onTwo same in
     omega arith
 

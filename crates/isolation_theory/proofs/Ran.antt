@@ -5,7 +5,7 @@ use mathlib.Core.List.{List, _++_}
 use Prim.Native.Nat.{ℕ, _*_}
 use lib.ListN.{length, drop}
 use Rattle.machine.specs.Check.{Accepted}
-use Rattle.machine.specs.Call.{cut}
+use Rattle.machine.specs.Call.{split}
 use Rattle.machine.specs.Run as machine
 use Rattle.machine.specs.Entry.{Runs, ran}
 use Rattle.machine.proofs.Promise.{runs-accepted, entry-ran, entry-code}
@@ -18,10 +18,10 @@ module _ (t ws : List ℕ) (p : PromisedRun t ws) where
   pub ran-accepted : Accepted t
   ran-accepted = runs-accepted t ws (length (p .space)) (length (p .holders)) runs
 
-  pub ran-table : p .end ≡ machine.run t (cut ws)
+  pub ran-table : p .end ≡ machine.run t (split ws)
   unfolding ran
   ran-table = p .promise .sameTable ∙ ap (λ o. o .table) (entry-ran t ws (p .space) (p .holders) runs)
 
-  pub ran-answers : p .answers ≡ machine.answers t (cut ws) ++ drop (3 * length (cut ws)) (p .space)
+  pub ran-answers : p .answers ≡ machine.answers t (split ws) ++ drop (3 * length (split ws)) (p .space)
   unfolding ran
   ran-answers = p .promise .sameAnswers ∙ ap (λ o. o .answers) (entry-ran t ws (p .space) (p .holders) runs)

@@ -14,7 +14,7 @@ use Rattle.machine.specs.Word.{kind, payload, word, upper, fieldB, fieldC}
 use Rattle.machine.specs.Table.{domains, endpoints, lengthFor, endpoint}
 use Rattle.machine.specs.Queue.{name, owner, capacity}
 use Rattle.machine.specs.Check.{nameWordOk, infoWordOk, identityOk, queueOk, endpointOk}
-use Rattle.machine.specs.Call.{Call, cut}
+use Rattle.machine.specs.Call.{Call, split}
 use Rattle.machine.specs.Run as machine
 use Rattle.machine.specs.DomainSet.{member}
 use Rattle.machine.specs.Purge.{sources, answersOf, view}
@@ -143,4 +143,4 @@ between-lines s t cs d l b a =
 
 pub between-runs : IsolationBetweenRuns
 between-runs s t ws p q d l b a =
-    rw (ran-answers s ws p, ran-table s ws p, ran-answers t ws q, ran-table t ws q) (same-seen s t (cut ws) d l b a _ _)
+    rw (ran-answers s ws p, ran-table s ws p, ran-answers t ws q, ran-table t ws q) (same-seen s t (split ws) d l b a _ _)

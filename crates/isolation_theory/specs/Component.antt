@@ -9,13 +9,13 @@ use mathlib.Core.List.{List, [], _∷_, _++_}
 use Rattle.machine.specs.Below.{hasBit}
 use Rattle.machine.specs.Table.{domains}
 use Rattle.machine.specs.Check.{Accepted}
-use Rattle.machine.specs.Call.{Call, callerOf, cut}
+use Rattle.machine.specs.Call.{Call, callerOf, split}
 use Rattle.machine.specs.Run as machine
 use Rattle.machine.specs.Influence.{reaches, influences}
 use Rattle.machine.specs.DomainSet.{fromGroup}
 use Rattle.machine.specs.Purge.{view}
 use Rattle.reachability.specs.Closure.{closed}
-use Rattle.reachability.specs.Chain.{Chain, wordsOf, among}
+use Rattle.reachability.specs.Chain.{Chain, linkWords, among}
 use Rattle.isolation_theory.specs.PromisedRun.{PromisedRun}
 
 -- two domains are joined in a table when either has a right on the other
@@ -24,19 +24,19 @@ joined t u v = reaches t u v || reaches t v u
 
 -- the component of the domain d in a table (document 02: its group), as bits: d alone, closed over the joins
 unfoldable pub component : List ℕ → ℕ → ℕ
-component t d = closed (wordsOf (domains t) (joined t)) (2 ^ d)
+component t d = closed (linkWords (domains t) (joined t)) (2 ^ d)
 
 -- v hangs together with d: there is a chain of joins between them, of any length
-abbrev pub HangsTogether : List ℕ → ℕ → ℕ → Type 0
-HangsTogether t d v = Chain (among (domains t) (joined t)) d v
+abbrev pub Connected : List ℕ → ℕ → ℕ → Type 0
+Connected t d v = Chain (among (domains t) (joined t)) d v
 
 -- A component is exactly what hangs together with its domain, in any words at all.
 abbrev pub EveryComponent : Type 0
-EveryComponent = (t : List ℕ) (d v : ℕ) → (hasBit (component t d) v ≡ true) ↔ HangsTogether t d v
+EveryComponent = (t : List ℕ) (d v : ℕ) → (hasBit (component t d) v ≡ true) ↔ Connected t d v
 
 -- Components stand: at the end no domain influences one outside the component that it had in the table t.
-abbrev pub ComponentsStand : List ℕ → List ℕ → Type 0
-ComponentsStand t end =
+abbrev pub ComponentsStay : List ℕ → List ℕ → Type 0
+ComponentsStay t end =
     (u v : ℕ) → u < domains t → v < domains t → influences end u v ≡ true → hasBit (component t u) v ≡ true
 
 -- the calls whose caller is in a set, given as bits; a stray has no caller
@@ -61,8 +61,8 @@ ComponentNoninterference t cs answers end =
 
 -- ---- of the machine: calls of any number, run from an accepted table; the words rest may follow the answers
 
-abbrev pub EveryRunComponentsStand : Type 0
-EveryRunComponentsStand = (t : List ℕ) (cs : List Call) → Accepted t → ComponentsStand t (machine.run t cs)
+abbrev pub EveryRunComponentsStay : Type 0
+EveryRunComponentsStay = (t : List ℕ) (cs : List Call) → Accepted t → ComponentsStay t (machine.run t cs)
 
 abbrev pub EveryRunComponentNoninterference : Type 0
 EveryRunComponentNoninterference =
@@ -72,12 +72,12 @@ EveryRunComponentNoninterference =
 
 -- ---- of the words that the kernel left, for any list that runs
 
-abbrev pub EveryPromisedRunComponentsStand : Type 0
-EveryPromisedRunComponentsStand = (t ws : List ℕ) (p : PromisedRun t ws) → ComponentsStand t (p .end)
+abbrev pub EveryPromisedRunComponentsStay : Type 0
+EveryPromisedRunComponentsStay = (t ws : List ℕ) (p : PromisedRun t ws) → ComponentsStay t (p .end)
 
 abbrev pub EveryPromisedRunComponentNoninterference : Type 0
 EveryPromisedRunComponentNoninterference =
-    (t ws : List ℕ) (p : PromisedRun t ws) → ComponentNoninterference t (cut ws) (p .answers) (p .end)
+    (t ws : List ℕ) (p : PromisedRun t ws) → ComponentNoninterference t (split ws) (p .answers) (p .end)
 
 -- ---- a component holds domains alone, so that a call of an unknown caller is struck whatever the table
 

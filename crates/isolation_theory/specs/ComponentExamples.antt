@@ -6,7 +6,7 @@ use mathlib.Core.List.{List, [], _∷_, _++_}
 use lib.Dec.{eqb}
 use Rattle.machine.specs.Below.{wordsBelow}
 use Rattle.machine.specs.Table.{domains}
-use Rattle.machine.specs.Call.{Call, cut, Call.one, Call.two}
+use Rattle.machine.specs.Call.{Call, split, Call.one, Call.two}
 use Rattle.machine.specs.Run.{run, answers}
 use Rattle.machine.specs.Purge.{View, view}
 use Rattle.machine.specs.Examples.{emptySlots}
@@ -30,7 +30,7 @@ pub data ComponentRow : Type 0 where
 -- what a row says
 abbrev pub ComponentRowHolds : ComponentRow → Type 0
 ComponentRowHolds (components t members) = wordsBelow (domains t) (component t) ≡ members
-ComponentRowHolds (keeps t ws d o) = kept t (cut ws) d ≡ o
+ComponentRowHolds (keeps t ws d o) = kept t (split ws) d ≡ o
 
 -- the single claim about a list of such rows: each holds
 abbrev pub EveryComponentRow : List ComponentRow → Type 0

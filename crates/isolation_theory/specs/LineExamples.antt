@@ -5,7 +5,7 @@ use mathlib.Core.Path.{_≡_}
 use mathlib.Core.Bool.{true}
 use mathlib.Core.List.{List, [], _∷_, _++_}
 use Rattle.machine.specs.Table.{domains}
-use Rattle.machine.specs.Call.{Call, cut}
+use Rattle.machine.specs.Call.{Call, split}
 use Rattle.machine.specs.Run.{run, answers}
 use Rattle.machine.specs.DomainSet.{member}
 use Rattle.machine.specs.Purge.{sources, View, view}
@@ -29,7 +29,7 @@ pub data LineRow : Type 0 where
 
 -- a row holds where both are as it says
 abbrev pub LineRowHolds : LineRow → Type 0
-LineRowHolds (pair s t ws d o p) = (seen d (cut ws) s ≡ o) × (seen d (cut ws) t ≡ p)
+LineRowHolds (pair s t ws d o p) = (seen d (split ws) s ≡ o) × (seen d (split ws) t ≡ p)
 
 -- the single claim about a list of such rows: each holds
 abbrev pub EveryLineRow : List LineRow → Type 0
@@ -142,7 +142,7 @@ lineRows =
 
 -- The condition can be met by lines that differ.
 abbrev pub ConditionMet : Type 0
-ConditionMet = TwoLines bareLine busyLine × AgreeOnSources 0 (cut sharedList) bareLine busyLine
+ConditionMet = TwoLines bareLine busyLine × AgreeOnSources 0 (split sharedList) bareLine busyLine
 
 -- The rule with another condition on d, the calls and the two tables than AgreeOnSources.
 abbrev pub RuleWith : (ℕ → List Call → List ℕ → List ℕ → Type 0) → Type 0

@@ -7,7 +7,7 @@ use mathlib.Core.List.{List}
 use Rattle.machine.specs.Table.{domains, endpoints, endpoint}
 use Rattle.machine.specs.Queue.{name, owner, capacity}
 use Rattle.machine.specs.Check.{Accepted}
-use Rattle.machine.specs.Call.{Call, cut}
+use Rattle.machine.specs.Call.{Call, split}
 use Rattle.machine.specs.Run as machine
 use Rattle.machine.specs.DomainSet.{member}
 use Rattle.machine.specs.Purge.{sources, view}
@@ -49,5 +49,5 @@ IsolationBetweenRuns =
     (s t ws : List ℕ) (p : PromisedRun s ws) (q : PromisedRun t ws) (d : ℕ)
     → TwoLines s t
     → d < domains s
-    → AgreeOnSources d (cut ws) s t
-    → view d (cut ws) (p .answers) (p .end) ≡ view d (cut ws) (q .answers) (q .end)
+    → AgreeOnSources d (split ws) s t
+    → view d (split ws) (p .answers) (p .end) ≡ view d (split ws) (q .answers) (q .end)

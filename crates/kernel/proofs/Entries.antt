@@ -10,7 +10,7 @@ use lib.ListN.{length}
 use borrow.Author.Tests.{lt-ltb, le-ltb, leb-true, leb-false, eq-eqb, ne-eqb}
 use Rattle.machine.specs.Check.{tableCode, Accepted}
 use Rattle.machine.specs.Table.{domains}
-use Rattle.machine.specs.Call.{Call, cut}
+use Rattle.machine.specs.Call.{Call, split}
 use Rattle.machine.specs.Entry.{longestList, holdersCode, entryCode, Runs}
 use Rattle.machine.specs.Promise.{RunPromise}
 use Rattle.machine.proofs.Promise.{runs-accepted, runs-short, code-space, code-holders, holders-unfit, promise-refused, promise-ran}
@@ -19,7 +19,7 @@ use Rattle.run_result.specs.declared.EntryRefusal.{EntryRefusal}
 use Rattle.run_result.proofs.Refusals.{entry-refusal-code}
 use Rattle.answers.specs.Answer.{answerWords}
 use Rattle.answers.specs.declared.Answer.{Answer}
-use Rattle.kernel.specs.Step.{Served, stepEntryCode, StepPromise}
+use Rattle.kernel.specs.Step.{StepOutcome, stepEntryCode, StepPromise}
 use Rattle.kernel.specs.Run.{AllRun}
 use Rattle.kernel.specs.Entered.{enteredCode}
 use Rattle.kernel.specs.declared.Entered.{Entered}
@@ -55,7 +55,7 @@ step-refused t c holders r e =
 -- and so does whoever serves the call where nothing refuses it.
 pub step-served : (t : List ℕ) (c : Call) (holders : List ℕ) (a : Answer) (t′ kept : List ℕ)
     → stepEntryCode t (length holders) ≡ 0
-    → Served t c (answerWords a) t′ kept
+    → StepOutcome t c (answerWords a) t′ kept
     → StepPromise t c holders (Answered a) t′ kept
 step-served t c holders a t′ kept e served =
     let fine = eq-eqb (stepEntryCode t (length holders)) 0 e in
@@ -72,8 +72,8 @@ module _ (t ws : List ℕ) (size lent : ℕ) (x : Entered) (told : enteredCode x
   runs = sym (sym (ap enteredCode is) ∙ told)
 
   -- what the calls of a list need
-  pub may-run : Accepted t × (length ws ≤ longestList × (3 * length (cut ws) ≤ size × (lent ≡ domains t)))
-  may-run = (a, (short, (enough (decLt size (3 * length (cut ws))), fit (ℕ-discrete lent (domains t)))))
+  pub may-run : Accepted t × (length ws ≤ longestList × (3 * length (split ws) ≤ size × (lent ≡ domains t)))
+  may-run = (a, (short, (enough (decLt size (3 * length (split ws))), fit (ℕ-discrete lent (domains t)))))
     where
       a : Accepted t
       a = runs-accepted t ws size lent runs
@@ -81,7 +81,7 @@ module _ (t ws : List ℕ) (size lent : ℕ) (x : Entered) (told : enteredCode x
       short : length ws ≤ longestList
       short = runs-short t ws size lent runs
 
-      enough : Dec (size < 3 * length (cut ws)) → 3 * length (cut ws) ≤ size
+      enough : Dec (size < 3 * length (split ws)) → 3 * length (split ws) ≤ size
       enough (yes few) = absurd (omega (arith, runs, code-space t ws size lent short a few))
       enough (no n) = omega arith
 
@@ -89,7 +89,7 @@ module _ (t ws : List ℕ) (size lent : ℕ) (x : Entered) (told : enteredCode x
       fit (yes e) = e
       fit (no n) =
           absurd
-          (omega (arith, runs, code-holders t ws size lent short a (enough (decLt size (3 * length (cut ws)))) ∙ holders-unfit t lent n))
+          (omega (arith, runs, code-holders t ws size lent short a (enough (decLt size (3 * length (split ws)))) ∙ holders-unfit t lent n))
 
 -- Whoever stops where the entry refuses keeps the run's promise,
 pub promise-entered : (t ws space holders : List ℕ) (x : Entered) (r : EntryRefusal)

@@ -23,7 +23,7 @@ use Rattle.machine.proofs.Step.{rights-held}
 use Rattle.machine.proofs.Table.{rights-below, endpoint-length}
 use Rattle.calls.specs.Split.{callOf}
 use Rattle.calls.specs.declared.split.Second.{Second}
-use Rattle.calls.specs.Decode.{needsSecond, whole, ofKind, apart}
+use Rattle.calls.specs.Decode.{needsSecond, whole, ofKind, decoded}
 use Rattle.calls.specs.declared.Call.{Call}
 use Rattle.calls.specs.declared.Call.the-variants.{LookUp, Send, Receive, MyEndpoints, MyRights, Grant, Remove, Revoke, Refused}
 use Rattle.calls.specs.declared.Refusal.the-variants.{UnusedField, NoSecondWord}
@@ -37,7 +37,7 @@ all-shown : {there : Bool} {x : ℕ} → there ≡ true → x < 2 ^ 32 → shown
 unfolding shown
 all-shown there fits = rw there (mod-eq-of-lt fits)
 
--- ---- the message of a send that is taken apart fits a word
+-- ---- the message of a send that is taken decoded fits a word
 abbrev MessageFits : Call → Type 0
 MessageFits (Send u e message) = message ≤ mostPayload
 MessageFits (Refused u r) = Unit {0}
@@ -73,8 +73,8 @@ module _ (w : ℕ) (s : Second) where
   kind-fits remove = whole-fits remove _ tt
   kind-fits revoke = whole-fits revoke _ tt
 
-  pub message-fits : {call : Call} {u e message : ℕ} → call ≡ Send u e message → call ≡ apart w s → message ≤ mostPayload
-  unfolding apart
+  pub message-fits : {call : Call} {u e message : ℕ} → call ≡ Send u e message → call ≡ decoded w s → message ≤ mostPayload
+  unfolding decoded
   message-fits is same = subst MessageFits (sym same ∙ is) (kind-fits (kindOf (kind w)))
 
 module _ (t : List ℕ) (a : Accepted t) where

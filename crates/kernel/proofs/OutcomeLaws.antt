@@ -13,14 +13,14 @@ use Rattle.machine.proofs.Step.{stays-accepted}
 use Rattle.calls.specs.Split.{callOf, secondAt, widthOf}
 use Rattle.calls.specs.declared.split.Second.{Second}
 use Rattle.calls.specs.declared.split.Second.the-variants.{Nothing, Word}
-use Rattle.calls.specs.Decode.{apart}
+use Rattle.calls.specs.Decode.{decoded}
 use Rattle.calls.specs.Decide.{decideCall}
 use Rattle.calls.specs.declared.Call.{Call}
 use Rattle.calls.proofs.Decided.{decided}
 use Rattle.holders.specs.Noted.{holdersAfter}
 use Rattle.holders.proofs.Kept.{holders-kept}
-use Rattle.kernel.specs.Step.{Served}
-use Rattle.kernel.specs.Outcome.{Settled}
+use Rattle.kernel.specs.Step.{StepOutcome}
+use Rattle.kernel.specs.Outcome.{CallOutcome}
 use Rattle.kernel.proofs.RunInvariant.{Underway, underway-next}
 
 -- an answer shows of a call its first word alone
@@ -30,8 +30,8 @@ by-first t w Nothing d = refl
 by-first t w (Word v) d = refl
 
 pub served : (t p : List ℕ) → Accepted t → p ≡ holdersOf t → (w : ℕ) (s : Second) (words t′ p′ : List ℕ)
-    → Settled t p w (decideCall t (apart w s)) words t′ p′
-    → Served t (callOf w s) words t′ p′
+    → CallOutcome t p w (decideCall t (decoded w s)) words t′ p′
+    → StepOutcome t (callOf w s) words t′ p′
 unfolding machine.answer machine.step
 served t p a is w s words t′ p′ x =
     let same = sym (decided t w s) in
@@ -48,10 +48,10 @@ served t p a is w s words t′ p′ x =
 pub here : {t p : List ℕ} {w : ℕ} {call x y : Call} {words t′ p′ : List ℕ}
     → call ≡ x
     → call ≡ y
-    → Settled t p w (decideCall t x) words t′ p′
-    → Settled t p w (decideCall t y) words t′ p′
+    → CallOutcome t p w (decideCall t x) words t′ p′
+    → CallOutcome t p w (decideCall t y) words t′ p′
 here {t} {p} {w} {call} {x} {y} {words} {t′} {p′} is same s =
-    subst (λ (c : Call). Settled t p w (decideCall t c) words t′ p′) (sym is ∙ same) s
+    subst (λ (c : Call). CallOutcome t p w (decideCall t c) words t′ p′) (sym is ∙ same) s
 
 -- ---- a run on its way, with n and m read once
 pub record OnItsWay (n m : ℕ) (t₀ ws space₀ p₀ t space p : List ℕ) (k i : ℕ) : Type 0 where
@@ -65,7 +65,7 @@ pub way-next : {n m : ℕ} {t₀ ws space₀ p₀ t space p : List ℕ} {k i : �
     → (s : Second) (w : ℕ) (words t′ space′ p′ : List ℕ)
     → s ≡ secondAt ws i
     → w ≡ widthOf s
-    → Settled t p (getD ws i 0) (decideCall t (apart (getD ws i 0) s)) words t′ p′
+    → CallOutcome t p (getD ws i 0) (decideCall t (decoded (getD ws i 0) s)) words t′ p′
     → length p′ ≡ length p
     → space′ ≡ take (3 * k) space ++ (words ++ drop (3 * k + 3) space)
     → length space′ ≡ length space

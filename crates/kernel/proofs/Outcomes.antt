@@ -16,22 +16,22 @@ use Rattle.calls.specs.declared.Call.the-variants.{Refused}
 use Rattle.calls.specs.declared.Refusal.{Refusal}
 use Rattle.rules.specs.Range.{callerNumber, refusedNumbers}
 use Rattle.holders.specs.Noted.{noted, holdersAfter}
-use Rattle.kernel.specs.Outcome.{Settled}
+use Rattle.kernel.specs.Outcome.{CallOutcome}
 
 module _ (t p : List ℕ) (w : ℕ) (d : Decision) (words : List ℕ) where
-  pub settled-refused : (k : ℕ) → machine.refused k ≡ d → words ≡ answerWord (one w) k ∷ 0 ∷ 0 ∷ [] → Settled t p w d words t p
+  pub settled-refused : (k : ℕ) → machine.refused k ≡ d → words ≡ answerWord (one w) k ∷ 0 ∷ 0 ∷ [] → CallOutcome t p w d words t p
   unfolding answerTo code firstData secondData effect after holdersAfter
   settled-refused k is said =
-      subst (λ (x : Decision). Settled t p w x words t p) is (record { answer = said; table = refl; holders = refl })
+      subst (λ (x : Decision). CallOutcome t p w x words t p) is (record { answer = said; table = refl; holders = refl })
 
   pub settled-sent : (e message : ℕ) (t′ : List ℕ)
       → machine.sends e message ≡ d
       → words ≡ answerWord (one w) 0 ∷ 0 ∷ 0 ∷ []
       → t′ ≡ setEndpoint t e (sent (endpoint t e) message)
-      → Settled t p w d words t′ p
+      → CallOutcome t p w d words t′ p
   unfolding answerTo code firstData secondData effect after holdersAfter
   settled-sent e message t′ is said left =
-      subst (λ (x : Decision). Settled t p w x words t′ p) is (record { answer = said; table = left; holders = refl })
+      subst (λ (x : Decision). CallOutcome t p w x words t′ p) is (record { answer = said; table = left; holders = refl })
 
   pub settled-received : (e x y : ℕ) (t′ : List ℕ)
       → machine.receives e ≡ d
@@ -39,25 +39,25 @@ module _ (t p : List ℕ) (w : ℕ) (d : Decision) (words : List ℕ) where
       → x ≡ oldest (endpoint t e)
       → y ≡ lost (endpoint t e)
       → t′ ≡ setEndpoint t e (received (endpoint t e))
-      → Settled t p w d words t′ p
+      → CallOutcome t p w d words t′ p
   unfolding answerTo code firstData secondData effect after holdersAfter
   settled-received e x y t′ is said message count left =
-      subst (λ (v : Decision). Settled t p w v words t′ p) is
+      subst (λ (v : Decision). CallOutcome t p w v words t′ p) is
       (record {
         answer = said ∙ ap₂ (λ (i j : ℕ). answerWord (one w) 0 ∷ i ∷ j ∷ []) message count;
         table = left;
         holders = refl;
       })
 
-  pub settled-looked-up : (e : ℕ) → machine.lookedUp e ≡ d → words ≡ answerWord (one w) 0 ∷ e ∷ 0 ∷ [] → Settled t p w d words t p
+  pub settled-looked-up : (e : ℕ) → machine.lookedUp e ≡ d → words ≡ answerWord (one w) 0 ∷ e ∷ 0 ∷ [] → CallOutcome t p w d words t p
   unfolding answerTo code firstData secondData effect after holdersAfter
   settled-looked-up e is said =
-      subst (λ (x : Decision). Settled t p w x words t p) is (record { answer = said; table = refl; holders = refl })
+      subst (λ (x : Decision). CallOutcome t p w x words t p) is (record { answer = said; table = refl; holders = refl })
 
-  pub settled-endpoints : (u x : ℕ) → machine.listsEndpoints u ≡ d → words ≡ answerWord (one w) 0 ∷ x ∷ 0 ∷ [] → x ≡ ownedBits t u → Settled t p w d words t p
+  pub settled-endpoints : (u x : ℕ) → machine.listsEndpoints u ≡ d → words ≡ answerWord (one w) 0 ∷ x ∷ 0 ∷ [] → x ≡ ownedBits t u → CallOutcome t p w d words t p
   unfolding answerTo code firstData secondData effect after holdersAfter
   settled-endpoints u x is said same =
-      subst (λ (v : Decision). Settled t p w v words t p) is
+      subst (λ (v : Decision). CallOutcome t p w v words t p) is
       (record { answer = said ∙ ap (λ (k : ℕ). answerWord (one w) 0 ∷ k ∷ 0 ∷ []) same; table = refl; holders = refl })
 
   pub settled-rights : (u x y : ℕ)
@@ -65,29 +65,29 @@ module _ (t p : List ℕ) (w : ℕ) (d : Decision) (words : List ℕ) where
       → words ≡ answerWord (one w) 0 ∷ x ∷ y ∷ []
       → x ≡ rightsBits t u 0
       → y ≡ rightsBits t u 8
-      → Settled t p w d words t p
+      → CallOutcome t p w d words t p
   unfolding answerTo code firstData secondData effect after holdersAfter
   settled-rights u x y is said low high =
-      subst (λ (v : Decision). Settled t p w v words t p) is
+      subst (λ (v : Decision). CallOutcome t p w v words t p) is
       (record { answer = said ∙ ap₂ (λ (i j : ℕ). answerWord (one w) 0 ∷ i ∷ j ∷ []) low high; table = refl; holders = refl })
 
   -- one rights word is altered, whichever of the calls did it
   module _ (said : words ≡ answerWord (one w) 0 ∷ 0 ∷ 0 ∷ []) (h g s : ℕ) (t′ p′ : List ℕ) (left : t′ ≡ setRights t h g s) (kept : p′ ≡ noted p h g s) where
-    altered : (x : Decision) → x ≡ d → answerWord (one w) 0 ∷ 0 ∷ 0 ∷ [] ≡ answerTo t (one w) x → newRights h g s ≡ effect t x → Settled t p w d words t′ p′
+    altered : (x : Decision) → x ≡ d → answerWord (one w) 0 ∷ 0 ∷ 0 ∷ [] ≡ answerTo t (one w) x → newRights h g s ≡ effect t x → CallOutcome t p w d words t′ p′
     unfolding after holdersAfter
     altered x is plain same =
-        subst (λ (v : Decision). Settled t p w v words t′ p′) is
+        subst (λ (v : Decision). CallOutcome t p w v words t′ p′) is
         (record { answer = said ∙ plain; table = left ∙ ap (after t) same; holders = kept ∙ ap (holdersAfter p) same })
 
-    pub granted : (r : ℕ) → machine.grants g h r ≡ d → s ≡ adds (rights t h g) r → Settled t p w d words t′ p′
+    pub granted : (r : ℕ) → machine.grants g h r ≡ d → s ≡ adds (rights t h g) r → CallOutcome t p w d words t′ p′
     unfolding answerTo code firstData secondData effect
     granted r is new = altered (machine.grants g h r) is refl (ap (newRights h g) new)
 
-    pub removed : (r : ℕ) → machine.removes g h r ≡ d → s ≡ without (rights t h g) r → Settled t p w d words t′ p′
+    pub removed : (r : ℕ) → machine.removes g h r ≡ d → s ≡ without (rights t h g) r → CallOutcome t p w d words t′ p′
     unfolding answerTo code firstData secondData effect
     removed r is new = altered (machine.removes g h r) is refl (ap (newRights h g) new)
 
-    pub revoked : (r : ℕ) → machine.revokes g h r ≡ d → s ≡ without (rights t h g) r → Settled t p w d words t′ p′
+    pub revoked : (r : ℕ) → machine.revokes g h r ≡ d → s ≡ without (rights t h g) r → CallOutcome t p w d words t′ p′
     unfolding answerTo code firstData secondData effect
     revoked r is new = altered (machine.revokes g h r) is refl (ap (newRights h g) new)
 
@@ -103,7 +103,7 @@ refused-either false false k = refl
 pub settled-unread : (t p : List ℕ) (w : ℕ) (words : List ℕ) (n u : ℕ) (r : Refusal)
     → n ≡ domains t
     → words ≡ answerWord (one w) (code (refusedNumbers n u r (machine.refused (numberOf r)))) ∷ 0 ∷ 0 ∷ []
-    → Settled t p w (decideCall t (Refused u r)) words t p
+    → CallOutcome t p w (decideCall t (Refused u r)) words t p
 unfolding decideCall refusedCall knownCaller refusedNumbers callerNumber
 settled-unread t p w words n u r is said =
     settled-refused t p w _ words _ (refused-either (ltb (numberOf r) 12) (not (ltb u (domains t))) (numberOf r))

@@ -6,14 +6,14 @@ use Prim.Native.Nat.{ℕ, _+_, _*_, _<_, _≤_}
 use native.Mathlib.Omega.{arith}
 use lib.ListN.{length, getD, take, drop, drop-of-length-le}
 use Rattle.machine.specs.Check.{Accepted}
-use Rattle.machine.specs.Call.{cut}
+use Rattle.machine.specs.Call.{split}
 use Rattle.machine.specs.Holders.{holdersOf}
 use Rattle.machine.proofs.Split.{Running, running-start, running-next, running-end}
 use Rattle.machine.proofs.Step.{stays-accepted}
 use Rattle.calls.specs.Split.{callOf, secondAt, widthOf}
 use Rattle.calls.specs.declared.split.Second.{Second}
-use Rattle.calls.proofs.SplitAt.{CutAt, cut-at}
-use Rattle.kernel.specs.Step.{Served}
+use Rattle.calls.proofs.SplitAt.{SplitAt, split-at}
+use Rattle.kernel.specs.Step.{StepOutcome}
 use Rattle.kernel.specs.Run.{AllRun}
 
 -- k calls of the list ws are done, the next begins at place i, and t, space and p are the table, the answer space and the holders
@@ -41,16 +41,16 @@ underway-start t ws space p a h =
 
 module _ {t₀ ws space₀ p₀ t space p : List ℕ} {k i : ℕ} (u : Underway t₀ ws space₀ p₀ t space p k i) (l : i < length ws) where
   -- there is space for one answer more, and no more calls than words
-  pub room : 3 * length (cut ws) ≤ length space₀ → 3 * k + 3 ≤ length space
+  pub room : 3 * length (split ws) ≤ length space₀ → 3 * k + 3 ≤ length space
   room enough =
-      let more = ap length (cut-at ws i l .front) in
+      let more = ap length (split-at ws i l .front) in
       omega (arith, u .running .count, u .spaceSize)
 
   -- one call more, whose answer words are put behind the others
   pub underway-next : (s : Second) (w : ℕ) (words t′ space′ p′ : List ℕ)
       → s ≡ secondAt ws i
       → w ≡ widthOf s
-      → Served t (callOf (getD ws i 0) s) words t′ p′
+      → StepOutcome t (callOf (getD ws i 0) s) words t′ p′
       → length p′ ≡ length p
       → space′ ≡ take (3 * k) space ++ (words ++ drop (3 * k + 3) space)
       → length space′ ≡ length space
@@ -58,7 +58,7 @@ module _ {t₀ ws space₀ p₀ t space p : List ℕ} {k i : ℕ} (u : Underway 
   underway-next s w words t′ space′ p′ is wide served many put long =
       let c = callOf (getD ws i 0) s in
       let stays = stays-accepted t c (u .accepted) in
-      let at = subst (CutAt ws i) (sym is) (cut-at ws i l) in
+      let at = subst (SplitAt ws i) (sym is) (split-at ws i l) in
       subst₂ (λ (x : List ℕ) (j : ℕ). Underway t₀ ws space₀ p₀ x space′ p′ (k + 1) (i + j)) (sym (served .table)) (sym wide)
       (record {
         running =

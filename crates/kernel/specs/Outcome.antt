@@ -8,7 +8,7 @@ use Rattle.holders.specs.Noted.{holdersAfter}
 
 -- the decision d fell on a call with the first word w, on the table t with the words p for the holders: the call is answered by these
 -- words, and leaves the table t′ and the words p′
-pub record Settled (t p : List ℕ) (w : ℕ) (d : Decision) (words t′ p′ : List ℕ) : Type 0 where
+pub record CallOutcome (t p : List ℕ) (w : ℕ) (d : Decision) (words t′ p′ : List ℕ) : Type 0 where
   pub answer : words ≡ answerTo t (one w) d
   pub table : t′ ≡ after t (effect t d)
   pub holders : p′ ≡ holdersAfter p (effect t d)

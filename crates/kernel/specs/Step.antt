@@ -16,7 +16,7 @@ use Rattle.kernel.specs.declared.Stepped.{Stepped}
 use Rattle.kernel.specs.declared.Stepped.the-variants.{Refused, Answered}
 
 -- the call c on the table t is answered by the words and leaves the table t′ and the holders kept
-pub record Served (t : List ℕ) (c : Call) (words t′ kept : List ℕ) : Type 0 where
+pub record StepOutcome (t : List ℕ) (c : Call) (words t′ kept : List ℕ) : Type 0 where
   pub answer : words ≡ machine.answer t c
   pub table : t′ ≡ machine.step t c
   pub holders : kept ≡ holdersOf (machine.step t c)

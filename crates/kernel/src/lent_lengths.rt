@@ -7,12 +7,12 @@ ghost use Prim.Native.Nat.{_*_, _≤_};
 ghost use lib.ListN.{length};
 ghost use lib.Dec.{eqb, ltb};
 ghost use Rattle.machine.specs.Table as machine;
-ghost use Rattle.machine.specs.Call.{cut};
+ghost use Rattle.machine.specs.Call.{split};
 
 // Three words a call. A list has no more calls than words, so a large enough space needs no count.
 pub fn has_space(list: &[u32], size: usize) -> bool
     requires { ⌜ length (now list) ≤ 4096 ⌝ }
-    ensures { λ b. ⌜ b ≡ not (ltb size (3 * length (cut (now (list .entry))))) ⌝ }
+    ensures { λ b. ⌜ b ≡ not (ltb size (3 * length (split (now (list .entry))))) ⌝ }
 {
     if 3 * list.len() <= size {
         return true;

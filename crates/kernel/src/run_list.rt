@@ -11,14 +11,14 @@ ghost use Prim.Native.Nat.{_*_, _≤_};
 ghost use lib.ListN.{length};
 ghost use Rattle.machine.specs.Table as machine;
 ghost use Rattle.machine.specs.Check.{Accepted};
-ghost use Rattle.machine.specs.Call.{cut};
+ghost use Rattle.machine.specs.Call.{split};
 ghost use Rattle.kernel.specs.Run.{AllRun};
 
 // Runs the calls of a list and returns how many they were.
 pub fn run_calls(table: &mut [u32], list: &[u32], answers: &mut [u32], holders: &mut [u32]) -> usize
     requires { ⌜ Accepted (now table) ⌝ }
     requires { ⌜ length (now list) ≤ 4096 ⌝ }
-    requires { ⌜ 3 * length (cut (now list)) ≤ length (now answers) ⌝ }
+    requires { ⌜ 3 * length (split (now list)) ≤ length (now answers) ⌝ }
     requires { ⌜ length (now holders) ≡ machine.domains (now table) ⌝ }
     ensures { λ k. ⌜ AllRun (now (table .entry)) (now (list .entry)) (now (answers .entry)) k (now (answers .exit)) (now (table .exit)) (now (holders .exit)) ⌝ }
 {

@@ -1,4 +1,4 @@
-// One call on an accepted table: it is taken apart into one choice among its kinds, and each kind is served by a function of its own,
+// One call on an accepted table: it is taken decoded into one choice among its kinds, and each kind is served by a function of its own,
 // which tests the call's numbers, then what the table holds, and writes and answers.
 use crate::endpoint_calls::look_up;
 use crate::endpoint_calls::my_endpoints;
@@ -11,15 +11,15 @@ use crate::rights_calls::revoke;
 use answers::Answer;
 use answers::by_value::refuse;
 use calls::Call;
-use calls::split::Second;
 use calls::decode::decode;
+use calls::split::Second;
 ghost use mathlib.Core.Path.{_≡_};
 ghost use Rattle.machine.specs.Table.{domains, endpoints};
 ghost use Rattle.machine.specs.Check.{Accepted};
 ghost use Rattle.answers.specs.Answer.{answerWords};
-ghost use Rattle.calls.specs.Decode.{apart};
+ghost use Rattle.calls.specs.Decode.{decoded};
 ghost use Rattle.calls.specs.Decide.{decideCall};
-ghost use Rattle.kernel.specs.Outcome.{Settled};
+ghost use Rattle.kernel.specs.Outcome.{CallOutcome};
 
 // Serves the call of a first word and, if there is one, a second, and returns its answer.
 pub fn serve(
@@ -33,7 +33,7 @@ pub fn serve(
     requires { ⌜ Accepted (now table) ⌝ }
     requires { ⌜ n ≡ domains (now table) ⌝ }
     requires { ⌜ m ≡ endpoints (now table) ⌝ }
-    ensures { λ a. ⌜ Settled (now (table .entry)) (now (holders .entry)) first (decideCall (now (table .entry)) (apart first second)) (answerWords a) (now (table .exit)) (now (holders .exit)) ⌝ }
+    ensures { λ a. ⌜ CallOutcome (now (table .entry)) (now (holders .entry)) first (decideCall (now (table .entry)) (decoded first second)) (answerWords a) (now (table .exit)) (now (holders .exit)) ⌝ }
 {
     let call = decode(first, second);
     match call {

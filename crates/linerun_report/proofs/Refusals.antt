@@ -10,12 +10,12 @@ use native.Mathlib.Nat.{min-eq-left}
 use native.Mathlib.Omega.{arith}
 use lib.Dec.{eqb, ltb}
 use lib.ListN.{length, length-take, length-replicate}
-use Rattle.machine.specs.Call.{cut}
+use Rattle.machine.specs.Call.{split}
 use Rattle.machine.specs.Table.{domains}
 use Rattle.machine.specs.Check.{headerOk, lengthOk, rightsOk, endpointsOk, tableCode, Accepted}
 use Rattle.machine.specs.Entry.{longestList, spaceCode, entryCode, refusal, entry}
 use Rattle.machine.proofs.Bools.{cond-elim}
-use Rattle.machine.proofs.Split.{cut-few}
+use Rattle.machine.proofs.Split.{split-few}
 use Rattle.machine.proofs.Accepted.{accepted-counts}
 use Rattle.machine.proofs.Promise.{entry-code, entry-refused, code-long, holders-fit}
 use Rattle.input_words.specs.Bytes.{wordsOf}
@@ -71,8 +71,8 @@ never-six t ws e =
     (λ short.
     cond-elim (λ (code : ℕ). code ≡ 6 → ⊥) (eqb (tableCode t) 0)
     (λ accepted.
-    cond-elim (λ (code : ℕ). code ≡ 6 → ⊥) (ltb (length answerSpace) (3 * length (cut ws)))
-    (λ more _. omega (arith, ltb-true (length answerSpace) (3 * length (cut ws)) more, ltb-false longestList (length ws) short, cut-few ws))
+    cond-elim (λ (code : ℕ). code ≡ 6 → ⊥) (ltb (length answerSpace) (3 * length (split ws)))
+    (λ more _. omega (arith, ltb-true (length answerSpace) (3 * length (split ws)) more, ltb-false longestList (length ws) short, split-few ws))
     (λ _ e. omega (arith, e, holders-fit t _ (one-a-domain t (eqb-true _ _ accepted)))))
     (λ _. no-table-six t))
     (sym (entry-code t ws answerSpace (holdersSpace t)) ∙ e)

@@ -31,7 +31,7 @@ report bytes =
 
 -- What a run of the bytes tells, in lent words that were as the definition has them: the number of calls, of which there are no more
 -- than the longest list has words, the code and the answers, of which the lines are the report.
-pub record Tells (bytes space : List ℕ) (calls code : ℕ) (answers : List ℕ) : Type 0 where
+pub record Reports (bytes space : List ℕ) (calls code : ℕ) (answers : List ℕ) : Type 0 where
   pub few : calls ≤ longestList
   pub lines : space ≡ answerSpace → report bytes ≡ allLines calls code answers
 

@@ -11,7 +11,7 @@ use table_layout::domains;
 ghost use mathlib.Core.Path.{_≡_};
 ghost use Prim.Native.Nat.{_≤_, min};
 ghost use Rattle.machine.specs.Table.{domains};
-ghost use Rattle.linerun_report.specs.Report.{Tells};
+ghost use Rattle.linerun_report.specs.Report.{Reports};
 
 // How many calls there are, and the entry's code.
 pub struct Told {
@@ -32,7 +32,7 @@ fn holders_lent(table: &[u32]) -> usize
 
 // Runs what was read; the calls' answers are left in the lent words.
 pub fn answer(bytes: &[u8], answers: &mut [u32]) -> Told
-    ensures { λ r. ⌜ Tells (now (bytes .entry)) (now (answers .entry)) (r .calls) (r .code) (now (answers .exit)) ⌝ }
+    ensures { λ r. ⌜ Reports (now (bytes .entry)) (now (answers .entry)) (r .calls) (r .code) (now (answers .exit)) ⌝ }
 {
     if unreadable(bytes) {
         return Told { calls: 0, code: 7 };

@@ -19,7 +19,7 @@ use Rattle.text.specs.Write.{Writes}
 use Rattle.linetotals_text.specs.Lines.{lastLine}
 use Rattle.linetotals_text.proofs.LineLaws.{length-lastLine}
 use Rattle.linetotals_input.specs.Input.{mostLists, Lists, stopped, listsFrom, wanted, Needed}
-use Rattle.linetotals_run.specs.Ran.{listsBehind}
+use Rattle.linetotals_run.specs.Ran.{listsAfter}
 use Rattle.linetotals_theory.specs.Sheet.{tableSheet, sheet}
 use Rattle.linetotals_report.specs.Report.{TableReported, Reported}
 
@@ -65,8 +65,8 @@ module _ (head : List ℕ) (needed : NeededBy tableWanted head) where
     behind-is : (xs : List ℕ) → afterTable (head ++ xs) ≡ xs
     behind-is xs = afterTable-more head xs w ∙ ap (λ (ys : List ℕ). ys ++ xs) (nothing-behind w)
 
-    wanted-behind : (xs : List ℕ) → wanted (head ++ xs) ≡ listsBehind (tableOf head) xs .wanted
-    unfolding wanted listsBehind stopped
+    wanted-behind : (xs : List ℕ) → wanted (head ++ xs) ≡ listsAfter (tableOf head) xs .wanted
+    unfolding wanted listsAfter stopped
     wanted-behind xs =
         rw (whole-table (head ++ xs) (whole-more head xs w), tableOf-more head xs w, behind-is xs) (go (eqb (tableCode (tableOf head)) 0))
       where
@@ -74,7 +74,7 @@ module _ (head : List ℕ) (needed : NeededBy tableWanted head) where
         go true = refl
         go false = refl
 
-    module _ (behind : List ℕ) (more : NeededBy (λ xs. listsBehind (tableOf head) xs .wanted) behind) where
+    module _ (behind : List ℕ) (more : NeededBy (λ xs. listsAfter (tableOf head) xs .wanted) behind) where
       pub all-needed : Needed (head ++ behind)
       all-needed k l = go (decLt k (length head))
         where
@@ -85,8 +85,8 @@ module _ (head : List ℕ) (needed : NeededBy tableWanted head) where
               rw (place, take-append-add head behind (k - length head), wanted-behind (take (k - length head) behind))
               (more (k - length head) (omega (arith, length-append head behind)))
 
-      pub sheet-of-all : tableSheet (tableOf head) (listsBehind (tableOf head) behind) ≡ sheet (head ++ behind)
-      unfolding sheet listsBehind
+      pub sheet-of-all : tableSheet (tableOf head) (listsAfter (tableOf head) behind) ≡ sheet (head ++ behind)
+      unfolding sheet listsAfter
       sheet-of-all =
           rw (whole-table (head ++ behind) (whole-more head behind w), tableOf-more head behind w, behind-is behind)
           (sym (same-sheet (tableOf head) (listsFrom mostLists behind) (eqb (tableCode (tableOf head)) 0) refl))

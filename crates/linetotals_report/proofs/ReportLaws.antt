@@ -15,13 +15,13 @@ use Rattle.machine.specs.Queue.{waiting}
 use Rattle.machine.specs.Check.{tableCode, Accepted}
 use Rattle.machine.proofs.Below.{words-at, words-length}
 use Rattle.machine.proofs.Accepted.{accepted-counts}
-use Rattle.totals_theory.specs.Totals.{totals, tableAfter}
+use Rattle.totals_theory.specs.Totals.{totals, tableAfterLists}
 use Rattle.totals_add.specs.declared.Tally.{Tally}
 use Rattle.totals_add.specs.Tallied.{ofEndpoints, tallyOf}
 use Rattle.linetotals_text.specs.Lines.{lastLine}
 use Rattle.linetotals_input.specs.Input.{Lists, stopped}
 use Rattle.linetotals_run.specs.declared.Lists as declared
-use Rattle.linetotals_run.specs.Ran.{listsBehind, ListsRan}
+use Rattle.linetotals_run.specs.Ran.{listsAfter, ListsRan}
 use Rattle.linetotals_theory.specs.Sheet.{totalsLine, endpointLines, totalsLines, tableSheet}
 use Rattle.linetotals_report.specs.Report.{countsLine, countsLines, Counted}
 
@@ -41,7 +41,7 @@ of-length m f is = ap length is ∙ words-length 32 (λ e. cond (ltb e m) (f e) 
 pub record Told (t : List ℕ) (lists : List (List ℕ)) (tally : Tally) (start end : List ℕ) : Type 0 where
   pub tallyIs : tally ≡ tallyOf t lists
   pub startIs : start ≡ wordsBelow 32 (λ e. waiting (endpoint t e))
-  pub endIs : end ≡ wordsBelow 32 (λ e. waiting (endpoint (tableAfter t lists) e))
+  pub endIs : end ≡ wordsBelow 32 (λ e. waiting (endpoint (tableAfterLists t lists) e))
 
 module _ {t : List ℕ} {lists : List (List ℕ)} {tally : Tally} {start end : List ℕ} (x : Told t lists tally start end) where
   sent-is : tally .sent ≡ ofEndpoints (endpoints t) (λ e. totals e t lists .sent)
@@ -65,7 +65,7 @@ module _ {t : List ℕ} {lists : List (List ℕ)} {tally : Tally} {start end : L
         receivedWords = omega (arith, of-length _ _ received-is);
         lostWords = omega (arith, of-length _ _ lost-is);
         startWords = omega (arith, ap length (x .startIs), words-length 32 (λ e. waiting (endpoint t e)));
-        endWords = omega (arith, ap length (x .endIs), words-length 32 (λ e. waiting (endpoint (tableAfter t lists) e)));
+        endWords = omega (arith, ap length (x .endIs), words-length 32 (λ e. waiting (endpoint (tableAfterLists t lists) e)));
       }
 
   line-is : (e : ℕ) → e < endpoints t → e < 32 → countsLine (tally .sent) (tally .received) (tally .lost) start end e ≡ totalsLine t lists e
@@ -75,7 +75,7 @@ module _ {t : List ℕ} {lists : List (List ℕ)} {tally : Tally} {start end : L
       let received = of-at _ _ e received-is l k in
       let lost = of-at _ _ e lost-is l k in
       let starts = ap (λ (xs : List ℕ). getD xs e 0) (x .startIs) ∙ words-at 32 (λ e. waiting (endpoint t e)) e 0 k in
-      let ends = ap (λ (xs : List ℕ). getD xs e 0) (x .endIs) ∙ words-at 32 (λ e. waiting (endpoint (tableAfter t lists) e)) e 0 k in
+      let ends = ap (λ (xs : List ℕ). getD xs e 0) (x .endIs) ∙ words-at 32 (λ e. waiting (endpoint (tableAfterLists t lists) e)) e 0 k in
       rw (sent, received, lost, starts, ends)
 
   pub lines-are : (k : ℕ) → k ≤ endpoints t → k ≤ 32 → countsLines (tally .sent) (tally .received) (tally .lost) start end k ≡ endpointLines t lists k
@@ -87,7 +87,7 @@ module _ {t : List ℕ} {lists : List (List ℕ)} {tally : Tally} {start end : L
 
 -- what is told of lists that were run from any table
 pub told : {t : List ℕ} {ran : declared.Lists} {end starts ends : List ℕ} (x : ListsRan t ran end) → starts ≡ wordsBelow 32 (λ e. waiting (endpoint t e))
-    → ends ≡ wordsBelow 32 (λ e. waiting (endpoint end e)) → Told t (listsBehind t (x .bytes) .lists) (ran .tally) starts ends
+    → ends ≡ wordsBelow 32 (λ e. waiting (endpoint end e)) → Told t (listsAfter t (x .bytes) .lists) (ran .tally) starts ends
 told x starts ends = record { tallyIs = x .tallyIs; startIs = starts; endIs = rw (x .tableIs) at ends }
 
 module _ {t : List ℕ} {ran : declared.Lists} {end : List ℕ} (x : ListsRan t ran end) where
@@ -106,14 +106,14 @@ module _ {t : List ℕ} {ran : declared.Lists} {end : List ℕ} (x : ListsRan t 
       go (no h) = let a : Accepted t = omega arith in omega (arith, at-all a, accepted-counts t a .2)
 
   -- the lines of the table and of the lists behind it
-  pub sheet-is : {starts ends : List ℕ} → Told t (listsBehind t (x .bytes) .lists) (ran .tally) starts ends
+  pub sheet-is : {starts ends : List ℕ} → Told t (listsAfter t (x .bytes) .lists) (ran .tally) starts ends
       → countsLines (ran .tally .sent) (ran .tally .received) (ran .tally .lost) starts ends (ran .endpoints) ++ lastLine (ran .count) (ran .code)
-      ≡ tableSheet t (listsBehind t (x .bytes))
-  unfolding tableSheet totalsLines countsLines listsBehind stopped
+      ≡ tableSheet t (listsAfter t (x .bytes))
+  unfolding tableSheet totalsLines countsLines listsAfter stopped
   sheet-is {starts} {ends} y = go (decLt 0 (tableCode t))
     where
       go : Dec (0 < tableCode t) → countsLines (ran .tally .sent) (ran .tally .received) (ran .tally .lost) starts ends (ran .endpoints) ++ lastLine (ran .count) (ran .code)
-          ≡ tableSheet t (listsBehind t (x .bytes))
+          ≡ tableSheet t (listsAfter t (x .bytes))
       go (yes h) =
           let n : tableCode t ≡ 0 → ⊥ = λ z. omega arith in
           let refused = ne-eqb (tableCode t) 0 n in

@@ -7,7 +7,7 @@ use Rattle.linetotals_text.specs.Lines.{endpointLine}
 use Rattle.input_words.specs.TableInput.{NeededBy}
 use Rattle.linetotals_input.specs.Input.{Needed}
 use Rattle.linetotals_theory.specs.Sheet.{tableSheet, sheet}
-use Rattle.linetotals_run.specs.Ran.{listsBehind}
+use Rattle.linetotals_run.specs.Ran.{listsAfter}
 
 -- the most bytes that there are: at most 146 in the line of each of 32 endpoints, 43 in the last
 abbrev pub mostBytes : ℕ
@@ -36,8 +36,8 @@ pub record Counted (m : ℕ) (sent received lost start end : List ℕ) : Type 0 
 -- the sheet of the table t and of the lists that bytes give behind it
 pub record TableReported (t buffer : List ℕ) (count : ℕ) (left : List ℕ) : Type 0 where
   pub bytes : List ℕ
-  pub needed : NeededBy (λ xs. listsBehind t xs .wanted) bytes
-  pub lines : Writes 0 (tableSheet t (listsBehind t bytes)) buffer count left
+  pub needed : NeededBy (λ xs. listsAfter t xs .wanted) bytes
+  pub lines : Writes 0 (tableSheet t (listsAfter t bytes)) buffer count left
   pub few : count ≤ mostBytes
 
 -- the sheet of bytes

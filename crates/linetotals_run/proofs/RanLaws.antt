@@ -1,5 +1,5 @@
 -- Running list after list, as the program's loop does: a list that is short enough always runs, and what is known between two
--- lists goes on. Assumes nothing.
+-- lists goes on. Assumes noTotals.
 use Prim.Native.Nat.{ℕ, _+_, _-_, _*_, _≤_, _<_}
 use mathlib.Core.Path.{_≡_, refl, sym, ap, _∙_}
 use mathlib.Core.List.{List, [], _∷_, _++_}
@@ -11,15 +11,15 @@ use Rattle.machine.specs.Table.{domains, endpoints}
 use Rattle.machine.specs.Check.{tableCode, Accepted}
 use Rattle.machine.specs.Entry.{longestList}
 use Rattle.machine.specs.Promise.{RunPromise}
-use Rattle.machine.proofs.Split.{cut-few}
+use Rattle.machine.proofs.Split.{split-few}
 use Rattle.machine.proofs.Step.{run-accepted}
 use Rattle.machine.proofs.Promise.{entry-code, code-holders, holders-fit}
 use Rattle.input_words.specs.Bytes.{wordsOf}
 use Rattle.input_words.proofs.WordLaws.{length-wordsOf, take-wordsOf}
-use Rattle.totals_theory.specs.Totals.{tableAfter, callsOf}
+use Rattle.totals_theory.specs.Totals.{tableAfterLists, callsOf}
 use Rattle.totals_theory.proofs.TotalsLaws.{one-run}
 use Rattle.totals_add.specs.declared.Tally.{Tally}
-use Rattle.totals_add.specs.Added.{nothing, ListAdded}
+use Rattle.totals_add.specs.Added.{noTotals, ListAdded}
 use Rattle.totals_add.specs.Tallied.{tallyOf, Tallied}
 use Rattle.totals_add.proofs.TallyLaws.{every-tally-list-by-list}
 use Rattle.linetotals_input.specs.Input.{mostLists, headWanted, stopped}
@@ -27,7 +27,7 @@ use Rattle.linetotals_input.specs.Next.{nextOf}
 use Rattle.linetotals_input.specs.Read.{listBytes}
 use Rattle.linetotals_input.specs.declared.Next.the-variants.{Ends, Words}
 use Rattle.linetotals_input.proofs.ListLoop.{AtHead, Going, Over, at-start, goes-on, list-taken, list-short}
-use Rattle.linetotals_run.specs.Ran.{HasRoom, WordsAdded, AllRan, listsBehind, ListsRan}
+use Rattle.linetotals_run.specs.Ran.{RunSpace, WordsAdded, AllRan, listsAfter, ListsRan}
 
 -- a part that is lent, as what was read from a place on
 part-of : (from got : ℕ) (input : List ℕ) → from ≤ got → got ≤ length input → drop from (take got input) ≡ take (got - from) (drop from input)
@@ -38,20 +38,20 @@ part-of from got input h room =
     ∙ drop-at (take from input) (take (got - from) (drop from input)) from (length-take-le from input (omega arith))
 
 -- the words of so few bytes have room
-pub words-fit : {t bytes list answers holders : List ℕ} → HasRoom t bytes list answers holders → length (wordsOf bytes) ≤ longestList
+pub words-fit : {t bytes list answers holders : List ℕ} → RunSpace t bytes list answers holders → length (wordsOf bytes) ≤ longestList
 words-fit {bytes = bytes} x = omega (arith, x .short, length-wordsOf bytes)
 
 -- with all that it needs lent, a list runs
-pub never-refused : {t bytes list space holders : List ℕ} {code calls : ℕ} {answers end kept : List ℕ} → HasRoom t bytes list space holders
+pub never-refused : {t bytes list space holders : List ℕ} {code calls : ℕ} {answers end kept : List ℕ} → RunSpace t bytes list space holders
     → RunPromise t (wordsOf bytes) space holders code calls answers end kept → code ≡ 0
 never-refused {t} {bytes} {list} {space} {holders} x p =
     let ws = wordsOf bytes in
     p .sameCode
     ∙ entry-code t ws space holders
-    ∙ code-holders t ws (length space) (length holders) (words-fit x) (x .accepted) (omega (arith, x .space, words-fit x, cut-few ws))
+    ∙ code-holders t ws (length space) (length holders) (words-fit x) (x .accepted) (omega (arith, x .space, words-fit x, split-few ws))
     ∙ holders-fit t (length holders) (x .perDomain)
 
-pub words-added : {t bytes list space holders : List ℕ} {code calls : ℕ} {answers end kept : List ℕ} {tally tally′ : Tally} → HasRoom t bytes list space holders
+pub words-added : {t bytes list space holders : List ℕ} {code calls : ℕ} {answers end kept : List ℕ} {tally tally′ : Tally} → RunSpace t bytes list space holders
     → ListAdded t (wordsOf bytes) space holders code calls answers end kept tally tally′ → WordsAdded t bytes end tally tally′
 words-added x y =
     record { space = _; holders = _; calls = _; answers = _; kept = _; added = rw (never-refused x (y .run)) at y }
@@ -67,7 +67,7 @@ pub record Between (t table : List ℕ) (tally : Tally) (left : ℕ) (head : Lis
   pub tallied : Tallied t lists tally table
 
 -- no list was read yet
-pub between-first : (t head : List ℕ) {tally : Tally} → tally ≡ nothing → length head ≤ headWanted mostLists → Between t t tally mostLists head
+pub between-first : (t head : List ℕ) {tally : Tally} → tally ≡ noTotals → length head ≤ headWanted mostLists → Between t t tally mostLists head
 between-first t head new few =
     record { read = head; lists = []; at = at-start head few; tallied = rw new (every-tally-list-by-list t .begins) }
 
@@ -88,7 +88,7 @@ module _ {t table : List ℕ} {tally : Tally} {left : ℕ} {head : List ℕ} (x 
         countIs = omega (arith, count, x .at .count, ap length (over .allLists));
         codeIs = sym (over .byCode);
         tallyIs = x .tallied .tallyIs ∙ ap (tallyOf t) (sym (over .allLists));
-        tableIs = x .tallied .tableIs ∙ ap (tableAfter t) (sym (over .allLists));
+        tableIs = x .tallied .tableIs ∙ ap (tableAfterLists t) (sym (over .allLists));
       }
 
   pub between-ends : {count : ℕ} (code : ℕ) → Ends code ≡ nextOf left head → count ≡ mostLists - left → AllRan t count code tally table
@@ -129,7 +129,7 @@ module _ {t table : List ℕ} {tally : Tally} {left : ℕ} {head : List ℕ} (x 
 -- an accepted one has the lists of the bytes
 pub ran-accepted : {t : List ℕ} {m count code : ℕ} {tally : Tally} {end : List ℕ} → Accepted t → m ≡ endpoints t → AllRan t count code tally end
     → ListsRan t (record { endpoints = m; count = count; code = code; tally = tally }) end
-unfolding listsBehind
+unfolding listsAfter
 ran-accepted {t} a m x =
     record {
       bytes = x .bytes;
@@ -142,9 +142,9 @@ ran-accepted {t} a m x =
     }
 
 -- and a refused one none
-pub ran-refused : (t : List ℕ) {code : ℕ} {tally : Tally} → (code ≡ 0 → ⊥) → code ≡ tableCode t → tally ≡ nothing
+pub ran-refused : (t : List ℕ) {code : ℕ} {tally : Tally} → (code ≡ 0 → ⊥) → code ≡ tableCode t → tally ≡ noTotals
     → ListsRan t (record { endpoints = 0; count = 0; code = code; tally = tally }) t
-unfolding listsBehind stopped
+unfolding listsAfter stopped
 ran-refused t {code} n is new =
     let refused = ne-eqb (tableCode t) 0 (λ z. n (is ∙ z)) in
     record {

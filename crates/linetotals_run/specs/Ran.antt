@@ -11,7 +11,7 @@ use Rattle.machine.specs.Check.{tableCode, Accepted}
 use Rattle.machine.specs.Entry.{longestList}
 use Rattle.input_words.specs.Bytes.{wordsOf}
 use Rattle.input_words.specs.TableInput.{NeededBy}
-use Rattle.totals_theory.specs.Totals.{tableAfter}
+use Rattle.totals_theory.specs.Totals.{tableAfterLists}
 use Rattle.totals_add.specs.declared.Tally.{Tally}
 use Rattle.totals_add.specs.Added.{ListAdded}
 use Rattle.totals_add.specs.Tallied.{tallyOf}
@@ -19,7 +19,7 @@ use Rattle.linetotals_input.specs.Input.{mostLists, Lists, stopped, listsFrom}
 use Rattle.linetotals_run.specs.declared.Lists as declared
 
 -- the bytes of a list, and what is lent for it: space for the longest list and for its answers, and a word for each domain
-pub record HasRoom (t bytes list answers holders : List ℕ) : Type 0 where
+pub record RunSpace (t bytes list answers holders : List ℕ) : Type 0 where
   pub accepted : Accepted t
   pub short : length bytes ≤ 4 * longestList
   pub words : longestList ≤ length list
@@ -42,20 +42,20 @@ pub record AllRan (t : List ℕ) (count code : ℕ) (tally : Tally) (end : List 
   pub countIs : count ≡ length (listsFrom mostLists bytes .lists)
   pub codeIs : code ≡ listsFrom mostLists bytes .code
   pub tallyIs : tally ≡ tallyOf t (listsFrom mostLists bytes .lists)
-  pub tableIs : end ≡ tableAfter t (listsFrom mostLists bytes .lists)
+  pub tableIs : end ≡ tableAfterLists t (listsFrom mostLists bytes .lists)
 
 -- the lists that bytes behind the table t give: behind a refused table none, and its code ends them
-unfoldable pub listsBehind : List ℕ → List ℕ → Lists
-listsBehind t bytes =
+unfoldable pub listsAfter : List ℕ → List ℕ → Lists
+listsAfter t bytes =
     let given = listsFrom mostLists bytes in
     cond (eqb (tableCode t) 0) given (stopped (tableCode t) 0)
 
 -- the lists that bytes give behind the table t, any words at all, were run from it
 pub record ListsRan (t : List ℕ) (ran : declared.Lists) (end : List ℕ) : Type 0 where
   pub bytes : List ℕ
-  pub needed : NeededBy (λ xs. listsBehind t xs .wanted) bytes
+  pub needed : NeededBy (λ xs. listsAfter t xs .wanted) bytes
   pub endpointsAre : ran .endpoints ≡ cond (eqb (tableCode t) 0) (endpoints t) 0
-  pub countIs : ran .count ≡ length (listsBehind t bytes .lists)
-  pub codeIs : ran .code ≡ listsBehind t bytes .code
-  pub tallyIs : ran .tally ≡ tallyOf t (listsBehind t bytes .lists)
-  pub tableIs : end ≡ tableAfter t (listsBehind t bytes .lists)
+  pub countIs : ran .count ≡ length (listsAfter t bytes .lists)
+  pub codeIs : ran .code ≡ listsAfter t bytes .code
+  pub tallyIs : ran .tally ≡ tallyOf t (listsAfter t bytes .lists)
+  pub tableIs : end ≡ tableAfterLists t (listsAfter t bytes .lists)

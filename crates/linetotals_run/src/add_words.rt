@@ -2,7 +2,7 @@
 use input_words::words::fill;
 use totals_add::Tally;
 use totals_add::add_list;
-ghost use Rattle.linetotals_run.specs.Ran.{HasRoom, WordsAdded};
+ghost use Rattle.linetotals_run.specs.Ran.{RunSpace, WordsAdded};
 
 // The words of the bytes are run from an accepted table, with room for the longest list and its answers.
 pub fn add_words(
@@ -13,7 +13,7 @@ pub fn add_words(
     holders: &mut [u32],
     tally: Tally,
 ) -> Tally
-    requires { ⌜ HasRoom (now table) (now bytes) (now list) (now answers) (now holders) ⌝ }
+    requires { ⌜ RunSpace (now table) (now bytes) (now list) (now answers) (now holders) ⌝ }
     ensures { λ r. ⌜ WordsAdded (now (table .entry)) (now (bytes .entry)) (now (table .exit)) tally r ⌝ }
 {
     let listed = fill(bytes, list);

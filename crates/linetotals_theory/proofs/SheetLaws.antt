@@ -41,7 +41,7 @@ printed bytes {lines} needed is =
       needed = needed;
       read = is;
       whole = λ more follows. is ∙ whole more follows (decLt 0 (wanted bytes));
-      borneOut = λ a e l. sheet-holds (tableOf bytes) (listsOf bytes .lists) e a l;
+      conserved = λ a e l. sheet-holds (tableOf bytes) (listsOf bytes .lists) e a l;
     }
   where
     whole : (more : List ℕ) → (0 < wanted bytes → more ≡ []) → Dec (0 < wanted bytes) → sheet bytes ≡ sheet (bytes ++ more)

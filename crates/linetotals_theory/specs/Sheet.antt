@@ -9,8 +9,8 @@ use Rattle.machine.specs.Table.{endpoints, endpoint}
 use Rattle.machine.specs.Queue.{waiting}
 use Rattle.machine.specs.Check.{tableCode, Accepted}
 use Rattle.input_words.specs.TableInput.{noTable, tableOf}
-use Rattle.totals_theory.specs.Totals.{totals, tableAfter}
-use Rattle.totals_theory.specs.Claims.{SheetBorneOut}
+use Rattle.totals_theory.specs.Totals.{totals, tableAfterLists}
+use Rattle.totals_theory.specs.Claims.{SheetConserved}
 use Rattle.linetotals_text.specs.Lines.{endpointLine, lastLine}
 use Rattle.linetotals_input.specs.Input.{Lists, listsOf, wanted, Needed}
 
@@ -18,7 +18,7 @@ use Rattle.linetotals_input.specs.Input.{Lists, listsOf, wanted, Needed}
 unfoldable pub totalsLine : List ℕ → List (List ℕ) → ℕ → List ℕ
 totalsLine t lists e =
     let counted = totals e t lists in
-    endpointLine e (counted .sent) (counted .received) (counted .lost) (waiting (endpoint t e)) (waiting (endpoint (tableAfter t lists) e))
+    endpointLine e (counted .sent) (counted .received) (counted .lost) (waiting (endpoint t e)) (waiting (endpoint (tableAfterLists t lists) e))
 
 -- the lines of the endpoints below k, lowest number first
 unfoldable pub endpointLines : List ℕ → List (List ℕ) → ℕ → List ℕ
@@ -53,5 +53,5 @@ pub record Printed (lines : List ℕ) : Type 0 where
   pub needed : Needed bytes
   pub read : lines ≡ sheet bytes
   pub whole : (more : List ℕ) → (0 < wanted bytes → more ≡ []) → lines ≡ sheet (bytes ++ more)
-  pub borneOut : Accepted (tableOf bytes) → (e : ℕ) → e < endpoints (tableOf bytes)
-      → SheetBorneOut e (tableOf bytes) (listsOf bytes .lists) (tableAfter (tableOf bytes) (listsOf bytes .lists))
+  pub conserved : Accepted (tableOf bytes) → (e : ℕ) → e < endpoints (tableOf bytes)
+      → SheetConserved e (tableOf bytes) (listsOf bytes .lists) (tableAfterLists (tableOf bytes) (listsOf bytes .lists))

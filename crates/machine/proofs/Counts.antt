@@ -1,5 +1,5 @@
 -- The counts of an endpoint are borne out by a run, its messages are received in turn, and each call is answered by three words
--- (specs/MachineClaims: EveryRunCountsBorneOut, EveryRunInTurn, EveryRunAnswered); counts add up over lists that are run one
+-- (specs/MachineClaims: EveryRunCountsConserved, EveryRunFifoOrder, EveryRunAnswered); counts add up over lists that are run one
 -- after another.
 -- Assumes nothing.
 use mathlib.Core.Path.{_≡_, refl, sym, ap, subst, _∙_}
@@ -21,8 +21,8 @@ use Rattle.machine.specs.Machine.{Decision, decide, effect, after, step,
 use Rattle.machine.specs.Machine.{Decision.refused}
 use Rattle.machine.specs.Run.{run, answers}
 use Rattle.machine.specs.Counts.{isSend, isReceive, doneOn, countDone, messagesFrom, messagesTo, receivesFrom, sendsTo, pushesOut, fullSends, messages}
-use Rattle.machine.specs.Counts.{Gone, Gone.told, Gone.pushed, messageOf, toldOf, countPushed, gone}
-use Rattle.machine.specs.MachineClaims.{EveryRunAnswered, EveryRunCountsBorneOut, EveryRunInTurn}
+use Rattle.machine.specs.Counts.{Gone, Gone.told, Gone.pushed, messageOf, takenOf, countPushed, gone}
+use Rattle.machine.specs.MachineClaims.{EveryRunAnswered, EveryRunCountsConserved, EveryRunFifoOrder}
 use Rattle.machine.proofs.Table as table
 use Rattle.machine.proofs.Table.{Sized}
 use Rattle.machine.proofs.Accepted.{accepted-sized, accepted-endpoint}
@@ -45,7 +45,7 @@ record Served (sends receives : Bool) (message shown : ℕ) (q q′ : List ℕ) 
   -- order from before it on
   order : (out : List Gone) (left later : List ℕ) → map messageOf out ++ left ≡ messages q′ ++ later → map messageOf (leaving sends receives q out) ++ left ≡ messages q ++ cond sends (message ∷ later) later
   -- those received are the ones that the answers show, from after the call on, hence from before it on
-  shows : (out : List Gone) (later : List ℕ) → later ≡ toldOf out → cond receives (shown ∷ later) later ≡ toldOf (leaving sends receives q out)
+  shows : (out : List Gone) (later : List ℕ) → later ≡ takenOf out → cond receives (shown ∷ later) later ≡ takenOf (leaving sends receives q out)
 
 untouched : {message shown : ℕ} (q : List ℕ) → Served false false message shown q q
 untouched q =
@@ -56,7 +56,7 @@ module _ (n : ℕ) (q : List ℕ) (twelve : length q ≡ 12) (ok : endpointOk n 
   most = queue.waiting-most n q ok
 
   served-send : {shown : ℕ} (m : ℕ) → m ≤ mostPayload → Served true false m shown q (sent q m)
-  unfolding messageOf toldOf
+  unfolding messageOf takenOf
   served-send {shown} m small =
       queue.sent-elim n q twelve ok m (Served true false m shown q)
       (λ b w.
@@ -83,7 +83,7 @@ module _ (n : ℕ) (q : List ℕ) (twelve : length q ≡ 12) (ok : endpointOk n 
       last later = append-assoc (messages q) (m ∷ []) later
 
   served-receive : {m : ℕ} → waiting q ≢ 0 → Served false true m (oldest q) q (received q)
-  unfolding messageOf toldOf
+  unfolding messageOf takenOf
   served-receive some =
       record {
         balance = rw (queue.received-waiting q twelve some most) (omega arith);
@@ -184,12 +184,12 @@ module _ (t : List ℕ) (e : ℕ) (c : Call) where
 still-below : (t : List ℕ) (c : Call) → Accepted t → (e : ℕ) → e < endpoints t → e < endpoints (step t c)
 still-below t c a e l = rw (stays-accepted t c a .frame .sameEndpoints) l
 
-pub counts-borne-out : EveryRunCountsBorneOut
+pub counts-conserved : EveryRunCountsConserved
 unfolding run countDone fullSends pushesOut sendsTo doneOn answers answer answerTo
-counts-borne-out t [] rest a e l = record { balance = omega arith; raised = omega (arith, queue.lost-small (endpoint t e)) }
-counts-borne-out t (c ∷ cs) rest a e l =
+counts-conserved t [] rest a e l = record { balance = omega arith; raised = omega (arith, queue.lost-small (endpoint t e)) }
+counts-conserved t (c ∷ cs) rest a e l =
     let s = served t e c a l in
-    let later = counts-borne-out (step t c) cs rest (stays-accepted t c a .accepted) e (still-below t c a e l) in
+    let later = counts-conserved (step t c) cs rest (stays-accepted t c a .accepted) e (still-below t c a e l) in
     record {
       balance = omega (arith, s .balance, later .balance);
       raised = omega (arith, s .raised, later .raised);
@@ -202,13 +202,13 @@ pushed-more true receives m n out p = ap (λ (k : ℕ). 1 + k) p
 pushed-more false true m n out p = omega arith
 pushed-more false false m n out p = omega arith
 
-pub in-turn : EveryRunInTurn
-unfolding run messagesFrom messagesTo gone toldOf countPushed fullSends pushesOut receivesFrom sendsTo doneOn answers answer answerTo
-in-turn t [] rest a e l =
+pub fifo-order : EveryRunFifoOrder
+unfolding run messagesFrom messagesTo gone takenOf countPushed fullSends pushesOut receivesFrom sendsTo doneOn answers answer answerTo
+fifo-order t [] rest a e l =
     record { order = sym (append-nil (messages (endpoint t e))); received = refl; pushedOut = refl }
-in-turn t (c ∷ cs) rest a e l =
+fifo-order t (c ∷ cs) rest a e l =
     let s = served t e c a l in
-    let later = in-turn (step t c) cs rest (stays-accepted t c a .accepted) e (still-below t c a e l) in
+    let later = fifo-order (step t c) cs rest (stays-accepted t c a .accepted) e (still-below t c a e l) in
     record {
       order = s .order _ _ _ (later .order);
       received = s .shows _ _ (later .received);

@@ -22,7 +22,7 @@ unfolding allBelow numbersBelow firstBelow sumBelow wordsBelow bitsBelow
     check.headerWordOk check.rightsWordOk check.nameWordOk check.infoWordOk check.waitingWordOk check.lostWordOk
     check.slotWordOk check.identityOk check.queueOk check.endpointOk check.nameNew check.headerOk check.lengthOk
     check.rightsOk check.endpointsOk check.tableCode
-    call.first call.wantsSecond call.pairs call.cut call.kindOf call.callKind call.callerOf
+    call.first call.wantsSecond call.pairs call.split call.kindOf call.callKind call.callerOf
     call.unusedFields call.allZero call.hasSecond call.wordPlaces call.secondPayload
     queue.name queue.owner queue.capacity queue.waiting queue.lost queue.oldest queue.hasSpace queue.sendWithSpace
     queue.movedUp queue.received queue.sendToFull queue.sent
@@ -37,6 +37,6 @@ unfolding allBelow numbersBelow firstBelow sumBelow wordsBelow bitsBelow
     purge.reachesAny purge.joinedBy purge.sources purge.purge
     purge.answersOf purge.rightsOf purge.ownedBy purge.queuesOf purge.lostOf purge.view
     counts.doneOn counts.countDone counts.messagesFrom counts.messagesTo counts.receivesFrom counts.sendsTo counts.pushesOut
-    counts.fullSends counts.messageOf counts.toldOf counts.countPushed counts.gone counts.messages
+    counts.fullSends counts.messageOf counts.takenOf counts.countPushed counts.gone counts.messages
     counts.isSend counts.isReceive
 everything = tt

@@ -11,16 +11,16 @@ use lib.Dec.{eqb, ltb}
 use lib.ListN.{length, drop}
 use Rattle.machine.specs.Table.{domains, endpoints}
 use Rattle.machine.specs.Check.{headerOk, lengthOk, rightsOk, endpointsOk, tableCode, Accepted}
-use Rattle.machine.specs.Call.{cut}
+use Rattle.machine.specs.Call.{split}
 use Rattle.machine.specs.Run as machine
 use Rattle.machine.specs.Entry.{Outcome, longestList, holdersCode, spaceCode, entryCode, Runs, refusal, ran, entry}
 use Rattle.machine.specs.Holders.{holdersOf}
-use Rattle.machine.specs.RunClaims.{Noninterference, NoRightFromNowhere, CountsBorneOut, InTurn}
+use Rattle.machine.specs.RunClaims.{Noninterference, RightsProvenance, CountsConserved, FifoOrder}
 use Rattle.machine.specs.Promise.{RunPromise}
 use Rattle.machine.proofs.Bools.{cond-elim}
-use Rattle.machine.proofs.Split.{cut-few}
-use Rattle.machine.proofs.Counts.{counts-borne-out, in-turn}
-use Rattle.machine.proofs.Trail.{no-right-from-nowhere}
+use Rattle.machine.proofs.Split.{split-few}
+use Rattle.machine.proofs.Counts.{counts-conserved, fifo-order}
+use Rattle.machine.proofs.Trail.{rights-provenance}
 use Rattle.machine.proofs.Noninterference.{noninterference}
 
 -- a list that runs has an accepted table
@@ -52,21 +52,21 @@ entry-code t ws space holders =
 
 -- a list that runs left what is claimed of every run
 module _ (t ws space : List ℕ) (lent : ℕ) (r : Runs t ws (length space) lent) where
-  ran-noninterference : Noninterference t (cut ws) (ran t ws space .answers) (ran t ws space .table)
+  ran-noninterference : Noninterference t (split ws) (ran t ws space .answers) (ran t ws space .table)
   unfolding ran
-  ran-noninterference = noninterference t (cut ws) (drop (3 * length (cut ws)) space) (runs-accepted t ws _ lent r)
+  ran-noninterference = noninterference t (split ws) (drop (3 * length (split ws)) space) (runs-accepted t ws _ lent r)
 
-  ran-rights : NoRightFromNowhere t (cut ws) (ran t ws space .table)
+  ran-rights : RightsProvenance t (split ws) (ran t ws space .table)
   unfolding ran
-  ran-rights = no-right-from-nowhere t (cut ws) (runs-accepted t ws _ lent r)
+  ran-rights = rights-provenance t (split ws) (runs-accepted t ws _ lent r)
 
-  ran-counts : (e : ℕ) → e < endpoints t → CountsBorneOut e t (cut ws) (ran t ws space .answers) (ran t ws space .table)
+  ran-counts : (e : ℕ) → e < endpoints t → CountsConserved e t (split ws) (ran t ws space .answers) (ran t ws space .table)
   unfolding ran
-  ran-counts = counts-borne-out t (cut ws) (drop (3 * length (cut ws)) space) (runs-accepted t ws _ lent r)
+  ran-counts = counts-conserved t (split ws) (drop (3 * length (split ws)) space) (runs-accepted t ws _ lent r)
 
-  ran-in-turn : (e : ℕ) → e < endpoints t → InTurn e t (cut ws) (ran t ws space .answers) (ran t ws space .table)
+  ran-in-order : (e : ℕ) → e < endpoints t → FifoOrder e t (split ws) (ran t ws space .answers) (ran t ws space .table)
   unfolding ran
-  ran-in-turn = in-turn t (cut ws) (drop (3 * length (cut ws)) space) (runs-accepted t ws _ lent r)
+  ran-in-order = fifo-order t (split ws) (drop (3 * length (split ws)) space) (runs-accepted t ws _ lent r)
 
 -- What the entry leaves keeps the promise.
 abbrev Kept : List ℕ → List ℕ → List ℕ → List ℕ → Outcome → Type 0
@@ -80,10 +80,10 @@ promise-kept t ws space holders =
       sameAnswers = refl;
       sameTable = refl;
       sameHolders = refl;
-      noninterference = λ z. from z (λ o. Noninterference t (cut ws) (o .answers) (o .table)) (ran-noninterference t ws space _);
-      noRightFromNowhere = λ z. from z (λ o. NoRightFromNowhere t (cut ws) (o .table)) (ran-rights t ws space _);
-      counts = λ z. from z (λ o. (e : ℕ) → e < endpoints t → CountsBorneOut e t (cut ws) (o .answers) (o .table)) (ran-counts t ws space _);
-      inTurn = λ z. from z (λ o. (e : ℕ) → e < endpoints t → InTurn e t (cut ws) (o .answers) (o .table)) (ran-in-turn t ws space _);
+      noninterference = λ z. from z (λ o. Noninterference t (split ws) (o .answers) (o .table)) (ran-noninterference t ws space _);
+      rightsProvenance = λ z. from z (λ o. RightsProvenance t (split ws) (o .table)) (ran-rights t ws space _);
+      counts = λ z. from z (λ o. (e : ℕ) → e < endpoints t → CountsConserved e t (split ws) (o .answers) (o .table)) (ran-counts t ws space _);
+      fifoOrder = λ z. from z (λ o. (e : ℕ) → e < endpoints t → FifoOrder e t (split ws) (o .answers) (o .table)) (ran-in-order t ws space _);
     }
   where
     from : entry t ws space holders .code ≡ 0
@@ -114,14 +114,14 @@ module _ (t ws : List ℕ) (size lent : ℕ) where
       unfolding entryCode
       accepted-so-far = rw (le-ltb longestList (length ws) short, eq-eqb (tableCode t) 0 a)
 
-      pub code-space : size < 3 * length (cut ws) → entryCode t ws size lent ≡ 6
+      pub code-space : size < 3 * length (split ws) → entryCode t ws size lent ≡ 6
       unfolding spaceCode
-      code-space h = accepted-so-far ∙ rw (lt-ltb size (3 * length (cut ws)) h)
+      code-space h = accepted-so-far ∙ rw (lt-ltb size (3 * length (split ws)) h)
 
       -- with space for the answers the holders decide
-      pub code-holders : 3 * length (cut ws) ≤ size → entryCode t ws size lent ≡ holdersCode t lent
+      pub code-holders : 3 * length (split ws) ≤ size → entryCode t ws size lent ≡ holdersCode t lent
       unfolding spaceCode
-      code-holders h = accepted-so-far ∙ rw (le-ltb size (3 * length (cut ws)) h)
+      code-holders h = accepted-so-far ∙ rw (le-ltb size (3 * length (split ws)) h)
 
 -- one word a domain, or another number of them
 pub holders-fit : (t : List ℕ) (lent : ℕ) → lent ≡ domains t → holdersCode t lent ≡ 0
@@ -143,10 +143,10 @@ promise-refused t ws space holders code e n =
 -- and so does whoever runs a list that runs.
 pub promise-ran : (t ws space holders : List ℕ) (calls : ℕ) (answers end kept : List ℕ)
     → Runs t ws (length space) (length holders)
-    → calls ≡ length (cut ws)
-    → answers ≡ machine.answers t (cut ws) ++ drop (3 * length (cut ws)) space
-    → end ≡ machine.run t (cut ws)
-    → kept ≡ holdersOf (machine.run t (cut ws))
+    → calls ≡ length (split ws)
+    → answers ≡ machine.answers t (split ws) ++ drop (3 * length (split ws)) space
+    → end ≡ machine.run t (split ws)
+    → kept ≡ holdersOf (machine.run t (split ws))
     → RunPromise t ws space holders 0 calls answers end kept
 unfolding ran
 promise-ran t ws space holders calls answers end kept r p q s h =
@@ -164,7 +164,7 @@ pub calls-few : (t ws space holders : List ℕ) → entry t ws space holders .ca
 unfolding entry ran refusal
 calls-few t ws space holders =
     cond-elim (λ (o : Outcome). o .calls ≤ longestList) (eqb (entryCode t ws (length space) (length holders)) 0)
-    (λ e. le-trans (cut-few ws) (runs-short t ws (length space) (length holders) (eqb-true _ _ e)))
+    (λ e. le-trans (split-few ws) (runs-short t ws (length space) (length holders) (eqb-true _ _ e)))
     (λ _. zero-le)
 
 pub code-small : (t ws space holders : List ℕ) → entry t ws space holders .code ≤ 6
@@ -172,7 +172,7 @@ unfolding entryCode tableCode spaceCode holdersCode
 code-small t ws space holders =
     subst (λ (x : ℕ). x ≤ 6) (sym (entry-code t ws space holders))
     (cond-elim (λ (x : ℕ). x ≤ 6) (ltb longestList (length ws)) (λ _. omega arith)
-    (λ _. cond-elim (λ (x : ℕ). x ≤ 6) (eqb (tableCode t) 0) (λ _. cond-elim (λ (x : ℕ). x ≤ 6) (ltb (length space) (3 * length (cut ws))) (λ _. omega arith)
+    (λ _. cond-elim (λ (x : ℕ). x ≤ 6) (eqb (tableCode t) 0) (λ _. cond-elim (λ (x : ℕ). x ≤ 6) (ltb (length space) (3 * length (split ws))) (λ _. omega arith)
     (λ _. cond-elim (λ (x : ℕ). x ≤ 6) (eqb (length holders) (domains t)) (λ _. omega arith) (λ _. omega arith)))
     (λ _. cond-elim (λ (x : ℕ). x ≤ 6) (not (headerOk t)) (λ _. omega arith)
     (λ _. cond-elim (λ (x : ℕ). x ≤ 6) (not (lengthOk t)) (λ _. omega arith)

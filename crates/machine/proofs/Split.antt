@@ -9,37 +9,37 @@ use native.Mathlib.Numerals.{add-one, add-two}
 use native.Mathlib.Omega.{arith}
 use lib.ListN.{length, take, drop, set, length-append}
 use lib.Seq.{take-at, drop-at, drop-drop, sets-eq}
-use Rattle.machine.specs.Call.{Call, pairs, cut, Call.one, Call.two}
+use Rattle.machine.specs.Call.{Call, pairs, split, Call.one, Call.two}
 use Rattle.machine.specs.Machine.{step, answer, answerTo}
 use Rattle.machine.specs.Run.{run, answers}
 
 -- ---- at the front of the words that are left
-pub cut-last : (w : ℕ) → cut (w ∷ []) ≡ one w ∷ cut []
-unfolding cut
-cut-last w = refl
+pub split-last : (w : ℕ) → split (w ∷ []) ≡ one w ∷ split []
+unfolding split
+split-last w = refl
 
 -- two words that make one call
-pub cut-two : (w v : ℕ) (ws : List ℕ) → pairs w v ≡ true → cut (w ∷ (v ∷ ws)) ≡ two w v ∷ cut ws
-unfolding cut
-cut-two w v ws h = rw h
+pub split-two : (w v : ℕ) (ws : List ℕ) → pairs w v ≡ true → split (w ∷ (v ∷ ws)) ≡ two w v ∷ split ws
+unfolding split
+split-two w v ws h = rw h
 
 -- a word that makes no call with the next
-pub cut-one : (w v : ℕ) (ws : List ℕ) → pairs w v ≡ false → cut (w ∷ (v ∷ ws)) ≡ one w ∷ cut (v ∷ ws)
-unfolding cut
-cut-one w v ws h = rw h
+pub split-one : (w v : ℕ) (ws : List ℕ) → pairs w v ≡ false → split (w ∷ (v ∷ ws)) ≡ one w ∷ split (v ∷ ws)
+unfolding split
+split-one w v ws h = rw h
 
 -- a call for every word at most
-pub cut-few : (ws : List ℕ) → length (cut ws) ≤ length ws
-unfolding cut
-cut-few [] = zero-le
-cut-few (w ∷ []) = omega arith
-cut-few (w ∷ (v ∷ ws)) = go (pairs w v) (cut-few ws) (cut-few (v ∷ ws))
+pub split-few : (ws : List ℕ) → length (split ws) ≤ length ws
+unfolding split
+split-few [] = zero-le
+split-few (w ∷ []) = omega arith
+split-few (w ∷ (v ∷ ws)) = go (pairs w v) (split-few ws) (split-few (v ∷ ws))
   where
     go :
         (b : Bool)
-        → length (cut ws) ≤ length ws
-        → length (cut (v ∷ ws)) ≤ suc (length ws)
-        → length (cond b (two w v ∷ cut ws) (one w ∷ cut (v ∷ ws))) ≤ suc (suc (length ws))
+        → length (split ws) ≤ length ws
+        → length (split (v ∷ ws)) ≤ suc (length ws)
+        → length (cond b (two w v ∷ split ws) (one w ∷ split (v ∷ ws))) ≤ suc (suc (length ws))
     go true h k = omega arith
     go false h k = omega arith
 
@@ -59,16 +59,16 @@ pub record Running (t₀ ws space₀ t left : List ℕ) (k : ℕ) (space : List 
   pub done : List ℕ
   pub long : length done ≡ 3 * k
   pub filled : space ≡ done ++ drop (3 * k) space₀
-  pub table : run t (cut left) ≡ run t₀ (cut ws)
-  pub answered : done ++ answers t (cut left) ≡ answers t₀ (cut ws)
-  pub count : k + length (cut left) ≡ length (cut ws)
+  pub table : run t (split left) ≡ run t₀ (split ws)
+  pub answered : done ++ answers t (split left) ≡ answers t₀ (split ws)
+  pub count : k + length (split left) ≡ length (split ws)
 
 pub running-start : (t ws space : List ℕ) → Running t ws space t ws 0 space
 running-start t ws space =
     record { done = []; long = refl; filled = refl; table = refl; answered = refl; count = omega arith }
 
 -- one call more, whose three answer words are written behind the others
-pub running-next : {t₀ ws space₀ t left : List ℕ} {k : ℕ} {space : List ℕ} (left′ : List ℕ) (c : Call) (space′ : List ℕ) → Running t₀ ws space₀ t left k space → cut left ≡ c ∷ cut left′ → space′ ≡ take (3 * k) space ++ (answer t c ++ drop (3 * k + 3) space) → Running t₀ ws space₀ (step t c) left′ (k + 1) space′
+pub running-next : {t₀ ws space₀ t left : List ℕ} {k : ℕ} {space : List ℕ} (left′ : List ℕ) (c : Call) (space′ : List ℕ) → Running t₀ ws space₀ t left k space → split left ≡ c ∷ split left′ → space′ ≡ take (3 * k) space ++ (answer t c ++ drop (3 * k + 3) space) → Running t₀ ws space₀ (step t c) left′ (k + 1) space′
 unfolding run answers
 running-next {t₀} {ws} {space₀} {t} {left} {k} {space} left′ c space′ r e w =
     record {
@@ -79,8 +79,8 @@ running-next {t₀} {ws} {space₀} {t} {left} {k} {space} left′ c space′ r 
           ∙ ap₂ (λ (x y : List ℕ). x ++ (answer t c ++ y)) before behind
           ∙ sym (append-assoc (r .done) (answer t c) (drop (3 * (k + 1)) space₀));
       table = sym (ap (run t) e) ∙ r .table;
-      answered = append-assoc (r .done) (answer t c) (answers (step t c) (cut left′)) ∙ ap (λ (cs : List Call). r .done ++ answers t cs) (sym e) ∙ r .answered;
-      count = let z : length (cut left) ≡ suc (length (cut left′)) = ap length e in omega (arith, r .count);
+      answered = append-assoc (r .done) (answer t c) (answers (step t c) (split left′)) ∙ ap (λ (cs : List Call). r .done ++ answers t cs) (sym e) ∙ r .answered;
+      count = let z : length (split left) ≡ suc (length (split left′)) = ap length e in omega (arith, r .count);
     }
   where
     before : take (3 * k) space ≡ r .done
@@ -96,8 +96,8 @@ running-next {t₀} {ws} {space₀} {t} {left} {k} {space} left′ c space′ r 
         ∙ ap (λ (i : ℕ). drop i space₀) next
 
 -- no word left: the run is done
-pub running-end : {t₀ ws space₀ t : List ℕ} {k : ℕ} {space : List ℕ} → Running t₀ ws space₀ t [] k space → (t ≡ run t₀ (cut ws)) × (space ≡ answers t₀ (cut ws) ++ drop (3 * length (cut ws)) space₀) × (k ≡ length (cut ws))
-unfolding run answers cut
+pub running-end : {t₀ ws space₀ t : List ℕ} {k : ℕ} {space : List ℕ} → Running t₀ ws space₀ t [] k space → (t ≡ run t₀ (split ws)) × (space ≡ answers t₀ (split ws) ++ drop (3 * length (split ws)) space₀) × (k ≡ length (split ws))
+unfolding run answers split
 running-end {t₀} {ws} {space₀} {t} {k} {space} r =
-    let n : k ≡ length (cut ws) = omega (arith, r .count) in
+    let n : k ≡ length (split ws) = omega (arith, r .count) in
     (r .table, r .filled ∙ ap₂ (λ (d : List ℕ) (i : ℕ). d ++ drop (3 * i) space₀) (sym (append-nil (r .done)) ∙ r .answered) n, n)

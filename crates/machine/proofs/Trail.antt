@@ -1,5 +1,5 @@
 -- No right from nowhere, and none gone but by its holder's remove or by a revoke (specs/MachineClaims: EveryCallEachRight), call by
--- call; the first from there along every run (EveryRunNoRightFromNowhere). A remove is all or nothing, and of one right it is document 01's
+-- call; the first from there along every run (EveryRunRightsProvenance). A remove is all or nothing, and of one right it is document 01's
 -- (EveryRemoveAllOrNothing, EveryRemoveOfOne).
 -- Assumes nothing.
 use mathlib.Core.Path.{_≡_, refl, sym, ap, ap₂, subst, _∙_}
@@ -16,7 +16,7 @@ use Rattle.machine.specs.Word.{payload}
 use Rattle.machine.specs.Right.{SEND, GRANT, REMOVE, REVOKE, isSet, holds, adds, without}
 use Rattle.machine.specs.Table.{domains, rights, setRights, setEndpoint}
 use Rattle.machine.specs.Check.{Accepted}
-use Rattle.machine.specs.Call.{Call, Call.one, Call.two, callerOf, cut}
+use Rattle.machine.specs.Call.{Call, Call.one, Call.two, callerOf, split}
 use Rattle.machine.specs.Machine.{Decision, removePlaces, decide, effect, after, step}
 use Rattle.machine.specs.Influence.{influences}
 use Rattle.machine.specs.Machine.{Decision.grants, Decision.removes, Decision.revokes, Effect.newRights, Effect.newEndpoint}
@@ -24,7 +24,7 @@ use Rattle.machine.specs.Run.{run}
 use Rattle.machine.proofs.Everything.{everything}
 use Rattle.machine.specs.Examples.{T, L}
 use Rattle.machine.specs.Trail.{GivenBy, GivenAlong, RemovedBy, RevokedBy}
-use Rattle.machine.specs.MachineClaims.{StaysAccepted, EveryCallEachRight, AllOrNothing, EveryRemoveAllOrNothing, removeOfOne, EveryRemoveOfOne, EveryRunNoRightFromNowhere}
+use Rattle.machine.specs.MachineClaims.{StaysAccepted, EveryCallEachRight, AllOrNothing, EveryRemoveAllOrNothing, removeOfOne, EveryRemoveOfOne, EveryRunRightsProvenance}
 use Rattle.machine.proofs.Bools.{and-left, or-cases, either}
 use Rattle.machine.proofs.Table as table
 use Rattle.machine.proofs.Right.{holds-adds, holds-without, holds-trans, rights-payload}
@@ -232,26 +232,26 @@ unfolding run
 later-gave t c cs h g r x =
     record { before = c ∷ x .before; call = x .call; later = x .later; among = ap (_∷_ c) (x .among); given = x .given }
 
-pub no-right-from-nowhere : EveryRunNoRightFromNowhere
+pub rights-provenance : EveryRunRightsProvenance
 unfolding run
-no-right-from-nowhere t [] a h g k ph pg held = inl held
-no-right-from-nowhere t (c ∷ cs) a h g k ph pg held =
+rights-provenance t [] a h g k ph pg held = inl held
+rights-provenance t (c ∷ cs) a h g k ph pg held =
     let stays : StaysAccepted t (step t c) = stays-accepted t c a in
     let n : domains (step t c) ≡ domains t = stays .frame .sameDomains in
     ⊎-elim (λ x. ⊎-elim inl (λ y. inr (first-gave t c cs h g (2 ^ k) y)) (had-or-given t c a h g k ph pg x))
     (λ x. inr (later-gave t c cs h g (2 ^ k) x))
-    (no-right-from-nowhere (step t c) cs (stays .accepted) h g k (omega arith) (omega arith) held)
+    (rights-provenance (step t c) cs (stays .accepted) h g k (omega arith) (omega arith) held)
 
 -- ---- each comes about: in L the second call gives domain 0 SEND on domain 2; in P11 domain 1 gives up REMOVE on it; and where domain
 -- 1 has REVOKE on it, it takes SEND back from domain 0
 
-pub given-in-L : GivenAlong 0 2 SEND T (cut L)
+pub given-in-L : GivenAlong 0 2 SEND T (split L)
 unfolding everything
 given-in-L =
     record {
       before = two 0x2000_0100 0xF000_0005 ∷ [];
       call = one 0x6042_0001;
-      later = cut (drop 3 L);
+      later = split (drop 3 L);
       among = refl;
       given =
           record {

@@ -306,13 +306,13 @@ module _
           (λ i. respected c o p i x)
 
   -- and struck.
-  agree-struck :
+  agree-purged :
       {d : ℕ} {s t : State} (c : Call) (cs : List Call)
       → SameForSources M ok same d s (c ∷ cs) t
       → callerIn (caller c) (sources M s (c ∷ cs) d) ≡ false
       → SameForSources M ok same d (step s c) cs t
   unfolding sources
-  agree-struck {d} {s} {t} c cs a h = record { domain = a .domain; proper = ok-next c (a .proper); each = each }
+  agree-purged {d} {s} {t} c cs a h = record { domain = a .domain; proper = ok-next c (a .proper); each = each }
     where
       each : SameFor same (sources M (step s c) cs d) (step s c) t
       each v m =
@@ -340,7 +340,7 @@ module _
       let next = unwinding d (step s c) (step t c) cs′ ks′ (agree-both c cs′ a) k in
       record { proper = next .proper; state = next .state; answers = same-answers c a (next .answers) }
   unwinding d s t cs ks a (strike c {cs = cs′} h k) =
-      let next = unwinding d (step s c) t cs′ ks (agree-struck c cs′ a h) k in
+      let next = unwinding d (step s c) t cs′ ks (agree-purged c cs′ a h) k in
       let other = contra _ _ (called-in d (caller c) _ (in-sources M s (c ∷ cs′) d)) h in
       record { proper = next .proper; state = next .state; answers = rw other (next .answers) }
 

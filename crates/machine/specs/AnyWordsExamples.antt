@@ -6,7 +6,7 @@ use mathlib.Core.List.{List, [], _∷_}
 use lib.ListN.{set}
 use Rattle.machine.specs.Table.{rights}
 use Rattle.machine.specs.Queue.{sent, received}
-use Rattle.machine.specs.Call.{cut}
+use Rattle.machine.specs.Call.{split}
 use Rattle.machine.specs.Run.{run, answers}
 use Rattle.machine.specs.CodeExamples.{Answered, Answered.answered, callWords, callAnswers, fourDomains}
 
@@ -56,9 +56,9 @@ ofAnyWords =
       manyWaitAndOne = sent (filled 0x5000_0102 0x6000_0000) 9;
       fiveOfThree = sent (set (filled 0x5000_0005 0x6000_0000) 1 0x4000_0003) 9;
       wideRights = rights (set fourDomains 2 0x2800_0103) 0 1;
-      oneWord = answers (0x1000_0401 ∷ []) (cut (callWords onOneWord));
-      left = run (0x1000_0401 ∷ []) (cut (callWords onOneWord));
-      noWord = answers [] (cut (0x4000_0000 ∷ []));
+      oneWord = answers (0x1000_0401 ∷ []) (split (callWords onOneWord));
+      left = run (0x1000_0401 ∷ []) (split (callWords onOneWord));
+      noWord = answers [] (split (0x4000_0000 ∷ []));
     }
 
 -- what they must

@@ -27,10 +27,10 @@ pairs w v = wantsSecond (kind w) && eqb (kind v) 15
 
 -- The cutting: a word of kind 1 or 2 directly followed by a word of kind 15 makes one call of both; every other word is a
 -- call of one word.
-unfoldable pub cut : List ℕ → List Call
-cut [] = []
-cut (w ∷ []) = one w ∷ []
-cut (w ∷ v ∷ ws) = cond (pairs w v) (two w v ∷ cut ws) (one w ∷ cut (v ∷ ws))
+unfoldable pub split : List ℕ → List Call
+split [] = []
+split (w ∷ []) = one w ∷ []
+split (w ∷ v ∷ ws) = cond (pairs w v) (two w v ∷ split ws) (one w ∷ split (v ∷ ws))
 
 -- the eight calls, a word of kind 15 that begins a call (document 01: a stray), and the unknown kinds
 pub data Kind : Type 0 where

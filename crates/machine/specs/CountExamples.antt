@@ -5,7 +5,7 @@ use Prim.Native.Nat.{ℕ}
 use mathlib.Core.Path.{_≡_}
 use mathlib.Core.List.{List, [], _∷_}
 use Rattle.machine.specs.Table.{endpoint}
-use Rattle.machine.specs.Call.{Call, cut}
+use Rattle.machine.specs.Call.{Call, split}
 use Rattle.machine.specs.Run.{run, answers}
 use Rattle.machine.specs.Counts.{sentTo, receivedFrom, fullSends, messagesFrom, messagesTo, Gone, Gone.told, Gone.pushed, gone, messages}
 use Rattle.machine.specs.Examples.{T}
@@ -58,7 +58,7 @@ sends =
 -- the row, of endpoint 1 and of endpoint 0
 abbrev pub CountRowHolds : Type 0
 CountRowHolds =
-    (counted 1 T (cut sends)
+    (counted 1 T (split sends)
     ≡ record {
       sent = 3;
       received = 1;
@@ -68,7 +68,7 @@ CountRowHolds =
       front = pushed 5 ∷ pushed 6 ∷ told 7 ∷ [];
       left = [];
     })
-    × (counted 0 T (cut sends)
+    × (counted 0 T (split sends)
     ≡ record {
       sent = 5;
       received = 1;

@@ -98,10 +98,10 @@ messageOf (told m) = m
 messageOf (pushed m) = m
 
 -- those that were told, in order
-unfoldable pub toldOf : List Gone → List ℕ
-toldOf [] = []
-toldOf (told m ∷ out) = m ∷ toldOf out
-toldOf (pushed m ∷ out) = toldOf out
+unfoldable pub takenOf : List Gone → List ℕ
+takenOf [] = []
+takenOf (told m ∷ out) = m ∷ takenOf out
+takenOf (pushed m ∷ out) = takenOf out
 
 -- how many were pushed out
 unfoldable pub countPushed : List Gone → ℕ

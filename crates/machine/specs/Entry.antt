@@ -8,7 +8,7 @@ use lib.ListN.{length, drop}
 use lib.Dec.{eqb, ltb}
 use Rattle.machine.specs.Table.{domains}
 use Rattle.machine.specs.Check.{tableCode}
-use Rattle.machine.specs.Call.{cut}
+use Rattle.machine.specs.Call.{split}
 use Rattle.machine.specs.Run.{run, answers}
 use Rattle.machine.specs.Holders.{holdersOf}
 
@@ -22,7 +22,7 @@ holdersCode t lent = cond (eqb lent (domains t)) 0 6
 
 -- 6 where the answer space has under three words a call, or the holders are other than one word a domain
 unfoldable pub spaceCode : List ℕ → List ℕ → ℕ → ℕ → ℕ
-spaceCode t ws size lent = cond (ltb size (3 * length (cut ws))) 6 (holdersCode t lent)
+spaceCode t ws size lent = cond (ltb size (3 * length (split ws))) 6 (holdersCode t lent)
 
 -- the entry's code, for an answer space of a size and so many words lent for the holders: 1, then the table's 2 to 5, then 6;
 -- 0 where none refuses
@@ -51,10 +51,10 @@ unfoldable pub ran : List ℕ → List ℕ → List ℕ → Outcome
 ran t ws space =
     record {
       code = 0;
-      calls = length (cut ws);
-      table = run t (cut ws);
-      answers = answers t (cut ws) ++ drop (3 * length (cut ws)) space;
-      holders = holdersOf (run t (cut ws));
+      calls = length (split ws);
+      table = run t (split ws);
+      answers = answers t (split ws) ++ drop (3 * length (split ws)) space;
+      holders = holdersOf (run t (split ws));
     }
 
 -- the entry: a refusal, or the run

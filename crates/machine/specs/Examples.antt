@@ -4,7 +4,7 @@ use Prim.Native.Nat.{ℕ}
 use mathlib.Core.Path.{_≡_}
 use mathlib.Core.List.{List, [], _∷_, _++_}
 use lib.ListN.{take, set, replicate}
-use Rattle.machine.specs.Call.{Call, cut, Call.one, Call.two}
+use Rattle.machine.specs.Call.{Call, split, Call.one, Call.two}
 use Rattle.machine.specs.Entry.{Outcome, entry}
 use Rattle.machine.specs.Purge.{purge}
 
@@ -17,7 +17,7 @@ pub data Row : Type 0 where
 -- what a row says
 abbrev pub RowHolds : Row → Type 0
 RowHolds (leaves t ws space holders o) = entry t ws space holders ≡ o
-RowHolds (keeps t ws d cs) = purge t (cut ws) d ≡ cs
+RowHolds (keeps t ws d cs) = purge t (split ws) d ≡ cs
 
 -- the single claim about a list of rows: each holds
 abbrev pub EveryRow : List Row → Type 0

@@ -19,7 +19,7 @@ use Rattle.machine.specs.Run.{run, answers}
 use Rattle.machine.specs.Influence.{influences}
 use Rattle.machine.specs.SameParts.{SameFrame, SamePart}
 use Rattle.machine.specs.Trail.{GivenBy, RemovedBy, RevokedBy}
-use Rattle.machine.specs.RunClaims.{Noninterference, NoRightFromNowhere, CountsBorneOut, InTurn}
+use Rattle.machine.specs.RunClaims.{Noninterference, RightsProvenance, CountsConserved, FifoOrder}
 
 -- ---- one call
 
@@ -121,23 +121,23 @@ EveryRunNoninterference =
     (t : List ℕ) (cs : List Call) (rest : List ℕ) → Accepted t → Noninterference t cs (answers t cs ++ rest) (run t cs)
 
 -- No right from nowhere.
-abbrev pub EveryRunNoRightFromNowhere : Type 0
-EveryRunNoRightFromNowhere = (t : List ℕ) (cs : List Call) → Accepted t → NoRightFromNowhere t cs (run t cs)
+abbrev pub EveryRunRightsProvenance : Type 0
+EveryRunRightsProvenance = (t : List ℕ) (cs : List Call) → Accepted t → RightsProvenance t cs (run t cs)
 
 -- The counts of every endpoint are borne out by its queue.
-abbrev pub EveryRunCountsBorneOut : Type 0
-EveryRunCountsBorneOut =
+abbrev pub EveryRunCountsConserved : Type 0
+EveryRunCountsConserved =
     (t : List ℕ) (cs : List Call) (rest : List ℕ)
     → Accepted t
     → (e : ℕ)
     → e < endpoints t
-    → CountsBorneOut e t cs (answers t cs ++ rest) (run t cs)
+    → CountsConserved e t cs (answers t cs ++ rest) (run t cs)
 
 -- Every queue goes in turn.
-abbrev pub EveryRunInTurn : Type 0
-EveryRunInTurn =
+abbrev pub EveryRunFifoOrder : Type 0
+EveryRunFifoOrder =
     (t : List ℕ) (cs : List Call) (rest : List ℕ)
     → Accepted t
     → (e : ℕ)
     → e < endpoints t
-    → InTurn e t cs (answers t cs ++ rest) (run t cs)
+    → FifoOrder e t cs (answers t cs ++ rest) (run t cs)

@@ -5,9 +5,9 @@ use Prim.Native.Nat.{ℕ, _<_}
 use mathlib.Core.Path.{_≡_}
 use mathlib.Core.List.{List}
 use Rattle.machine.specs.Table.{endpoints}
-use Rattle.machine.specs.Call.{cut}
+use Rattle.machine.specs.Call.{split}
 use Rattle.machine.specs.Entry.{entry}
-use Rattle.machine.specs.RunClaims.{Noninterference, NoRightFromNowhere, CountsBorneOut, InTurn}
+use Rattle.machine.specs.RunClaims.{Noninterference, RightsProvenance, CountsConserved, FifoOrder}
 
 pub record RunPromise (t ws space holders : List ℕ) (code calls : ℕ) (answers end kept : List ℕ) : Type 0 where
   -- demands 1 and 2 (docs/ASSURANCE has the checklist with its lines): the code, the number of calls, every answer word and every
@@ -20,9 +20,9 @@ pub record RunPromise (t ws space holders : List ℕ) (code calls : ℕ) (answer
   pub sameHolders : kept ≡ entry t ws space holders .holders
   -- demand 3, of the words that were left: where the list ran, what each domain sees of them is what it sees of the machine
   -- fed the kept calls alone
-  pub noninterference : code ≡ 0 → Noninterference t (cut ws) answers end
+  pub noninterference : code ≡ 0 → Noninterference t (split ws) answers end
   -- lines 2 and 4 of the checklist, of the words that were left: no right comes from nowhere, the counts are borne out by the
   -- queues, and messages go in turn
-  pub noRightFromNowhere : code ≡ 0 → NoRightFromNowhere t (cut ws) end
-  pub counts : code ≡ 0 → (e : ℕ) → e < endpoints t → CountsBorneOut e t (cut ws) answers end
-  pub inTurn : code ≡ 0 → (e : ℕ) → e < endpoints t → InTurn e t (cut ws) answers end
+  pub rightsProvenance : code ≡ 0 → RightsProvenance t (split ws) end
+  pub counts : code ≡ 0 → (e : ℕ) → e < endpoints t → CountsConserved e t (split ws) answers end
+  pub fifoOrder : code ≡ 0 → (e : ℕ) → e < endpoints t → FifoOrder e t (split ws) answers end

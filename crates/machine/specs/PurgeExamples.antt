@@ -7,7 +7,7 @@ use mathlib.Core.Bool.{cond}
 use mathlib.Core.List.{List, [], _∷_, _++_}
 use Rattle.machine.specs.Below.{sumBelow}
 use Rattle.machine.specs.Table.{domains}
-use Rattle.machine.specs.Call.{Call, cut, Call.one, Call.two}
+use Rattle.machine.specs.Call.{Call, split, Call.one, Call.two}
 use Rattle.machine.specs.Machine.{step}
 use Rattle.machine.specs.Run.{run, answers}
 use Rattle.machine.specs.DomainSet.{member}
@@ -40,7 +40,7 @@ pub data PurgeRow : Type 0 where
 
 -- a row holds where what it pins is so
 abbrev pub PurgeRowHolds : PurgeRow → Type 0
-PurgeRowHolds (pins t ws d o) = purged t (cut ws) d ≡ o
+PurgeRowHolds (pins t ws d o) = purged t (split ws) d ≡ o
 
 -- the single claim about a list of such rows: each holds
 abbrev pub EveryPurgeRow : List PurgeRow → Type 0

@@ -12,7 +12,7 @@ use Rattle.machine.specs.Queue.{waiting, lost, mostLost}
 use Rattle.machine.specs.Call.{Call}
 use Rattle.machine.specs.Run as machine
 use Rattle.machine.specs.Purge.{purge, view}
-use Rattle.machine.specs.Counts.{sentTo, receivedFrom, fullSends, messagesFrom, messagesTo, messageOf, toldOf, countPushed, gone, messages}
+use Rattle.machine.specs.Counts.{sentTo, receivedFrom, fullSends, messagesFrom, messagesTo, messageOf, takenOf, countPushed, gone, messages}
 use Rattle.machine.specs.Trail.{GivenAlong}
 
 -- Noninterference (document 01: the striking rule): for every domain d, what d sees of the run is what it sees of the machine
@@ -25,8 +25,8 @@ Noninterference t cs answers end =
     ≡ view d (purge t cs d) (machine.answers t (purge t cs d)) (machine.run t (purge t cs d))
 
 -- No right from nowhere: a single right that h has on g at the end it had at the start, or one of the calls gave it.
-abbrev pub NoRightFromNowhere : List ℕ → List Call → List ℕ → Type 0
-NoRightFromNowhere t cs end =
+abbrev pub RightsProvenance : List ℕ → List Call → List ℕ → Type 0
+RightsProvenance t cs end =
     (h g k : ℕ)
     → h < domains t
     → g < domains t
@@ -35,14 +35,14 @@ NoRightFromNowhere t cs end =
 
 -- The counts of the endpoint e: sends answered 0 and what waited at the start are what was received, what found the queue
 -- full and what waits at the end; and the lost count rose by those that found it full, up to its largest.
-pub record CountsBorneOut (e : ℕ) (t : List ℕ) (cs : List Call) (answers end : List ℕ) : Type 0 where
+pub record CountsConserved (e : ℕ) (t : List ℕ) (cs : List Call) (answers end : List ℕ) : Type 0 where
   pub balance : sentTo e cs answers + waiting (endpoint t e) ≡ receivedFrom e cs answers + fullSends e t cs + waiting (endpoint end e)
   pub raised : lost (endpoint end e) ≡ min (lost (endpoint t e) + fullSends e t cs) mostLost
 
 -- Queues in turn: what left the queue of the endpoint e by its front, received or pushed out, followed by what waits at the
 -- end, is what waited at the start, followed by everything that was sent, in order; those received are the ones that the
 -- answers showed; and as many were pushed out as sends found the queue full, each the oldest at its time.
-pub record InTurn (e : ℕ) (t : List ℕ) (cs : List Call) (answers end : List ℕ) : Type 0 where
+pub record FifoOrder (e : ℕ) (t : List ℕ) (cs : List Call) (answers end : List ℕ) : Type 0 where
   pub order : map messageOf (gone e t cs) ++ messages (endpoint end e) ≡ messages (endpoint t e) ++ messagesTo e cs answers
-  pub received : messagesFrom e cs answers ≡ toldOf (gone e t cs)
+  pub received : messagesFrom e cs answers ≡ takenOf (gone e t cs)
   pub pushedOut : fullSends e t cs ≡ countPushed (gone e t cs)

@@ -9,20 +9,20 @@ use lib.ListN.{length}
 use Rattle.machine.specs.Table.{domains}
 use Rattle.machine.specs.Check.{tableCode, Accepted}
 use Rattle.potential_theory.specs.Closure.{matrixOf, settled, enough, potential}
-use Rattle.potential.specs.Reported.{toldCode, toldRights, PotentialTold}
+use Rattle.potential.specs.Reported.{reportedCode, reportedRights, PotentialReported}
 
 module _ (t : List ℕ) (s : ℕ) (space : List ℕ) where
   -- a table that is refused by its code
-  pub told-refused : (code : ℕ) → code ≡ tableCode t → (code ≡ 0 → ⊥) → PotentialTold t s space code space
-  unfolding toldCode toldRights
+  pub told-refused : (code : ℕ) → code ≡ tableCode t → (code ≡ 0 → ⊥) → PotentialReported t s space code space
+  unfolding reportedCode reportedRights
   told-refused code e n =
       let bad = ne-eqb (tableCode t) 0 (λ none. n (e ∙ none)) in
       record { sameCode = rw bad e; sameRights = rw (bad, bad) }
 
   module _ (a : Accepted t) (n : ℕ) (e : n ≡ domains t) where
     -- other than n × n words
-    pub told-space : (length space ≡ n * n → ⊥) → PotentialTold t s space 6 space
-    unfolding toldCode toldRights
+    pub told-space : (length space ≡ n * n → ⊥) → PotentialReported t s space 6 space
+    unfolding reportedCode reportedRights
     told-space other =
         let differs = ne-eqb (length space) (domains t * domains t) (λ same. other (same ∙ sym (ap₂ _*_ e e))) in
         record { sameCode = rw (a, differs); sameRights = rw (a, differs) }
@@ -32,14 +32,14 @@ module _ (t : List ℕ) (s : ℕ) (space : List ℕ) where
       same = eq-eqb _ _ (fits ∙ ap₂ _*_ e e)
 
       -- a set with a bit from n on
-      pub told-not-domains : sets ≤ s → PotentialTold t s space 32 space
-      unfolding toldCode toldRights
+      pub told-not-domains : sets ≤ s → PotentialReported t s space 32 space
+      unfolding reportedCode reportedRights
       told-not-domains l =
           let more = le-ltb s (2 ^ domains t) (subst (λ k. k ≤ s) (all ∙ ap (2 ^_) e) l) in
           record { sameCode = rw (a, same, more); sameRights = rw (a, same, more) }
 
-      pub told : s < sets → (filled left : List ℕ) → filled ≡ matrixOf t → left ≡ settled (enough n) n s filled → PotentialTold t s space 0 left
-      unfolding toldCode toldRights potential
+      pub told : s < sets → (filled left : List ℕ) → filled ≡ matrixOf t → left ≡ settled (enough n) n s filled → PotentialReported t s space 0 left
+      unfolding reportedCode reportedRights potential
       told l filled left start made =
           let few = lt-ltb s (2 ^ domains t) (subst (λ k. s < k) (all ∙ ap (2 ^_) e) l) in
           record {

@@ -14,20 +14,20 @@ use Rattle.potential.specs.declared.Potential.{Potential}
 use Rattle.potential.specs.declared.Potential.the-variants.{Told, BadTable, OtherSpace, NotDomains}
 
 -- the code: the table's 2 to 5, then 6 where other than n × n words are lent, then 32 where s has a bit from n on, else 0
-unfoldable pub toldCode : List ℕ → ℕ → ℕ → ℕ
-toldCode t s size =
+unfoldable pub reportedCode : List ℕ → ℕ → ℕ → ℕ
+reportedCode t s size =
     cond (eqb (tableCode t) 0)
     (cond (eqb size (domains t * domains t)) (cond (ltb s (2 ^ domains t)) 0 32) 6)
     (tableCode t)
 
 -- the words left in the space: the matrix of potential rights, and the space as it was where the code isn't 0
-unfoldable pub toldRights : List ℕ → ℕ → List ℕ → List ℕ
-toldRights t s space = cond (eqb (toldCode t s (length space)) 0) (potential t s) space
+unfoldable pub reportedRights : List ℕ → ℕ → List ℕ → List ℕ
+reportedRights t s space = cond (eqb (reportedCode t s (length space)) 0) (potential t s) space
 
 -- Of the words t and the set s, with the space lent, a code was told and words were left: these.
-pub record PotentialTold (t : List ℕ) (s : ℕ) (space : List ℕ) (code : ℕ) (left : List ℕ) : Type 0 where
-  pub sameCode : code ≡ toldCode t s (length space)
-  pub sameRights : left ≡ toldRights t s space
+pub record PotentialReported (t : List ℕ) (s : ℕ) (space : List ℕ) (code : ℕ) (left : List ℕ) : Type 0 where
+  pub sameCode : code ≡ reportedCode t s (length space)
+  pub sameRights : left ≡ reportedRights t s space
 
 -- the number of an answer
 abbrev pub potentialCode : Potential → ℕ

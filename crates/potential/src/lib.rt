@@ -11,7 +11,7 @@ use table_check::TableRefusal;
 use table_check::check;
 use table_layout::domains;
 ghost use mathlib.Core.Path.{_≡_};
-ghost use Rattle.potential.specs.Reported.{PotentialTold, potentialCode};
+ghost use Rattle.potential.specs.Reported.{PotentialReported, potentialCode};
 
 // What is told of the potential rights.
 pub enum Potential {
@@ -41,7 +41,7 @@ impl Potential {
 
 // The potential rights in a table, where the domains of a set act.
 pub fn potential_of(table: &[u32], actors: u32, rights: &mut [u32]) -> Potential
-    ensures { λ r. ⌜ PotentialTold (now (table .entry)) actors (now (rights .entry)) (potentialCode r) (now (rights .exit)) ⌝ }
+    ensures { λ r. ⌜ PotentialReported (now (table .entry)) actors (now (rights .entry)) (potentialCode r) (now (rights .exit)) ⌝ }
 {
     let checked = check(table);
     if let Checked::Refused(refusal) = checked {

@@ -13,11 +13,11 @@ use Rattle.machine.specs.Word.{kind, payload, caller, fieldA, fieldB, fieldC}
 use Rattle.machine.specs.Right.{GRANT, allRights, isSet, holds, adds, hasAny}
 use Rattle.machine.specs.Table.{domains, rights, setRights}
 use Rattle.machine.specs.Check.{Accepted}
-use Rattle.machine.specs.Call.{Call.one, first, kindOf, callKind, callerOf, cut, wantsSecond, pairs, unusedFields, allZero, hasSecond, wordPlaces}
+use Rattle.machine.specs.Call.{Call.one, first, kindOf, callKind, callerOf, split, wantsSecond, pairs, unusedFields, allZero, hasSecond, wordPlaces}
 use Rattle.machine.specs.Machine.{place, rightsPlaces, grantPlaces, framed, places, decide, effect, after, step, code, Decision.grants}
 use Rattle.machine.specs.Influence.{reaches, influences}
 use Rattle.machine.proofs.Bools.{and-intro, or-right}
-use Rattle.machine.proofs.Split.{cut-last, cut-one}
+use Rattle.machine.proofs.Split.{split-last, split-one}
 use Rattle.machine.proofs.Right.{holds-le, rights-payload, adds-within}
 use Rattle.machine.proofs.Table as table
 use Rattle.machine.proofs.Accepted.{accepted-sized, accepted-counts}
@@ -147,8 +147,8 @@ alone : (w v : ℕ) → kind w ≡ 6 → pairs w v ≡ false
 unfolding pairs wantsSecond
 alone w v e = rw e
 
-pub cut-grants : (ws : List ℕ) → AllGrants ws → cut ws ≡ map one ws
-unfolding cut
-cut-grants [] all = refl
-cut-grants (w ∷ []) all = cut-last w
-cut-grants (w ∷ (v ∷ ws)) all = cut-one w v ws (alone w v (all .0)) ∙ ap (one w ∷_) (cut-grants (v ∷ ws) (all .1))
+pub split-grants : (ws : List ℕ) → AllGrants ws → split ws ≡ map one ws
+unfolding split
+split-grants [] all = refl
+split-grants (w ∷ []) all = split-last w
+split-grants (w ∷ (v ∷ ws)) all = split-one w v ws (alone w v (all .0)) ∙ ap (one w ∷_) (split-grants (v ∷ ws) (all .1))

@@ -12,19 +12,19 @@ use lib.ListN.{length}
 use Rattle.machine.specs.Right.{hasAny}
 use Rattle.machine.specs.Table.{domains, rights}
 use Rattle.machine.specs.Check.{Accepted}
-use Rattle.machine.specs.Call.{Call.one, cut}
+use Rattle.machine.specs.Call.{Call.one, split}
 use Rattle.machine.specs.Run as machine
 use Rattle.machine.specs.Influence.{reaches, influences}
 use Rattle.machine.proofs.Bools.{either, or-right}
 use Rattle.machine.proofs.Right.{has-none}
 use Rattle.machine.proofs.Accepted.{accepted-counts}
 use Rattle.isolation_theory.proofs.Ran.{ran-accepted, ran-table}
-use Rattle.isolation_theory.proofs.Component.{components-stand}
+use Rattle.isolation_theory.proofs.Component.{components-stay}
 use Rattle.potential_theory.specs.Closure.{matrixOf, potential, potentialRights}
 use Rattle.potential_theory.specs.Lists.{potentialList}
 use Rattle.potential_theory.specs.Claims.{AllDoneBy, HasPotential, EveryPotentialListGivesAll, EveryPromisedRunGivesAll, EveryPotentialInComponent}
 use Rattle.potential_theory.proofs.Matrix.{proper-most, matrix-cell}
-use Rattle.potential_theory.proofs.Grant.{cut-grants}
+use Rattle.potential_theory.proofs.Grant.{split-grants}
 use Rattle.potential_theory.proofs.Steps.{Shows, Ran}
 use Rattle.potential_theory.proofs.Exact.{start-within, potential-step}
 
@@ -39,8 +39,8 @@ module _ (t : List ℕ) (s : ℕ) (a : Accepted t) where
       record { accepted = a; count = refl; same = λ h g lh lg. sym (matrix-cell t h g lh lg) } in
       potential-step t s a .runs (matrixOf t) t (start-within t s a) shows
 
-  list-cut : cut (potentialList t s) ≡ map one (potentialList t s)
-  list-cut = cut-grants (potentialList t s) (list-ran .grants)
+  list-cut : split (potentialList t s) ≡ map one (potentialList t s)
+  list-cut = split-grants (potentialList t s) (list-ran .grants)
 
   -- each call adds something to the sum of the cells, which is at most allRights for each of sixteen times sixteen
   list-few : length (potentialList t s) ≤ 4096
@@ -53,10 +53,10 @@ module _ (t : List ℕ) (s : ℕ) (a : Accepted t) where
       let most = proper-most n (potential t s) (step .keeps (matrixOf t) within .proper) in
       omega (arith, step .grows (matrixOf t) within)
 
-  list-done : AllDoneBy s t (cut (potentialList t s))
+  list-done : AllDoneBy s t (split (potentialList t s))
   list-done = rw list-cut (list-ran .done)
 
-  list-gives : HasPotential t s (machine.run t (cut (potentialList t s)))
+  list-gives : HasPotential t s (machine.run t (split (potentialList t s)))
   unfolding potentialRights
   list-gives h g lh lg = rw list-cut (list-ran .shows .same h g lh lg)
 
@@ -71,11 +71,11 @@ promised-run-gives-all t s p =
 pub potential-in-component : EveryPotentialInComponent
 unfolding influences reaches
 potential-in-component t s h g a lh lg outside =
-    let end = machine.run t (cut (potentialList t s)) in
+    let end = machine.run t (split (potentialList t s)) in
     let gives = list-gives t s a h g lh lg in
     ⊎-elim
     (λ some.
     let influence = or-right (eqb h g) (hasAny (rights end h g)) (rw gives some) in
-    absurd (false≢true (sym outside ∙ components-stand t (cut (potentialList t s)) a h g lh lg influence)))
+    absurd (false≢true (sym outside ∙ components-stay t (split (potentialList t s)) a h g lh lg influence)))
     (has-none (potentialRights t s h g))
     (either (hasAny (potentialRights t s h g)))

@@ -12,7 +12,7 @@ use Rattle.machine.specs.Below.{hasBit}
 use Rattle.machine.specs.Right.{holds}
 use Rattle.machine.specs.Table.{domains, rights}
 use Rattle.machine.specs.Check.{Accepted}
-use Rattle.machine.specs.Call.{Call, callerOf, cut}
+use Rattle.machine.specs.Call.{Call, callerOf, split}
 use Rattle.machine.specs.Machine.{step}
 use Rattle.machine.specs.Run as machine
 use Rattle.machine.specs.Influence.{reaches, influences}
@@ -81,7 +81,7 @@ run-within t s cs a known h g k lh lg has =
 
 pub promised-run-within : EveryPromisedRunWithinPotential
 promised-run-within t ws p s known =
-    subst (WithinPotential t s) (sym (ran-table t ws p)) (run-within t s (cut ws) (ran-accepted t ws p) known)
+    subst (WithinPotential t s) (sym (ran-table t ws p)) (run-within t s (split ws) (ran-accepted t ws p) known)
 
 -- every known caller is a domain
 everyone-known : (t : List ℕ) (cs : List Call) → KnownCallersIn (domains t) (everyone t) cs
@@ -93,7 +93,7 @@ pub run-within-everyone : EveryRunWithinEveryone
 run-within-everyone t cs a = run-within t (everyone t) cs a (everyone-known t cs)
 
 pub promised-run-within-everyone : EveryPromisedRunWithinEveryone
-promised-run-within-everyone t ws p = promised-run-within t ws p (everyone t) (everyone-known t (cut ws))
+promised-run-within-everyone t ws p = promised-run-within t ws p (everyone t) (everyone-known t (split ws))
 
 -- ---- what is potential afterwards
 

@@ -10,7 +10,7 @@ use Rattle.machine.specs.Below.{bitsBelow, hasBit}
 use Rattle.machine.specs.Right.{holds}
 use Rattle.machine.specs.Table.{domains, rights}
 use Rattle.machine.specs.Check.{Accepted}
-use Rattle.machine.specs.Call.{Call, callerOf, cut}
+use Rattle.machine.specs.Call.{Call, callerOf, split}
 use Rattle.machine.specs.Machine.{decide, step, code}
 use Rattle.machine.specs.Run as machine
 use Rattle.machine.specs.Entry.{longestList}
@@ -59,7 +59,7 @@ EveryRunWithinPotential =
 -- The same of the words that the kernel left, for any list that runs.
 abbrev pub EveryPromisedRunWithinPotential : Type 0
 EveryPromisedRunWithinPotential =
-    (t ws : List ℕ) (p : PromisedRun t ws) (s : ℕ) → KnownCallersIn (domains t) s (cut ws) → WithinPotential t s (p .end)
+    (t ws : List ℕ) (p : PromisedRun t ws) (s : ℕ) → KnownCallersIn (domains t) s (split ws) → WithinPotential t s (p .end)
 
 -- the set of all domains
 unfoldable pub everyone : List ℕ → ℕ
@@ -103,8 +103,8 @@ HasPotential t s end = (h g : ℕ) → h < domains t → g < domains t → right
 -- The list ws gives every potential right of t, and a list may have so many words.
 pub record GivesAll (t : List ℕ) (s : ℕ) (ws : List ℕ) : Type 0 where
   pub few : length ws ≤ longestList
-  pub calls : AllDoneBy s t (cut ws)
-  pub gives : HasPotential t s (machine.run t (cut ws))
+  pub calls : AllDoneBy s t (split ws)
+  pub gives : HasPotential t s (machine.run t (split ws))
 
 -- There is one list for all of them, and it is computed.
 abbrev pub EveryPotentialListGivesAll : Type 0

@@ -4,7 +4,7 @@ use Prim.Native.Nat.{ℕ, _*_}
 use mathlib.Core.Path.{_≡_}
 use mathlib.Core.List.{List, [], _∷_, map}
 use Rattle.machine.specs.Word.{word}
-use Rattle.machine.specs.Call.{cut}
+use Rattle.machine.specs.Call.{split}
 use Rattle.machine.specs.Run.{run}
 use Rattle.potential_theory.specs.Closure.{potential}
 use Rattle.potential_theory.specs.Lists.{potentialList}
@@ -20,7 +20,7 @@ pub data PotentialRow : Type 0 where
 abbrev pub PotentialRowHolds : PotentialRow → Type 0
 PotentialRowHolds (could t s m) = potential t s ≡ m
 PotentialRowHolds (lists t s ws) = potentialList t s ≡ ws
-PotentialRowHolds (after t ws s m) = potential (run t (cut ws)) s ≡ m
+PotentialRowHolds (after t ws s m) = potential (run t (split ws)) s ≡ m
 
 -- the single claim about a list of such rows: each holds
 abbrev pub EveryPotentialRow : List PotentialRow → Type 0
@@ -50,8 +50,8 @@ fourBackwards =
     ∷ 0 ∷ 0 ∷ 1 ∷ 3 ∷ [])
 
 -- 0 and 2 have GRANT and REVOKE on themselves; 2 has SEND on 1, and 1 on 0
-abbrev pub threeInTurn : List ℕ
-threeInTurn =
+abbrev pub threeInOrder : List ℕ
+threeInOrder =
     bare 3
     (10 ∷ 0 ∷ 0
     ∷ 1 ∷ 0 ∷ 0
@@ -109,11 +109,11 @@ potentialRows =
     ∷ 0 ∷ 0 ∷ 1 ∷ 3 ∷ [])
     ∷ lists fourBackwards 0b1111 (0x60C3_0203 ∷ 0x6083_0103 ∷ 0x6043_0003 ∷ [])
     -- four rounds that add something, among three domains
-    ∷ could threeInTurn 0b111
+    ∷ could threeInOrder 0b111
     (11 ∷ 0 ∷ 10
     ∷ 11 ∷ 0 ∷ 10
     ∷ 11 ∷ 1 ∷ 10 ∷ [])
-    ∷ lists threeInTurn 0b111 (0x6082_010A ∷ 0x6042_000A ∷ 0x6000_020A ∷ 0x6080_010A ∷ 0x6040_000B ∷ 0x6040_020B ∷ [])
+    ∷ lists threeInOrder 0b111 (0x6082_010A ∷ 0x6042_000A ∷ 0x6000_020A ∷ 0x6080_010A ∷ 0x6040_000B ∷ 0x6040_020B ∷ [])
     -- 0 can't help itself to a right on 2, 1 can give it; those that don't act don't
     ∷ could byAThird 0b101
     (0 ∷ 0 ∷ 0

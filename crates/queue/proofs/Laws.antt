@@ -13,7 +13,7 @@ use Rattle.machine.specs.Word.{mostPayload, word}
 use Rattle.machine.specs.Queue.{capacity, waiting, lost, mostLost, hasSpace, sendWithSpace, sendToFull, sent, received}
 use Rattle.machine.proofs.Bools.{and-left, and-right}
 use Rattle.machine.proofs.Queue.{received-length, received-waiting}
-use Rattle.queue.specs.Queue.{sendable, leftBySend, receivable, leftByReceive, HasRoom, MayReceive, MayPushOut}
+use Rattle.queue.specs.Queue.{sendable, leftBySend, receivable, leftByReceive, QueueRoom, MayReceive, MayPushOut}
 
 -- ---- for callers: words that they know to pass the test
 pub may-be-sent : (q : List ℕ) (m : ℕ) → length q ≡ 12 → 1 ≤ capacity q → capacity q ≤ 8 → waiting q ≤ 8 → m ≤ mostPayload → sendable q m ≡ true
@@ -65,7 +65,7 @@ module _ (q : List ℕ) (m : ℕ) (passed : sendable q m ≡ true) where
   sent-to-full full = rw (passed, le-ltb _ _ full)
 
 -- ---- a send to a full queue: once the oldest message is out there is room for the newcomer,
-pub room-made : (q : List ℕ) (m : ℕ) → MayPushOut q m → HasRoom (received q) m
+pub room-made : (q : List ℕ) (m : ℕ) → MayPushOut q m → QueueRoom (received q) m
 room-made q m may =
     let some : waiting q ≢ 0 = omega (arith, may .oldest .some) in
     record {

@@ -26,7 +26,7 @@ unfoldable pub leftByReceive : List ℕ → List ℕ
 leftByReceive q = cond (receivable q) (received q) q
 
 -- what `send_with_space` asks: a slot is left for the message
-pub record HasRoom (q : List ℕ) (message : ℕ) : Type 0 where
+pub record QueueRoom (q : List ℕ) (message : ℕ) : Type 0 where
   pub twelve : length q ≡ 12
   pub room : waiting q < 8
   pub small : message ≤ mostPayload

@@ -11,7 +11,7 @@ use format::tables::SLOTS;
 ghost use mathlib.Core.Path.{_≡_};
 ghost use Prim.Native.Nat.{_+_, min};
 ghost use Rattle.machine.specs.Queue.{mostLost, sendWithSpace, sendToFull, received};
-ghost use Rattle.queue.specs.Queue.{sendable, leftBySend, receivable, leftByReceive, HasRoom, MayPushOut, MayReceive};
+ghost use Rattle.queue.specs.Queue.{sendable, leftBySend, receivable, leftByReceive, QueueRoom, MayPushOut, MayReceive};
 
 // Twelve words with a capacity of 1 to 8 and at most 8 messages waiting, and a message of 28 bits. So a full queue has a
 // message to push out, and its messages stand in slots.
@@ -28,7 +28,7 @@ fn sendable(q: &[u32], message: u32) -> bool
 
 // The message fills the slot at the waiting count, and waiting rises by 1.
 fn send_with_space(q: &mut [u32], message: u32)
-    requires { ⌜ HasRoom (now q) message ⌝ }
+    requires { ⌜ QueueRoom (now q) message ⌝ }
     ensures { λ _. ⌜ now (q .exit) ≡ sendWithSpace (now (q .entry)) message ⌝ }
 {
     let count = q[2] % KIND_UNIT;

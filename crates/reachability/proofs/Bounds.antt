@@ -11,7 +11,7 @@ use lib.Pow.{pow-pos, pow-lt}
 use Rattle.machine.proofs.Bools.{either}
 use Rattle.machine.proofs.Below.{bits-lt}
 use Rattle.reachability.specs.Closure.{withWords, widened, rounds, closed}
-use Rattle.reachability.specs.Chain.{wordsOf}
+use Rattle.reachability.specs.Chain.{linkWords}
 use Rattle.reachability.proofs.Chain.{word-at, word-past}
 
 module _ (k : ℕ) where
@@ -35,10 +35,10 @@ module _ (k : ℕ) where
   closed-lt ws s = rounds-lt (length ws) ws s
 
 -- of a relation below n, and of one number below n, it has n bits
-pub relation-lt : (n : ℕ) (r : ℕ → ℕ → Bool) (d : ℕ) → d < n → closed (wordsOf n r) (2 ^ d) < 2 ^ n
-relation-lt n r d l = closed-lt n (wordsOf n r) (2 ^ d) word-lt (pow-lt l)
+pub relation-lt : (n : ℕ) (r : ℕ → ℕ → Bool) (d : ℕ) → d < n → closed (linkWords n r) (2 ^ d) < 2 ^ n
+relation-lt n r d l = closed-lt n (linkWords n r) (2 ^ d) word-lt (pow-lt l)
   where
-    word-lt : (v : ℕ) → getD (wordsOf n r) v 0 < 2 ^ n
+    word-lt : (v : ℕ) → getD (linkWords n r) v 0 < 2 ^ n
     word-lt v =
         ⊎-elim (λ b. subst (λ w. w < 2 ^ n) (sym (word-at n r v b)) (bits-lt n (λ u. r u v)))
         (λ b. subst (λ w. w < 2 ^ n) (sym (word-past n r v b)) (pow-pos n))

@@ -17,7 +17,7 @@ use Rattle.machine.specs.Below.{sumBelow, bitsBelow, hasBit}
 use Rattle.machine.proofs.Bools.{and-left, and-right, or-cases, or-right, either}
 use Rattle.machine.proofs.Below.{below-or-last, words-at, words-past, bits-at, bits-past}
 use Rattle.reachability.specs.Closure.{withWords, widened, rounds, closed}
-use Rattle.reachability.specs.Chain.{Chain, Chain.end, Chain.link, linked, ClosedExactly, among, wordsOf, RelationClosedExactly}
+use Rattle.reachability.specs.Chain.{Chain, Chain.end, Chain.link, linked, ClosedExactly, among, linkWords, RelationClosedExactly}
 use Rattle.reachability.proofs.Any.{anyBelow, any-at, none-at}
 use Rattle.reachability.proofs.Bits.{bit-or, bit-none, bit-zero, bit-half, bit-own, bit-other}
 
@@ -253,12 +253,12 @@ closed-exactly ws s u = (sound ws (length ws) s u, λ x. complete ws s (x .0) u 
 
 -- the words of a relation have its steps
 module _ (n : ℕ) (r : ℕ → ℕ → Bool) where
-  pub word-at : (v : ℕ) → ltb v n ≡ true → getD (wordsOf n r) v 0 ≡ bitsBelow n (λ u. r u v)
-  unfolding wordsOf
+  pub word-at : (v : ℕ) → ltb v n ≡ true → getD (linkWords n r) v 0 ≡ bitsBelow n (λ u. r u v)
+  unfolding linkWords
   word-at v l = words-at n (λ v. bitsBelow n (λ u. r u v)) v 0 (ltb-true v n l)
 
-  pub word-past : (v : ℕ) → ltb v n ≡ false → getD (wordsOf n r) v 0 ≡ 0
-  unfolding wordsOf
+  pub word-past : (v : ℕ) → ltb v n ≡ false → getD (linkWords n r) v 0 ≡ 0
+  unfolding linkWords
   word-past v l = words-past n (λ v. bitsBelow n (λ u. r u v)) v 0 (ltb-false v n l)
 
   bit-in : (u v : ℕ) → hasBit (bitsBelow n (λ u. r u v)) u ≡ (ltb u n && r u v)
@@ -267,7 +267,7 @@ module _ (n : ℕ) (r : ℕ → ℕ → Bool) where
       (λ l. bits-past n (λ u. r u v) u (ltb-false u n l) ∙ sym (ap (λ b. b && r u v) l))
       (either (ltb u n))
 
-  linked-words : (u v : ℕ) → linked (wordsOf n r) u v ≡ among n r u v
+  linked-words : (u v : ℕ) → linked (linkWords n r) u v ≡ among n r u v
   unfolding linked among
   linked-words u v =
       ⊎-elim (λ l. ap (λ w. hasBit w u) (word-at v l) ∙ bit-in u v ∙ rw (l, and-true (ltb u n)))
@@ -277,7 +277,7 @@ module _ (n : ℕ) (r : ℕ → ℕ → Bool) where
 pub relation-closed-exactly : RelationClosedExactly
 relation-closed-exactly n r d u = (
   λ h.
-      let (v, m, c) = closed-exactly (wordsOf n r) (2 ^ d) u .0 h in
+      let (v, m, c) = closed-exactly (linkWords n r) (2 ^ d) u .0 h in
       subst (λ v. Chain (among n r) v u) (bit-other d v m) (chain-map (λ u v l. sym (linked-words n r u v) ∙ l) c),
-  λ c. closed-exactly (wordsOf n r) (2 ^ d) u .1 (d, bit-own d, chain-map (λ u v l. linked-words n r u v ∙ l) c),
+  λ c. closed-exactly (linkWords n r) (2 ^ d) u .1 (d, bit-own d, chain-map (λ u v l. linked-words n r u v ∙ l) c),
 )

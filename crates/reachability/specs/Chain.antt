@@ -25,8 +25,8 @@ ClosedExactly =
     → (hasBit (closed ws s) u ≡ true) ↔ ((d : ℕ) × (hasBit s d ≡ true) × Chain (linked ws) d u)
 
 -- the relation r among the numbers below n, as words: bit u of word v is set where u is related to v
-unfoldable pub wordsOf : ℕ → (ℕ → ℕ → Bool) → List ℕ
-wordsOf n r = wordsBelow n (λ v. bitsBelow n (λ u. r u v))
+unfoldable pub linkWords : ℕ → (ℕ → ℕ → Bool) → List ℕ
+linkWords n r = wordsBelow n (λ v. bitsBelow n (λ u. r u v))
 
 -- u is related to v, and both are below n
 unfoldable pub among : ℕ → (ℕ → ℕ → Bool) → ℕ → ℕ → Bool
@@ -35,4 +35,4 @@ among n r u v = ltb u n && ltb v n && r u v
 -- Of any relation below n: the closure of d alone holds exactly those that have a chain to d.
 abbrev pub RelationClosedExactly : Type 0
 RelationClosedExactly =
-    (n : ℕ) (r : ℕ → ℕ → Bool) (d u : ℕ) → (hasBit (closed (wordsOf n r) (2 ^ d)) u ≡ true) ↔ Chain (among n r) d u
+    (n : ℕ) (r : ℕ → ℕ → Bool) (d u : ℕ) → (hasBit (closed (linkWords n r) (2 ^ d)) u ≡ true) ↔ Chain (among n r) d u

@@ -10,7 +10,7 @@ use borrow.Author.Tests.{eq-eqb, ne-eqb}
 use lib.ListN.{length, getD, take, drop, set, length-append, length-set}
 use lib.Seq.{take-length, drop-length, take-at, drop-at, drop-drop, drop-cons, getD-at, set-getD, set-at, sets-eq, take-suc, append-snoc, length-take-le}
 use Rattle.machine.specs.Below.{numbersBelow}
-use Rattle.repair_theory.specs.Changes.{differing, pairs, changes}
+use Rattle.repair_theory.specs.Changes.{differing, changePairs, changes}
 use Rattle.repair_theory.proofs.Changes.{differsAt, lists-numbers, pairs-length, pairs-append}
 
 -- ---- a word more is looked at
@@ -99,18 +99,18 @@ module _ {d s copy : List ℕ} {i : ℕ} (c : Copied d s copy i) (same : length 
       ∙ ap₂ (λ (x y : List ℕ). x ++ y) (take-length s) (drop-length d)
       ∙ append-nil s
 
--- ---- the second pass: the first i words are the new ones, and the pairs of those that differ stand in front of the list
+-- ---- the second pass: the first i words are the new ones, and the changePairs of those that differ stand in front of the list
 pub record Replacing (t new list₀ table list : List ℕ) (at i : ℕ) : Type 0 where
   pub copied : Copied t new table i
   pub size : length list ≡ length list₀
   pub place : at ≡ 2 * length (numbersBelow i (differsAt t new))
-  pub told : list ≡ pairs t (numbersBelow i (differsAt t new)) ++ drop at list₀
+  pub told : list ≡ changePairs t (numbersBelow i (differsAt t new)) ++ drop at list₀
 
 pub replacing-start : (t new list : List ℕ) → Replacing t new list t list 0 0
-unfolding numbersBelow pairs
+unfolding numbersBelow changePairs
 replacing-start t new list = record { copied = copied-start t new; size = refl; place = refl; told = refl }
 
--- the pairs so far are no more than the words
+-- the changePairs so far are no more than the words
 pub replacing-few : {t new list₀ table list : List ℕ} {at i : ℕ} → Replacing t new list₀ table list at i → at ≤ 2 * i
 replacing-few {t} {new} {i = i} r = omega (arith, r .place, lists-numbers i (differsAt t new) .few)
 
@@ -153,7 +153,7 @@ module _ {t new list₀ table list : List ℕ} {at i : ℕ} (r : Replacing t new
         → list′ ≡ set (set list at i) (at + 1) (getD table i 0)
         → at′ ≡ at + 2
         → Replacing t new list₀ table′ list′ at′ (i + 1)
-    unfolding pairs
+    unfolding changePairs
     replacing-differs room table′ list′ at′ wrote tells next =
         record {
           copied = rw wrote (copied-next (r .copied) same within);
@@ -165,11 +165,11 @@ module _ {t new list₀ table list : List ℕ} {at i : ℕ} (r : Replacing t new
               ∙ sets-eq (i ∷ getD table i 0 ∷ []) list at (pair-fits room)
               ∙ ap₂ (λ (x y : List ℕ). x ++ (i ∷ getD table i 0 ∷ []) ++ y) front behind
               ∙ ap₂ (λ (w : ℕ) (x : List ℕ). done ++ (i ∷ w ∷ []) ++ x) (copied-read (r .copied) same within) (ap (λ (k : ℕ). drop k list₀) (sym next))
-              ∙ ap (λ (x : List ℕ). x ++ drop at′ list₀) (sym (ap (pairs t) one ∙ pairs-append t (numbersBelow i (differsAt t new)) (i ∷ [])));
+              ∙ ap (λ (x : List ℕ). x ++ drop at′ list₀) (sym (ap (changePairs t) one ∙ pairs-append t (numbersBelow i (differsAt t new)) (i ∷ [])));
         }
       where
         done : List ℕ
-        done = pairs t (numbersBelow i (differsAt t new))
+        done = changePairs t (numbersBelow i (differsAt t new))
 
         long : length done ≡ at
         long = pairs-length t (numbersBelow i (differsAt t new)) ∙ sym (r .place)
@@ -203,5 +203,5 @@ pub replacing-end : {t new list₀ table list : List ℕ} {at i : ℕ} → Repla
 unfolding changes differing
 replacing-end {t} {new} {list₀} {table} {list} {at} {i} r same l =
     let all : i ≡ length t = le-antisymm (omega (arith, r .copied .within)) l in
-    let told : pairs t (numbersBelow i (differsAt t new)) ≡ pairs t (numbersBelow (length t) (differsAt t new)) = ap (λ (k : ℕ). pairs t (numbersBelow k (differsAt t new))) all in
+    let told : changePairs t (numbersBelow i (differsAt t new)) ≡ changePairs t (numbersBelow (length t) (differsAt t new)) = ap (λ (k : ℕ). changePairs t (numbersBelow k (differsAt t new))) all in
     (copied-end (r .copied) same (omega arith), r .told ∙ ap₂ (λ (x : List ℕ) (k : ℕ). x ++ drop k list₀) told (r .place ∙ sym (pairs-length t (numbersBelow i (differsAt t new))) ∙ ap length told))

@@ -13,7 +13,7 @@ use lib.ListN.{length, getD, set, length-append, length-set, List·getD-append}
 use lib.Seq.{getD-at, getD-set-same, getD-set-other, ext-getD}
 use Rattle.machine.specs.Below.{numbersBelow}
 use Rattle.machine.proofs.Below.{below-or-last}
-use Rattle.repair_theory.specs.Changes.{differing, pairs, changes, putBack}
+use Rattle.repair_theory.specs.Changes.{differing, changePairs, changes, putBack}
 
 -- ---- the numbers below k of which p holds
 
@@ -102,27 +102,27 @@ none-listed (suc k) p fail = rw (none-listed k p fail, fail k)
 -- ---- pairs
 
 module _ (t : List ℕ) where
-  pub pairs-length : (is : List ℕ) → length (pairs t is) ≡ 2 * length is
-  unfolding pairs
+  pub pairs-length : (is : List ℕ) → length (changePairs t is) ≡ 2 * length is
+  unfolding changePairs
   pairs-length [] = refl
   pairs-length (i ∷ is) = omega (arith, pairs-length is)
 
-  pub pairs-append : (is js : List ℕ) → pairs t (is ++ js) ≡ pairs t is ++ pairs t js
-  unfolding pairs
+  pub pairs-append : (is js : List ℕ) → changePairs t (is ++ js) ≡ changePairs t is ++ changePairs t js
+  unfolding changePairs
   pairs-append [] js = refl
   pairs-append (i ∷ is) js = ap (λ (x : List ℕ). i ∷ getD t i 0 ∷ x) (pairs-append is js)
 
   -- pair j: a place and its content
-  pub pairs-place : (is : List ℕ) (j : ℕ) → j < length is → getD (pairs t is) (2 * j) 0 ≡ getD is j 0
-  unfolding pairs
+  pub pairs-place : (is : List ℕ) (j : ℕ) → j < length is → getD (changePairs t is) (2 * j) 0 ≡ getD is j 0
+  unfolding changePairs
   pairs-place [] j l = absurd (not-suc-le-zero l)
   pairs-place (i ∷ is) zero l = refl
   pairs-place (i ∷ is) (suc j) l =
       let at : 2 * suc j ≡ suc (suc (2 * j)) = omega arith in
       rw at (pairs-place is j (omega arith))
 
-  pub pairs-content : (is : List ℕ) (j : ℕ) → j < length is → getD (pairs t is) (2 * j + 1) 0 ≡ getD t (getD is j 0) 0
-  unfolding pairs
+  pub pairs-content : (is : List ℕ) (j : ℕ) → j < length is → getD (changePairs t is) (2 * j + 1) 0 ≡ getD t (getD is j 0) 0
+  unfolding changePairs
   pairs-content [] j l = absurd (not-suc-le-zero l)
   pairs-content (i ∷ is) zero l = refl
   pairs-content (i ∷ is) (suc j) l =
@@ -132,8 +132,8 @@ module _ (t : List ℕ) where
 -- ---- putting back
 
 -- pairs are put back one after the other
-put-back-append : (t s : List ℕ) (is rest : List ℕ) → putBack s (pairs t is ++ rest) ≡ putBack (putBack s (pairs t is)) rest
-unfolding putBack pairs
+put-back-append : (t s : List ℕ) (is rest : List ℕ) → putBack s (changePairs t is ++ rest) ≡ putBack (putBack s (changePairs t is)) rest
+unfolding putBack changePairs
 put-back-append t s [] rest = refl
 put-back-append t s (i ∷ is) rest = put-back-append t (set s i (getD t i 0)) is rest
 
@@ -173,21 +173,21 @@ module _ {old new : List ℕ} {k : ℕ} {t : List ℕ} (b : Back old new k t) wh
 abbrev pub differsAt : List ℕ → List ℕ → ℕ → Bool
 differsAt old new i = not (eqb (getD old i 0) (getD new i 0))
 
-back : (old new : List ℕ) → length new ≡ length old → (k : ℕ) → k ≤ length old → Back old new k (putBack new (pairs old (numbersBelow k (differsAt old new))))
-unfolding numbersBelow putBack pairs
+back : (old new : List ℕ) → length new ≡ length old → (k : ℕ) → k ≤ length old → Back old new k (putBack new (changePairs old (numbersBelow k (differsAt old new))))
+unfolding numbersBelow putBack changePairs
 back old new size zero l = record { size = size; done = λ i b. absurd (not-suc-le-zero b); rest = λ i b. refl }
 back old new size (suc k) l = go (back old new size k (omega arith)) (differsAt old new k) refl
   where
     before : List ℕ
     before = numbersBelow k (differsAt old new)
 
-    go : Back old new k (putBack new (pairs old before)) → (b : Bool) → differsAt old new k ≡ b → Back old new (suc k) (putBack new (pairs old (before ++ cond b (k ∷ []) [])))
+    go : Back old new k (putBack new (changePairs old before)) → (b : Bool) → differsAt old new k ≡ b → Back old new (suc k) (putBack new (changePairs old (before ++ cond b (k ∷ []) [])))
     go h true e =
         subst (Back old new (suc k))
         (sym (ap (putBack new) (pairs-append old before (k ∷ [])) ∙ put-back-append old new before (k ∷ getD old k 0 ∷ [])))
         (back-put h (omega arith))
     go h false e =
-        subst (λ (x : List ℕ). Back old new (suc k) (putBack new (pairs old x))) (sym (append-nil before))
+        subst (λ (x : List ℕ). Back old new (suc k) (putBack new (changePairs old x))) (sym (append-nil before))
         (back-same h (eqb-true _ _ (not-false _ e)))
 
 -- all the words that differ put back

@@ -3,7 +3,7 @@ use mathlib.Core.Path.{refl}
 use Rattle.machine.specs.Below.{wordsBelow}
 use Rattle.machine.proofs.Everything.{everything}
 use Rattle.repair_theory.specs.Mend.{mendedRights, mendedEndpoint, mendedAt, mended, mendable}
-use Rattle.repair_theory.specs.Changes.{differing, pairs, changes, putBack}
+use Rattle.repair_theory.specs.Changes.{differing, changePairs, changes, putBack}
 use Rattle.repair_theory.specs.Repair.{altered, alteredCount, repairCode, refusal, repaired, repair}
 use Rattle.repair_theory.specs.Examples.{EveryRow, soundRows, rightsRows, queueRows, listRows, frameRows, PutBackHolds}
 
@@ -11,7 +11,7 @@ use Rattle.repair_theory.specs.Examples.{EveryRow, soundRows, rightsRows
 unfoldable rows-compute : Unit {0}
 unfolding everything wordsBelow
     mendedRights mendedEndpoint mendedAt mended mendable
-    differing pairs changes putBack altered alteredCount repairCode refusal repaired repair
+    differing changePairs changes putBack altered alteredCount repairCode refusal repaired repair
 rows-compute = tt
 
 pub every-sound-row : EveryRow soundRows

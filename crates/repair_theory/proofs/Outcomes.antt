@@ -15,7 +15,7 @@ use Rattle.repair_theory.specs.Mend.{mended, mendable}
 use Rattle.repair_theory.proofs.Mended.{mended-length}
 use Rattle.repair_theory.proofs.Claims.{mended-accepted}
 use Rattle.repair_theory.specs.Changes.{differing, changes}
-use Rattle.repair_theory.specs.Repair.{altered, alteredCount, repairCode, Outcome, refusal, repaired, repair}
+use Rattle.repair_theory.specs.Repair.{altered, alteredCount, repairCode, RepairOutcome, refusal, repaired, repair}
 use Rattle.repair_theory.proofs.Changes.{lists-numbers, pairs-length}
 
 -- two words for each word altered
@@ -46,7 +46,7 @@ not-refused t size = go (mendable t) refl (ltb size (length (altered t))) refl
     go false can b _ z = absurd (omega arith)
 
 -- what is so of a refusal and of a repaired table is so of a repair
-pub repair-elim : (t list : List ℕ) (P : Outcome → Type 0)
+pub repair-elim : (t list : List ℕ) (P : RepairOutcome → Type 0)
     → (mendable t ≡ true → length (altered t) ≤ length list → P (repaired t list))
     → ((n : ℕ) → (n ≡ 0 → ⊥) → n ≡ repairCode t (length list) → P (refusal n t list))
     → P (repair t list)

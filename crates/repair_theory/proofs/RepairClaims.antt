@@ -14,19 +14,19 @@ use Rattle.repair_theory.specs.Mend.{mended, mendable}
 use Rattle.repair_theory.specs.Claims.{AddsNoRight, AddsNoRightInAnyReading, AltersOnlyBroken}
 use Rattle.repair_theory.proofs.Mended.{mended-length}
 use Rattle.repair_theory.proofs.Claims.{accepted-exactly, mended-accepted, sound-stays, no-right-added, no-right-in-any-reading, only-broken-altered}
-use Rattle.repair_theory.specs.Changes.{differing, pairs, changes, putBack}
-use Rattle.repair_theory.specs.Repair.{altered, alteredCount, repairCode, Outcome, refusal, repaired, repair}
+use Rattle.repair_theory.specs.Changes.{differing, changePairs, changes, putBack}
+use Rattle.repair_theory.specs.Repair.{altered, alteredCount, repairCode, RepairOutcome, refusal, repaired, repair}
 use Rattle.repair_theory.specs.RepairClaims as claims
-use Rattle.repair_theory.specs.RepairClaims.{PromisedRepair, TellsChanges, ToldExactly}
+use Rattle.repair_theory.specs.RepairClaims.{PromisedRepair, ReportsChanges, ReportedExactly}
 use Rattle.repair_theory.proofs.Changes.{Lists, none-listed, lists-numbers, pairs-length, pairs-place, pairs-content, put-back-changes, differsAt}
 use Rattle.repair_theory.proofs.Outcomes.{altered-length, repair-elim}
 
 -- the outcome that was promised
-abbrev outcomeOf : {t list : List ℕ} → PromisedRepair t list → Outcome
+abbrev outcomeOf : {t list : List ℕ} → PromisedRepair t list → RepairOutcome
 outcomeOf r = record { code = r .code; count = r .count; table = r .end; list = r .told }
 
 -- what is so of a repaired table and of a refusal is so of what was promised
-promised : (t list : List ℕ) (P : Outcome → Type 0)
+promised : (t list : List ℕ) (P : RepairOutcome → Type 0)
     → (mendable t ≡ true → length (altered t) ≤ length list → P (repaired t list))
     → ((n : ℕ) → (n ≡ 0 → ⊥) → n ≡ repairCode t (length list) → P (refusal n t list))
     → (r : PromisedRepair t list)
@@ -71,14 +71,14 @@ module _ (old new rest : List ℕ) (size : length new ≡ length old) where
   unfolding differing
   lists = lists-numbers (length old) (differsAt old new)
 
-  in-front : (i : ℕ) → i < 2 * length (differing old new) → getD (changes old new ++ rest) i 0 ≡ getD (pairs old (differing old new)) i 0
+  in-front : (i : ℕ) → i < 2 * length (differing old new) → getD (changes old new ++ rest) i 0 ≡ getD (changePairs old (differing old new)) i 0
   unfolding changes
-  in-front i l = List·getD-append (pairs old (differing old new)) rest 0 i (omega (arith, pairs-length old (differing old new)))
+  in-front i l = List·getD-append (changePairs old (differing old new)) rest 0 i (omega (arith, pairs-length old (differing old new)))
 
   place-at : (j : ℕ) → j < length (differing old new) → getD (changes old new ++ rest) (2 * j) 0 ≡ getD (differing old new) j 0
   place-at j l = in-front (2 * j) (omega arith) ∙ pairs-place old (differing old new) j l
 
-  tells : TellsChanges old new (changes old new ++ rest) (length (differing old new))
+  tells : ReportsChanges old new (changes old new ++ rest) (length (differing old new))
   tells =
       record {
         differs =
@@ -113,10 +113,10 @@ module _ (old new rest : List ℕ) (size : length new ≡ length old) where
       ap (putBack new) (take-at (changes old new) rest _ changes-length)
       ∙ put-back-changes old new size
 
-pub every-repair-told-exactly : claims.EveryRepairToldExactly
+pub every-repair-reported-exactly : claims.EveryRepairReportedExactly
 unfolding repaired refusal altered alteredCount
-every-repair-told-exactly t list =
-    promised t list (λ o. ToldExactly t (o .table) list (o .list) (o .count))
+every-repair-reported-exactly t list =
+    promised t list (λ o. ReportedExactly t (o .table) list (o .list) (o .count))
     (λ _ room.
     record {
       pairs = tells t (mended t) (drop (length (altered t)) list) (mended-length t);
@@ -151,10 +151,10 @@ unfolding differing
 nothing-differs t = none-listed (length t) (differsAt t t) (λ i. ap not (eq-eqb (getD t i 0) (getD t i 0) refl))
 
 pub every-sound-table-stays : claims.EverySoundTableStays
-unfolding repaired refusal altered alteredCount repairCode changes pairs
+unfolding repaired refusal altered alteredCount repairCode changes changePairs
 every-sound-table-stays t list r a =
     promised t list (λ o. (o .code ≡ 0) × (o .count ≡ 0) × (o .table ≡ t) × (o .list ≡ list))
-    (λ _ _. (refl, ap length nothing, stays, ap (λ (is : List ℕ). pairs t is ++ drop (length (pairs t is)) list) nothing))
+    (λ _ _. (refl, ap length nothing, stays, ap (λ (is : List ℕ). changePairs t is ++ drop (length (changePairs t is)) list) nothing))
     (λ n some due. absurd (some (due ∙ accepted)))
     r
   where

@@ -12,13 +12,13 @@ unfoldable pub differing : List ℕ → List ℕ → List ℕ
 differing old new = numbersBelow (length old) (λ i. not (eqb (getD old i 0) (getD new i 0)))
 
 -- two words for each of some places: the place, and what a table has there
-unfoldable pub pairs : List ℕ → List ℕ → List ℕ
-pairs t [] = []
-pairs t (i ∷ is) = i ∷ getD t i 0 ∷ pairs t is
+unfoldable pub changePairs : List ℕ → List ℕ → List ℕ
+changePairs t [] = []
+changePairs t (i ∷ is) = i ∷ getD t i 0 ∷ changePairs t is
 
 -- the changes from an old table to a new one: each place at which they differ, with its old content
 unfoldable pub changes : List ℕ → List ℕ → List ℕ
-changes old new = pairs old (differing old new)
+changes old new = changePairs old (differing old new)
 
 -- a table with the content of each pair put back at its place
 unfoldable pub putBack : List ℕ → List ℕ → List ℕ

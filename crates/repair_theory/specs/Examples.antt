@@ -7,13 +7,13 @@ use lib.ListN.{take, set, replicate}
 use Rattle.machine.specs.Examples.{T}
 use Rattle.machine.specs.CodeExamples.{fourDomains}
 use Rattle.repair_theory.specs.Changes.{putBack}
-use Rattle.repair_theory.specs.Repair.{Outcome, repair}
+use Rattle.repair_theory.specs.Repair.{RepairOutcome, repair}
 
 -- a row: what the repair of a table with a lent list comes to
 pub record Row : Type 0 where
   pub table : List ℕ
   pub list : List ℕ
-  pub leaves : Outcome
+  pub leaves : RepairOutcome
 
 -- every row holds of the definition
 abbrev pub EveryRow : List Row → Type 0
@@ -81,12 +81,12 @@ queueRows =
 abbrev pub worn : List ℕ
 worn = set (set (set fourDomains 5 0) 28 0xE000_0000) 43 0x5000_0009
 
-abbrev pub wornMended : List ℕ
-wornMended =
+abbrev pub damagedMended : List ℕ
+damagedMended =
     set (set (set (set (set (set (set fourDomains 5 0x2000_0000) 19 0x5000_0000) 20 0x6000_0000) 21 0xF000_0000) 43 0x5000_0000) 45 0xF000_0000) 46 0xF000_0000
 
-abbrev pub wornTold : List ℕ
-wornTold =
+abbrev pub damagedReported : List ℕ
+damagedReported =
     5 ∷ 0
     ∷ 19 ∷ 0x5000_0001
     ∷ 20 ∷ 0x6FFF_FFFF
@@ -100,8 +100,8 @@ wornTold =
 -- the list: longer, of exactly two words for each word altered, and one word less; for one word altered, of one word and of none
 abbrev pub listRows : List Row
 listRows =
-    mends worn 8 wornMended wornTold (sevens 4)
-    ∷ record { table = worn; list = sevens 16; leaves = record { code = 0; count = 8; table = wornMended; list = wornTold } }
+    mends worn 8 damagedMended damagedReported (sevens 4)
+    ∷ record { table = worn; list = sevens 16; leaves = record { code = 0; count = 8; table = damagedMended; list = damagedReported } }
     ∷ refuses 34 worn (sevens 15)
     ∷ refuses 34 (set T 2 0x3000_0001) (sevens 1)
     ∷ refuses 34 (set T 2 0x3000_0001) []
@@ -133,6 +133,6 @@ frameRows =
 -- putting back: the pairs in their order, a word that is left over passed by
 abbrev pub PutBackHolds : Type 0
 PutBackHolds =
-    (putBack wornMended wornTold ≡ worn)
+    (putBack damagedMended damagedReported ≡ worn)
     × (putBack T (2 ∷ 0x3000_0001 ∷ 2 ∷ 0x2000_0017 ∷ 33 ∷ []) ≡ set T 2 0x2000_0017)
     × (putBack T [] ≡ T)

@@ -22,18 +22,18 @@ unfoldable pub repairCode : List ℕ → ℕ → ℕ
 repairCode t size = cond (not (mendable t)) 33 (cond (ltb size (length (altered t))) 34 0)
 
 -- what a repair answers and leaves: the code, the number of words altered, the table and the list
-pub record Outcome : Type 0 where
+pub record RepairOutcome : Type 0 where
   pub code : ℕ
   pub count : ℕ
   pub table : List ℕ
   pub list : List ℕ
 
 -- a refusal alters nothing
-unfoldable pub refusal : ℕ → List ℕ → List ℕ → Outcome
+unfoldable pub refusal : ℕ → List ℕ → List ℕ → RepairOutcome
 refusal n t list = record { code = n; count = 0; table = t; list = list }
 
 -- a repair: the table is mended, and the pairs stand in front of the list, whose words past them stay
-unfoldable pub repaired : List ℕ → List ℕ → Outcome
+unfoldable pub repaired : List ℕ → List ℕ → RepairOutcome
 repaired t list =
     record {
       code = 0;
@@ -42,7 +42,7 @@ repaired t list =
       list = altered t ++ drop (length (altered t)) list;
     }
 
-unfoldable pub repair : List ℕ → List ℕ → Outcome
+unfoldable pub repair : List ℕ → List ℕ → RepairOutcome
 repair t list =
     let n = repairCode t (length list) in
     cond (eqb n 0) (repaired t list) (refusal n t list)

@@ -46,21 +46,21 @@ EveryRepairAltersOnlyBroken = (t list : List ℕ) (r : PromisedRepair t list) �
 
 -- The first words of a list are count pairs that tell just the words in which a new table differs from the old one, lowest place
 -- first, each by its place and its old content.
-pub record TellsChanges (old new list : List ℕ) (count : ℕ) : Type 0 where
+pub record ReportsChanges (old new list : List ℕ) (count : ℕ) : Type 0 where
   pub differs : (j : ℕ) → j < count → getD new (getD list (2 * j) 0) 0 ≡ getD old (getD list (2 * j) 0) 0 → ⊥
   pub content : (j : ℕ) → j < count → getD list (2 * j + 1) 0 ≡ getD old (getD list (2 * j) 0) 0
   pub ascending : (j : ℕ) → j + 1 < count → getD list (2 * j) 0 < getD list (2 * (j + 1)) 0
   pub every : (i : ℕ) → (getD new i 0 ≡ getD old i 0 → ⊥) → (j : ℕ) × (j < count) × (getD list (2 * j) 0 ≡ i)
 
 -- The pairs in front of the list tell just the words that were altered, and the words past them stay.
-pub record ToldExactly (t end list told : List ℕ) (count : ℕ) : Type 0 where
-  pub pairs : TellsChanges t end told count
+pub record ReportedExactly (t end list told : List ℕ) (count : ℕ) : Type 0 where
+  pub pairs : ReportsChanges t end told count
   pub past : drop (2 * count) told ≡ drop (2 * count) list
   pub size : length told ≡ length list
 
-abbrev pub EveryRepairToldExactly : Type 0
-EveryRepairToldExactly =
-    (t list : List ℕ) (r : PromisedRepair t list) → ToldExactly t (r .end) list (r .told) (r .count)
+abbrev pub EveryRepairReportedExactly : Type 0
+EveryRepairReportedExactly =
+    (t list : List ℕ) (r : PromisedRepair t list) → ReportedExactly t (r .end) list (r .told) (r .count)
 
 -- The old table can be had back: the pairs put back into the table that was left give the table that came.
 abbrev pub EveryRepairPutBack : Type 0

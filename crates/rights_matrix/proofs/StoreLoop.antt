@@ -15,7 +15,7 @@ use Rattle.machine.specs.Below.{wordsBelow}
 use Rattle.machine.specs.Word.{word}
 use Rattle.machine.specs.Table.{rightsAt}
 use Rattle.machine.proofs.Below.{words-length, words-at}
-use Rattle.rights_matrix_theory.specs.Rows.{heldIn, isRights, rowsOut, hasRights}
+use Rattle.rights_matrix_theory.specs.Rows.{heldIn, isRights, storedRows, hasRights}
 use Rattle.rights_matrix.proofs.Parts.{part-length, putPart, put-length, put-before, put-in, put-behind}
 use Rattle.rights_matrix.proofs.LoadLoop.{HasRights, row-within, row-part}
 
@@ -87,8 +87,8 @@ module _ (n : ℕ) (rows : List (List ℕ)) (t₀ : List ℕ) where
         (ap length (row-part t n h at is) ∙ part-length t (rightsAt n h 0) n there)))
 
   -- every row is put out
-  pub out-end : (t : List ℕ) (h : ℕ) → Out n rows t₀ t h → h ≡ n → t ≡ rowsOut n rows t₀
-  unfolding rowsOut isRights
+  pub out-end : (t : List ℕ) (h : ℕ) → Out n rows t₀ t h → h ≡ n → t ≡ storedRows n rows t₀
+  unfolding storedRows isRights
   out-end t h s all =
       ext-getD 0 t (wordsBelow (length t₀) f) (s .size ∙ sym (words-length (length t₀) f))
       (λ i l. at i ∙ sym (words-at (length t₀) f i 0 (omega (arith, s .size))))
@@ -110,8 +110,8 @@ module _ (n : ℕ) (rows : List (List ℕ)) (t₀ : List ℕ) where
           ap (λ (i : ℕ). getD t i 0) is ∙ behind j (decLt j (n * n)) ∙ ap f (sym is)
 
 -- what is put out, on either side of the test
-pub out-none : (n : ℕ) (rows : List (List ℕ)) (t : List ℕ) → hasRights n (length t) ≡ false → t ≡ cond (hasRights n (length t)) (rowsOut n rows t) t
+pub out-none : (n : ℕ) (rows : List (List ℕ)) (t : List ℕ) → hasRights n (length t) ≡ false → t ≡ cond (hasRights n (length t)) (storedRows n rows t) t
 out-none n rows t h = rw h
 
-pub out-all : (n : ℕ) (rows : List (List ℕ)) (t x : List ℕ) → hasRights n (length t) ≡ true → x ≡ rowsOut n rows t → x ≡ cond (hasRights n (length t)) (rowsOut n rows t) t
+pub out-all : (n : ℕ) (rows : List (List ℕ)) (t x : List ℕ) → hasRights n (length t) ≡ true → x ≡ storedRows n rows t → x ≡ cond (hasRights n (length t)) (storedRows n rows t) t
 out-all n rows t x h e = rw h e

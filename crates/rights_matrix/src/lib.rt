@@ -10,7 +10,7 @@ ghost use Prim.Native.Nat.{_%_, _≤_, _<_};
 ghost use lib.ListN.{length};
 ghost use Rattle.machine.specs.Below.{wordsBelow};
 ghost use Rattle.machine.specs.Word.{word};
-ghost use Rattle.rights_matrix_theory.specs.Rows.{heldIn, withHeld, rowOf, rowsOf, rowsOut, hasRights};
+ghost use Rattle.rights_matrix_theory.specs.Rows.{heldIn, withHeld, rowOf, rowsOf, storedRows, hasRights};
 
 fn wide(small: u8) -> u32
     ensures { λ r. ⌜ r ≡ small ⌝ }
@@ -50,7 +50,7 @@ fn has_rights(n: u32, size: usize) -> bool
 }
 
 // One holder's rights words as a row.
-fn row_in(words: &[u32]) -> [u8; 16]
+fn load_row(words: &[u32]) -> [u8; 16]
     requires { ⌜ length (now words) ≤ 16 ⌝ }
     ensures { λ r. ⌜ r ≡ rowOf (now (words .entry)) ⌝ }
 {
@@ -64,7 +64,7 @@ fn row_in(words: &[u32]) -> [u8; 16]
 }
 
 // The rows of a table of n domains. There is nothing in them where the table hasn't its rights words.
-pub fn take_in(table: &[u32], n: u32) -> [[u8; 16]; 16]
+pub fn load(table: &[u32], n: u32) -> [[u8; 16]; 16]
     ensures { λ r. ⌜ r ≡ rowsOf (cond (hasRights n (length (now (table .entry)))) n 0) (now (table .entry)) ⌝ }
 {
     let mut rows = [[0u8; 16]; 16];
@@ -76,14 +76,14 @@ pub fn take_in(table: &[u32], n: u32) -> [[u8; 16]; 16]
         let start = rights_at(n, h, 0);
         let end = start + n as usize;
         let at = h as usize;
-        rows[at] = row_in(&table[start..end]);
+        rows[at] = load_row(&table[start..end]);
         h += 1;
     }
     rows
 }
 
 // A row as its holder's rights words.
-fn row_out(rows: &[[u8; 16]; 16], holder: u32, words: &mut [u32])
+fn store_row(rows: &[[u8; 16]; 16], holder: u32, words: &mut [u32])
     requires { ⌜ length (now words) ≤ 16 ⌝ }
     ensures { λ _. ⌜ now (words .exit) ≡ wordsBelow (length (now (words .entry))) (λ g. word 2 (heldIn (now (rows .entry)) holder g)) ⌝ }
 {
@@ -97,8 +97,8 @@ fn row_out(rows: &[[u8; 16]; 16], holder: u32, words: &mut [u32])
 }
 
 // The rows put out to a table of n domains. A table that hasn't its rights words stays as it is.
-pub fn put_out(rows: &[[u8; 16]; 16], n: u32, table: &mut [u32])
-    ensures { λ _. ⌜ now (table .exit) ≡ cond (hasRights n (length (now (table .entry)))) (rowsOut n (now (rows .entry)) (now (table .entry))) (now (table .entry)) ⌝ }
+pub fn store(rows: &[[u8; 16]; 16], n: u32, table: &mut [u32])
+    ensures { λ _. ⌜ now (table .exit) ≡ cond (hasRights n (length (now (table .entry)))) (storedRows n (now (rows .entry)) (now (table .entry))) (now (table .entry)) ⌝ }
 {
     if !has_rights(n, table.len()) {
         return;
@@ -107,7 +107,7 @@ pub fn put_out(rows: &[[u8; 16]; 16], n: u32, table: &mut [u32])
     while h < n {
         let from = rights_at(n, h, 0);
         let to = from + n as usize;
-        row_out(rows, h, &mut table[from..to]);
+        store_row(rows, h, &mut table[from..to]);
         h += 1;
     }
 }

@@ -18,8 +18,8 @@ use Rattle.machine.specs.Table.{domains, rightsAt, rightsWord, rights}
 use Rattle.machine.proofs.Below.{below-or-last, words-length, words-at}
 use Rattle.machine.proofs.Accepted.{accepted-counts}
 use Rattle.machine.proofs.Step.{rights-held}
-use Rattle.rights_matrix_theory.specs.Rows.{heldIn, withHeld, rowsBelow, rowOf, rowsOf, isRights, rowsOut}
-use Rattle.rights_matrix_theory.specs.Claims.{Sixteen, TakenInRights, PutIsHeld, PutOutRights}
+use Rattle.rights_matrix_theory.specs.Rows.{heldIn, withHeld, rowsBelow, rowOf, rowsOf, isRights, storedRows}
+use Rattle.rights_matrix_theory.specs.Claims.{Sixteen, LoadedRights, PutIsHeld, StoredRights}
 
 -- ---- the list of f below k
 pub rows-length : (k : ℕ) (f : ℕ → List ℕ) → length (rowsBelow k f) ≡ k
@@ -70,9 +70,9 @@ module _ (n : ℕ) (t : List ℕ) where
 small-payload : (w : ℕ) → payload w ≤ 15 → w % 256 ≡ payload w
 small-payload w few = omega arith
 
-pub taken-in-rights : TakenInRights
+pub loaded-rights : LoadedRights
 unfolding rights rightsWord
-taken-in-rights t a =
+loaded-rights t a =
     let n = domains t in
     let few = accepted-counts t a .1 in
     record {
@@ -146,9 +146,9 @@ put-is-held rows h g s x lh lg =
     }
 
 -- ---- put out
-pub put-out-rights : PutOutRights
-unfolding rowsOut isRights
-put-out-rights n rows t there =
+pub stored-rights : StoredRights
+unfolding storedRows isRights
+stored-rights n rows t there =
     record {
       size = words-length (length t) f;
       rightsWords =

@@ -7,7 +7,7 @@ use lib.ListN.{length, getD}
 use Rattle.machine.specs.Word.{word}
 use Rattle.machine.specs.Table.{domains, rightsAt, rights}
 use Rattle.machine.specs.Check.{Accepted}
-use Rattle.rights_matrix_theory.specs.Rows.{heldIn, withHeld, rowsOf, rowsOut}
+use Rattle.rights_matrix_theory.specs.Rows.{heldIn, withHeld, rowsOf, storedRows}
 
 -- sixteen rows of sixteen
 pub record Sixteen (rows : List (List ℕ)) : Type 0 where
@@ -21,8 +21,8 @@ pub record SameRights (n : ℕ) (rows : List (List ℕ)) (t : List ℕ) : Type 0
   pub nothing : (h g : ℕ) → h < n → n ≤ g → g < 16 → heldIn rows h g ≡ 0
 
 -- what is taken in stands for the table's rights
-abbrev pub TakenInRights : Type 0
-TakenInRights = (t : List ℕ) → Accepted t → SameRights (domains t) (rowsOf (domains t) t) t
+abbrev pub LoadedRights : Type 0
+LoadedRights = (t : List ℕ) → Accepted t → SameRights (domains t) (rowsOf (domains t) t) t
 
 -- Rows in which h's rights on g have become s, and nothing else has changed.
 pub record Altered (rows : List (List ℕ)) (h g s : ℕ) (rows′ : List (List ℕ)) : Type 0 where
@@ -35,12 +35,12 @@ abbrev pub PutIsHeld : Type 0
 PutIsHeld = (rows : List (List ℕ)) (h g s : ℕ) → Sixteen rows → h < 16 → g < 16 → Altered rows h g s (withHeld rows h g s)
 
 -- The table t′ has the rights of the rows for its rights words, and its other words from t.
-pub record OutTo (n : ℕ) (rows : List (List ℕ)) (t t′ : List ℕ) : Type 0 where
+pub record StoredTo (n : ℕ) (rows : List (List ℕ)) (t t′ : List ℕ) : Type 0 where
   pub size : length t′ ≡ length t
   pub rightsWords : (h g : ℕ) → h < n → g < n → getD t′ (rightsAt n h g) 0 ≡ word 2 (heldIn rows h g)
   pub header : getD t′ 0 0 ≡ getD t 0 0
   pub behind : (i : ℕ) → n * n < i → getD t′ i 0 ≡ getD t i 0
 
 -- what is put out are the table's rights words
-abbrev pub PutOutRights : Type 0
-PutOutRights = (n : ℕ) (rows : List (List ℕ)) (t : List ℕ) → n * n < length t → OutTo n rows t (rowsOut n rows t)
+abbrev pub StoredRights : Type 0
+StoredRights = (n : ℕ) (rows : List (List ℕ)) (t : List ℕ) → n * n < length t → StoredTo n rows t (storedRows n rows t)

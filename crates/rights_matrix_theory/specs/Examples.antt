@@ -2,7 +2,7 @@
 use Prim.Native.Nat.{ℕ}
 use mathlib.Core.Path.{_≡_}
 use mathlib.Core.List.{List, [], _∷_}
-use Rattle.rights_matrix_theory.specs.Rows.{heldIn, withHeld, rowsOf, rowsOut}
+use Rattle.rights_matrix_theory.specs.Rows.{heldIn, withHeld, rowsOf, storedRows}
 
 -- a table's header and its rights words, and a word behind them
 abbrev pub two : List ℕ
@@ -21,5 +21,5 @@ TakenIn =
 -- domain 0's rights on 1 become 15, and are put out: the header and the word behind stay
 abbrev pub PutOut : Type 0
 PutOut =
-    rowsOut 2 (withHeld (rowsOf 2 two) 0 1 15) two
+    storedRows 2 (withHeld (rowsOf 2 two) 0 1 15) two
     ≡ 0x1000_0200 ∷ 0x2000_0001 ∷ 0x2000_000F ∷ 0x2000_0004 ∷ 0x2000_0008 ∷ 0x3000_0011 ∷ []

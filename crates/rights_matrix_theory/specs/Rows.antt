@@ -35,8 +35,8 @@ unfoldable pub isRights : ℕ → ℕ → Bool
 isRights n i = leb 1 i && leb i (n * n)
 
 -- the rows put out to a table of n domains: its other words stay
-unfoldable pub rowsOut : ℕ → List (List ℕ) → List ℕ → List ℕ
-rowsOut n rows t =
+unfoldable pub storedRows : ℕ → List (List ℕ) → List ℕ → List ℕ
+storedRows n rows t =
     wordsBelow (length t) (λ i. cond (isRights n i) (word 2 (heldIn rows ((i - 1) / n) ((i - 1) % n))) (getD t i 0))
 
 -- at most sixteen domains, and words enough for their rights

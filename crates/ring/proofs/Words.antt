@@ -7,7 +7,7 @@ use borrow.Author.Tests.{eq-eqb, ne-eqb, lt-ltb, le-ltb}
 use Rattle.machine.specs.Queue.{mostLost}
 use Rattle.machine.specs.Word.{payload, word}
 use Rattle.machine.specs.Queue.{emptySlot}
-use Rattle.ring_theory.specs.Ring.{firstPlace, count, lostCount, ringCapacity, placeFrom, messageAt, putLast, ringSent, ringTake, slotOut, ofTwelve}
+use Rattle.ring_theory.specs.Ring.{firstPlace, count, lostCount, ringCapacity, placeFrom, messageAt, putLast, ringSent, ringTake, storedSlot, ofTwelve}
 
 -- other than twelve words are left, and twelve are not
 pub not-twelve : {A : Type 0} (ws : List ℕ) (done left : A) → (length ws ≡ 12 → ⊥) → left ≡ ofTwelve ws done left
@@ -43,10 +43,10 @@ pub slot-filled :
     → f ≡ firstPlace r
     → n ≡ count r
     → i < n
-    → word 15 (payload (getD r at 0)) ≡ slotOut r i
-unfolding slotOut messageAt
+    → word 15 (payload (getD r at 0)) ≡ storedSlot r i
+unfolding storedSlot messageAt
 slot-filled r f n i at is first all less = rw (is, first, ← all, lt-ltb i n less)
 
-pub slot-empty : (r : List ℕ) (n i : ℕ) → n ≡ count r → n ≤ i → emptySlot ≡ slotOut r i
-unfolding slotOut
+pub slot-empty : (r : List ℕ) (n i : ℕ) → n ≡ count r → n ≤ i → emptySlot ≡ storedSlot r i
+unfolding storedSlot
 slot-empty r n i all past = rw (← all, le-ltb i n past)

@@ -11,7 +11,7 @@ use queue::lost_after;
 ghost use mathlib.Core.Path.{_≡_};
 ghost use Prim.Native.Nat.{_+_, _-_, _%_};
 ghost use lib.ListN.{length};
-ghost use Rattle.ring_theory.specs.Ring.{firstPlace, count, placeFrom, ringSent, ringOf, slotOut, putOutQueue, ofTwelve};
+ghost use Rattle.ring_theory.specs.Ring.{firstPlace, count, placeFrom, ringSent, ringOf, storedSlot, storedQueue, ofTwelve};
 ghost use Rattle.ring.specs.Received.{Taken};
 
 // The word of the i-th place from a first place on, going round.
@@ -85,7 +85,7 @@ pub fn receive(ring: &mut [u32]) -> Received
 }
 
 // A ring is made of an endpoint's words.
-pub fn take_in(q: &[u32], ring: &mut [u32])
+pub fn load(q: &[u32], ring: &mut [u32])
     ensures { λ _. ⌜ now (ring .exit) ≡ ofTwelve (now (q .entry)) (ofTwelve (now (ring .entry)) (ringOf (now (q .entry))) (now (ring .entry))) (now (ring .entry)) ⌝ }
 {
     if q.len() != ENDPOINT_WORDS {
@@ -106,11 +106,11 @@ pub fn take_in(q: &[u32], ring: &mut [u32])
 }
 
 // Slot i of the endpoint that a ring is put out to.
-fn slot_out(ring: &[u32], first: u32, waits: u32, i: u32) -> u32
+fn store_slot(ring: &[u32], first: u32, waits: u32, i: u32) -> u32
     requires { ⌜ length (now ring) ≡ 12 ⌝ }
     requires { ⌜ first ≡ firstPlace (now ring) ⌝ }
     requires { ⌜ waits ≡ count (now ring) ⌝ }
-    ensures { λ w. ⌜ w ≡ slotOut (now (ring .entry)) i ⌝ }
+    ensures { λ w. ⌜ w ≡ storedSlot (now (ring .entry)) i ⌝ }
 {
     if i < waits {
         let at = place_from(first, i);
@@ -120,8 +120,8 @@ fn slot_out(ring: &[u32], first: u32, waits: u32, i: u32) -> u32
 }
 
 // A ring is put out to an endpoint's words: the name and the info are left.
-pub fn put_out(ring: &[u32], q: &mut [u32])
-    ensures { λ _. ⌜ now (q .exit) ≡ ofTwelve (now (ring .entry)) (ofTwelve (now (q .entry)) (putOutQueue (now (ring .entry)) (now (q .entry))) (now (q .entry))) (now (q .entry)) ⌝ }
+pub fn store(ring: &[u32], q: &mut [u32])
+    ensures { λ _. ⌜ now (q .exit) ≡ ofTwelve (now (ring .entry)) (ofTwelve (now (q .entry)) (storedQueue (now (ring .entry)) (now (q .entry))) (now (q .entry))) (now (q .entry)) ⌝ }
 {
     if ring.len() != ENDPOINT_WORDS {
         return;
@@ -136,7 +136,7 @@ pub fn put_out(ring: &[u32], q: &mut [u32])
     let mut i: u32 = 0;
     while i < SLOTS {
         let slot = 4 + i as usize;
-        q[slot] = slot_out(ring, first, count, i);
+        q[slot] = store_slot(ring, first, count, i);
         i += 1;
     }
 }

@@ -15,9 +15,9 @@ use Rattle.machine.specs.Word.{kind, payload, mostPayload, word, fieldC}
 use Rattle.machine.specs.Queue.{capacity, waiting, lost, mostLost, emptySlot, hasSpace, sendWithSpace, sendToFull, sent, received}
 use Rattle.machine.proofs.Below.{below-or-last, words-length, words-at}
 use Rattle.machine.proofs.Queue.{payload-word, Sound, sound-of, sendWithSpace-waiting, sendWithSpace-lost, sendWithSpace-other, sendWithSpace-slot, received-waiting, received-lost, received-before, received-moved, received-length, sendToFull-waiting, sendToFull-lost}
-use Rattle.ring_theory.specs.Ring.{firstPlace, count, lostCount, info, ringCapacity, placeFrom, messageAt, putLast, ringSent, ringTake, ringOf, slotOut, putOutQueue}
+use Rattle.ring_theory.specs.Ring.{firstPlace, count, lostCount, info, ringCapacity, placeFrom, messageAt, putLast, ringSent, ringTake, ringOf, storedSlot, storedQueue}
 use Rattle.ring_theory.proofs.Filled.{Filled, fill-end}
-use Rattle.ring_theory.specs.Claims.{Stands, TakenInStands, QueuesGoAlong, PutOutIsQueue}
+use Rattle.ring_theory.specs.Claims.{RepresentsQueue, LoadedRingRepresents, QueuesSimulate, StoreIsQueue}
 
 -- a message by the first place
 message-from : (r : List ℕ) (f i : ℕ) → firstPlace r ≡ f → messageAt r i ≡ getD r (placeFrom f i) 0
@@ -36,9 +36,9 @@ module _ (xs : List ℕ) (i j x y : ℕ) where
   both-last l = getD-set-same (set xs i x) j y 0 (lt-length-set xs i x l)
 
 -- ---- what is taken in
-pub taken-in-stands : TakenInStands
+pub loaded-ring-represents : LoadedRingRepresents
 unfolding ringOf firstPlace count lostCount info messageAt
-taken-in-stands q most =
+loaded-ring-represents q most =
     record {
       twelve = omega (arith, words-length 8 (λ i. payload (getD q (4 + i) 0)));
       place = omega arith;
@@ -55,7 +55,7 @@ taken-in-stands q most =
     }
 
 -- ---- a send and a receive
-module _ (q r : List ℕ) (twelve : length q ≡ 12) (s : Stands r q) where
+module _ (q r : List ℕ) (twelve : length q ≡ 12) (s : RepresentsQueue r q) where
   same-capacity : ringCapacity r ≡ capacity q
   unfolding ringCapacity capacity
   same-capacity = ap fieldC (s .sameInfo)
@@ -116,7 +116,7 @@ module _ (q r : List ℕ) (twelve : length q ≡ 12) (s : Stands r q) where
           ∙ ap (λ (k : ℕ). payload (getD (sendWithSpace q m) (4 + k) 0)) (omega (arith, s .sameCount)))
           (below-or-last (count r) i (omega arith))
 
-      sent-space : waiting q < 8 → Stands spaced (sendWithSpace q m)
+      sent-space : waiting q < 8 → RepresentsQueue spaced (sendWithSpace q m)
       unfolding spaced count lostCount info
       sent-space room =
           let more : count spaced ≡ count r + 1 = getD-set-same (putLast r m) 1 _ 0 (omega (arith, put-length)) in
@@ -191,7 +191,7 @@ module _ (q r : List ℕ) (twelve : length q ≡ 12) (s : Stands r q) where
             ∙ sendWithSpace-slot (received q) rest m (omega (arith, fewer)))))
             (below-or-last (count r) (i + 1) (omega arith))
 
-        sent-full : Stands full (sendToFull q m)
+        sent-full : RepresentsQueue full (sendToFull q m)
         unfolding count lostCount info full
         sent-full =
             let same : count full ≡ count r = full-other 1 (omega arith) (omega arith) ∙ put-count 1 (omega arith) in
@@ -243,7 +243,7 @@ module _ (q r : List ℕ) (twelve : length q ≡ 12) (s : Stands r q) where
         ∙ s .messages (i + 1) (omega arith)
         ∙ ap payload (sym (received-moved q twelve some most i (omega (arith, s .sameCount))))
 
-    receive-along : Stands (ringTake r) (received q)
+    receive-along : RepresentsQueue (ringTake r) (received q)
     unfolding lostCount info ringTake
     receive-along =
         record {
@@ -264,10 +264,10 @@ module _ (q r : List ℕ) (twelve : length q ≡ 12) (s : Stands r q) where
   unfolding hasSpace
   same-space = ap₂ ltb (s .sameCount) same-capacity
 
-  send-along : 1 ≤ capacity q → capacity q ≤ 8 → (m : ℕ) → m ≤ mostPayload → Stands (ringSent r m) (sent q m)
+  send-along : 1 ≤ capacity q → capacity q ≤ 8 → (m : ℕ) → m ≤ mostPayload → RepresentsQueue (ringSent r m) (sent q m)
   unfolding ringSent sent hasSpace spaced full
   send-along one slots m small =
-      subst (λ (b : Bool). Stands (cond b with-space to-full) (sent q m)) (sym same-space) (go (hasSpace q) refl)
+      subst (λ (b : Bool). RepresentsQueue (cond b with-space to-full) (sent q m)) (sym same-space) (go (hasSpace q) refl)
     where
       with-space : List ℕ
       with-space = set (putLast r m) 1 (count r + 1)
@@ -275,12 +275,12 @@ module _ (q r : List ℕ) (twelve : length q ≡ 12) (s : Stands r q) where
       to-full : List ℕ
       to-full = set (set (putLast r m) 0 ((firstPlace r + 1) % 8)) 2 (min (lostCount r + 1) mostLost)
 
-      go : (b : Bool) → hasSpace q ≡ b → Stands (cond b with-space to-full) (cond b (sendWithSpace q m) (sendToFull q m))
+      go : (b : Bool) → hasSpace q ≡ b → RepresentsQueue (cond b with-space to-full) (cond b (sendWithSpace q m) (sendToFull q m))
       go true h = sent-space m small (omega (arith, ltb-true (waiting q) (capacity q) h))
       go false h = sent-full m small (λ none. omega (arith, ltb-false (waiting q) (capacity q) h))
 
-pub queues-go-along : QueuesGoAlong
-queues-go-along q r twelve one slots s =
+pub queues-simulate : QueuesSimulate
+queues-simulate q r twelve one slots s =
     (send-along q r twelve s one slots, λ some. receive-along q r twelve s (omega arith))
 
 -- ---- what is put out
@@ -295,10 +295,10 @@ first-four q twelve =
     take-add 2 2 q
     ∙ ap (λ (l : List ℕ). take 2 q ++ take 2 l) (drop-cons q 2 0 (omega arith) ∙ ap (λ (l : List ℕ). getD q 2 0 ∷ l) (drop-cons q 3 0 (omega arith)))
 
-module _ (q r : List ℕ) (sound : Sound q) (s : Stands r q) where
-  slot-out : (i : ℕ) → i < 8 → getD q (4 + i) 0 ≡ slotOut r i
-  unfolding slotOut
-  slot-out i l = go (ltb i (count r)) refl
+module _ (q r : List ℕ) (sound : Sound q) (s : RepresentsQueue r q) where
+  store-slot : (i : ℕ) → i < 8 → getD q (4 + i) 0 ≡ storedSlot r i
+  unfolding storedSlot
+  store-slot i l = go (ltb i (count r)) refl
     where
       go : (b : Bool) → ltb i (count r) ≡ b → getD q (4 + i) 0 ≡ cond b (word 15 (payload (messageAt r i))) emptySlot
       go true h =
@@ -315,14 +315,14 @@ module _ (q r : List ℕ) (sound : Sound q) (s : Stands r q) where
   unfolding lost
   lost-out = whole-word 6 _ (sound .isLost) ∙ ap (word 6) (sym (ap payload (s .sameLost) ∙ omega arith))
 
-pub put-out-is-queue : PutOutIsQueue
-unfolding putOutQueue
-put-out-is-queue q₀ q r twelve₀ twelve same ok s =
+pub store-is-queue : StoreIsQueue
+unfolding storedQueue
+store-is-queue q₀ q r twelve₀ twelve same ok s =
     let sound = sound-of q ok in
-    let all : Filled (slotOut r) (take 4 q) q 8 = record { twelve = twelve; head = refl; each = slot-out q r sound s } in
+    let all : Filled (storedSlot r) (take 4 q) q 8 = record { twelve = twelve; head = refl; each = store-slot q r sound s } in
     let out = word 5 (payload (count r)) ∷ word 6 (payload (lostCount r)) ∷ [] in
     sym
-    (fill-end (slotOut r) (take 4 q) q 8 all (omega arith)
-    ∙ ap (λ (l : List ℕ). l ++ wordsBelow 8 (slotOut r))
+    (fill-end (storedSlot r) (take 4 q) q 8 all (omega arith)
+    ∙ ap (λ (l : List ℕ). l ++ wordsBelow 8 (storedSlot r))
     (first-four q twelve ∙ ap₂ (λ (l : List ℕ) (k : List ℕ). l ++ k) (sym same) (ap₂ (λ (x y : ℕ). x ∷ y ∷ []) (count-out q r sound s) (lost-out q r sound s)))
-    ∙ append-assoc (take 2 q₀) out (wordsBelow 8 (slotOut r)))
+    ∙ append-assoc (take 2 q₀) out (wordsBelow 8 (storedSlot r)))

@@ -9,11 +9,11 @@ use Rattle.machine.specs.Word.{payload, mostPayload}
 use Rattle.machine.specs.Queue.{capacity, waiting, lost, sent, received}
 use Rattle.machine.specs.Check.{queueOk}
 use Rattle.ring_theory.specs.Ring as ring
-use Rattle.ring_theory.specs.Ring.{firstPlace, count, lostCount, messageAt, ringSent, ringTake, ringOf, putOutQueue}
+use Rattle.ring_theory.specs.Ring.{firstPlace, count, lostCount, messageAt, ringSent, ringTake, ringOf, storedQueue}
 
 -- The ring r stands for the queue of the endpoint's words q: the same counts, the same info, the same messages in their order.
 -- Which place is the first is free, and so is what stands in places behind the count.
-pub record Stands (r q : List ℕ) : Type 0 where
+pub record RepresentsQueue (r q : List ℕ) : Type 0 where
   pub twelve : length r ≡ 12
   pub place : firstPlace r < 8
   pub most : count r ≤ 8
@@ -23,27 +23,27 @@ pub record Stands (r q : List ℕ) : Type 0 where
   pub messages : (i : ℕ) → i < count r → messageAt r i ≡ payload (getD q (4 + i) 0)
 
 -- what is taken in stands for the queue
-abbrev pub TakenInStands : Type 0
-TakenInStands = (q : List ℕ) → waiting q ≤ 8 → Stands (ringOf q) q
+abbrev pub LoadedRingRepresents : Type 0
+LoadedRingRepresents = (q : List ℕ) → waiting q ≤ 8 → RepresentsQueue (ringOf q) q
 
 -- A send, to a full queue too, and a receive leave a ring that stands for what they leave of the queue.
-abbrev pub QueuesGoAlong : Type 0
-QueuesGoAlong =
+abbrev pub QueuesSimulate : Type 0
+QueuesSimulate =
     (q r : List ℕ)
     → length q ≡ 12
     → 1 ≤ capacity q
     → capacity q ≤ 8
-    → Stands r q
-    → ((message : ℕ) → message ≤ mostPayload → Stands (ringSent r message) (sent q message))
-    × (1 ≤ waiting q → Stands (ringTake r) (received q))
+    → RepresentsQueue r q
+    → ((message : ℕ) → message ≤ mostPayload → RepresentsQueue (ringSent r message) (sent q message))
+    × (1 ≤ waiting q → RepresentsQueue (ringTake r) (received q))
 
 -- what is put out, to words with the same name and info, is the queue
-abbrev pub PutOutIsQueue : Type 0
-PutOutIsQueue =
+abbrev pub StoreIsQueue : Type 0
+StoreIsQueue =
     (q₀ q r : List ℕ)
     → length q₀ ≡ 12
     → length q ≡ 12
     → take 2 q₀ ≡ take 2 q
     → queueOk q ≡ true
-    → Stands r q
-    → putOutQueue r q₀ ≡ q
+    → RepresentsQueue r q
+    → storedQueue r q₀ ≡ q

@@ -2,7 +2,7 @@
 use Prim.Native.Nat.{ℕ}
 use mathlib.Core.Path.{_≡_}
 use mathlib.Core.List.{List, [], _∷_}
-use Rattle.ring_theory.specs.Ring.{ringSent, ringTake, ringOf, putOutQueue}
+use Rattle.ring_theory.specs.Ring.{ringSent, ringTake, ringOf, storedQueue}
 
 -- A row: what a send and a receive leave of a ring, the ring that is taken in, and the words that one is put out to.
 pub data RingRow : Type 0 where
@@ -17,7 +17,7 @@ EveryRing [] = Unit {0}
 EveryRing (sends r m left ∷ rows) = (ringSent r m ≡ left) × EveryRing rows
 EveryRing (takes r left ∷ rows) = (ringTake r ≡ left) × EveryRing rows
 EveryRing (takesIn q r ∷ rows) = (ringOf q ≡ r) × EveryRing rows
-EveryRing (putsOut r q left ∷ rows) = (putOutQueue r q ≡ left) × EveryRing rows
+EveryRing (putsOut r q left ∷ rows) = (storedQueue r q ≡ left) × EveryRing rows
 
 -- a ring with 1 to 8 in its places
 abbrev pub numbered : ℕ → ℕ → ℕ → ℕ → List ℕ

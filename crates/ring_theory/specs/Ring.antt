@@ -57,13 +57,13 @@ unfoldable pub ringOf : List ℕ → List ℕ
 ringOf q = 0 ∷ waiting q ∷ lost q ∷ getD q 1 0 ∷ wordsBelow 8 (λ i. payload (getD q (4 + i) 0))
 
 -- slot i of the endpoint that a ring is put out to: message i, and empty from the count on
-unfoldable pub slotOut : List ℕ → ℕ → ℕ
-slotOut r i = cond (ltb i (count r)) (word 15 (payload (messageAt r i))) emptySlot
+unfoldable pub storedSlot : List ℕ → ℕ → ℕ
+storedSlot r i = cond (ltb i (count r)) (word 15 (payload (messageAt r i))) emptySlot
 
 -- a ring put out to an endpoint's words: the name and the info stay
-unfoldable pub putOutQueue : List ℕ → List ℕ → List ℕ
-putOutQueue r q =
-    take 2 q ++ (word 5 (payload (count r)) ∷ word 6 (payload (lostCount r)) ∷ wordsBelow 8 (slotOut r))
+unfoldable pub storedQueue : List ℕ → List ℕ → List ℕ
+storedQueue r q =
+    take 2 q ++ (word 5 (payload (count r)) ∷ word 6 (payload (lostCount r)) ∷ wordsBelow 8 (storedSlot r))
 
 -- ---- of words of any number: what is done with twelve of them, and what comes where there are more or fewer
 unfoldable pub ofTwelve : {A : Type 0} → List ℕ → A → A → A

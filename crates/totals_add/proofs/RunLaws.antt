@@ -11,7 +11,7 @@ use Rattle.machine.specs.Below.{wordsBelow}
 use Rattle.machine.specs.Table.{endpoints, endpoint}
 use Rattle.machine.specs.Queue.{waiting}
 use Rattle.machine.specs.Check.{Accepted}
-use Rattle.machine.specs.Call.{Call, Kind, cut}
+use Rattle.machine.specs.Call.{Call, Kind, split}
 use Rattle.machine.specs.Run as machine
 use Rattle.machine.specs.Counts.{isSend, isReceive, countDone, sentTo, receivedFrom, fullSends}
 use Rattle.machine.specs.Entry.{Outcome, longestList, Runs, ran}
@@ -20,7 +20,7 @@ use Rattle.machine.proofs.Below.{words-length, words-at}
 use Rattle.machine.proofs.Accepted.{accepted-counts}
 use Rattle.machine.proofs.Step.{run-accepted}
 use Rattle.machine.proofs.Queue.{lost-small}
-use Rattle.machine.proofs.Counts.{counts-borne-out, count-append}
+use Rattle.machine.proofs.Counts.{counts-conserved, count-append}
 use Rattle.machine.proofs.Promise.{runs-accepted, runs-short, entry-ran, entry-code}
 use Rattle.totals_theory.specs.Totals.{listTotals}
 use Rattle.totals_theory.proofs.TotalsLaws.{done-few, list-few}
@@ -33,8 +33,8 @@ pub record RunOf (t ws answers end : List ℕ) : Type 0 where
   pub accepted : Accepted t
   pub short : length ws ≤ longestList
   pub rest : List ℕ
-  pub answered : answers ≡ machine.answers t (cut ws) ++ rest
-  pub table : end ≡ machine.run t (cut ws)
+  pub answered : answers ≡ machine.answers t (split ws) ++ rest
+  pub table : end ≡ machine.run t (split ws)
 
 -- whoever promised a run, and didn't refuse the list, ran it
 pub run-of : {t ws space holders : List ℕ} {code calls : ℕ} {answers end kept : List ℕ} → RunPromise t ws space holders code calls answers end kept → code ≡ 0 → RunOf t ws answers end
@@ -45,7 +45,7 @@ run-of {t} {ws} {space} {holders} p z =
     record {
       accepted = runs-accepted t ws (length space) (length holders) runs;
       short = runs-short t ws (length space) (length holders) runs;
-      rest = drop (3 * length (cut ws)) space;
+      rest = drop (3 * length (split ws)) space;
       answered = p .sameAnswers ∙ ap (λ (o : Outcome). o .answers) is;
       table = p .sameTable ∙ ap (λ (o : Outcome). o .table) is;
     }
@@ -53,25 +53,25 @@ run-of {t} {ws} {space} {holders} p z =
 module _ {t ws answers end : List ℕ} (r : RunOf t ws answers end) where
   -- the same endpoints, at most 32, are there at the end
   pub same-endpoints : endpoints end ≡ endpoints t
-  same-endpoints = ap endpoints (r .table) ∙ run-accepted t (cut ws) (r .accepted) .frame .sameEndpoints
+  same-endpoints = ap endpoints (r .table) ∙ run-accepted t (split ws) (r .accepted) .frame .sameEndpoints
 
   pub few-endpoints : endpoints t ≤ 32
   few-endpoints = accepted-counts t (r .accepted) .2
 
   -- words behind the answers count nothing
-  done-is : (is : Kind → Bool) (e : ℕ) → countDone is e (cut ws) answers ≡ countDone is e (cut ws) (machine.answers t (cut ws))
+  done-is : (is : Kind → Bool) (e : ℕ) → countDone is e (split ws) answers ≡ countDone is e (split ws) (machine.answers t (split ws))
   unfolding countDone
   done-is is e =
-      ap (countDone is e (cut ws)) (r .answered)
-      ∙ ap (λ (cs : List Call). countDone is e cs (machine.answers t (cut ws) ++ r .rest)) (sym (append-nil (cut ws)))
-      ∙ count-append is e t (cut ws) [] (r .rest)
+      ap (countDone is e (split ws)) (r .answered)
+      ∙ ap (λ (cs : List Call). countDone is e cs (machine.answers t (split ws) ++ r .rest)) (sym (append-nil (split ws)))
+      ∙ count-append is e t (split ws) [] (r .rest)
       ∙ omega arith
 
-  pub sent-is : (e : ℕ) → sentTo e (cut ws) answers ≡ listTotals e t ws .sent
+  pub sent-is : (e : ℕ) → sentTo e (split ws) answers ≡ listTotals e t ws .sent
   unfolding listTotals
   sent-is e = done-is isSend e
 
-  pub received-is : (e : ℕ) → receivedFrom e (cut ws) answers ≡ listTotals e t ws .received
+  pub received-is : (e : ℕ) → receivedFrom e (split ws) answers ≡ listTotals e t ws .received
   unfolding listTotals
   received-is e = done-is isReceive e
 
@@ -79,7 +79,7 @@ module _ {t ws answers end : List ℕ} (r : RunOf t ws answers end) where
   balance : (e : ℕ) → e < endpoints t → listTotals e t ws .sent + waiting (endpoint t e) ≡ listTotals e t ws .received + listTotals e t ws .lost + waiting (endpoint end e)
   unfolding listTotals
   balance e l =
-      let counts = counts-borne-out t (cut ws) [] (r .accepted) e l in
+      let counts = counts-conserved t (split ws) [] (r .accepted) e l in
       rw (r .table) (rw append-nil at (counts .balance))
 
 -- What waited before it and what it counts, told by the words that it left.

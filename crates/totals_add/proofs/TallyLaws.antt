@@ -1,4 +1,4 @@
--- Adding list after list gives the totals of all: they fit 64 bits, and each is the definition's. Assumes nothing.
+-- Adding list after list gives the totals of all: they fit 64 bits, and each is the definition's. Assumes noCounts.
 use Prim.Native.Nat.{ℕ, _+_, _*_, _%_, _^_, _<_, _≤_}
 use mathlib.Core.Path.{_≡_, refl, sym, ap, ap₂, _∙_}
 use mathlib.Core.Bool.{Bool, true, false, cond}
@@ -12,7 +12,7 @@ use Rattle.machine.specs.Check.{Accepted}
 use Rattle.machine.specs.Entry.{longestList}
 use Rattle.machine.proofs.Below.{words-length, words-at, words-same}
 use Rattle.machine.proofs.Step.{run-accepted}
-use Rattle.totals_theory.specs.Totals.{Totals, nothing, together, listTotals, tableAfter, totals, callsOf}
+use Rattle.totals_theory.specs.Totals.{Totals, noCounts, together, listTotals, tableAfterLists, totals, callsOf}
 use Rattle.totals_theory.specs.Claims.{Few}
 use Rattle.totals_theory.proofs.TotalsLaws.{one-run, list-by-list, list-few}
 use Rattle.totals_add.specs.declared.Tally.{Tally}
@@ -47,7 +47,7 @@ of-none m = words-same 32 _ (λ e. 0) (λ e l. at (ltb e m))
     at false = refl
 
 -- the table that lists leave has the endpoints of the first
-after-endpoints : (t : List ℕ) (lists : List (List ℕ)) → Accepted t → endpoints (tableAfter t lists) ≡ endpoints t
+after-endpoints : (t : List ℕ) (lists : List (List ℕ)) → Accepted t → endpoints (tableAfterLists t lists) ≡ endpoints t
 after-endpoints t lists a = ap endpoints (one-run t lists) ∙ run-accepted t (callsOf lists) a .frame .sameEndpoints
 
 -- a tally is the same where its three parts are
@@ -56,8 +56,8 @@ same-tally {a} {b} p q r =
     ap₂ (λ (x y : List ℕ). record { sent = x; received = y; lost = a .lost }) p q
     ∙ ap (λ (z : List ℕ). record { sent = b .sent; received = b .received; lost = z }) r
 
-begins : (t : List ℕ) → Tallied t [] added.nothing t
-unfolding tallyOf totals nothing tableAfter
+begins : (t : List ℕ) → Tallied t [] added.noTotals t
+unfolding tallyOf totals noCounts tableAfterLists
 begins t =
     record {
       tallyIs = same-tally (sym (of-none _)) (sym (of-none _)) (sym (of-none _));
@@ -71,24 +71,24 @@ more lists ws = lists ++ (ws ∷ [])
 
 -- one list more, of few enough words
 module _ (t : List ℕ) (lists : List (List ℕ)) (ws : List ℕ) (short : length ws ≤ longestList) where
-  part-goes-on : (part : Totals → ℕ) (e : ℕ) → part (together (totals e t lists) (listTotals e (tableAfter t lists) ws)) ≡ part (totals e t lists) + part (listTotals e (tableAfter t lists) ws) → part (totals e t (more lists ws)) ≡ part (totals e t lists) + part (listTotals e (tableAfter t lists) ws)
+  part-goes-on : (part : Totals → ℕ) (e : ℕ) → part (together (totals e t lists) (listTotals e (tableAfterLists t lists) ws)) ≡ part (totals e t lists) + part (listTotals e (tableAfterLists t lists) ws) → part (totals e t (more lists ws)) ≡ part (totals e t lists) + part (listTotals e (tableAfterLists t lists) ws)
   part-goes-on part e adds = ap part (list-by-list e t lists ws .totalsGoOn) ∙ adds
 
-  sent-goes-on : (e : ℕ) → totals e t (more lists ws) .sent ≡ totals e t lists .sent + listTotals e (tableAfter t lists) ws .sent
+  sent-goes-on : (e : ℕ) → totals e t (more lists ws) .sent ≡ totals e t lists .sent + listTotals e (tableAfterLists t lists) ws .sent
   unfolding together
   sent-goes-on e = part-goes-on (λ (x : Totals). x .sent) e refl
 
-  received-goes-on : (e : ℕ) → totals e t (more lists ws) .received ≡ totals e t lists .received + listTotals e (tableAfter t lists) ws .received
+  received-goes-on : (e : ℕ) → totals e t (more lists ws) .received ≡ totals e t lists .received + listTotals e (tableAfterLists t lists) ws .received
   unfolding together
   received-goes-on e = part-goes-on (λ (x : Totals). x .received) e refl
 
-  lost-goes-on : (e : ℕ) → totals e t (more lists ws) .lost ≡ totals e t lists .lost + listTotals e (tableAfter t lists) ws .lost
+  lost-goes-on : (e : ℕ) → totals e t (more lists ws) .lost ≡ totals e t lists .lost + listTotals e (tableAfterLists t lists) ws .lost
   unfolding together
   lost-goes-on e = part-goes-on (λ (x : Totals). x .lost) e refl
 
   few-go-on : (e : ℕ) → Few (totals e t lists) (longestList * length lists) → Few (totals e t (more lists ws)) (longestList * length (more lists ws))
   few-go-on e few =
-      let one = list-few e (tableAfter t lists) ws in
+      let one = list-few e (tableAfterLists t lists) ws in
       let count = length-append lists (ws ∷ []) in
       record {
         sent = omega (arith, sent-goes-on e, one .sent, few .sent);

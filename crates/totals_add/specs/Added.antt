@@ -11,9 +11,9 @@ use Rattle.machine.specs.Promise.{RunPromise}
 use Rattle.totals_theory.specs.Totals.{listTotals}
 use Rattle.totals_add.specs.declared.Tally.{Tally}
 
--- nothing is counted yet
-abbrev pub nothing : Tally
-nothing = record { sent = replicate 32 0; received = replicate 32 0; lost = replicate 32 0 }
+-- noTotals is counted yet
+abbrev pub noTotals : Tally
+noTotals = record { sent = replicate 32 0; received = replicate 32 0; lost = replicate 32 0 }
 
 -- the words xs with f e added to word e for each e below m, in 64 bits; the words behind stay
 unfoldable pub addedBelow : ℕ → List ℕ → (ℕ → ℕ) → List ℕ

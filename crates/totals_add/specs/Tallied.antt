@@ -10,10 +10,10 @@ use Rattle.machine.specs.Below.{wordsBelow}
 use Rattle.machine.specs.Table.{endpoints}
 use Rattle.machine.specs.Check.{Accepted}
 use Rattle.machine.specs.Entry.{longestList}
-use Rattle.totals_theory.specs.Totals.{totals, tableAfter}
+use Rattle.totals_theory.specs.Totals.{totals, tableAfterLists}
 use Rattle.totals_theory.specs.Claims.{Few}
 use Rattle.totals_add.specs.declared.Tally.{Tally}
-use Rattle.totals_add.specs.Added.{nothing, ListAdded}
+use Rattle.totals_add.specs.Added.{noTotals, ListAdded}
 
 -- f e for each endpoint e below m, in as many words as a table can have endpoints
 unfoldable pub ofEndpoints : ℕ → (ℕ → ℕ) → List ℕ
@@ -31,7 +31,7 @@ tallyOf t lists =
 -- the tally is that of the lists, and the table is the one that they leave
 pub record Tallied (t : List ℕ) (lists : List (List ℕ)) (tally : Tally) (table : List ℕ) : Type 0 where
   pub tallyIs : tally ≡ tallyOf t lists
-  pub tableIs : table ≡ tableAfter t lists
+  pub tableIs : table ≡ tableAfterLists t lists
   pub few : (e : ℕ) → Few (totals e t lists) (longestList * length lists)
 
 -- the most lists of which no total can pass 64 bits, each of the longest
@@ -39,8 +39,8 @@ abbrev pub mostAdded : ℕ
 mostAdded = 4503599627370495
 
 -- A tally begins as that of no list; a list that is added and not refused makes it that of one list more.
-pub record ListByList (t : List ℕ) : Type 0 where
-  pub begins : Tallied t [] nothing t
+pub record AddedOneByOne (t : List ℕ) : Type 0 where
+  pub begins : Tallied t [] noTotals t
   pub goesOn : (lists : List (List ℕ)) (ws space holders : List ℕ) (code calls : ℕ) (answers table end kept : List ℕ) (tally tally′ : Tally)
       → Accepted t
       → Tallied t lists tally table
@@ -50,4 +50,4 @@ pub record ListByList (t : List ℕ) : Type 0 where
       → Tallied t (lists ++ (ws ∷ [])) tally′ end
 
 abbrev pub EveryTallyListByList : Type 0
-EveryTallyListByList = (t : List ℕ) → ListByList t
+EveryTallyListByList = (t : List ℕ) → AddedOneByOne t

@@ -8,7 +8,7 @@ use totals_count::waiting::waiting_counts;
 use working::by_length::run_by_length;
 ghost use mathlib.Core.Path.{_≡_};
 ghost use Rattle.run_result.specs.Entry.{ranCode, ranCalls};
-ghost use Rattle.totals_add.specs.Added.{nothing, ListAdded};
+ghost use Rattle.totals_add.specs.Added.{noTotals, ListAdded};
 
 // Totals in 64 bits, for as many endpoints as a table can have: sends answered 0, messages received, messages lost.
 pub struct Tally {
@@ -20,7 +20,7 @@ pub struct Tally {
 impl Tally {
     // Nothing is counted yet.
     pub fn new() -> Tally
-        ensures { λ r. ⌜ r ≡ nothing ⌝ }
+        ensures { λ r. ⌜ r ≡ noTotals ⌝ }
     {
         Tally {
             sent: [0; 32],
@@ -37,7 +37,7 @@ pub struct Added {
 }
 
 // Runs a list from a table and adds what it counts to the totals of the table's endpoints. What was lost is told by what was sent,
-// what was received and what waits: the table's own lost count stops at its largest. A refused list adds nothing.
+// what was received and what waits: the table's own lost count stops at its largest. A refused list adds noTotals.
 pub fn add_list(
     table: &mut [u32],
     list: &[u32],

@@ -13,19 +13,19 @@ use lib.ListN.{length, getD, take, drop, set, replicate, length-set, drop-of-len
 use lib.Seq.{take-suc-set, getD-set-same, getD-set-other, getD-drop, drop-drop, ext-getD}
 use Rattle.machine.specs.Word.{kind, fieldB, answerCode}
 use Rattle.machine.specs.Below.{wordsBelow}
-use Rattle.machine.specs.Call.{Call, Kind, first, cut, kindOf, callKind}
+use Rattle.machine.specs.Call.{Call, Kind, first, split, kindOf, callKind}
 use Rattle.machine.specs.Counts.{isSend, isReceive, doneOn, countDone}
 use Rattle.machine.proofs.Below.{words-length, words-at}
 use Rattle.machine.proofs.Table.{equal-either}
 use Rattle.machine.proofs.Decide.{kind-elim}
-use Rattle.machine.proofs.Split.{cut-few}
+use Rattle.machine.proofs.Split.{split-few}
 use Rattle.totals_theory.proofs.TotalsLaws.{done-few}
 use Rattle.calls.specs.Split.{callOf, secondAt, widthOf}
-use Rattle.calls.proofs.SplitAt.{first-of, cut-at}
+use Rattle.calls.proofs.SplitAt.{first-of, split-at}
 
 -- the next call begins at place i of the list, its answer at place at of the answers
 pub record Counting (is : Kind → Bool) (list answers counts : List ℕ) (at i : ℕ) : Type 0 where
-  pub sum : (e : ℕ) → e < 256 → getD counts e 0 + countDone is e (cut (drop i list)) (drop at answers) ≡ countDone is e (cut list) answers
+  pub sum : (e : ℕ) → e < 256 → getD counts e 0 + countDone is e (split (drop i list)) (drop at answers) ≡ countDone is e (split list) answers
   pub size : length counts ≡ 256
 
 pub counting-start : (is : Kind → Bool) (list answers : List ℕ) → Counting is list answers (replicate 256 0) 0 0
@@ -64,15 +64,15 @@ addsAt list answers at i k = one (getD list i 0) (getD answers at 0) k
 module _ {is : Kind → Bool} {list answers counts : List ℕ} {at i : ℕ} (k : ℕ) (numbered : Numbered is k) (l : i < length list)
     (x : Counting is list answers counts at i) where
   -- what the calls left count at f: what the first of them does, and what those behind it do
-  left-at : (f : ℕ) → countDone is f (cut (drop i list)) (drop at answers)
-      ≡ cond (eqb (namedAt list i) f) (addsAt list answers at i k) 0 + countDone is f (cut (drop (i + widthOf (secondAt list i)) list)) (drop (at + 3) answers)
+  left-at : (f : ℕ) → countDone is f (split (drop i list)) (drop at answers)
+      ≡ cond (eqb (namedAt list i) f) (addsAt list answers at i k) 0 + countDone is f (split (drop (i + widthOf (secondAt list i)) list)) (drop (at + 3) answers)
   unfolding countDone
   left-at f =
       let w = getD list i 0 in
       let s = secondAt list i in
-      let rest = cut (drop (i + widthOf s) list) in
+      let rest = split (drop (i + widthOf s) list) in
       let here : getD (drop at answers) 0 0 ≡ getD answers at 0 = rw (getD-drop at answers 0 0) (ap (λ (j : ℕ). getD answers j 0) (omega arith)) in
-      ap (λ (cs : List Call). countDone is f cs (drop at answers)) (cut-at list i l .front)
+      ap (λ (cs : List Call). countDone is f cs (drop at answers)) (split-at list i l .front)
       ∙ ap₂ _+_ (adds-at is k f (callOf w s) w (getD answers at 0) (drop at answers) numbered (first-of w s) here)
       (ap (countDone is f rest) (drop-drop 3 at answers))
 
@@ -81,7 +81,7 @@ module _ {is : Kind → Bool} {list answers counts : List ℕ} {at i : ℕ} (k :
   counted-few =
       let e = namedAt list i in
       let here = rw (eq-eqb e e refl) at (left-at e) in
-      omega (arith, here, x .sum e (omega arith), done-few is e (cut list) answers, cut-few list)
+      omega (arith, here, x .sum e (omega arith), done-few is e (split list) answers, split-few list)
 
   pub counting-next : {added : ℕ} → added ≡ addsAt list answers at i k
       → Counting is list answers (set counts (namedAt list i) (getD counts (namedAt list i) 0 + added)) (at + 3) (i + widthOf (secondAt list i))
@@ -93,7 +93,7 @@ module _ {is : Kind → Bool} {list answers counts : List ℕ} {at i : ℕ} (k :
       v : ℕ
       v = getD counts e 0 + added
 
-      sum : (f : ℕ) → f < 256 → getD (set counts e v) f 0 + countDone is f (cut (drop (i + widthOf (secondAt list i)) list)) (drop (at + 3) answers) ≡ countDone is f (cut list) answers
+      sum : (f : ℕ) → f < 256 → getD (set counts e v) f 0 + countDone is f (split (drop (i + widthOf (secondAt list i)) list)) (drop (at + 3) answers) ≡ countDone is f (split list) answers
       sum f l =
           ⊎-elim
           (λ same.
@@ -107,13 +107,13 @@ module _ {is : Kind → Bool} {list answers counts : List ℕ} {at i : ℕ} (k :
 
 -- no call is left
 pub counting-end : {is : Kind → Bool} {list answers counts : List ℕ} {at i : ℕ} → Counting is list answers counts at i → length list ≤ i
-    → counts ≡ wordsBelow 256 (λ e. countDone is e (cut list) answers)
-unfolding countDone cut
+    → counts ≡ wordsBelow 256 (λ e. countDone is e (split list) answers)
+unfolding countDone split
 counting-end {is} {list} {answers} {counts} {at} {i} x past =
-    ext-getD 0 counts (wordsBelow 256 (λ e. countDone is e (cut list) answers)) (x .size ∙ sym (words-length 256 _))
+    ext-getD 0 counts (wordsBelow 256 (λ e. countDone is e (split list) answers)) (x .size ∙ sym (words-length 256 _))
     (λ e l.
     let few : e < 256 = omega (arith, x .size) in
-    omega (arith, rw (drop-of-length-le list past) at (x .sum e few), words-at 256 (λ e. countDone is e (cut list) answers) e 0 few))
+    omega (arith, rw (drop-of-length-le list past) at (x .sum e few), words-at 256 (λ e. countDone is e (split list) answers) e 0 few))
 
 -- a send is of kind 2, and a receive of kind 3
 pub sends-are : Numbered isSend 2

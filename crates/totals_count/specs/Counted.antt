@@ -3,10 +3,10 @@ use mathlib.Core.Path.{_≡_}
 use mathlib.Core.List.{List}
 use Prim.Native.Nat.{ℕ}
 use Rattle.machine.specs.Below.{wordsBelow}
-use Rattle.machine.specs.Call.{cut}
+use Rattle.machine.specs.Call.{split}
 use Rattle.machine.specs.Counts.{sentTo, receivedFrom}
 use Rattle.totals_count.specs.declared.count_calls.Counted.{Counted}
 
 pub record CallsCounted (list answers : List ℕ) (counted : Counted) : Type 0 where
-  pub sentIs : counted .sent ≡ wordsBelow 256 (λ e. sentTo e (cut list) answers)
-  pub receivedIs : counted .received ≡ wordsBelow 256 (λ e. receivedFrom e (cut list) answers)
+  pub sentIs : counted .sent ≡ wordsBelow 256 (λ e. sentTo e (split list) answers)
+  pub receivedIs : counted .received ≡ wordsBelow 256 (λ e. receivedFrom e (split list) answers)

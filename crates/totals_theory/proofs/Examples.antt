@@ -1,9 +1,9 @@
--- The rows hold, each by computation. Assumes nothing.
+-- The rows hold, each by computation. Assumes noCounts.
 use mathlib.Core.Path.{refl}
 use Rattle.machine.proofs.Everything.{everything}
-use Rattle.totals_theory.specs.Totals.{nothing, together, listTotals, totals}
+use Rattle.totals_theory.specs.Totals.{noCounts, together, listTotals, totals}
 use Rattle.totals_theory.specs.Examples.{EveryRow, rows}
 
 pub every-row : EveryRow rows
-unfolding everything nothing together listTotals totals
+unfolding everything noCounts together listTotals totals
 every-row = (refl, (refl, (refl, (refl, (refl, (refl, (refl, tt)))))))

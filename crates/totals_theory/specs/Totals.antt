@@ -2,7 +2,7 @@
 -- sends answered 0, the messages received, and the sends among them that found the queue full, so that a message was lost.
 use Prim.Native.Nat.{ℕ, _+_}
 use mathlib.Core.List.{List, [], _∷_, _++_}
-use Rattle.machine.specs.Call.{Call, cut}
+use Rattle.machine.specs.Call.{Call, split}
 use Rattle.machine.specs.Run.{run, answers}
 use Rattle.machine.specs.Counts.{sentTo, receivedFrom, fullSends}
 
@@ -12,9 +12,9 @@ pub record Totals : Type 0 where
   pub received : ℕ
   pub lost : ℕ
 
--- nothing is counted yet
-unfoldable pub nothing : Totals
-nothing = record { sent = 0; received = 0; lost = 0 }
+-- noCounts is counted yet
+unfoldable pub noCounts : Totals
+noCounts = record { sent = 0; received = 0; lost = 0 }
 
 -- two counts together
 unfoldable pub together : Totals → Totals → Totals
@@ -24,23 +24,23 @@ together a b = record { sent = a .sent + b .sent; received = a .received + b .re
 unfoldable pub listTotals : ℕ → List ℕ → List ℕ → Totals
 listTotals e t ws =
     record {
-      sent = sentTo e (cut ws) (answers t (cut ws));
-      received = receivedFrom e (cut ws) (answers t (cut ws));
-      lost = fullSends e t (cut ws);
+      sent = sentTo e (split ws) (answers t (split ws));
+      received = receivedFrom e (split ws) (answers t (split ws));
+      lost = fullSends e t (split ws);
     }
 
 -- the table after lists: the first gets the table t, each later one the table left by the list before
-unfoldable pub tableAfter : List ℕ → List (List ℕ) → List ℕ
-tableAfter t [] = t
-tableAfter t (ws ∷ lists) = tableAfter (run t (cut ws)) lists
+unfoldable pub tableAfterLists : List ℕ → List (List ℕ) → List ℕ
+tableAfterLists t [] = t
+tableAfterLists t (ws ∷ lists) = tableAfterLists (run t (split ws)) lists
 
 -- what all the lists, run so from the table t, count at the endpoint e
 unfoldable pub totals : ℕ → List ℕ → List (List ℕ) → Totals
-totals e t [] = nothing
-totals e t (ws ∷ lists) = together (listTotals e t ws) (totals e (run t (cut ws)) lists)
+totals e t [] = noCounts
+totals e t (ws ∷ lists) = together (listTotals e t ws) (totals e (run t (split ws)) lists)
 
 -- the calls of all the lists, each list cut by itself: a word of kind 15 at the front of one makes no call with the last word
 -- of the one before
 unfoldable pub callsOf : List (List ℕ) → List Call
 callsOf [] = []
-callsOf (ws ∷ lists) = cut ws ++ callsOf lists
+callsOf (ws ∷ lists) = split ws ++ callsOf lists

@@ -9,7 +9,7 @@ use lib.Dec.{eqb, leb, ltb}
 use lib.ListN.{length}
 use Rattle.machine.specs.Table.{domains}
 use Rattle.machine.specs.Check.{tableCode, Accepted}
-use Rattle.machine.specs.Call.{cut}
+use Rattle.machine.specs.Call.{split}
 use Rattle.machine.specs.Entry.{holdersCode}
 use Rattle.kernel.specs.Step.{stepEntryCode}
 use Rattle.turns_theory.specs.Turns.{mostPending, isOneOf, turnCode}
@@ -31,15 +31,15 @@ module _ (t ws : List ℕ) (d : ℕ) (vs : List ℕ) where
   unfolding handsInCode
   hands-domain a h = rw (eq-eqb (tableCode t) 0 a, le-ltb d (domains t) h)
 
-  pub hands-call : Accepted t → d < domains t → isOneOf d (cut vs) ≡ false → 36 ≡ handsInCode t ws d vs
+  pub hands-call : Accepted t → d < domains t → isOneOf d (split vs) ≡ false → 36 ≡ handsInCode t ws d vs
   unfolding handsInCode
   hands-call a l h = rw (eq-eqb (tableCode t) 0 a, lt-ltb d (domains t) l, h)
 
-  pub hands-size : Accepted t → d < domains t → isOneOf d (cut vs) ≡ true → eqb (length ws) (stateLength (domains t)) ≡ false → badTurns ≡ handsInCode t ws d vs
+  pub hands-size : Accepted t → d < domains t → isOneOf d (split vs) ≡ true → eqb (length ws) (stateLength (domains t)) ≡ false → badTurns ≡ handsInCode t ws d vs
   unfolding handsInCode
   hands-size a l h k = rw (eq-eqb (tableCode t) 0 a, lt-ltb d (domains t) l, h, k)
 
-  module _ (a : Accepted t) (l : d < domains t) (one : isOneOf d (cut vs) ≡ true) (size : length ws ≡ stateLength (domains t)) where
+  module _ (a : Accepted t) (l : d < domains t) (one : isOneOf d (split vs) ≡ true) (size : length ws ≡ stateLength (domains t)) where
     room : length (pendingIn (block ws d)) ≡ count (block ws d)
     room = pending-length (block ws d) (block-length ws (domains t) d size l)
 

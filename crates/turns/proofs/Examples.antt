@@ -11,8 +11,8 @@ use Rattle.turns.specs.Examples.{EveryRow, handInRows, turnRows}
 
 pub every-hand-in-row : EveryRow handInRows
 unfolding everything wordsBelow bitsBelow holdersOf
-    order.isOneOf order.waits order.firstFrom order.orElse order.firstWaiting order.servesOldest order.servesAt order.turnOf
-    order.tableAfter order.holdersAfter order.turnCode
+    order.isOneOf order.waits order.firstPendingFrom order.orElse order.firstWaiting order.servesOldest order.servesAt order.turnOf
+    order.tableAfter order.holdersAfterTurn order.turnCode
     pending.count pending.pendingIn pending.enqueued pending.dequeued
     state.block state.setBlock state.turnsIn state.turnIn state.stateHandedIn state.stateServed state.stateAfter
     handsInCode turnsCode servedBy spaceAfter
@@ -20,8 +20,8 @@ every-hand-in-row = (record { sameCode = refl; state = refl }, (record { sameCod
 
 pub every-turn-row : EveryRow turnRows
 unfolding everything wordsBelow bitsBelow holdersOf
-    order.isOneOf order.waits order.firstFrom order.orElse order.firstWaiting order.servesOldest order.servesAt order.turnOf
-    order.tableAfter order.holdersAfter order.turnCode
+    order.isOneOf order.waits order.firstPendingFrom order.orElse order.firstWaiting order.servesOldest order.servesAt order.turnOf
+    order.tableAfter order.holdersAfterTurn order.turnCode
     pending.count pending.pendingIn pending.enqueued pending.dequeued
     state.block state.setBlock state.turnsIn state.turnIn state.stateHandedIn state.stateServed state.stateAfter
     handsInCode turnsCode servedBy spaceAfter

@@ -18,7 +18,7 @@ use Rattle.answers.specs.Answer.{answerWords}
 use Rattle.calls.specs.Split.{widthOf}
 use Rattle.kernel.specs.Step.{stepEntryCode, StepPromise}
 use Rattle.kernel.specs.declared.Stepped.the-variants.{Refused, Answered}
-use Rattle.turns_theory.specs.Turns.{tableAfter, holdersAfter, Turn.idle}
+use Rattle.turns_theory.specs.Turns.{tableAfter, holdersAfterTurn, Turn.idle}
 use Rattle.turns_theory.proofs.Pending.{turn-idle}
 use Rattle.turns_state.specs.Pending.{secondOfOldest}
 use Rattle.turns_state.specs.State.{block, turnsIn, turnIn, stateAfter, removedFrom, nextToServe}
@@ -55,7 +55,7 @@ module _ {t ws space : List ℕ} {d : ℕ} (m : MayServe t ws space d) where
       → space′ ≡ answerWords a ++ drop 3 space
       → StepPromise t (oldest-call ws d) holders (Answered a) t′ kept
       → TurnPromise t ws holders space 0 1 t′ ws′ kept space′
-  unfolding servedBy tableAfter holdersAfter spaceAfter
+  unfolding servedBy tableAfter holdersAfterTurn spaceAfter
   serve-answered holders a t′ kept few ws′ space′ width left told p =
       let e = served-code holders in
       let fine = eq-eqb (stepEntryCode t (length holders)) 0 (sym (p .code)) in
@@ -77,7 +77,7 @@ pub served-nobody : (t ws holders space : List ℕ) (k n : ℕ)
     → n ≡ 0
     → domains t ≡ nextToServe (domains t) ws (length space)
     → TurnPromise t ws holders space k n t ws holders space
-unfolding servedBy tableAfter stateAfter holdersAfter spaceAfter turnIn
+unfolding servedBy tableAfter stateAfter holdersAfterTurn spaceAfter turnIn
 served-nobody t ws holders space k n is none next = go (eqb (turnsCode t (length ws) (length space) (length holders)) 0) refl
   where
     go : (b : Bool) → eqb (turnsCode t (length ws) (length space) (length holders)) 0 ≡ b → TurnPromise t ws holders space k n t ws holders space

@@ -1,4 +1,4 @@
--- The words of events that are as promised tell a history of the layer (specs/Happened). Assumes nothing.
+-- The words of events that are as promised tell a history of the layer (specs/WordEvent). Assumes nothing.
 use mathlib.Core.Path.{_≡_, refl, sym, ap, ap₂, subst, subst₂, _∙_}
 use mathlib.Core.Bool.{Bool, true, false, cond, not, _||_, false≢true}
 use mathlib.Core.List.{List, [], _∷_, _++_, map}
@@ -9,20 +9,20 @@ use lib.ListN.{length, take, drop, replicate, length-append, length-replicate}
 use lib.Seq.{take-at}
 use Rattle.machine.specs.Table.{domains}
 use Rattle.machine.specs.Check.{tableCode, Accepted}
-use Rattle.machine.specs.Call.{cut}
+use Rattle.machine.specs.Call.{split}
 use Rattle.machine.specs.Machine.{answer}
 use Rattle.machine.specs.RunClaims.{Noninterference}
 use Rattle.machine.proofs.Split.{answer-length}
 use Rattle.machine.proofs.Step.{stays-accepted}
-use Rattle.turns_theory.specs.Turns.{Turns, Turn, begun, turnCode, tableAfter, answerOf, holdersAfter, Turn.idle, Turn.serves}
-use Rattle.turns_theory.specs.History.{Layer, Event, eventCode, nextTurn, done, afterEvent, after, alongWith, turnAt, turnsOf, answerAt, answersOf, holdersOfTurn, holdersAt, holdersAlong, served, servedOf, Event.handIn, Event.turn}
+use Rattle.turns_theory.specs.Turns.{Turns, Turn, begun, turnCode, tableAfter, answerOf, holdersAfterTurn, Turn.idle, Turn.serves}
+use Rattle.turns_theory.specs.History.{Layer, Event, eventCode, nextTurn, done, afterEvent, layerAfter, alongWith, turnAt, turnsOf, answerAt, answersServed, holdersOfTurn, holdersAt, holdersThroughout, served, servedOf, Event.handIn, Event.turn}
 use Rattle.turns_theory.proofs.Histories.{refused-changes-nothing, as-one-list, history-noninterference, in-order}
 use Rattle.turns_theory.proofs.InTime.{served-in-time}
 use Rattle.turns_state.specs.State.{stateLength, turnsIn, turnIn, stateHandedIn, stateAfter}
 use Rattle.turns.specs.Promise.{handsInCode, turnsCode, servedBy, spaceAfter, HandInPromise, TurnPromise}
 use Rattle.turns.specs.Claims.{HandsIn}
 use Rattle.turns.specs.Claims as claims
-use Rattle.turns.specs.WordHistory.{Happened, AsPromised, tableLeft, stateLeft, codeTold, answerTold, holdersTold, turnDone, eventOf, tableAt, stateAt, answersTold, allHoldersTold, turnsDone, eventCodes, Tells, EveryHistoryTold, ServedInTimeTold, first, FromTheBeginning, Happened.handsIn, Happened.turns}
+use Rattle.turns.specs.WordHistory.{WordEvent, AsPromised, tableLeft, stateLeft, codeGiven, answerGiven, holdersGiven, turnDone, eventOf, tableAt, stateAt, answersGiven, allHoldersGiven, turnsDone, eventCodes, MatchesHistory, EveryWordHistory, ServedInTimeByWords, first, FromTheBeginning, WordEvent.handsIn, WordEvent.turns}
 use Rattle.turns.proofs.Claims.{begins, every-hand-in, every-turn}
 
 -- the layer that a table and a state's words stand for
@@ -42,10 +42,10 @@ nothing true = refl
 nothing false = refl
 
 -- What one event tells: what it answered, and what it left.
-record Next (t ws : List ℕ) (h : Happened) : Type 0 where
-  code : codeTold h ≡ eventCode (layer t ws) (eventOf h)
-  answers : answerTold h ≡ cond (eqb (eventCode (layer t ws) (eventOf h)) 0) (answerAt (layer t ws) (eventOf h)) []
-  holders : holdersTold h ≡ cond (eqb (eventCode (layer t ws) (eventOf h)) 0) (holdersAt (layer t ws) (eventOf h)) []
+record Next (t ws : List ℕ) (h : WordEvent) : Type 0 where
+  code : codeGiven h ≡ eventCode (layer t ws) (eventOf h)
+  answers : answerGiven h ≡ cond (eqb (eventCode (layer t ws) (eventOf h)) 0) (answerAt (layer t ws) (eventOf h)) []
+  holders : holdersGiven h ≡ cond (eqb (eventCode (layer t ws) (eventOf h)) 0) (holdersAt (layer t ws) (eventOf h)) []
   done : turnDone h ≡ length (cond (eqb (eventCode (layer t ws) (eventOf h)) 0) (turnAt (layer t ws) (eventOf h)) [])
   left : layer (tableLeft t h) (stateLeft h) ≡ afterEvent (layer t ws) (eventOf h)
   size : length (stateLeft h) ≡ stateLength (domains (tableLeft t h))
@@ -54,7 +54,7 @@ record Next (t ws : List ℕ) (h : Happened) : Type 0 where
 
 module _ (t ws : List ℕ) (size : length ws ≡ stateLength (domains t)) where
   next-hand-in : (d : ℕ) (vs : List ℕ) (code : ℕ) (ws′ : List ℕ) → HandInPromise t ws d vs code ws′ → Next t ws (handsIn d vs code ws′)
-  unfolding codeTold answerTold holdersTold turnDone eventOf tableLeft stateLeft eventCode answerAt holdersAt turnAt done
+  unfolding codeGiven answerGiven holdersGiven turnDone eventOf tableLeft stateLeft eventCode answerAt holdersAt turnAt done
   next-hand-in d vs code ws′ p = go (eqb (handsInCode t ws d vs) 0) refl
     where
       e : HandsIn t ws d vs
@@ -95,8 +95,8 @@ unfolding servedBy spaceAfter answerOf
 turn-answer t idle space = refl
 turn-answer t (serves d c) space = take-at (answer t c) (drop 3 space) 3 (answer-length t c)
 
-turn-holders : (t : List ℕ) (x : Turn) (holders : List ℕ) → cond (eqb (servedBy x) 0) [] (holdersAfter t x holders ∷ []) ≡ holdersOfTurn t x
-unfolding servedBy holdersAfter holdersOfTurn
+turn-holders : (t : List ℕ) (x : Turn) (holders : List ℕ) → cond (eqb (servedBy x) 0) [] (holdersAfterTurn t x holders ∷ []) ≡ holdersOfTurn t x
+unfolding servedBy holdersAfterTurn holdersOfTurn
 turn-holders t idle holders = refl
 turn-holders t (serves d c) holders = refl
 
@@ -117,13 +117,13 @@ turn-domains t (serves d c) a = stays-accepted t c a .frame .sameDomains
 
 module _ (t ws : List ℕ) (size : length ws ≡ stateLength (domains t)) (holders space : List ℕ) (code n : ℕ) (t′ ws′ kept space′ : List ℕ) (p : TurnPromise t ws holders space code n t′ ws′ kept space′) where
   next-turn : Next t ws (turns holders space code n t′ ws′ kept space′)
-  unfolding codeTold answerTold holdersTold turnDone eventOf tableLeft stateLeft eventCode answerAt holdersAt turnAt done nextTurn turnIn
+  unfolding codeGiven answerGiven holdersGiven turnDone eventOf tableLeft stateLeft eventCode answerAt holdersAt turnAt done nextTurn turnIn
   next-turn = go (eqb k 0) refl
     where
       k : ℕ
       k = turnsCode t (length ws) (length space) (length holders)
 
-      e : claims.Turns t ws (length space) (length holders)
+      e : claims.TurnMade t ws (length space) (length holders)
       e = every-turn t ws (length space) (length holders) size
 
       x : Turn
@@ -149,7 +149,7 @@ module _ (t ws : List ℕ) (size : length ws ≡ stateLength (domains t)) (holde
                 ∙ turn-answer t x space
                 ∙ sym (ap (λ (b : Bool). cond b (answerOf t x) []) fine);
             holders =
-                ap₂ (λ (m : ℕ) (xs : List ℕ). cond (eqb m 0) [] (xs ∷ [])) count (p .sameHolders ∙ ap (λ (b : Bool). cond b (holdersAfter t x holders) holders) h)
+                ap₂ (λ (m : ℕ) (xs : List ℕ). cond (eqb m 0) [] (xs ∷ [])) count (p .sameHolders ∙ ap (λ (b : Bool). cond b (holdersAfterTurn t x holders) holders) h)
                 ∙ turn-holders t x holders
                 ∙ sym (ap (λ (b : Bool). cond b (holdersOfTurn t x) []) fine);
             done = counted (p .sameCode ∙ e .code);
@@ -177,43 +177,43 @@ module _ (t ws : List ℕ) (size : length ws ≡ stateLength (domains t)) (holde
             size = ap length state ∙ size ∙ ap (λ (w : List ℕ). stateLength (domains w)) (sym table);
           }
 
-next : (t ws : List ℕ) (h : Happened) → length ws ≡ stateLength (domains t) → AsPromised t ws h → Next t ws h
+next : (t ws : List ℕ) (h : WordEvent) → length ws ≡ stateLength (domains t) → AsPromised t ws h → Next t ws h
 next t ws (handsIn d vs code ws′) size p = next-hand-in t ws size d vs code ws′ p
 next t ws (turns holders space code n t′ ws′ kept space′) size p = next-turn t ws size holders space code n t′ ws′ kept space′ p
 
--- ---- one after another
+-- ---- one layerAfter another
 
-pub every-history-told : EveryHistoryTold
-unfolding answersTold allHoldersTold turnsDone tableAt stateAt eventCodes after alongWith
-every-history-told t ws [] size p = record { codes = refl; answers = refl; holders = refl; done = refl; table = refl; turns = refl }
-every-history-told t ws (h ∷ hs) size p =
+pub every-word-history : EveryWordHistory
+unfolding answersGiven allHoldersGiven turnsDone tableAt stateAt eventCodes layerAfter alongWith
+every-word-history t ws [] size p = record { codes = refl; answers = refl; holders = refl; done = refl; table = refl; turns = refl }
+every-word-history t ws (h ∷ hs) size p =
     let n = next t ws h size (p .0) in
-    let r = every-history-told (tableLeft t h) (stateLeft h) hs (n .size) (p .1) in
+    let r = every-word-history (tableLeft t h) (stateLeft h) hs (n .size) (p .1) in
     let es = map eventOf hs in
     record {
       codes = ap₂ (λ (k : ℕ) (ks : List ℕ). k ∷ ks) (n .code) (r .codes ∙ ap (λ (l : Layer). eventCodes l es) (n .left));
-      answers = ap₂ (λ (x y : List ℕ). x ++ y) (n .answers) (r .answers ∙ ap (λ (l : Layer). answersOf l es) (n .left));
-      holders = ap₂ (λ (x y : List (List ℕ)). x ++ y) (n .holders) (r .holders ∙ ap (λ (l : Layer). holdersAlong l es) (n .left));
+      answers = ap₂ (λ (x y : List ℕ). x ++ y) (n .answers) (r .answers ∙ ap (λ (l : Layer). answersServed l es) (n .left));
+      holders = ap₂ (λ (x y : List (List ℕ)). x ++ y) (n .holders) (r .holders ∙ ap (λ (l : Layer). holdersThroughout l es) (n .left));
       done =
           ap₂ _+_ (n .done) (r .done ∙ ap (λ (l : Layer). length (turnsOf l es)) (n .left))
           ∙ sym (length-append (cond (eqb (eventCode (layer t ws) (eventOf h)) 0) (turnAt (layer t ws) (eventOf h)) []) (turnsOf (afterEvent (layer t ws) (eventOf h)) es));
-      table = r .table ∙ ap (λ (l : Layer). after l es .table) (n .left);
-      turns = r .turns ∙ ap (λ (l : Layer). after l es .turns) (n .left);
+      table = r .table ∙ ap (λ (l : Layer). layerAfter l es .table) (n .left);
+      turns = r .turns ∙ ap (λ (l : Layer). layerAfter l es .turns) (n .left);
     }
 
-pub served-in-time-told : ServedInTimeTold
+pub served-in-time-by-words : ServedInTimeByWords
 unfolding turnsIn
-served-in-time-told t ws hs d c cs a size p below is enough =
+served-in-time-by-words t ws hs d c cs a size p below is enough =
     served-in-time (layer t ws) (map eventOf hs) d c cs a below is
-    (subst (λ (k : ℕ). domains t ≤ k) (every-history-told t ws hs size p .done) enough)
+    (subst (λ (k : ℕ). domains t ≤ k) (every-word-history t ws hs size p .done) enough)
 
 pub from-the-beginning : FromTheBeginning
-unfolding begun turnsIn cut
+unfolding begun turnsIn split
 from-the-beginning t hs p =
     let ws = replicate {A = ℕ} (stateLength (domains t)) 0 in
     let l = first t in
     let es = map eventOf hs in
-    let told = subst (λ (s : Turns). Tells (withTurns t s) ws hs) (begins (stateLength (domains t))) (every-history-told t ws hs (length-replicate {A = ℕ} (stateLength (domains t)) 0) p) in
+    let told = subst (λ (s : Turns). MatchesHistory (withTurns t s) ws hs) (begins (stateLength (domains t))) (every-word-history t ws hs (length-replicate {A = ℕ} (stateLength (domains t)) 0) p) in
     let one = as-one-list l es in
     record {
       tells = told;
@@ -225,5 +225,5 @@ from-the-beginning t hs p =
           subst₂ (λ (xs end : List ℕ). Noninterference t (served (turnsOf l es)) xs end) (sym (told .answers)) (sym (told .table)) (history-noninterference l es a);
       order =
           λ d.
-          ap (λ (s : Turns). servedOf d (turnsOf l es) ++ cut (s .pending d)) (told .turns) ∙ in-order l es d;
+          ap (λ (s : Turns). servedOf d (turnsOf l es) ++ split (s .pending d)) (told .turns) ∙ in-order l es d;
     }

@@ -23,10 +23,10 @@ abbrev pub EveryHandIn : Type 0
 EveryHandIn = (t ws : List ℕ) (d : ℕ) (vs : List ℕ) → length ws ≡ stateLength (domains t) → HandsIn t ws d vs
 
 -- A turn, in a state of the right length.
-pub record Turns (t ws : List ℕ) (space lent : ℕ) : Type 0 where
+pub record TurnMade (t ws : List ℕ) (space lent : ℕ) : Type 0 where
   pub code : turnsCode t (length ws) space lent ≡ turnCode t space lent
   pub left : turnsIn (stateAfter ws (turnIn t ws)) ≡ afterTurn (turnsIn ws) (turnIn t ws)
   pub size : length (stateAfter ws (turnIn t ws)) ≡ length ws
 
 abbrev pub EveryTurn : Type 0
-EveryTurn = (t ws : List ℕ) (space lent : ℕ) → length ws ≡ stateLength (domains t) → Turns t ws space lent
+EveryTurn = (t ws : List ℕ) (space lent : ℕ) → length ws ≡ stateLength (domains t) → TurnMade t ws space lent

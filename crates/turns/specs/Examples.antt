@@ -37,8 +37,8 @@ two =
     ∷ emptySlots
 
 -- the beginning
-abbrev pub nothing : List ℕ
-nothing = replicate 35 0
+abbrev pub nonePending : List ℕ
+nonePending = replicate 35 0
 
 -- words pending of 0 alone, with the place and the count before them
 abbrev pub ofZero : ℕ → ℕ → List ℕ → List ℕ
@@ -57,22 +57,22 @@ ofBoth =
 abbrev pub handInRows : List Row
 handInRows =
     -- a call of one word; behind it one of two; one of the other domain
-    handsIn two nothing 0 (0x5000_0000 ∷ []) 0 (0 ∷ 1 ∷ 0x5000_0000 ∷ replicate 32 0)
+    handsIn two nonePending 0 (0x5000_0000 ∷ []) 0 (0 ∷ 1 ∷ 0x5000_0000 ∷ replicate 32 0)
     ∷ handsIn two (0 ∷ 1 ∷ 0x5000_0000 ∷ replicate 32 0) 0 (0x2000_0000 ∷ 0xF000_0007 ∷ []) 0 (0 ∷ 3 ∷ 0x5000_0000 ∷ 0x2000_0000 ∷ 0xF000_0007 ∷ replicate 30 0)
-    ∷ handsIn two nothing 1 (0x5040_0000 ∷ []) 0 (replicate 18 0 ++ (1 ∷ 0x5040_0000 ∷ replicate 15 0))
+    ∷ handsIn two nonePending 1 (0x5040_0000 ∷ []) 0 (replicate 18 0 ++ (1 ∷ 0x5040_0000 ∷ replicate 15 0))
     -- the sixteenth word is taken, and then there is no room
     ∷ handsIn two (ofZero 0 15 (replicate 15 0x5000_0000 ++ (0 ∷ []))) 0 (0x5000_0000 ∷ []) 0 (ofZero 0 16 (replicate 16 0x5000_0000))
     ∷ handsIn two (ofZero 0 14 (replicate 16 0x5000_0000)) 0 (0x2000_0000 ∷ 0xF000_0001 ∷ []) 0 (ofZero 0 16 (replicate 14 0x5000_0000 ++ (0x2000_0000 ∷ 0xF000_0001 ∷ [])))
     ∷ handsIn two (ofZero 0 15 (replicate 16 0x5000_0000)) 0 (0x2000_0000 ∷ 0xF000_0001 ∷ []) 37 (ofZero 0 15 (replicate 16 0x5000_0000))
     ∷ handsIn two (ofZero 0 16 (replicate 16 0x5000_0000)) 0 (0x5000_0000 ∷ []) 37 (ofZero 0 16 (replicate 16 0x5000_0000))
     -- 36: no word, three words, a stray, another's call; all of them before 99
-    ∷ handsIn two nothing 0 [] 36 nothing
-    ∷ handsIn two nothing 0 (0x2000_0000 ∷ 0xF000_0001 ∷ 0xF000_0002 ∷ []) 36 nothing
-    ∷ handsIn two nothing 0 (0xF000_0001 ∷ []) 36 nothing
+    ∷ handsIn two nonePending 0 [] 36 nonePending
+    ∷ handsIn two nonePending 0 (0x2000_0000 ∷ 0xF000_0001 ∷ 0xF000_0002 ∷ []) 36 nonePending
+    ∷ handsIn two nonePending 0 (0xF000_0001 ∷ []) 36 nonePending
     ∷ handsIn two [] 0 (0x5040_0000 ∷ []) 36 []
     -- 35 from n on, and 2 to 5 before all
-    ∷ handsIn two nothing 2 (0x5080_0000 ∷ []) 35 nothing
-    ∷ handsIn [] nothing 2 [] 2 nothing
+    ∷ handsIn two nonePending 2 (0x5080_0000 ∷ []) 35 nonePending
+    ∷ handsIn [] nonePending 2 [] 2 nonePending
     -- a state of another length, 99, before 37
     ∷ handsIn two (replicate 34 16) 0 (0x5000_0000 ∷ []) 99 (replicate 34 16)
     ∷ handsIn two (replicate 36 16) 0 (0x5000_0000 ∷ []) 99 (replicate 36 16)
@@ -80,8 +80,8 @@ handInRows =
 
 abbrev pub turnRows : List Row
 turnRows =
-    -- at the beginning a turn is idle and changes nothing, the holders neither
-    turns two nothing (7 ∷ 8 ∷ []) (1 ∷ 2 ∷ 3 ∷ []) 0 0 two nothing (7 ∷ 8 ∷ []) (1 ∷ 2 ∷ 3 ∷ [])
+    -- at the beginning a turn is idle and changes nonePending, the holders neither
+    turns two nonePending (7 ∷ 8 ∷ []) (1 ∷ 2 ∷ 3 ∷ []) 0 0 two nonePending (7 ∷ 8 ∷ []) (1 ∷ 2 ∷ 3 ∷ [])
     -- 1's oldest call, of two words, is served: its other word moves to the front, and the words behind stay; so does the answer's fourth
     ∷ turns two ofBoth (7 ∷ 8 ∷ []) (1 ∷ 2 ∷ 3 ∷ 4 ∷ []) 0 1 two
     (2 ∷ 1 ∷ 0x5000_0000 ∷ 0xF000_0001 ∷ replicate 14 0 ++ (1 ∷ 0x3040_0000 ∷ 0xF000_0007 ∷ 0x3040_0000 ∷ 0x5040_0000 ∷ replicate 12 0))
@@ -100,6 +100,6 @@ turnRows =
     ∷ turns two (replicate 34 1) (7 ∷ 8 ∷ []) (1 ∷ 2 ∷ 3 ∷ []) 99 0 two (replicate 34 1) (7 ∷ 8 ∷ []) (1 ∷ 2 ∷ 3 ∷ [])
     ∷ turns two ofBoth (7 ∷ []) (1 ∷ 2 ∷ 3 ∷ []) 6 0 two ofBoth (7 ∷ []) (1 ∷ 2 ∷ 3 ∷ [])
     ∷ turns two ofBoth (7 ∷ 8 ∷ []) (1 ∷ 2 ∷ []) 6 0 two ofBoth (7 ∷ 8 ∷ []) (1 ∷ 2 ∷ [])
-    ∷ turns two nothing (7 ∷ 8 ∷ 9 ∷ []) (1 ∷ 2 ∷ 3 ∷ []) 6 0 two nothing (7 ∷ 8 ∷ 9 ∷ []) (1 ∷ 2 ∷ 3 ∷ [])
+    ∷ turns two nonePending (7 ∷ 8 ∷ 9 ∷ []) (1 ∷ 2 ∷ 3 ∷ []) 6 0 two nonePending (7 ∷ 8 ∷ 9 ∷ []) (1 ∷ 2 ∷ 3 ∷ [])
     ∷ turns (set two 1 0) ofBoth (7 ∷ 8 ∷ []) (1 ∷ 2 ∷ 3 ∷ []) 4 0 (set two 1 0) ofBoth (7 ∷ 8 ∷ []) (1 ∷ 2 ∷ 3 ∷ [])
     ∷ []

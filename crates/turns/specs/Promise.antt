@@ -8,9 +8,9 @@ use lib.Dec.{eqb, ltb}
 use lib.ListN.{length, drop}
 use Rattle.machine.specs.Table.{domains}
 use Rattle.machine.specs.Check.{tableCode}
-use Rattle.machine.specs.Call.{cut}
+use Rattle.machine.specs.Call.{split}
 use Rattle.machine.specs.Machine.{answer}
-use Rattle.turns_theory.specs.Turns.{Turn, mostPending, isOneOf, firstWaiting, turnCode, tableAfter, holdersAfter, Turn.idle, Turn.serves}
+use Rattle.turns_theory.specs.Turns.{Turn, mostPending, isOneOf, firstWaiting, turnCode, tableAfter, holdersAfterTurn, Turn.idle, Turn.serves}
 use Rattle.turns_state.specs.Pending.{pendingIn}
 use Rattle.turns_state.specs.State.{stateLength, block, turnsIn, turnIn, stateHandedIn, stateAfter}
 use Rattle.turns.specs.Codes.{badTurns}
@@ -22,7 +22,7 @@ unfoldable pub handsInCode : List ℕ → List ℕ → ℕ → List ℕ → ℕ
 handsInCode t ws d vs =
     cond (not (eqb (tableCode t) 0)) (tableCode t)
     (cond (not (ltb d (domains t))) 35
-    (cond (not (isOneOf d (cut vs))) 36
+    (cond (not (isOneOf d (split vs))) 36
     (cond (not (eqb (length ws) (stateLength (domains t)))) badTurns
     (cond (ltb mostPending (length (pendingIn (block ws d)) + length vs)) 37 0))))
 
@@ -56,7 +56,7 @@ pub record TurnPromise (t ws holders space : List ℕ) (code served : ℕ) (t′
   pub sameServed : served ≡ cond (eqb (turnsCode t (length ws) (length space) (length holders)) 0) (servedBy (turnIn t ws)) 0
   pub table : t′ ≡ cond (eqb (turnsCode t (length ws) (length space) (length holders)) 0) (tableAfter t (turnIn t ws)) t
   pub state : ws′ ≡ cond (eqb (turnsCode t (length ws) (length space) (length holders)) 0) (stateAfter ws (turnIn t ws)) ws
-  pub sameHolders : kept ≡ cond (eqb (turnsCode t (length ws) (length space) (length holders)) 0) (holdersAfter t (turnIn t ws) holders) holders
+  pub sameHolders : kept ≡ cond (eqb (turnsCode t (length ws) (length space) (length holders)) 0) (holdersAfterTurn t (turnIn t ws) holders) holders
   pub answer : space′ ≡ cond (eqb (turnsCode t (length ws) (length space) (length holders)) 0) (spaceAfter t (turnIn t ws) space) space
 
 -- what `serve` asks: the domain d is the next, and there is space for its answer

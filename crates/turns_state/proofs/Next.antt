@@ -11,7 +11,7 @@ use borrow.Author.Tests.{eqb-true, eqb-false, eq-eqb, ne-eqb, le-leb, lt-leb}
 use lib.Dec.{eqb, leb}
 use lib.ListN.{length}
 use Rattle.machine.proofs.Bools.{and-right}
-use Rattle.turns_theory.specs.Turns.{Turns, waits, firstFrom, firstWaiting}
+use Rattle.turns_theory.specs.Turns.{Turns, waits, firstPendingFrom, firstWaiting}
 use Rattle.turns_theory.proofs.Pending.{waiting-up, waiting-round, from-cases}
 use Rattle.turns_state.specs.State.{stateLength, turnsIn, orNone, nextToServe}
 
@@ -21,7 +21,7 @@ pub record Found (n : ℕ) (s : Turns) (d : ℕ) : Type 0 where
   pub waits : waits s d ≡ true
 
 -- a search: one is found, or none
-pub from-found : (n : ℕ) (s : Turns) (place : ℕ) → ((d : ℕ) × (firstFrom n s place ≡ some d) × Found n s d) ⊎ (firstFrom n s place ≡ none)
+pub from-found : (n : ℕ) (s : Turns) (place : ℕ) → ((d : ℕ) × (firstPendingFrom n s place ≡ some d) × Found n s d) ⊎ (firstPendingFrom n s place ≡ none)
 from-found n s place =
     ⊎-elim (λ f. let (d, is, low) = f in inl (d, is, record { below = low .below; waits = and-right (leb place d) _ (low .holds) })) (λ f. inr (f .0))
     (from-cases n s place)
@@ -33,14 +33,14 @@ waiting-found n s =
     (from-found n s (s .place))
 
 -- n is answered where nobody was found there, and then it is asked again from 0
-pub none-there : (n : ℕ) (s : Turns) → orNone n (firstFrom n s (s .place)) ≡ n → orNone n (firstFrom n s 0) ≡ orNone n (firstWaiting n s)
+pub none-there : (n : ℕ) (s : Turns) → orNone n (firstPendingFrom n s (s .place)) ≡ n → orNone n (firstPendingFrom n s 0) ≡ orNone n (firstWaiting n s)
 unfolding orNone
 none-there n s h =
     ⊎-elim (λ f. let (d, is, it) = f in absurd (omega (arith, it .below, sym (ap (orNone n) is) ∙ h)))
     (λ is. ap (orNone n) (sym (waiting-round n s is)))
     (from-found n s (s .place))
 
-pub one-there : (n : ℕ) (s : Turns) → (orNone n (firstFrom n s (s .place)) ≡ n → ⊥) → orNone n (firstFrom n s (s .place)) ≡ orNone n (firstWaiting n s)
+pub one-there : (n : ℕ) (s : Turns) → (orNone n (firstPendingFrom n s (s .place)) ≡ n → ⊥) → orNone n (firstPendingFrom n s (s .place)) ≡ orNone n (firstWaiting n s)
 unfolding orNone
 one-there n s h =
     ⊎-elim (λ f. let (d, is, it) = f in ap (orNone n) (is ∙ sym (waiting-up n s d is)))

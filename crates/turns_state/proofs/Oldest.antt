@@ -11,12 +11,12 @@ use lib.Dec.{eqb}
 use lib.ListN.{length, getD, drop}
 use lib.Seq.{getD-take, getD-drop}
 use Rattle.machine.specs.Table.{domains}
-use Rattle.machine.specs.Call.{Call, cut}
+use Rattle.machine.specs.Call.{Call, split}
 use Rattle.machine.proofs.Bools.{and-intro}
 use Rattle.calls.specs.declared.split.Second.{Second}
 use Rattle.calls.specs.Split.{callOf, secondAt, widthOf}
 use Rattle.turns_theory.specs.Turns.{waits, firstWaiting, servesOldest, Turn.serves}
-use Rattle.turns_theory.proofs.Pending.{cut-oldest, oldest-width, turn-of}
+use Rattle.turns_theory.proofs.Pending.{split-oldest, oldest-width, turn-of}
 use Rattle.turns_state.specs.Pending.{blockLength, count, pendingIn, dequeuable, secondOfOldest}
 use Rattle.turns_state.proofs.Laws.{pending-length}
 use Rattle.turns_state.specs.State.{stateLength, block, turnsIn, turnIn, stateServed, stateAfter, firstOfOldest, removedFrom}
@@ -25,10 +25,10 @@ use Rattle.turns_state.proofs.Words.{width-of, second-oldest}
 use Rattle.turns_state.proofs.Next.{waiting-found, Found}
 
 -- the oldest call of words that are there, by their first and what comes second
-oldest-served : (d : ℕ) (ps : List ℕ) → not (eqb (length ps) 0) ≡ true → servesOldest d (cut ps) ≡ serves d (callOf (getD ps 0 0) (secondAt ps 0))
+oldest-served : (d : ℕ) (ps : List ℕ) → not (eqb (length ps) 0) ≡ true → servesOldest d (split ps) ≡ serves d (callOf (getD ps 0 0) (secondAt ps 0))
 unfolding servesOldest
 oldest-served d [] h = absurd (false≢true h)
-oldest-served d (w ∷ ps) h = rw (cut-oldest w ps) (ap (serves d) (sym (second-oldest w ps)))
+oldest-served d (w ∷ ps) h = rw (split-oldest w ps) (ap (serves d) (sym (second-oldest w ps)))
 
 oldest-fits : (ps : List ℕ) → not (eqb (length ps) 0) ≡ true → widthOf (secondAt ps 0) ≤ length ps
 oldest-fits [] h = absurd (false≢true h)

@@ -10,13 +10,13 @@ use borrow.Author.Tests.{eq-eqb, ne-eqb, lt-ltb, le-ltb}
 use lib.Dec.{eqb}
 use lib.ListN.{length, getD, drop, length-drop}
 use Rattle.machine.specs.Word.{kind, caller}
-use Rattle.machine.specs.Call.{Call, first, callerOf, pairs, cut, Call.one, Call.two}
+use Rattle.machine.specs.Call.{Call, first, callerOf, pairs, split, Call.one, Call.two}
 use Rattle.machine.specs.DomainSet.{calledBy}
 use Rattle.calls.specs.Split.{callOf, secondAt, widthOf}
 use Rattle.calls.specs.declared.split.Second.{Second}
 use Rattle.calls.specs.declared.split.Second.the-variants.{Nothing, Word}
 use Rattle.turns_theory.specs.Turns.{isOneOf, width}
-use Rattle.turns_theory.proofs.Pending.{oldest, cut-oldest, oldest-width, oldest-first}
+use Rattle.turns_theory.proofs.Pending.{oldest, split-oldest, oldest-width, oldest-first}
 use Rattle.turns_state.specs.State.{isCallOf}
 
 -- how wide a call is, by what comes second
@@ -45,15 +45,15 @@ called-by c d = go (eqb (kind (first c)) 15)
     go false = refl
 
 -- exactly one call of a domain
-one-or-more : (d : ℕ) (c : Call) (ws : List ℕ) → isOneOf d (c ∷ cut ws) ≡ (calledBy d (callerOf c) && eqb (length ws) 0)
-unfolding isOneOf cut
+one-or-more : (d : ℕ) (c : Call) (ws : List ℕ) → isOneOf d (c ∷ split ws) ≡ (calledBy d (callerOf c) && eqb (length ws) 0)
+unfolding isOneOf split
 one-or-more d c [] = sym (and-true (calledBy d (callerOf c)))
   where
     and-true : (b : Bool) → (b && true) ≡ b
     and-true true = refl
     and-true false = refl
 one-or-more d c (w ∷ ws) =
-    ap (isOneOf d) (ap (λ (cs : List Call). c ∷ cs) (cut-oldest w ws))
+    ap (isOneOf d) (ap (λ (cs : List Call). c ∷ cs) (split-oldest w ws))
     ∙ sym (ap (λ (b : Bool). calledBy d (callerOf c) && b) (ne-eqb (suc (length ws)) 0 (λ z. omega arith)) ∙ and-false (calledBy d (callerOf c)))
   where
     and-false : (b : Bool) → (b && false) ≡ false
@@ -61,25 +61,25 @@ one-or-more d c (w ∷ ws) =
     and-false false = refl
 
 -- no words are no call
-pub no-call : (d : ℕ) (ws : List ℕ) → length ws ≡ 0 → isOneOf d (cut ws) ≡ false
-unfolding isOneOf cut
+pub no-call : (d : ℕ) (ws : List ℕ) → length ws ≡ 0 → isOneOf d (split ws) ≡ false
+unfolding isOneOf split
 no-call d [] h = refl
 no-call d (w ∷ ws) h = absurd (omega arith)
 
 -- words that are there, by their first and how wide the call is that it begins
-one-call : (d w : ℕ) (ws : List ℕ) → isOneOf d (cut (w ∷ ws)) ≡ (isCallOf w d && eqb (length (drop (width (oldest w ws)) (w ∷ ws))) 0)
+one-call : (d w : ℕ) (ws : List ℕ) → isOneOf d (split (w ∷ ws)) ≡ (isCallOf w d && eqb (length (drop (width (oldest w ws)) (w ∷ ws))) 0)
 one-call d w ws =
-    ap (isOneOf d) (cut-oldest w ws)
+    ap (isOneOf d) (split-oldest w ws)
     ∙ one-or-more d (oldest w ws) (drop (width (oldest w ws)) (w ∷ ws))
     ∙ ap (λ (b : Bool). b && eqb (length (drop (width (oldest w ws)) (w ∷ ws))) 0) (called-by (oldest w ws) d ∙ ap (λ (x : ℕ). isCallOf x d) (oldest-first w ws))
 
 -- the first word isn't one of the domain's calls
-pub not-its-call : (d : ℕ) (ws : List ℕ) → 1 ≤ length ws → isCallOf (getD ws 0 0) d ≡ false → isOneOf d (cut ws) ≡ false
+pub not-its-call : (d : ℕ) (ws : List ℕ) → 1 ≤ length ws → isCallOf (getD ws 0 0) d ≡ false → isOneOf d (split ws) ≡ false
 not-its-call d [] l h = absurd (omega arith)
 not-its-call d (w ∷ ws) l h = one-call d w ws ∙ ap (λ (b : Bool). b && eqb (length (drop (width (oldest w ws)) (w ∷ ws))) 0) h
 
 -- it is: then all depends on whether words are left
-pub its-call : (d : ℕ) (ws : List ℕ) → 1 ≤ length ws → isCallOf (getD ws 0 0) d ≡ true → isOneOf d (cut ws) ≡ eqb (length ws) (widthOf (secondAt ws 0))
+pub its-call : (d : ℕ) (ws : List ℕ) → 1 ≤ length ws → isCallOf (getD ws 0 0) d ≡ true → isOneOf d (split ws) ≡ eqb (length ws) (widthOf (secondAt ws 0))
 its-call d [] l h = absurd (omega arith)
 its-call d (w ∷ ws) l h =
     one-call d w ws

@@ -49,7 +49,7 @@ dequeued b few = (count b - few) ∷ (drop few (pendingIn b) ++ drop (1 + (count
 unfoldable pub leftByDequeue : List ℕ → ℕ → List ℕ
 leftByDequeue b few = cond (dequeuable b few) (dequeued b few) b
 
--- what `put_behind` and `move_down` ask
+-- what `put_last` and `move_down` ask
 pub record MayEnqueue (b : List ℕ) (more : ℕ) : Type 0 where
   pub size : length b ≡ blockLength
   pub room : count b + more ≤ mostPending

@@ -7,7 +7,7 @@ use format::calls::KIND_SECOND;
 ghost use mathlib.Core.Path.{_≡_};
 ghost use lib.Dec.{eqb};
 ghost use Rattle.machine.specs.Table as machine;
-ghost use Rattle.machine.specs.Call.{cut};
+ghost use Rattle.machine.specs.Call.{split};
 ghost use Rattle.turns_theory.specs.Turns.{isOneOf};
 ghost use Rattle.turns_state.specs.State.{stateLength, isCallOf};
 
@@ -43,7 +43,7 @@ fn is_call_of(first: u32, domain: u32) -> bool
 
 // The words are exactly one call, no stray, with the domain as its caller.
 pub fn is_one_call(words: &[u32], domain: u32) -> bool
-    ensures { λ b. ⌜ b ≡ isOneOf domain (cut (now (words .entry))) ⌝ }
+    ensures { λ b. ⌜ b ≡ isOneOf domain (split (now (words .entry))) ⌝ }
 {
     if words.len() == 0 {
         return false;

@@ -6,7 +6,7 @@ ghost use Prim.Native.Nat.{_<_};
 ghost use lib.Dec.{leb};
 ghost use lib.ListN.{length};
 ghost use Rattle.machine.specs.Table as machine;
-ghost use Rattle.turns_theory.specs.Turns.{waits, firstFrom, firstWaiting};
+ghost use Rattle.turns_theory.specs.Turns.{waits, firstPendingFrom, firstWaiting};
 ghost use Rattle.turns_state.specs.State.{stateLength, turnsIn, orNone, nextToServe};
 
 // The domain d isn't before the place and has a call pending.
@@ -24,7 +24,7 @@ fn waits_from(state: &[u32], n: u8, place: u32, d: u8) -> bool
 // The first of the n domains, from a place on, that has a call pending; n where there is none.
 fn first_from(state: &[u32], n: u8, place: u32) -> u8
     requires { ⌜ length (now state) ≡ stateLength n ⌝ }
-    ensures { λ r. ⌜ r ≡ orNone n (firstFrom n (turnsIn (now (state .entry))) place) ⌝ }
+    ensures { λ r. ⌜ r ≡ orNone n (firstPendingFrom n (turnsIn (now (state .entry))) place) ⌝ }
 {
     let mut d: u8 = 0;
     while d < n {

@@ -34,7 +34,7 @@ fn enqueuable(block: &[u32], more: usize) -> bool
 }
 
 // The words go behind those that are pending.
-fn put_behind(block: &mut [u32], words: &[u32])
+fn put_last(block: &mut [u32], words: &[u32])
     requires { ⌜ MayEnqueue (now block) (length (now words)) ⌝ }
     ensures { λ _. ⌜ now (block .exit) ≡ enqueued (now (block .entry)) (now (words .entry)) ⌝ }
 {
@@ -55,7 +55,7 @@ pub fn enqueue(block: &mut [u32], words: &[u32]) -> bool
     if !enqueuable(block, words.len()) {
         return false;
     }
-    put_behind(block, words);
+    put_last(block, words);
     true
 }
 

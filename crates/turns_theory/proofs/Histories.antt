@@ -11,7 +11,7 @@ use lib.Dec.{eqb, ltb}
 use lib.ListN.{length, drop, length-append, length-drop}
 use Rattle.machine.specs.Table.{domains}
 use Rattle.machine.specs.Check.{Accepted, tableCode}
-use Rattle.machine.specs.Call.{Call, callerOf, cut}
+use Rattle.machine.specs.Call.{Call, callerOf, split}
 use Rattle.machine.specs.Run as machine
 use Rattle.machine.specs.DomainSet.{calledBy}
 use Rattle.machine.specs.RunClaims.{Noninterference}
@@ -20,9 +20,9 @@ use Rattle.machine.proofs.Step.{stays-accepted}
 use Rattle.machine.proofs.Noninterference.{noninterference}
 use Rattle.turns_theory.specs.Turns.{Turns, Turn, begun, replaced, isOneOf, handInCode, handedIn, width, afterTurn, tableAfter, answerOf, Turn.idle, Turn.serves}
 use Rattle.turns_theory.specs.Turns as turns
-use Rattle.turns_theory.specs.History.{Layer, Event, eventCode, nextTurn, done, afterEvent, after, alongWith, turnAt, turnsOf, answerAt, holdersOfTurn, holdersAt, callsAt, handedInBy, served, servedOf, holdersEach, Event.handIn, Event.turn}
-use Rattle.turns_theory.specs.Claims.{AsOneList, EveryHistoryNoninterference, InOrder, IdleExactly, RefusedChangesNothing, allOf, Proper, BeginsProper, StaysProper, servesOwn, ServesOwn}
-use Rattle.turns_theory.proofs.Pending.{no-cons, cut-append, one-opens, Serving, turn-cases, replaced-all}
+use Rattle.turns_theory.specs.History.{Layer, Event, eventCode, nextTurn, done, afterEvent, layerAfter, alongWith, turnAt, turnsOf, answerAt, holdersOfTurn, holdersAt, callsAt, handedInBy, served, servedOf, holdersEach, Event.handIn, Event.turn}
+use Rattle.turns_theory.specs.Claims.{AsOneList, EveryHistoryNoninterference, InOrder, IdleExactly, RefusedChangesNothing, allOf, ProperHistory, BeginsProper, StaysProper, servesOwn, ServesOwn}
+use Rattle.turns_theory.proofs.Pending.{no-cons, split-append, one-opens, Serving, turn-cases, replaced-all}
 
 pub refused-changes-nothing : RefusedChangesNothing
 unfolding afterEvent
@@ -45,12 +45,12 @@ no-words s d h = go (s .pending d) h
     go (w ∷ ws) h = absurd (true≢false (sym (ap not (ne-eqb (suc (length ws)) 0 (λ z. omega arith))) ∙ h))
 
 pub idle-exactly : IdleExactly
-unfolding cut
+unfolding split
 idle-exactly n s =
     ⊎-elim (λ none. let (is, all) = none in (λ e d l. no-words s d (all d l), λ e. is))
     (λ some.
     let (d, c, is, it) = some in
-    (λ e. absurd (not-idle (sym is ∙ e)), λ all. absurd (no-cons (ap cut (sym (all d (it .below))) ∙ it .front))))
+    (λ e. absurd (not-idle (sym is ∙ e)), λ all. absurd (no-cons (ap split (sym (all d (it .below))) ∙ it .front))))
     (turn-cases n s)
 
 -- ---- as one list
@@ -67,7 +67,7 @@ turn-run t idle ts = refl
 turn-run t (serves d c) ts = refl
 
 turn-holders : (t : List ℕ) (x : Turn) (ts : List Turn) → holdersOfTurn t x ++ holdersEach (tableAfter t x) (served ts) ≡ holdersEach t (served (x ∷ ts))
-unfolding holdersOfTurn turns.holdersAfter tableAfter served holdersEach
+unfolding holdersOfTurn turns.holdersAfterTurn tableAfter served holdersEach
 turn-holders t idle ts = refl
 turn-holders t (serves d c) ts = refl
 
@@ -92,7 +92,7 @@ shown l e true = shown-done l e
 shown l e false = record { answers = λ rest. refl; table = λ rest. refl; holders = λ rest. refl }
 
 pub as-one-list : AsOneList
-unfolding after afterEvent alongWith served machine.answers machine.run holdersEach
+unfolding layerAfter afterEvent alongWith served machine.answers machine.run holdersEach
 as-one-list l [] = record { answers = refl; table = refl; holders = refl }
 as-one-list l (e ∷ es) =
     let r = as-one-list (afterEvent l e) es in
@@ -118,15 +118,15 @@ history-noninterference l es a =
 pub record LetIn (t : List ℕ) (s : Turns) (d : ℕ) (ws : List ℕ) : Type 0 where
   pub accepted : Accepted t
   pub below : d < domains t
-  pub oneCall : isOneOf d (cut ws) ≡ true
+  pub oneCall : isOneOf d (split ws) ≡ true
   pub room : length (s .pending d) + length ws ≤ turns.mostPending
 
 pub let-in : (t : List ℕ) (s : Turns) (d : ℕ) (ws : List ℕ) → eqb (handInCode t s d ws) 0 ≡ true → LetIn t s d ws
 unfolding handInCode
 let-in t s d ws h =
-    go (eqb (tableCode t) 0) (ltb d (domains t)) (isOneOf d (cut ws)) (ltb turns.mostPending (length (s .pending d) + length ws)) refl refl refl refl h
+    go (eqb (tableCode t) 0) (ltb d (domains t)) (isOneOf d (split ws)) (ltb turns.mostPending (length (s .pending d) + length ws)) refl refl refl refl h
   where
-    go : (a b one full : Bool) → eqb (tableCode t) 0 ≡ a → ltb d (domains t) ≡ b → isOneOf d (cut ws) ≡ one → ltb turns.mostPending (length (s .pending d) + length ws) ≡ full
+    go : (a b one full : Bool) → eqb (tableCode t) 0 ≡ a → ltb d (domains t) ≡ b → isOneOf d (split ws) ≡ one → ltb turns.mostPending (length (s .pending d) + length ws) ≡ full
         → eqb (cond (not a) (tableCode t) (cond (not b) 35 (cond (not one) 36 (cond full 37 0)))) 0 ≡ true
         → LetIn t s d ws
     go true true true false e f g k h =
@@ -151,18 +151,18 @@ served-append d (serves e c ∷ ts) rest = go (eqb e d) (served-append d ts rest
     go false h = h
 
 -- words handed in go behind those pending
-pub handed-order : (l : Layer) (e : ℕ) (ws : List ℕ) (d : ℕ) → isOneOf e (cut ws) ≡ true → cut (handedIn (l .turns) e ws .pending d) ≡ cut (l .turns .pending d) ++ cond (eqb e d) (cut ws) []
+pub handed-order : (l : Layer) (e : ℕ) (ws : List ℕ) (d : ℕ) → isOneOf e (split ws) ≡ true → split (handedIn (l .turns) e ws .pending d) ≡ split (l .turns .pending d) ++ cond (eqb e d) (split ws) []
 unfolding handedIn replaced
 handed-order l e ws d one = go (eqb e d) refl
   where
-    go : (b : Bool) → eqb e d ≡ b → cut (cond b (l .turns .pending e ++ ws) (l .turns .pending d)) ≡ cut (l .turns .pending d) ++ cond b (cut ws) []
+    go : (b : Bool) → eqb e d ≡ b → split (cond b (l .turns .pending e ++ ws) (l .turns .pending d)) ≡ split (l .turns .pending d) ++ cond b (split ws) []
     go true is =
-        cut-append (l .turns .pending e) ws (one-opens e ws one)
-        ∙ ap (λ (x : ℕ). cut (l .turns .pending x) ++ cut ws) (eqb-true e d is)
+        split-append (l .turns .pending e) ws (one-opens e ws one)
+        ∙ ap (λ (x : ℕ). split (l .turns .pending x) ++ split ws) (eqb-true e d is)
     go false is = sym (append-nil _)
 
 -- a turn takes the oldest call of the domain that it serves
-turn-order : (l : Layer) (d : ℕ) → servedOf d (nextTurn l ∷ []) ++ cut (afterTurn (l .turns) (nextTurn l) .pending d) ≡ cut (l .turns .pending d)
+turn-order : (l : Layer) (d : ℕ) → servedOf d (nextTurn l ∷ []) ++ split (afterTurn (l .turns) (nextTurn l) .pending d) ≡ split (l .turns .pending d)
 unfolding nextTurn afterTurn servedOf replaced
 turn-order l d =
     ⊎-elim
@@ -170,33 +170,33 @@ turn-order l d =
     (λ some. let (e, c, is, it) = some in rw is (go e c (it .front) (eqb e d) refl))
     (turn-cases (domains (l .table)) (l .turns))
   where
-    go : (e : ℕ) (c : Call) → cut (l .turns .pending e) ≡ c ∷ cut (drop (width c) (l .turns .pending e)) → (b : Bool) → eqb e d ≡ b
-        → cond b (c ∷ []) [] ++ cut (cond b (drop (width c) (l .turns .pending e)) (l .turns .pending d)) ≡ cut (l .turns .pending d)
-    go e c front true is = sym front ∙ ap (λ (x : ℕ). cut (l .turns .pending x)) (eqb-true e d is)
+    go : (e : ℕ) (c : Call) → split (l .turns .pending e) ≡ c ∷ split (drop (width c) (l .turns .pending e)) → (b : Bool) → eqb e d ≡ b
+        → cond b (c ∷ []) [] ++ split (cond b (drop (width c) (l .turns .pending e)) (l .turns .pending d)) ≡ split (l .turns .pending d)
+    go e c front true is = sym front ∙ ap (λ (x : ℕ). split (l .turns .pending x)) (eqb-true e d is)
     go e c front false is = refl
 
 -- one event
-event-order : (l : Layer) (e : Event) (d : ℕ) → eqb (eventCode l e) 0 ≡ true → servedOf d (turnAt l e) ++ cut (done l e .turns .pending d) ≡ cut (l .turns .pending d) ++ callsAt d l e
+event-order : (l : Layer) (e : Event) (d : ℕ) → eqb (eventCode l e) 0 ≡ true → servedOf d (turnAt l e) ++ split (done l e .turns .pending d) ≡ split (l .turns .pending d) ++ callsAt d l e
 unfolding eventCode turnAt done callsAt servedOf
 event-order l (handIn e ws) d h = handed-order l e ws d (let-in (l .table) (l .turns) e ws h .oneCall)
 event-order l (turn space lent) d h = turn-order l d ∙ sym (append-nil _)
 
 pub in-order : InOrder
-unfolding after afterEvent alongWith servedOf
+unfolding layerAfter afterEvent alongWith servedOf
 in-order l [] d = sym (append-nil _)
 in-order l (e ∷ es) d = go (eqb (eventCode l e) 0) refl (in-order (afterEvent l e) es d)
   where
     go : (b : Bool) → eqb (eventCode l e) 0 ≡ b
-        → servedOf d (turnsOf (cond b (done l e) l) es) ++ cut (after (cond b (done l e) l) es .turns .pending d) ≡ cut (cond b (done l e) l .turns .pending d) ++ handedInBy d (cond b (done l e) l) es
-        → servedOf d (cond b (turnAt l e) [] ++ turnsOf (cond b (done l e) l) es) ++ cut (after (cond b (done l e) l) es .turns .pending d)
-        ≡ cut (l .turns .pending d) ++ (cond b (callsAt d l e) [] ++ handedInBy d (cond b (done l e) l) es)
+        → servedOf d (turnsOf (cond b (done l e) l) es) ++ split (layerAfter (cond b (done l e) l) es .turns .pending d) ≡ split (cond b (done l e) l .turns .pending d) ++ handedInBy d (cond b (done l e) l) es
+        → servedOf d (cond b (turnAt l e) [] ++ turnsOf (cond b (done l e) l) es) ++ split (layerAfter (cond b (done l e) l) es .turns .pending d)
+        ≡ split (l .turns .pending d) ++ (cond b (callsAt d l e) [] ++ handedInBy d (cond b (done l e) l) es)
     go true h later =
-        ap (λ (cs : List Call). cs ++ cut (after (done l e) es .turns .pending d)) (served-append d (turnAt l e) (turnsOf (done l e) es))
+        ap (λ (cs : List Call). cs ++ split (layerAfter (done l e) es .turns .pending d)) (served-append d (turnAt l e) (turnsOf (done l e) es))
         ∙ append-assoc (servedOf d (turnAt l e)) _ _
         ∙ ap (λ (cs : List Call). servedOf d (turnAt l e) ++ cs) later
         ∙ sym (append-assoc (servedOf d (turnAt l e)) _ _)
         ∙ ap (λ (cs : List Call). cs ++ handedInBy d (done l e) es) (event-order l e d h)
-        ∙ append-assoc (cut (l .turns .pending d)) _ _
+        ∙ append-assoc (split (l .turns .pending d)) _ _
     go false h later = later
 
 -- ---- what stays
@@ -221,7 +221,7 @@ steady-done l (turn space lent) s = steady-turn (l .table) (nextTurn l) s
 -- ---- what a history from the beginning can have made
 
 pub begins-proper : BeginsProper
-unfolding begun allOf cut
+unfolding begun allOf split
 begins-proper n = record { own = λ d l. refl; few = λ d l. omega arith; others = λ d l. refl; place = omega arith }
 
 all-append : (d : ℕ) (cs ks : List Call) → allOf d cs ≡ true → allOf d ks ≡ true → allOf d (cs ++ ks) ≡ true
@@ -243,14 +243,14 @@ one-all d [] h = refl
 one-all d (c ∷ []) h = and-intro h refl
 one-all d (c ∷ next ∷ cs) h = absurd (false≢true h)
 
-handed-proper : (n : ℕ) (s : Turns) (d : ℕ) (ws : List ℕ) → Proper n s → d < n → isOneOf d (cut ws) ≡ true → length (s .pending d) + length ws ≤ turns.mostPending → Proper n (handedIn s d ws)
+handed-proper : (n : ℕ) (s : Turns) (d : ℕ) (ws : List ℕ) → ProperHistory n s → d < n → isOneOf d (split ws) ≡ true → length (s .pending d) + length ws ≤ turns.mostPending → ProperHistory n (handedIn s d ws)
 unfolding handedIn
 handed-proper n s d ws p below one room =
     record {
       own =
           λ e.
-          replaced-all (λ x vs. x < n → allOf x (cut vs) ≡ true) (s .pending) d (s .pending d ++ ws) e
-          (λ l. ap (allOf d) (cut-append (s .pending d) ws (one-opens d ws one)) ∙ all-append d _ _ (p .own d l) (one-all d (cut ws) one))
+          replaced-all (λ x vs. x < n → allOf x (split vs) ≡ true) (s .pending) d (s .pending d ++ ws) e
+          (λ l. ap (allOf d) (split-append (s .pending d) ws (one-opens d ws one)) ∙ all-append d _ _ (p .own d l) (one-all d (split ws) one))
           (p .own e);
       few =
           λ e.
@@ -265,13 +265,13 @@ handed-proper n s d ws p below one room =
       place = p .place;
     }
 
-served-proper : (n : ℕ) (s : Turns) (d : ℕ) (c : Call) → Proper n s → Serving n s d c → Proper n (afterTurn s (serves d c))
+served-proper : (n : ℕ) (s : Turns) (d : ℕ) (c : Call) → ProperHistory n s → Serving n s d c → ProperHistory n (afterTurn s (serves d c))
 unfolding afterTurn
 served-proper n s d c p it =
     record {
       own =
           λ e.
-          replaced-all (λ x vs. x < n → allOf x (cut vs) ≡ true) (s .pending) d (drop (width c) (s .pending d)) e
+          replaced-all (λ x vs. x < n → allOf x (split vs) ≡ true) (s .pending) d (drop (width c) (s .pending d)) e
           (λ l. all-rest d c _ (ap (allOf d) (sym (it .front)) ∙ p .own d l))
           (p .own e);
       few =
@@ -290,20 +290,20 @@ served-proper n s d c p it =
 -- A history on its way: an accepted table of n domains, and what can have been made.
 record Sound (n : ℕ) (l : Layer) : Type 0 where
   steady : Steady n (l .table)
-  proper : Proper n (l .turns)
+  proper : ProperHistory n (l .turns)
 
-proper-turn : (n : ℕ) (l : Layer) → Sound n l → Proper n (afterTurn (l .turns) (nextTurn l))
+proper-turn : (n : ℕ) (l : Layer) → Sound n l → ProperHistory n (afterTurn (l .turns) (nextTurn l))
 unfolding nextTurn afterTurn
 proper-turn n l s =
     ⊎-elim
-    (λ none. subst (λ (x : Turn). Proper n (afterTurn (l .turns) x)) (sym (none .0)) (s .proper))
+    (λ none. subst (λ (x : Turn). ProperHistory n (afterTurn (l .turns) x)) (sym (none .0)) (s .proper))
     (λ some.
     let (d, c, is, it) = some in
-    subst (λ (x : Turn). Proper n (afterTurn (l .turns) x)) (sym is)
+    subst (λ (x : Turn). ProperHistory n (afterTurn (l .turns) x)) (sym is)
     (served-proper n (l .turns) d c (s .proper) (subst (λ (k : ℕ). Serving k (l .turns) d c) (s .steady .count) it)))
     (turn-cases (domains (l .table)) (l .turns))
 
-proper-done : (n : ℕ) (l : Layer) (e : Event) → eqb (eventCode l e) 0 ≡ true → Sound n l → Proper n (done l e .turns)
+proper-done : (n : ℕ) (l : Layer) (e : Event) → eqb (eventCode l e) 0 ≡ true → Sound n l → ProperHistory n (done l e .turns)
 unfolding eventCode done
 proper-done n l (handIn d ws) h s =
     let in′ = let-in (l .table) (l .turns) d ws h in
@@ -318,8 +318,8 @@ sound-event n l e s = go (eqb (eventCode l e) 0) refl
     go true h = record { steady = steady-done l e (s .steady); proper = proper-done n l e h s }
     go false h = s
 
-sound-history : (n : ℕ) (es : List Event) (l : Layer) → Sound n l → Sound n (after l es)
-unfolding after
+sound-history : (n : ℕ) (es : List Event) (l : Layer) → Sound n l → Sound n (layerAfter l es)
+unfolding layerAfter
 sound-history n [] l s = s
 sound-history n (e ∷ es) l s = sound-history n es (afterEvent l e) (sound-event n l e s)
 

@@ -11,7 +11,7 @@ use borrow.Author.Tests.{eqb-true, eqb-false, ne-eqb, le-leb, lt-leb}
 use lib.Dec.{eqb, leb}
 use lib.ListN.{length}
 use Rattle.machine.specs.Table.{domains}
-use Rattle.machine.specs.Call.{Call, cut}
+use Rattle.machine.specs.Call.{Call, split}
 use Rattle.turns_theory.specs.Turns.{Turns, Turn, handedIn, waits, turnOf, afterTurn, Turn.serves}
 use Rattle.turns_theory.specs.History.{Layer, Event, eventCode, nextTurn, done, afterEvent, alongWith, turnAt, turnsOf, servedOf, Event.handIn, Event.turn}
 use Rattle.turns_theory.specs.Claims.{ServedWithin, ServedInTime}
@@ -65,11 +65,11 @@ nearer n s e c d it l w other = go (decLt d (s .place)) (it .order)
     go (no b) (inr (later, before)) = absurd (true≢false (sym w ∙ later d (omega arith) l))
 
 -- a domain with a call waits
-waits-call : (s : Turns) (d : ℕ) (c : Call) (cs : List Call) → cut (s .pending d) ≡ c ∷ cs → waits s d ≡ true
-unfolding waits cut
+waits-call : (s : Turns) (d : ℕ) (c : Call) (cs : List Call) → split (s .pending d) ≡ c ∷ cs → waits s d ≡ true
+unfolding waits split
 waits-call s d c cs h = go (s .pending d) h
   where
-    go : (ws : List ℕ) → cut ws ≡ c ∷ cs → not (eqb (length ws) 0) ≡ true
+    go : (ws : List ℕ) → split ws ≡ c ∷ cs → not (eqb (length ws) 0) ≡ true
     go [] h = absurd (no-cons h)
     go (w ∷ ws) h = rw (ne-eqb (suc (length ws)) 0 (λ z. omega arith))
 
@@ -86,14 +86,14 @@ module _ (n d : ℕ) (below : d < n) (c : Call) where
   InTimeAlong es =
       (l : Layer) (cs : List Call) (m : ℕ)
       → Steady n (l .table)
-      → cut (l .turns .pending d) ≡ c ∷ cs
+      → split (l .turns .pending d) ≡ c ∷ cs
       → ahead n (l .turns .place) d < m
       → m ≤ length (turnsOf l es)
       → ServedWithin m d c (turnsOf l es)
 
   -- a turn: it serves d, or another and comes nearer
   at-turn : (es : List Event) → InTimeAlong es → (l : Layer) (cs : List Call) (m space lent : ℕ)
-      → Steady n (l .table) → cut (l .turns .pending d) ≡ c ∷ cs → ahead n (l .turns .place) d < m
+      → Steady n (l .table) → split (l .turns .pending d) ≡ c ∷ cs → ahead n (l .turns .place) d < m
       → m ≤ length (nextTurn l ∷ turnsOf (done l (turn space lent)) es)
       → ServedWithin m d c (nextTurn l ∷ turnsOf (done l (turn space lent)) es)
   unfolding nextTurn done afterTurn servedOf
@@ -116,7 +116,7 @@ module _ (n d : ℕ) (below : d < n) (c : Call) where
             serves =
                 turns
                 ∙ ap₂ (λ (y : ℕ) (z : Call). serves y z) (eqb-true e d same)
-                (cons-same (sym (it .front) ∙ ap (λ (y : ℕ). cut (l .turns .pending y)) (eqb-true e d same) ∙ is) .0);
+                (cons-same (sym (it .front) ∙ ap (λ (y : ℕ). split (l .turns .pending y)) (eqb-true e d same) ∙ is) .0);
             first = refl;
           }
       go e x turns it false other =
@@ -126,19 +126,19 @@ module _ (n d : ℕ) (below : d < n) (c : Call) where
           let closer : ahead n (e + 1) d < m = omega (arith, near, nearer n (l .turns) e x d it below w other) in
           subst (λ (y : Turn). ServedWithin (suc m) d c (y ∷ turnsOf next es)) (sym turns)
           (later m d c e x (turnsOf next es) other
-          (rest next cs m (steady-done l (turn space lent) s) (ap cut words ∙ is) (subst (λ (p : ℕ). ahead n p d < m) (sym place) closer) (omega (arith, enough))))
+          (rest next cs m (steady-done l (turn space lent) s) (ap split words ∙ is) (subst (λ (p : ℕ). ahead n p d < m) (sym place) closer) (omega (arith, enough))))
 
   -- handing in: the oldest call stays the oldest, and the place stays
   at-hand-in : (es : List Event) → InTimeAlong es → (l : Layer) (cs : List Call) (m x : ℕ) (ws : List ℕ)
       → eqb (eventCode l (handIn x ws)) 0 ≡ true
-      → Steady n (l .table) → cut (l .turns .pending d) ≡ c ∷ cs → ahead n (l .turns .place) d < m
+      → Steady n (l .table) → split (l .turns .pending d) ≡ c ∷ cs → ahead n (l .turns .place) d < m
       → m ≤ length (turnsOf (done l (handIn x ws)) es)
       → ServedWithin m d c (turnsOf (done l (handIn x ws)) es)
   unfolding eventCode done handedIn
   at-hand-in es rest l cs m x ws h s is near =
       let one = let-in (l .table) (l .turns) x ws h .oneCall in
       rest (done l (handIn x ws)) _ m (steady-done l (handIn x ws) s)
-      (handed-order l x ws d one ∙ ap (λ (ks : List Call). ks ++ cond (eqb x d) (cut ws) []) is)
+      (handed-order l x ws d one ∙ ap (λ (ks : List Call). ks ++ cond (eqb x d) (split ws) []) is)
       near
 
   -- one event, and others behind it

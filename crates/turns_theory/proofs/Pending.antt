@@ -13,11 +13,11 @@ use lib.Dec.{eqb, leb}
 use lib.ListN.{length, drop}
 use Rattle.machine.specs.Word.{kind, caller}
 use Rattle.machine.specs.Below.{firstBelow}
-use Rattle.machine.specs.Call.{Call, first, callerOf, wantsSecond, pairs, cut, Call.one, Call.two}
+use Rattle.machine.specs.Call.{Call, first, callerOf, wantsSecond, pairs, split, Call.one, Call.two}
 use Rattle.machine.specs.DomainSet.{calledBy}
 use Rattle.machine.proofs.Bools.{and-left, and-right}
 use Rattle.machine.proofs.Below.{below-or-last}
-use Rattle.turns_theory.specs.Turns.{Turns, replaced, isOneOf, waits, firstFrom, orElse, firstWaiting, servesOldest, servesAt, turnOf, width, Turn.idle, Turn.serves}
+use Rattle.turns_theory.specs.Turns.{Turns, replaced, isOneOf, waits, firstPendingFrom, orElse, firstWaiting, servesOldest, servesAt, turnOf, width, Turn.idle, Turn.serves}
 
 -- ---- the call at the front of words
 
@@ -26,12 +26,12 @@ unfoldable pub oldest : ℕ → List ℕ → Call
 oldest w [] = one w
 oldest w (v ∷ ws) = cond (pairs w v) (two w v) (one w)
 
-pub cut-oldest : (w : ℕ) (ws : List ℕ) → cut (w ∷ ws) ≡ oldest w ws ∷ cut (drop (width (oldest w ws)) (w ∷ ws))
-unfolding cut oldest
-cut-oldest w [] = refl
-cut-oldest w (v ∷ ws) = go (pairs w v)
+pub split-oldest : (w : ℕ) (ws : List ℕ) → split (w ∷ ws) ≡ oldest w ws ∷ split (drop (width (oldest w ws)) (w ∷ ws))
+unfolding split oldest
+split-oldest w [] = refl
+split-oldest w (v ∷ ws) = go (pairs w v)
   where
-    go : (b : Bool) → cond b (two w v ∷ cut ws) (one w ∷ cut (v ∷ ws)) ≡ cond b (two w v) (one w) ∷ cut (drop (width (cond b (two w v) (one w))) (w ∷ v ∷ ws))
+    go : (b : Bool) → cond b (two w v ∷ split ws) (one w ∷ split (v ∷ ws)) ≡ cond b (two w v) (one w) ∷ split (drop (width (cond b (two w v) (one w))) (w ∷ v ∷ ws))
     go true = refl
     go false = refl
 
@@ -63,20 +63,20 @@ opens [] = true
 opens (w ∷ ws) = not (eqb (kind w) 15)
 
 -- a word of kind 15 alone would belong to the words before it
-pub cut-append : (ws vs : List ℕ) → opens vs ≡ true → cut (ws ++ vs) ≡ cut ws ++ cut vs
-unfolding cut opens pairs
-cut-append [] vs h = refl
-cut-append (w ∷ []) [] h = refl
-cut-append (w ∷ []) (v ∷ vs) h = rw (apart (wantsSecond (kind w)) (eqb (kind v) 15) h)
+pub split-append : (ws vs : List ℕ) → opens vs ≡ true → split (ws ++ vs) ≡ split ws ++ split vs
+unfolding split opens pairs
+split-append [] vs h = refl
+split-append (w ∷ []) [] h = refl
+split-append (w ∷ []) (v ∷ vs) h = rw (apart (wantsSecond (kind w)) (eqb (kind v) 15) h)
   where
     apart : (a b : Bool) → not b ≡ true → (a && b) ≡ false
     apart true true p = absurd (false≢true p)
     apart true false p = refl
     apart false b p = refl
-cut-append (w ∷ v ∷ ws) vs h = go (pairs w v) (cut-append ws vs h) (cut-append (v ∷ ws) vs h)
+split-append (w ∷ v ∷ ws) vs h = go (pairs w v) (split-append ws vs h) (split-append (v ∷ ws) vs h)
   where
-    go : (b : Bool) → cut (ws ++ vs) ≡ cut ws ++ cut vs → cut (v ∷ (ws ++ vs)) ≡ cut (v ∷ ws) ++ cut vs
-        → cond b (two w v ∷ cut (ws ++ vs)) (one w ∷ cut (v ∷ (ws ++ vs))) ≡ cond b (two w v ∷ cut ws) (one w ∷ cut (v ∷ ws)) ++ cut vs
+    go : (b : Bool) → split (ws ++ vs) ≡ split ws ++ split vs → split (v ∷ (ws ++ vs)) ≡ split (v ∷ ws) ++ split vs
+        → cond b (two w v ∷ split (ws ++ vs)) (one w ∷ split (v ∷ (ws ++ vs))) ≡ cond b (two w v ∷ split ws) (one w ∷ split (v ∷ ws)) ++ split vs
     go true p q = ap (λ (cs : List Call). two w v ∷ cs) p
     go false p q = ap (λ (cs : List Call). one w ∷ cs) q
 
@@ -95,11 +95,11 @@ oldest-first w (v ∷ ws) = go (pairs w v)
     go false = refl
 
 -- words that are one call of a domain begin with no word of kind 15
-pub one-opens : (d : ℕ) (ws : List ℕ) → isOneOf d (cut ws) ≡ true → opens ws ≡ true
+pub one-opens : (d : ℕ) (ws : List ℕ) → isOneOf d (split ws) ≡ true → opens ws ≡ true
 unfolding opens callerOf calledBy
 one-opens d [] h = refl
 one-opens d (w ∷ ws) h =
-    let (by, _) = one-of d (oldest w ws) _ (ap (isOneOf d) (sym (cut-oldest w ws)) ∙ h) in
+    let (by, _) = one-of d (oldest w ws) _ (ap (isOneOf d) (sym (split-oldest w ws)) ∙ h) in
     go (eqb (kind w) 15)
     (subst (λ (x : ℕ). calledBy d (cond (eqb (kind x) 15) none (some (caller x))) ≡ true) (oldest-first w ws) by)
   where
@@ -162,14 +162,14 @@ first-cases (suc k) p =
 pub record Serving (n : ℕ) (s : Turns) (d : ℕ) (c : Call) : Type 0 where
   pub below : d < n
   pub order : ((s .place ≤ d) × ((e : ℕ) → s .place ≤ e → e < d → waits s e ≡ false)) ⊎ (((e : ℕ) → s .place ≤ e → e < n → waits s e ≡ false) × ((e : ℕ) → e < d → waits s e ≡ false))
-  pub front : cut (s .pending d) ≡ c ∷ cut (drop (width c) (s .pending d))
+  pub front : split (s .pending d) ≡ c ∷ split (drop (width c) (s .pending d))
   pub fits : width c ≤ length (s .pending d)
 
 -- the oldest call of a domain that waits
 record Oldest (d : ℕ) (ws : List ℕ) : Type 0 where
   call : Call
-  served : servesOldest d (cut ws) ≡ serves d call
-  front : cut ws ≡ call ∷ cut (drop (width call) ws)
+  served : servesOldest d (split ws) ≡ serves d call
+  front : split ws ≡ call ∷ split (drop (width call) ws)
   fits : width call ≤ length ws
 
 oldest-of : (s : Turns) (d : ℕ) → waits s d ≡ true → Oldest d (s .pending d)
@@ -178,7 +178,7 @@ oldest-of s d h = go (s .pending d) h
   where
     go : (ws : List ℕ) → not (eqb (length ws) 0) ≡ true → Oldest d ws
     go [] h = absurd (false≢true h)
-    go (w ∷ ws) h = record { call = oldest w ws; served = rw (cut-oldest w ws); front = cut-oldest w ws; fits = oldest-width w ws }
+    go (w ∷ ws) h = record { call = oldest w ws; served = rw (split-oldest w ws); front = split-oldest w ws; fits = oldest-width w ws }
 
 -- a test from a place on
 from-true : (place d : ℕ) (b : Bool) → (leb place d && b) ≡ true → (place ≤ d) × (b ≡ true)
@@ -188,23 +188,23 @@ from-false : (place d : ℕ) (b : Bool) → place ≤ d → (leb place d && b) �
 from-false place d b l h = sym (ap (λ (x : Bool). x && b) (le-leb place d l)) ∙ h
 
 -- the search from the place of the turn on, and then from 0
-pub waiting-up : (n : ℕ) (s : Turns) (d : ℕ) → firstFrom n s (s .place) ≡ some d → firstWaiting n s ≡ some d
+pub waiting-up : (n : ℕ) (s : Turns) (d : ℕ) → firstPendingFrom n s (s .place) ≡ some d → firstWaiting n s ≡ some d
 unfolding firstWaiting orElse
-waiting-up n s d is = ap (λ (o : Option ℕ). orElse o (firstFrom n s 0)) is
+waiting-up n s d is = ap (λ (o : Option ℕ). orElse o (firstPendingFrom n s 0)) is
 
-pub waiting-round : (n : ℕ) (s : Turns) → firstFrom n s (s .place) ≡ none → firstWaiting n s ≡ firstFrom n s 0
+pub waiting-round : (n : ℕ) (s : Turns) → firstPendingFrom n s (s .place) ≡ none → firstWaiting n s ≡ firstPendingFrom n s 0
 unfolding firstWaiting orElse
-waiting-round n s is = ap (λ (o : Option ℕ). orElse o (firstFrom n s 0)) is
+waiting-round n s is = ap (λ (o : Option ℕ). orElse o (firstPendingFrom n s 0)) is
 
-pub from-cases : (n : ℕ) (s : Turns) (place : ℕ) → ((d : ℕ) × (firstFrom n s place ≡ some d) × Lowest n (λ d. leb place d && waits s d) d) ⊎ ((firstFrom n s place ≡ none) × ((e : ℕ) → e < n → (leb place e && waits s e) ≡ false))
-unfolding firstFrom
+pub from-cases : (n : ℕ) (s : Turns) (place : ℕ) → ((d : ℕ) × (firstPendingFrom n s place ≡ some d) × Lowest n (λ d. leb place d && waits s d) d) ⊎ ((firstPendingFrom n s place ≡ none) × ((e : ℕ) → e < n → (leb place e && waits s e) ≡ false))
+unfolding firstPendingFrom
 from-cases n s place = first-cases n (λ d. leb place d && waits s d)
 
 pub turn-idle : (n : ℕ) (s : Turns) → firstWaiting n s ≡ none → turnOf n s ≡ idle
 unfolding turnOf servesAt
 turn-idle n s is = ap (servesAt s) is
 
-pub turn-of : (n : ℕ) (s : Turns) (d : ℕ) → firstWaiting n s ≡ some d → turnOf n s ≡ servesOldest d (cut (s .pending d))
+pub turn-of : (n : ℕ) (s : Turns) (d : ℕ) → firstWaiting n s ≡ some d → turnOf n s ≡ servesOldest d (split (s .pending d))
 unfolding turnOf servesAt
 turn-of n s d is = ap (servesAt s) is
 
@@ -235,7 +235,7 @@ turn-cases n s =
     (λ none. let (is, all) = none in again is all)
     (from-cases n s (s .place))
   where
-    again : firstFrom n s (s .place) ≡ none → ((e : ℕ) → e < n → (leb (s .place) e && waits s e) ≡ false) → Turning n s
+    again : firstPendingFrom n s (s .place) ≡ none → ((e : ℕ) → e < n → (leb (s .place) e && waits s e) ≡ false) → Turning n s
     again is all =
         ⊎-elim
         (λ found.

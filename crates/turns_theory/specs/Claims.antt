@@ -7,12 +7,12 @@ use lib.Dec.{eqb, ltb}
 use lib.ListN.{length, getD, take}
 use Rattle.machine.specs.Table.{domains}
 use Rattle.machine.specs.Check.{Accepted}
-use Rattle.machine.specs.Call.{Call, callerOf, cut}
+use Rattle.machine.specs.Call.{Call, callerOf, split}
 use Rattle.machine.specs.Run as machine
 use Rattle.machine.specs.DomainSet.{calledBy}
 use Rattle.machine.specs.RunClaims.{Noninterference}
 use Rattle.turns_theory.specs.Turns.{Turns, Turn, begun, mostPending, turnOf, Turn.idle, Turn.serves}
-use Rattle.turns_theory.specs.History.{Layer, Event, eventCode, afterEvent, after, turnsOf, answersOf, holdersAlong, handedInBy, served, servedOf, holdersEach}
+use Rattle.turns_theory.specs.History.{Layer, Event, eventCode, afterEvent, layerAfter, turnsOf, answersServed, holdersThroughout, handedInBy, served, servedOf, holdersEach}
 
 -- Among the turns ts, one of the first m serves the call c of the domain d, and none before it serves d.
 pub record ServedWithin (m d : ℕ) (c : Call) (ts : List Turn) : Type 0 where
@@ -27,16 +27,16 @@ ServedInTime =
     (l : Layer) (es : List Event) (d : ℕ) (c : Call) (cs : List Call)
     → Accepted (l .table)
     → d < domains (l .table)
-    → cut (l .turns .pending d) ≡ c ∷ cs
+    → split (l .turns .pending d) ≡ c ∷ cs
     → domains (l .table) ≤ length (turnsOf l es)
     → ServedWithin (domains (l .table)) d c (turnsOf l es)
 
 -- The calls served, in order, as one list for the call-by-call machine: its answers, its table at the end, and the holders of its
--- table after each call.
+-- table layerAfter each call.
 pub record OneList (l : Layer) (es : List Event) : Type 0 where
-  pub answers : answersOf l es ≡ machine.answers (l .table) (served (turnsOf l es))
-  pub table : after l es .table ≡ machine.run (l .table) (served (turnsOf l es))
-  pub holders : holdersAlong l es ≡ holdersEach (l .table) (served (turnsOf l es))
+  pub answers : answersServed l es ≡ machine.answers (l .table) (served (turnsOf l es))
+  pub table : layerAfter l es .table ≡ machine.run (l .table) (served (turnsOf l es))
+  pub holders : holdersThroughout l es ≡ holdersEach (l .table) (served (turnsOf l es))
 
 -- Of every history, with no limit on its length, from any words as a table.
 abbrev pub AsOneList : Type 0
@@ -48,14 +48,14 @@ abbrev pub EveryHistoryNoninterference : Type 0
 EveryHistoryNoninterference =
     (l : Layer) (es : List Event)
     → Accepted (l .table)
-    → Noninterference (l .table) (served (turnsOf l es)) (answersOf l es) (after l es .table)
+    → Noninterference (l .table) (served (turnsOf l es)) (answersServed l es) (layerAfter l es .table)
 
 -- In order: the calls of a domain that were served, and then those still pending, are those that were pending, and then those that it
 -- handed in. So none is lost, none is served twice, and each domain's are served in the order in which they were handed in.
 abbrev pub InOrder : Type 0
 InOrder =
     (l : Layer) (es : List Event) (d : ℕ)
-    → servedOf d (turnsOf l es) ++ cut (after l es .turns .pending d) ≡ cut (l .turns .pending d) ++ handedInBy d l es
+    → servedOf d (turnsOf l es) ++ split (layerAfter l es .turns .pending d) ≡ split (l .turns .pending d) ++ handedInBy d l es
 
 -- A turn is idle exactly where none of the n domains has a call pending.
 abbrev pub IdleExactly : Type 0
@@ -76,21 +76,21 @@ allOf d (c ∷ cs) = calledBy d (callerOf c) && allOf d cs
 
 -- Among n domains: each has at most 16 words pending, which are calls of its own, no other number has any, and the place is a domain
 -- or n.
-pub record Proper (n : ℕ) (s : Turns) : Type 0 where
-  pub own : (d : ℕ) → d < n → allOf d (cut (s .pending d)) ≡ true
+pub record ProperHistory (n : ℕ) (s : Turns) : Type 0 where
+  pub own : (d : ℕ) → d < n → allOf d (split (s .pending d)) ≡ true
   pub few : (d : ℕ) → d < n → length (s .pending d) ≤ mostPending
   pub others : (d : ℕ) → n ≤ d → s .pending d ≡ []
   pub place : s .place ≤ n
 
 abbrev pub BeginsProper : Type 0
-BeginsProper = (n : ℕ) → Proper n begun
+BeginsProper = (n : ℕ) → ProperHistory n begun
 
 abbrev pub StaysProper : Type 0
 StaysProper =
     (l : Layer) (es : List Event)
     → Accepted (l .table)
-    → Proper (domains (l .table)) (l .turns)
-    → Proper (domains (l .table)) (after l es .turns)
+    → ProperHistory (domains (l .table)) (l .turns)
+    → ProperHistory (domains (l .table)) (layerAfter l es .turns)
 
 -- every turn that serves a domain serves a call of that domain, which is below n
 unfoldable pub servesOwn : ℕ → List Turn → Bool
@@ -102,5 +102,5 @@ abbrev pub ServesOwn : Type 0
 ServesOwn =
     (l : Layer) (es : List Event)
     → Accepted (l .table)
-    → Proper (domains (l .table)) (l .turns)
+    → ProperHistory (domains (l .table)) (l .turns)
     → servesOwn (domains (l .table)) (turnsOf l es) ≡ true

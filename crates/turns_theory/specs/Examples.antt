@@ -7,7 +7,7 @@ use lib.ListN.{set, replicate}
 use Rattle.machine.specs.Call.{Call.one, Call.two}
 use Rattle.machine.specs.Examples.{emptySlots}
 use Rattle.turns_theory.specs.Turns.{Turns, Turn, begun, replaced, handInCode, turnCode, Turn.idle, Turn.serves}
-use Rattle.turns_theory.specs.History.{Layer, Event, after, turnsOf, answersOf, holdersAlong, Event.handIn, Event.turn}
+use Rattle.turns_theory.specs.History.{Layer, Event, layerAfter, turnsOf, answersServed, holdersThroughout, Event.handIn, Event.turn}
 
 -- what the rows show of a history: its turns that weren't refused, the answers and the holders of each call served, and at its end the
 -- table, the pending words of the domains 0 to 3 and the place of the turn
@@ -21,12 +21,12 @@ pub record Shown : Type 0 where
 
 unfoldable pub shown : Layer → List Event → Shown
 shown l es =
-    let end = after l es in
+    let end = layerAfter l es in
     let f = end .turns .pending in
     record {
       turns = turnsOf l es;
-      answers = answersOf l es;
-      holders = holdersAlong l es;
+      answers = answersServed l es;
+      holders = holdersThroughout l es;
       table = end .table;
       pending = f 0 ∷ f 1 ∷ f 2 ∷ f 3 ∷ [];
       place = end .turns .place;

@@ -1,14 +1,14 @@
--- A history: events of handing in and of turns, one after another, from a table and what is pending. Only turns alter the table, and
+-- A history: events of handing in and of turns, one layerAfter another, from a table and what is pending. Only turns alter the table, and
 -- only these events what is pending and the place of the turn.
 use Prim.Native.Nat.{ℕ}
 use mathlib.Core.Bool.{cond}
 use mathlib.Core.List.{List, [], _∷_, _++_}
 use lib.Dec.{eqb}
 use Rattle.machine.specs.Table.{domains}
-use Rattle.machine.specs.Call.{Call, cut}
+use Rattle.machine.specs.Call.{Call, split}
 use Rattle.machine.specs.Machine.{step}
 use Rattle.machine.specs.Holders.{holdersOf}
-use Rattle.turns_theory.specs.Turns.{Turns, Turn, handInCode, handedIn, turnCode, turnOf, afterTurn, tableAfter, answerOf, holdersAfter}
+use Rattle.turns_theory.specs.Turns.{Turns, Turn, handInCode, handedIn, turnCode, turnOf, afterTurn, tableAfter, answerOf, holdersAfterTurn}
 use Rattle.turns_theory.specs.Turns.{Turn.idle, Turn.serves}
 
 -- The table and what stands beside it.
@@ -39,9 +39,9 @@ unfoldable pub afterEvent : Layer → Event → Layer
 afterEvent l e = cond (eqb (eventCode l e) 0) (done l e) l
 
 -- what a whole history leaves
-unfoldable pub after : Layer → List Event → Layer
-after l [] = l
-after l (e ∷ es) = after (afterEvent l e) es
+unfoldable pub layerAfter : Layer → List Event → Layer
+layerAfter l [] = l
+layerAfter l (e ∷ es) = layerAfter (afterEvent l e) es
 
 -- ---- what is seen of a history
 
@@ -63,24 +63,24 @@ unfoldable pub answerAt : Layer → Event → List ℕ
 answerAt l (handIn d ws) = []
 answerAt l (turn space lent) = answerOf (l .table) (nextTurn l)
 
-abbrev pub answersOf : Layer → List Event → List ℕ
-answersOf = alongWith answerAt
+abbrev pub answersServed : Layer → List Event → List ℕ
+answersServed = alongWith answerAt
 
 -- the holders that each call served left
 unfoldable pub holdersOfTurn : List ℕ → Turn → List (List ℕ)
 holdersOfTurn t idle = []
-holdersOfTurn t (serves d c) = holdersAfter t (serves d c) [] ∷ []
+holdersOfTurn t (serves d c) = holdersAfterTurn t (serves d c) [] ∷ []
 
 unfoldable pub holdersAt : Layer → Event → List (List ℕ)
 holdersAt l (handIn d ws) = []
 holdersAt l (turn space lent) = holdersOfTurn (l .table) (nextTurn l)
 
-abbrev pub holdersAlong : Layer → List Event → List (List ℕ)
-holdersAlong = alongWith holdersAt
+abbrev pub holdersThroughout : Layer → List Event → List (List ℕ)
+holdersThroughout = alongWith holdersAt
 
 -- the calls that the domain d handed in
 unfoldable pub callsAt : ℕ → Layer → Event → List Call
-callsAt d l (handIn e ws) = cond (eqb e d) (cut ws) []
+callsAt d l (handIn e ws) = cond (eqb e d) (split ws) []
 callsAt d l (turn space lent) = []
 
 abbrev pub handedInBy : ℕ → Layer → List Event → List Call
@@ -97,7 +97,7 @@ servedOf d [] = []
 servedOf d (idle ∷ ts) = servedOf d ts
 servedOf d (serves e c ∷ ts) = let rest = servedOf d ts in cond (eqb e d) (c ∷ rest) rest
 
--- the holders of the table after each of the calls cs, which the machine is fed one after another
+-- the holders of the table layerAfter each of the calls cs, which the machine is fed one layerAfter another
 unfoldable pub holdersEach : List ℕ → List Call → List (List ℕ)
 holdersEach t [] = []
 holdersEach t (c ∷ cs) = holdersOf (step t c) ∷ holdersEach (step t c) cs

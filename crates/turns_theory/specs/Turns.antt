@@ -9,7 +9,7 @@ use lib.ListN.{length, drop}
 use Rattle.machine.specs.Below.{firstBelow}
 use Rattle.machine.specs.Table.{domains}
 use Rattle.machine.specs.Check.{tableCode}
-use Rattle.machine.specs.Call.{Call, callerOf, cut, Call.one, Call.two}
+use Rattle.machine.specs.Call.{Call, callerOf, split, Call.one, Call.two}
 use Rattle.machine.specs.Machine.{step, answer}
 use Rattle.machine.specs.DomainSet.{calledBy}
 use Rattle.machine.specs.Holders.{holdersOf}
@@ -46,7 +46,7 @@ unfoldable pub handInCode : List ℕ → Turns → ℕ → List ℕ → ℕ
 handInCode t s d ws =
     cond (not (eqb (tableCode t) 0)) (tableCode t)
     (cond (not (ltb d (domains t))) 35
-    (cond (not (isOneOf d (cut ws))) 36 (cond (ltb mostPending (length (s .pending d) + length ws)) 37 0)))
+    (cond (not (isOneOf d (split ws))) 36 (cond (ltb mostPending (length (s .pending d) + length ws)) 37 0)))
 
 -- the words ws go behind those of the domain d
 unfoldable pub handedIn : Turns → ℕ → List ℕ → Turns
@@ -59,8 +59,8 @@ unfoldable pub waits : Turns → ℕ → Bool
 waits s d = not (eqb (length (s .pending d)) 0)
 
 -- the first of the n domains, from a place on, that has one
-unfoldable pub firstFrom : ℕ → Turns → ℕ → Option ℕ
-firstFrom n s place = firstBelow n (λ d. leb place d && waits s d)
+unfoldable pub firstPendingFrom : ℕ → Turns → ℕ → Option ℕ
+firstPendingFrom n s place = firstBelow n (λ d. leb place d && waits s d)
 
 -- the first that has one from the place of the turn on, up and then round to 0
 unfoldable pub orElse : Option ℕ → Option ℕ → Option ℕ
@@ -68,7 +68,7 @@ orElse none next = next
 orElse (some d) next = some d
 
 unfoldable pub firstWaiting : ℕ → Turns → Option ℕ
-firstWaiting n s = orElse (firstFrom n s (s .place)) (firstFrom n s 0)
+firstWaiting n s = orElse (firstPendingFrom n s (s .place)) (firstPendingFrom n s 0)
 
 -- What a turn that isn't refused comes to: nothing was pending, or the call c of the domain d is served.
 pub data Turn : Type 0 where
@@ -83,7 +83,7 @@ servesOldest d (c ∷ cs) = serves d c
 -- whom a turn among n domains serves
 unfoldable pub servesAt : Turns → Option ℕ → Turn
 servesAt s none = idle
-servesAt s (some d) = servesOldest d (cut (s .pending d))
+servesAt s (some d) = servesOldest d (split (s .pending d))
 
 unfoldable pub turnOf : ℕ → Turns → Turn
 turnOf n s = servesAt s (firstWaiting n s)
@@ -109,9 +109,9 @@ answerOf t idle = []
 answerOf t (serves d c) = answer t c
 
 -- the holders (document 02: the panel's words) that a turn leaves of those it was lent
-unfoldable pub holdersAfter : List ℕ → Turn → List ℕ → List ℕ
-holdersAfter t idle holders = holders
-holdersAfter t (serves d c) holders = holdersOf (step t c)
+unfoldable pub holdersAfterTurn : List ℕ → Turn → List ℕ → List ℕ
+holdersAfterTurn t idle holders = holders
+holdersAfterTurn t (serves d c) holders = holdersOf (step t c)
 
 -- the code of a turn with so many words lent for its answer and for the holders: the table's 2 to 5, then 6 where the answer's three
 -- words have no space or the holders aren't one word a domain; 0 where none refuses

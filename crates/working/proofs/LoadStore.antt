@@ -14,16 +14,16 @@ use Rattle.machine.specs.Holders.{holdersOf}
 use Rattle.machine.proofs.Accepted.{accepted-sized, accepted-counts}
 use Rattle.machine.proofs.Below.{words-length}
 use Rattle.machine.proofs.Bools.{and-intro}
-use Rattle.rights_matrix.specs.Rows.{rowsOf, rowsOut, hasRights}
+use Rattle.rights_matrix.specs.Rows.{rowsOf, storedRows, hasRights}
 use Rattle.kernel.specs.Run.{AllRun}
-use Rattle.working_load.specs.Layout.{hasQueues, ringsOf, queuesOut, namesOf, ownedOf}
-use Rattle.working_load.proofs.Loaded.{taken-in-stands-for}
-use Rattle.working_load.proofs.Stored.{put-out-is-table}
-use Rattle.working.specs.Run.{StandsFor, Left}
+use Rattle.working_load.specs.Layout.{hasQueues, ringsOf, storedQueues, namesOf, ownedOf}
+use Rattle.working_load.proofs.Loaded.{loaded-represents}
+use Rattle.working_load.proofs.Stored.{store-is-table}
+use Rattle.working.specs.Run.{RepresentsTable, Left}
 
 -- rows put out leave a table its length
-rows-length : (n : ℕ) (rows : List (List ℕ)) (t : List ℕ) → length (rowsOut n rows t) ≡ length t
-unfolding rowsOut
+rows-length : (n : ℕ) (rows : List (List ℕ)) (t : List ℕ) → length (storedRows n rows t) ≡ length t
+unfolding storedRows
 rows-length n rows t = words-length (length t) _
 
 module _ (t : List ℕ) (a : Accepted t) where
@@ -50,20 +50,20 @@ module _ (t : List ℕ) (a : Accepted t) where
     small : n % 256 ≡ domains t
     small = ap (λ (k : ℕ). k % 256) isN ∙ eight
 
-    pub taken-in : (rows : List (List ℕ)) (lent rings names owned holders : List ℕ)
+    pub loaded : (rows : List (List ℕ)) (lent rings names owned holders : List ℕ)
         → length lent ≡ 12 * endpoints t
         → rows ≡ rowsOf (cond (hasRights n (length t)) n 0) t
         → rings ≡ cond (hasQueues (n % 256) m (length t) (length lent)) (ringsOf (n % 256) m t) lent
         → names ≡ namesOf (n % 256) m t
         → owned ≡ ownedOf (n % 256) m t
         → holders ≡ holdersOf t
-        → StandsFor n m rows rings names owned holders t
-    taken-in rows lent rings names owned holders long isRows isRings isNames isOwned isHolders =
+        → RepresentsTable n m rows rings names owned holders t
+    loaded rows lent rings names owned holders long isRows isRings isNames isOwned isHolders =
         record {
           accepted = a;
           state =
               rw (isN, isM, isRows ∙ rowsAre, isRings ∙ ringsAre, isNames ∙ ap₂ (λ (i j : ℕ). namesOf i j t) small isM, isOwned ∙ ap₂ (λ (i j : ℕ). ownedOf i j t) small isM)
-              (taken-in-stands-for t a);
+              (loaded-represents t a);
           sameHolders = isHolders;
         }
       where
@@ -74,17 +74,17 @@ module _ (t : List ℕ) (a : Accepted t) where
         ringsAre = rw (small, isM, has-queues (length t) (length lent) refl long) refl
 
     -- what is put out is the table at the end
-    pub put-out : (names owned ws space : List ℕ) (k : ℕ) (rows : List (List ℕ)) (rings space′ holders t₁ t₂ : List ℕ)
+    pub store : (names owned ws space : List ℕ) (k : ℕ) (rows : List (List ℕ)) (rings space′ holders t₁ t₂ : List ℕ)
         → Left n m names owned t ws space k rows rings space′ holders
-        → t₁ ≡ cond (hasRights n (length t)) (rowsOut n rows t) t
-        → t₂ ≡ cond (hasQueues (n % 256) m (length t₁) (length rings)) (queuesOut (n % 256) m rings t₁) t₁
+        → t₁ ≡ cond (hasRights n (length t)) (storedRows n rows t) t
+        → t₂ ≡ cond (hasQueues (n % 256) m (length t₁) (length rings)) (storedQueues (n % 256) m rings t₁) t₁
         → AllRun t ws space k space′ t₂ holders
-    put-out names owned ws space k rows rings space′ holders t₁ t₂ x isT₁ isT₂ =
+    store names owned ws space k rows rings space′ holders t₁ t₂ x isT₁ isT₂ =
         let ran = x .ran in
         record { count = ran .count; table = isT₂ ∙ whole ∙ ran .table; answers = ran .answers; holders = ran .holders }
       where
-        first : t₁ ≡ rowsOut n rows t
-        first = isT₁ ∙ ap (λ (b : _). cond b (rowsOut n rows t) t) (ap (λ (i : ℕ). hasRights i (length t)) isN ∙ has-rights)
+        first : t₁ ≡ storedRows n rows t
+        first = isT₁ ∙ ap (λ (b : _). cond b (storedRows n rows t) t) (ap (λ (i : ℕ). hasRights i (length t)) isN ∙ has-rights)
 
         same : length t₁ ≡ length t
         same = ap length first ∙ rows-length n rows t
@@ -94,8 +94,8 @@ module _ (t : List ℕ) (a : Accepted t) where
             ap₂ (λ (i j : ℕ). hasQueues i j (length t₁) (length rings)) small isM
             ∙ has-queues (length t₁) (length rings) same (x .state .size ∙ ap (λ (j : ℕ). 12 * j) isM)
 
-        whole : cond (hasQueues (n % 256) m (length t₁) (length rings)) (queuesOut (n % 256) m rings t₁) t₁ ≡ x .end
+        whole : cond (hasQueues (n % 256) m (length t₁) (length rings)) (storedQueues (n % 256) m rings t₁) t₁ ≡ x .end
         whole =
-            ap (λ (b : _). cond b (queuesOut (n % 256) m rings t₁) t₁) there
-            ∙ ap₂ (λ (i : ℕ) (u : List ℕ). queuesOut i m rings u) (small ∙ sym isN) first
-            ∙ put-out-is-table t (x .end) n m rows rings names owned a (x .accepted) (x .frame) (x .state)
+            ap (λ (b : _). cond b (storedQueues (n % 256) m rings t₁) t₁) there
+            ∙ ap₂ (λ (i : ℕ) (u : List ℕ). storedQueues i m rings u) (small ∙ sym isN) first
+            ∙ store-is-table t (x .end) n m rows rings names owned a (x .accepted) (x .frame) (x .state)

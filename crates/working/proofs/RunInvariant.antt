@@ -11,15 +11,15 @@ use Rattle.machine.proofs.Frame.{frame-refl, frame-trans}
 use Rattle.machine.proofs.Step.{stays-accepted}
 use Rattle.calls.specs.Split.{callOf, secondAt, widthOf}
 use Rattle.calls.specs.declared.split.Second.{Second}
-use Rattle.calls.specs.Decode.{apart}
+use Rattle.calls.specs.Decode.{decoded}
 use Rattle.holders.specs.Noted.{holdersAfter}
 use Rattle.kernel.specs.Step as kernel
 use Rattle.kernel.proofs.RunInvariant.{Underway, underway-start, underway-next, underway-end}
 use Rattle.working_theory.specs.State.{namedIn, answerFrom, effectFrom, rowsAfter, ringsAfter}
 use Rattle.working_theory.specs.Represents.{Represents}
-use Rattle.working_theory.proofs.Simulation.{calls-go-along}
-use Rattle.working.specs.Served.{Served}
-use Rattle.working.specs.Run.{StandsFor, Left}
+use Rattle.working_theory.proofs.Simulation.{calls-simulate}
+use Rattle.working.specs.Outcome.{StateOutcome}
+use Rattle.working.specs.Run.{RepresentsTable, Left}
 
 -- k calls of the list ws are done, the next begins at place i; the rest is what stands now
 pub record OnItsWay (n m : ℕ) (names owned t₀ ws space₀ p₀ : List ℕ) (rows : List (List ℕ)) (rings space p : List ℕ) (k i : ℕ) : Type 0 where
@@ -29,7 +29,7 @@ pub record OnItsWay (n m : ℕ) (names owned t₀ ws space₀ p₀ : List ℕ) (
   pub state : Represents n m rows rings names owned table
 
 module _ (n m : ℕ) (names hints owned ws space₀ p₀ : List ℕ) where
-  pub way-start : (rows : List (List ℕ)) (rings t : List ℕ) → StandsFor n m rows rings names owned p₀ t
+  pub way-start : (rows : List (List ℕ)) (rings t : List ℕ) → RepresentsTable n m rows rings names owned p₀ t
       → OnItsWay n m names owned t ws space₀ p₀ rows rings space₀ p₀ 0 0
   way-start rows rings t s =
       record {
@@ -42,13 +42,13 @@ module _ (n m : ℕ) (names hints owned ws space₀ p₀ : List ℕ) where
   module _ (t₀ : List ℕ) (rows : List (List ℕ)) (rings space p : List ℕ) (k i : ℕ) (y : OnItsWay n m names owned t₀ ws space₀ p₀ rows rings space p k i) where
     -- one call more, on the state, is one on the table
     served : (w : ℕ) (s : Second) (words : List ℕ) (rows′ : List (List ℕ)) (rings′ p′ : List ℕ)
-        → Served n m rows rings (namedIn m names hints) owned p w (apart w s) words rows′ rings′ p′
-        → kernel.Served (y .table) (callOf w s) words (machine.step (y .table) (callOf w s)) p′
+        → StateOutcome n m rows rings (namedIn m names hints) owned p w (decoded w s) words rows′ rings′ p′
+        → kernel.StepOutcome (y .table) (callOf w s) words (machine.step (y .table) (callOf w s)) p′
         × Represents n m rows′ rings′ names owned (machine.step (y .table) (callOf w s))
     served w s words rows′ rings′ p′ x =
         let t = y .table in
         let c = callOf w s in
-        let along = calls-go-along w s n m rows rings names hints owned t (y .underway .accepted) (y .state) in
+        let along = calls-simulate w s n m rows rings names hints owned t (y .underway .accepted) (y .state) in
         let is = along .decided in (
           record {
             answer = x .answer ∙ ap (answerFrom w rows rings owned) is ∙ along .answer;
@@ -65,7 +65,7 @@ module _ (n m : ℕ) (names hints owned ws space₀ p₀ : List ℕ) where
         → (s : Second) (w : ℕ) (words : List ℕ) (rows′ : List (List ℕ)) (rings′ space′ p′ : List ℕ)
         → s ≡ secondAt ws i
         → w ≡ widthOf s
-        → Served n m rows rings (namedIn m names hints) owned p (getD ws i 0) (apart (getD ws i 0) s) words rows′ rings′ p′
+        → StateOutcome n m rows rings (namedIn m names hints) owned p (getD ws i 0) (decoded (getD ws i 0) s) words rows′ rings′ p′
         → length p′ ≡ length p
         → space′ ≡ take (3 * k) space ++ (words ++ drop (3 * k + 3) space)
         → length space′ ≡ length space

@@ -1,3 +1,3 @@
 -- What the contracts of the run on a working layout cite.
-pub mod Served
+pub mod Outcome
 pub mod Run

@@ -9,15 +9,15 @@ use Rattle.kernel.specs.Run.{AllRun}
 use Rattle.working_theory.specs.Represents.{Represents}
 
 -- a state and the holders beside it stand for the accepted table t
-pub record StandsFor (n m : ℕ) (rows : List (List ℕ)) (rings names owned holders t : List ℕ) : Type 0 where
+pub record RepresentsTable (n m : ℕ) (rows : List (List ℕ)) (rings names owned holders t : List ℕ) : Type 0 where
   pub accepted : Accepted t
   pub state : Represents n m rows rings names owned t
   pub sameHolders : holders ≡ holdersOf t
 
 -- there is a table that they stand for
-pub record Stand (n m : ℕ) (rows : List (List ℕ)) (rings names owned holders : List ℕ) : Type 0 where
+pub record RepresentsSome (n m : ℕ) (rows : List (List ℕ)) (rings names owned holders : List ℕ) : Type 0 where
   pub table : List ℕ
-  pub stands : StandsFor n m rows rings names owned holders table
+  pub stands : RepresentsTable n m rows rings names owned holders table
 
 -- The calls of the list ws ran, k of them: they left what they leave of the table t, and the rows and rings that stand for it.
 pub record Left (n m : ℕ) (names owned t ws space : List ℕ) (k : ℕ) (rows : List (List ℕ)) (rings space′ holders : List ℕ) : Type 0 where

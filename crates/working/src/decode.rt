@@ -1,4 +1,4 @@
-// A call taken apart, for the calls on a working state: the same `match` as `calls::decode::decode`. A function that both runs of an
+// A call taken decoded, for the calls on a working state: the same `match` as `calls::decode::decode`. A function that both runs of an
 // archive call is inlined in neither, and then each call of a list costs half as much again (docs/DECISIONS.md).
 use calls::Call;
 use calls::Refusal;
@@ -22,11 +22,11 @@ use format::calls::KIND_REMOVE;
 use format::calls::KIND_SECOND;
 use format::calls::KIND_SEND;
 ghost use mathlib.Core.Path.{_≡_};
-ghost use Rattle.calls.specs.Decode.{apart};
+ghost use Rattle.calls.specs.Decode.{decoded};
 
-// Takes a call of one or two words apart, whatever the words, and returns it as one choice among its kinds.
+// Takes a call of one or two words decoded, whatever the words, and returns it as one choice among its kinds.
 pub fn decode(first: u32, second: Second) -> Call
-    ensures { λ r. ⌜ r ≡ apart first second ⌝ }
+    ensures { λ r. ⌜ r ≡ decoded first second ⌝ }
 {
     let kind = first / KIND_UNIT;
     let caller = first / CALLER_UNIT % 64;

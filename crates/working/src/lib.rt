@@ -16,15 +16,15 @@ use run_result::Ran;
 use table_layout::domains;
 use table_layout::endpoints;
 use working_endpoint_calls::hint_place;
-use working_load::names_in;
-use working_load::owned_in;
-use working_load::rings_in;
-use working_load::rings_out;
+use working_load::load_names;
+use working_load::load_owned;
+use working_load::load_rings;
+use working_load::store_rings;
 ghost use mathlib.Core.Path.{_≡_};
 ghost use Prim.Native.Nat.{_*_, _≤_};
 ghost use lib.ListN.{length};
 ghost use Rattle.machine.specs.Check.{Accepted};
-ghost use Rattle.machine.specs.Call.{cut};
+ghost use Rattle.machine.specs.Call.{split};
 ghost use Rattle.machine.specs.Table as machine;
 ghost use Rattle.machine.specs.Promise.{RunPromise};
 ghost use Rattle.kernel.specs.Run.{AllRun};
@@ -32,7 +32,7 @@ ghost use Rattle.run_result.specs.Entry.{ranCode, ranCalls};
 
 // Returns a hint for each name: the endpoint that has it, at the place that the name gives; of two names with one place the later
 // stays. Nothing rests on them, since a hint is believed only where the name is found.
-fn hints_in(names: &[u32; 32], m: u32) -> [u8; 1024] {
+fn make_hints(names: &[u32; 32], m: u32) -> [u8; 1024] {
     let mut hints = [0u8; 1024];
     let mut e: u32 = 0;
     while e < m {
@@ -55,18 +55,18 @@ fn run_on_rings(
     requires { ⌜ Accepted (now table) ⌝ }
     requires { ⌜ length (now rings) ≡ 12 * machine.endpoints (now table) ⌝ }
     requires { ⌜ length (now list) ≤ 4096 ⌝ }
-    requires { ⌜ 3 * length (cut (now list)) ≤ length (now answers) ⌝ }
+    requires { ⌜ 3 * length (split (now list)) ≤ length (now answers) ⌝ }
     requires { ⌜ length (now holders) ≡ machine.domains (now table) ⌝ }
     ensures { λ k. ⌜ AllRun (now (table .entry)) (now (list .entry)) (now (answers .entry)) k (now (answers .exit)) (now (table .exit)) (now (holders .exit)) ⌝ }
 {
     let n = domains(table);
     let m = endpoints(table);
-    let mut rows = rights_matrix::take_in(table, n);
-    rings_in(table, n, m, rings);
-    let names = names_in(table, n, m);
-    let owned = owned_in(table, n, m);
+    let mut rows = rights_matrix::load(table, n);
+    load_rings(table, n, m, rings);
+    let names = load_names(table, n, m);
+    let owned = load_owned(table, n, m);
     fill(table, holders);
-    let hints = hints_in(&names, m);
+    let hints = make_hints(&names, m);
     let calls = run_list(
         n,
         m,
@@ -79,8 +79,8 @@ fn run_on_rings(
         answers,
         holders,
     );
-    rights_matrix::put_out(&rows, n, table);
-    rings_out(rings, n, m, table);
+    rights_matrix::store(&rows, n, table);
+    store_rings(rings, n, m, table);
     calls
 }
 
@@ -88,7 +88,7 @@ fn run_on_rings(
 fn run_calls(table: &mut [u32], list: &[u32], answers: &mut [u32], holders: &mut [u32]) -> usize
     requires { ⌜ Accepted (now table) ⌝ }
     requires { ⌜ length (now list) ≤ 4096 ⌝ }
-    requires { ⌜ 3 * length (cut (now list)) ≤ length (now answers) ⌝ }
+    requires { ⌜ 3 * length (split (now list)) ≤ length (now answers) ⌝ }
     requires { ⌜ length (now holders) ≡ machine.domains (now table) ⌝ }
     ensures { λ k. ⌜ AllRun (now (table .entry)) (now (list .entry)) (now (answers .entry)) k (now (answers .exit)) (now (table .exit)) (now (holders .exit)) ⌝ }
 {

@@ -1,4 +1,4 @@
-// One call on a working state: it is taken apart into one choice among its kinds, and each kind is served by a function of its own.
+// One call on a working state: it is taken decoded into one choice among its kinds, and each kind is served by a function of its own.
 // It accepts any numbers and words.
 use crate::decode::decode;
 use answers::Answer;
@@ -14,9 +14,9 @@ use working_rights_calls::my_rights;
 use working_rights_calls::remove;
 use working_rights_calls::revoke;
 ghost use Rattle.answers.specs.Answer.{answerWords};
-ghost use Rattle.calls.specs.Decode.{apart};
+ghost use Rattle.calls.specs.Decode.{decoded};
 ghost use Rattle.working_theory.specs.State.{namedIn};
-ghost use Rattle.working.specs.Served.{Served};
+ghost use Rattle.working.specs.Outcome.{StateOutcome};
 
 // Serves the call of a first word and, if there is one, a second, and returns its answer.
 pub fn serve(
@@ -31,7 +31,7 @@ pub fn serve(
     first: u32,
     second: Second,
 ) -> Answer
-    ensures { λ a. ⌜ Served n m (now (rows .entry)) (now (rings .entry)) (namedIn m (now (names .entry)) (now (hints .entry))) (now (owned .entry)) (now (holders .entry)) first (apart first second) (answerWords a) (now (rows .exit)) (now (rings .exit)) (now (holders .exit)) ⌝ }
+    ensures { λ a. ⌜ StateOutcome n m (now (rows .entry)) (now (rings .entry)) (namedIn m (now (names .entry)) (now (hints .entry))) (now (owned .entry)) (now (holders .entry)) first (decoded first second) (answerWords a) (now (rows .exit)) (now (rings .exit)) (now (holders .exit)) ⌝ }
 {
     let call = decode(first, second);
     match call {

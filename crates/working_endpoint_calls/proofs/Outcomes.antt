@@ -9,11 +9,11 @@ use Rattle.machine.specs.Machine.{Decision, code, answerWord}
 use Rattle.ring.specs.Ring.{messageAt, lostCount, ringSent, ringTake, ofTwelve}
 use Rattle.working_theory.proofs.Answered.{refused-answer}
 use Rattle.working_theory.specs.State.{ringAt, withRing, firstFrom, secondFrom, answerFrom, effectFrom, ringsAfter}
-use Rattle.working_endpoint_calls.specs.Served.{RingServed, QueueServed}
+use Rattle.working_endpoint_calls.specs.Outcome.{RingOutcome, RingsOutcome}
 use Rattle.working_endpoint_calls.proofs.Parts.{lent, back, same-back}
 
 module _ (d : Decision) (w : ℕ) (rings words : List ℕ) where
-  pub queue-refused : (k : ℕ) → machine.refused k ≡ d → words ≡ answerWord (one w) k ∷ 0 ∷ 0 ∷ [] → QueueServed d w rings words rings
+  pub queue-refused : (k : ℕ) → machine.refused k ≡ d → words ≡ answerWord (one w) k ∷ 0 ∷ 0 ∷ [] → RingsOutcome d w rings words rings
   unfolding ringsAfter effectFrom
   queue-refused k is told =
       record {
@@ -26,10 +26,10 @@ module _ (d : Decision) (w : ℕ) (rings words : List ℕ) where
       → machine.sends e message ≡ d
       → words ≡ answerWord (one w) 0 ∷ 0 ∷ 0 ∷ []
       → rings′ ≡ withRing rings e (ofTwelve (ringAt rings e) (ringSent (ringAt rings e) message) (ringAt rings e))
-      → QueueServed d w rings words rings′
+      → RingsOutcome d w rings words rings′
   unfolding answerFrom firstFrom secondFrom code ringsAfter effectFrom
   queue-sent e message rings′ is told left =
-      subst (λ (x : Decision). QueueServed x w rings words rings′) is (record { answer = told; left = left })
+      subst (λ (x : Decision). RingsOutcome x w rings words rings′) is (record { answer = told; left = left })
 
   pub queue-received :
       (e x y : ℕ) (rings′ : List ℕ)
@@ -38,18 +38,18 @@ module _ (d : Decision) (w : ℕ) (rings words : List ℕ) where
       → x ≡ ofTwelve (ringAt rings e) (messageAt (ringAt rings e) 0) 0
       → y ≡ ofTwelve (ringAt rings e) (lostCount (ringAt rings e)) 0
       → rings′ ≡ withRing rings e (ofTwelve (ringAt rings e) (ringTake (ringAt rings e)) (ringAt rings e))
-      → QueueServed d w rings words rings′
+      → RingsOutcome d w rings words rings′
   unfolding answerFrom firstFrom secondFrom code ringsAfter effectFrom
   queue-received e x y rings′ is told message lost left =
-      subst (λ (v : Decision). QueueServed v w rings words rings′) is
+      subst (λ (v : Decision). RingsOutcome v w rings words rings′) is
       (record { answer = told ∙ ap₂ (λ (i j : ℕ). answerWord (one w) 0 ∷ i ∷ j ∷ []) message lost; left = left })
 
 -- the same of a ring alone
 module _ (d : Decision) (e w : ℕ) (r words : List ℕ) where
-  pub ring-refused : (k : ℕ) → machine.refused k ≡ d → words ≡ answerWord (one w) k ∷ 0 ∷ 0 ∷ [] → RingServed d e w r words r
+  pub ring-refused : (k : ℕ) → machine.refused k ≡ d → words ≡ answerWord (one w) k ∷ 0 ∷ 0 ∷ [] → RingOutcome d e w r words r
   ring-refused k is told =
       record {
-        among = λ rings at. subst (λ (x : List ℕ). QueueServed d w rings words x) (sym (same-back rings e) ∙ ap (withRing rings e) at)
+        among = λ rings at. subst (λ (x : List ℕ). RingsOutcome d w rings words x) (sym (same-back rings e) ∙ ap (withRing rings e) at)
             (queue-refused d w rings words k is told);
       }
 
@@ -58,7 +58,7 @@ module _ (d : Decision) (e w : ℕ) (r words : List ℕ) where
       → machine.sends e message ≡ d
       → words ≡ answerWord (one w) 0 ∷ 0 ∷ 0 ∷ []
       → r′ ≡ ofTwelve r (ringSent r message) r
-      → RingServed d e w r words r′
+      → RingOutcome d e w r words r′
   ring-sent message r′ is told left =
       record {
         among = λ rings at. queue-sent d w rings words e message (withRing rings e r′) is told
@@ -72,7 +72,7 @@ module _ (d : Decision) (e w : ℕ) (r words : List ℕ) where
       → x ≡ ofTwelve r (messageAt r 0) 0
       → y ≡ ofTwelve r (lostCount r) 0
       → r′ ≡ ofTwelve r (ringTake r) r
-      → RingServed d e w r words r′
+      → RingOutcome d e w r words r′
   ring-received x y r′ is told message lost left =
       record {
         among = λ rings at. queue-received d w rings words e x y (withRing rings e r′) is told
@@ -82,18 +82,18 @@ module _ (d : Decision) (e w : ℕ) (r words : List ℕ) where
       }
 
 -- served by what was read is served by what the call comes to
-pub so-decided : (d d′ : Decision) (w : ℕ) (rings words rings′ : List ℕ) → d ≡ d′ → QueueServed d w rings words rings′ → QueueServed d′ w rings words rings′
-so-decided d d′ w rings words rings′ is served = subst (λ (x : Decision). QueueServed x w rings words rings′) is served
+pub so-decided : (d d′ : Decision) (w : ℕ) (rings words rings′ : List ℕ) → d ≡ d′ → RingsOutcome d w rings words rings′ → RingsOutcome d′ w rings words rings′
+so-decided d d′ w rings words rings′ is served = subst (λ (x : Decision). RingsOutcome x w rings words rings′) is served
 
 -- and so are the rings that the ring was lent from
 pub ring-back :
     (rings : List ℕ) (e : ℕ) (d d′ : Decision) (w : ℕ) (words r′ : List ℕ)
     → d ≡ d′
-    → RingServed d e w (take (12 * e + 12 - 12 * e) (drop (12 * e) rings)) words r′
-    → QueueServed d′ w rings words (take (12 * e) rings ++ (r′ ++ drop (12 * e + 12 - 12 * e) (drop (12 * e) rings)))
+    → RingOutcome d e w (take (12 * e + 12 - 12 * e) (drop (12 * e) rings)) words r′
+    → RingsOutcome d′ w rings words (take (12 * e) rings ++ (r′ ++ drop (12 * e + 12 - 12 * e) (drop (12 * e) rings)))
 ring-back rings e d d′ w words r′ is served =
     so-decided d d′ w rings words _ is
-    (subst (λ (x : List ℕ). QueueServed d w rings words x) (sym (back rings e r′)) (served .among rings (sym (lent rings e))))
+    (subst (λ (x : List ℕ). RingsOutcome d w rings words x) (sym (back rings e r′)) (served .among rings (sym (lent rings e))))
 
 -- an endpoint that was found: its number is shown
 pub looked-up :

@@ -1,2 +1,2 @@
 -- What the contracts of this crate cite besides the working state.
-pub mod Served
+pub mod Outcome

@@ -26,7 +26,7 @@ ghost use Rattle.rules.specs.Access.{foundOf, sendAccess, receiveAccess, decide
 ghost use Rattle.rights_matrix.specs.Rows.{heldIn};
 ghost use Rattle.ring.specs.Ring.{count, ringOwner};
 ghost use Rattle.working_theory.specs.State.{hintPlace, namedIn, nobody, readingFrom, answerFrom, ringAt};
-ghost use Rattle.working_endpoint_calls.specs.Served.{RingServed, QueueServed};
+ghost use Rattle.working_endpoint_calls.specs.Outcome.{RingOutcome, RingsOutcome};
 
 // Returns the place of the hint for a name.
 pub fn hint_place(name: u32) -> usize
@@ -124,7 +124,7 @@ fn send_on(
     message: u32,
 ) -> Answer
     requires { ⌜ length (now ring) ≡ 12 ⌝ }
-    ensures { λ a. ⌜ RingServed (sendAccess (heldIn (now (rows .entry)) caller (ringOwner (now (ring .entry)))) e message) e first (now (ring .entry)) (answerWords a) (now (ring .exit)) ⌝ }
+    ensures { λ a. ⌜ RingOutcome (sendAccess (heldIn (now (rows .entry)) caller (ringOwner (now (ring .entry)))) e message) e first (now (ring .entry)) (answerWords a) (now (ring .exit)) ⌝ }
 {
     let info = ring[3];
     let held = held(rows, caller, info / 256 % 256);
@@ -146,7 +146,7 @@ fn send_beyond(
     message: u32,
 ) -> Answer
     requires { ⌜ length (now rings) < 12 * e + 12 ⌝ }
-    ensures { λ a. ⌜ QueueServed (sendAccess (heldIn (now (rows .entry)) caller (ringOwner (ringAt (now (rings .entry)) e))) e message) first (now (rings .entry)) (answerWords a) (now (rings .entry)) ⌝ }
+    ensures { λ a. ⌜ RingsOutcome (sendAccess (heldIn (now (rows .entry)) caller (ringOwner (ringAt (now (rings .entry)) e))) e message) first (now (rings .entry)) (answerWords a) (now (rings .entry)) ⌝ }
 {
     let read = word(rings, ENDPOINT_WORDS * e as usize + 3);
     let held = held(rows, caller, read / 256 % 256);
@@ -168,7 +168,7 @@ pub fn send(
     e: u32,
     message: u32,
 ) -> Answer
-    ensures { λ a. ⌜ QueueServed (decidedBy n m (readingFrom (now (rows .entry)) (now (rings .entry)) nobody) (calls.Send caller e message)) first (now (rings .entry)) (answerWords a) (now (rings .exit)) ⌝ }
+    ensures { λ a. ⌜ RingsOutcome (decidedBy n m (readingFrom (now (rows .entry)) (now (rings .entry)) nobody) (calls.Send caller e message)) first (now (rings .entry)) (answerWords a) (now (rings .exit)) ⌝ }
 {
     let range = of_endpoint(n, m, caller, e);
     if let Range::Outside(refused) = range {
@@ -185,7 +185,7 @@ pub fn send(
 // Receives from the endpoint of a ring, by the ring's own words.
 fn receive_on(ring: &mut [u32], first: u32, caller: u32, e: u32) -> Answer
     requires { ⌜ length (now ring) ≡ 12 ⌝ }
-    ensures { λ a. ⌜ RingServed (receiveAccess caller (ringOwner (now (ring .entry))) (count (now (ring .entry))) e) e first (now (ring .entry)) (answerWords a) (now (ring .exit)) ⌝ }
+    ensures { λ a. ⌜ RingOutcome (receiveAccess caller (ringOwner (now (ring .entry))) (count (now (ring .entry))) e) e first (now (ring .entry)) (answerWords a) (now (ring .exit)) ⌝ }
 {
     let count = ring[1];
     let info = ring[3];
@@ -200,7 +200,7 @@ fn receive_on(ring: &mut [u32], first: u32, caller: u32, e: u32) -> Answer
 // Answers a receive where words of the endpoint's ring are missing: no message is shown.
 fn receive_beyond(rings: &[u32], first: u32, caller: u32, e: u32) -> Answer
     requires { ⌜ length (now rings) < 12 * e + 12 ⌝ }
-    ensures { λ a. ⌜ QueueServed (receiveAccess caller (ringOwner (ringAt (now (rings .entry)) e)) (count (ringAt (now (rings .entry)) e)) e) first (now (rings .entry)) (answerWords a) (now (rings .entry)) ⌝ }
+    ensures { λ a. ⌜ RingsOutcome (receiveAccess caller (ringOwner (ringAt (now (rings .entry)) e)) (count (ringAt (now (rings .entry)) e)) e) first (now (rings .entry)) (answerWords a) (now (rings .entry)) ⌝ }
 {
     let start = ENDPOINT_WORDS * e as usize;
     let count = word(rings, start + 1);
@@ -214,7 +214,7 @@ fn receive_beyond(rings: &[u32], first: u32, caller: u32, e: u32) -> Answer
 
 // Receives from an endpoint and returns the answer.
 pub fn receive(n: u32, m: u32, rings: &mut [u32], first: u32, caller: u32, e: u32) -> Answer
-    ensures { λ a. ⌜ QueueServed (decidedBy n m (readingFrom [] (now (rings .entry)) nobody) (calls.Receive caller e)) first (now (rings .entry)) (answerWords a) (now (rings .exit)) ⌝ }
+    ensures { λ a. ⌜ RingsOutcome (decidedBy n m (readingFrom [] (now (rings .entry)) nobody) (calls.Receive caller e)) first (now (rings .entry)) (answerWords a) (now (rings .exit)) ⌝ }
 {
     let range = of_endpoint(n, m, caller, e);
     if let Range::Outside(refused) = range {

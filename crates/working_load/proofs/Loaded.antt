@@ -21,13 +21,13 @@ use Rattle.machine.proofs.Below.{words-length, words-at, bits-same}
 use Rattle.machine.proofs.Queue.{waiting-most}
 use Rattle.machine.proofs.Table.{endpoint-word}
 use Rattle.rights_matrix.proofs.Parts.{part-at, part-length}
-use Rattle.rights_matrix.proofs.Rights.{taken-in-rights}
+use Rattle.rights_matrix.proofs.Rights.{loaded-rights}
 use Rattle.ring.specs.Ring.{ringOf}
-use Rattle.ring.specs.Claims.{Stands}
-use Rattle.ring.proofs.Simulation.{taken-in-stands}
+use Rattle.ring.specs.Claims.{RepresentsQueue}
+use Rattle.ring.proofs.Simulation.{loaded-ring-represents}
 use Rattle.working_theory.specs.State.{ringAt}
 use Rattle.working_load.specs.Layout.{wordsAt, ringsOf, namesOf, ownedOf}
-use Rattle.working_load.specs.Claims.{TakenInStands}
+use Rattle.working_load.specs.Claims.{LoadedRepresents}
 
 -- an endpoint's words, by n
 words-are : (t : List ℕ) (e : ℕ) → wordsAt (domains t) t e ≡ endpoint t e
@@ -59,11 +59,11 @@ module _ (t : List ℕ) (a : Accepted t) where
   m = endpoints t
 
   -- an endpoint's ring
-  ring-stands : (e : ℕ) → e < m → Stands (ringAt (ringsOf n m t) e) (endpoint t e)
+  ring-stands : (e : ℕ) → e < m → RepresentsQueue (ringAt (ringsOf n m t) e) (endpoint t e)
   unfolding n m endpoint
   ring-stands e l =
-      let r = taken-in-stands (endpoint t e) (waiting-most (domains t) (endpoint t e) (accepted-endpoint t a e l)) in
-      subst (λ (x : List ℕ). Stands x (endpoint t e)) (sym (taken-ring n m t e l (r .twelve))) r
+      let r = loaded-ring-represents (endpoint t e) (waiting-most (domains t) (endpoint t e) (accepted-endpoint t a e l)) in
+      subst (λ (x : List ℕ). RepresentsQueue x (endpoint t e)) (sym (taken-ring n m t e l (r .twelve))) r
 
   same-name : (e : ℕ) → e < m → getD (namesOf n m t) e 0 ≡ name (endpoint t e)
   unfolding n m namesOf name
@@ -94,13 +94,13 @@ module _ (t : List ℕ) (a : Accepted t) where
       all : min m 32 ≡ m
       all = omega (arith, accepted-counts t a .2)
 
-pub taken-in-stands-for : TakenInStands
+pub loaded-represents : LoadedRepresents
 unfolding ringsOf n m
-taken-in-stands-for t a =
+loaded-represents t a =
     record {
       domains = refl;
       endpoints = refl;
-      rights = taken-in-rights t a;
+      rights = loaded-rights t a;
       size = words-length (12 * endpoints t) _;
       queues = ring-stands t a;
       sameNames = same-name t a;

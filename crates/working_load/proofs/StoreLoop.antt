@@ -15,15 +15,15 @@ use Rattle.machine.specs.Word.{payload, word}
 use Rattle.machine.specs.Table.{endpointAt}
 use Rattle.machine.proofs.Below.{words-length, words-at}
 use Rattle.rights_matrix.proofs.Parts.{part-at, part-length, putPart, put-length, put-before, put-in, put-behind}
-use Rattle.ring.specs.Ring.{count, lostCount, slotOut, putOutQueue, ofTwelve}
+use Rattle.ring.specs.Ring.{count, lostCount, storedSlot, storedQueue, ofTwelve}
 use Rattle.ring.proofs.Words.{of-twelve}
 use Rattle.working_theory.specs.State.{ringAt}
-use Rattle.working_load.specs.Layout.{wordsAt, hasQueues, isQueue, queuesOut}
+use Rattle.working_load.specs.Layout.{wordsAt, hasQueues, isQueue, storedQueues}
 use Rattle.working_load.proofs.Places.{HasQueues, words-within, words-lent}
 
 -- word j behind the rights words, as it is put out
 abbrev wordOut : ℕ → List ℕ → List ℕ → ℕ → ℕ
-wordOut n rings t j = getD (putOutQueue (ringAt rings (j / 12)) (wordsAt n t (j / 12))) (j % 12) 0
+wordOut n rings t j = getD (storedQueue (ringAt rings (j / 12)) (wordsAt n t (j / 12))) (j % 12) 0
 
 -- the rings of the first e endpoints are put out
 pub record Out (n m : ℕ) (rings t₀ t : List ℕ) (e : ℕ) : Type 0 where
@@ -35,11 +35,11 @@ pub record Out (n m : ℕ) (rings t₀ t : List ℕ) (e : ℕ) : Type 0 where
 pub out-start : (n m : ℕ) (rings t : List ℕ) → Out n m rings t t 0
 out-start n m rings t = record { size = refl; before = λ i l. refl; done = λ j l. absurd (omega arith); rest = λ j l. refl }
 
-out-twelve : (r q : List ℕ) → length q ≡ 12 → length (putOutQueue r q) ≡ 12
-unfolding putOutQueue
+out-twelve : (r q : List ℕ) → length q ≡ 12 → length (storedQueue r q) ≡ 12
+unfolding storedQueue
 out-twelve r q twelve =
-    length-append (take 2 q) (word 5 (payload (count r)) ∷ word 6 (payload (lostCount r)) ∷ wordsBelow 8 (slotOut r))
-    ∙ omega (arith, length-take-le 2 q (omega arith), words-length 8 (slotOut r))
+    length-append (take 2 q) (word 5 (payload (count r)) ∷ word 6 (payload (lostCount r)) ∷ wordsBelow 8 (storedSlot r))
+    ∙ omega (arith, length-take-le 2 q (omega arith), words-length 8 (storedSlot r))
 
 module _ (n m : ℕ) (rings t₀ t : List ℕ) (e : ℕ) (s : Out n m rings t₀ t e) (has : HasQueues n m (length t₀) (length rings)) (l : e < m) where
   within : endpointAt n e + 12 ≤ length t
@@ -63,7 +63,7 @@ module _ (n m : ℕ) (rings t₀ t : List ℕ) (e : ℕ) (s : Out n m rings t₀
       ∙ ap (λ (k : ℕ). getD t₀ k 0) (sym at)
       ∙ sym (part-at t₀ (endpointAt n e) 12 i below))
 
-  out-next : (q : List ℕ) → q ≡ putOutQueue (ringAt rings e) (wordsAt n t₀ e) → Out n m rings t₀ (putPart t (endpointAt n e) 12 q) (e + 1)
+  out-next : (q : List ℕ) → q ≡ storedQueue (ringAt rings e) (wordsAt n t₀ e) → Out n m rings t₀ (putPart t (endpointAt n e) 12 q) (e + 1)
   out-next q is =
       record {
         size = put-length t (endpointAt n e) 12 q within long ∙ s .size;
@@ -85,14 +85,14 @@ module _ (n m : ℕ) (rings t₀ t : List ℕ) (e : ℕ) (s : Out n m rings t₀
           ap (λ (i : ℕ). getD (putPart t (endpointAt n e) 12 q) i 0) at
           ∙ put-in t (endpointAt n e) 12 q within long k (omega arith)
           ∙ ap (λ (x : List ℕ). getD x k 0) is
-          ∙ ap₂ (λ (x y : ℕ). getD (putOutQueue (ringAt rings x) (wordsAt n t₀ x)) y 0) ring place
+          ∙ ap₂ (λ (x y : ℕ). getD (storedQueue (ringAt rings x) (wordsAt n t₀ x)) y 0) ring place
 
   -- the same by the parts that were lent
   pub put-next :
       (at : ℕ)
       → at ≡ endpointAt n e
       → (x : List ℕ)
-      → x ≡ ofTwelve (take (12 * e + 12 - 12 * e) (drop (12 * e) rings)) (ofTwelve (take (at + 12 - at) (drop at t)) (putOutQueue (take (12 * e + 12 - 12 * e) (drop (12 * e) rings)) (take (at + 12 - at) (drop at t))) (take (at + 12 - at) (drop at t))) (take (at + 12 - at) (drop at t))
+      → x ≡ ofTwelve (take (12 * e + 12 - 12 * e) (drop (12 * e) rings)) (ofTwelve (take (at + 12 - at) (drop at t)) (storedQueue (take (12 * e + 12 - 12 * e) (drop (12 * e) rings)) (take (at + 12 - at) (drop at t))) (take (at + 12 - at) (drop at t))) (take (at + 12 - at) (drop at t))
       → Out n m rings t₀ (take at t ++ (x ++ drop (at + 12 - at) (drop at t))) (e + 1)
   put-next at is x made =
       let q = take (at + 12 - at) (drop at t) in
@@ -100,18 +100,18 @@ module _ (n m : ℕ) (rings t₀ t : List ℕ) (e : ℕ) (s : Out n m rings t₀
       let ring : lent ≡ ringAt rings e = ap (λ (k : ℕ). take k (drop (12 * e) rings)) (add-sub-cancel-left (12 * e) 12) in
       let twelve : length q ≡ 12 = ap length (words-lent t n e at is) ∙ part-length t (endpointAt n e) 12 within in
       let long : length lent ≡ 12 = ap length ring ∙ part-length rings (12 * e) 12 (omega (arith, has .twelve)) in
-      let out : x ≡ putOutQueue (ringAt rings e) (wordsAt n t₀ e) =
+      let out : x ≡ storedQueue (ringAt rings e) (wordsAt n t₀ e) =
       made
       ∙ sym (of-twelve lent _ q long refl)
-      ∙ sym (of-twelve q (putOutQueue lent q) q twelve refl)
-      ∙ ap₂ putOutQueue ring (words-lent t n e at is ∙ same-words) in
+      ∙ sym (of-twelve q (storedQueue lent q) q twelve refl)
+      ∙ ap₂ storedQueue ring (words-lent t n e at is ∙ same-words) in
       subst (λ (y : List ℕ). Out n m rings t₀ y (e + 1))
       (ap₂ (λ (k i : ℕ). take i t ++ (x ++ drop k (drop i t))) (sym (add-sub-cancel-left at 12)) (sym is))
       (out-next x out)
 
 -- every ring is put out
-pub out-end : (n m : ℕ) (rings t₀ t : List ℕ) (e : ℕ) → Out n m rings t₀ t e → e ≡ m → t ≡ queuesOut n m rings t₀
-unfolding queuesOut isQueue
+pub out-end : (n m : ℕ) (rings t₀ t : List ℕ) (e : ℕ) → Out n m rings t₀ t e → e ≡ m → t ≡ storedQueues n m rings t₀
+unfolding storedQueues isQueue
 out-end n m rings t₀ t e s all =
     ext-getD 0 t (wordsBelow (length t₀) f) (s .size ∙ sym (words-length (length t₀) f))
     (λ i l. at i (decLt i a) (decLt i (endpointAt n m)) ∙ sym (words-at (length t₀) f i 0 (omega (arith, s .size))))
@@ -137,8 +137,8 @@ out-end n m rings t₀ t e s all =
         ∙ rw (le-leb a i (omega arith), le-ltb i (endpointAt n m) (omega arith))
 
 -- on either side of the test
-pub out-none : (n m : ℕ) (rings t : List ℕ) → hasQueues n m (length t) (length rings) ≡ false → t ≡ cond (hasQueues n m (length t) (length rings)) (queuesOut n m rings t) t
+pub out-none : (n m : ℕ) (rings t : List ℕ) → hasQueues n m (length t) (length rings) ≡ false → t ≡ cond (hasQueues n m (length t) (length rings)) (storedQueues n m rings t) t
 out-none n m rings t h = rw h
 
-pub out-all : (n m : ℕ) (rings t x : List ℕ) → hasQueues n m (length t) (length rings) ≡ true → x ≡ queuesOut n m rings t → x ≡ cond (hasQueues n m (length t) (length rings)) (queuesOut n m rings t) t
+pub out-all : (n m : ℕ) (rings t x : List ℕ) → hasQueues n m (length t) (length rings) ≡ true → x ≡ storedQueues n m rings t → x ≡ cond (hasQueues n m (length t) (length rings)) (storedQueues n m rings t) t
 out-all n m rings t x h e = rw h e

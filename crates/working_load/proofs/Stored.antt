@@ -20,16 +20,16 @@ use Rattle.machine.proofs.Accepted.{accepted-sized, accepted-header, accepted-c
 use Rattle.machine.proofs.Below.{words-length, words-at}
 use Rattle.machine.proofs.Bools.{and-left, and-right}
 use Rattle.machine.proofs.Table.{endpoint-length, endpoint-word}
-use Rattle.rights_matrix.specs.Rows.{rowsOut}
-use Rattle.rights_matrix.specs.Claims.{OutTo}
+use Rattle.rights_matrix.specs.Rows.{storedRows}
+use Rattle.rights_matrix.specs.Claims.{StoredTo}
 use Rattle.rights_matrix.proofs.Parts.{part-at, part-length}
-use Rattle.rights_matrix.proofs.Rights.{put-out-rights}
-use Rattle.ring.specs.Ring.{putOutQueue}
-use Rattle.ring.proofs.Simulation.{put-out-is-queue}
+use Rattle.rights_matrix.proofs.Rights.{stored-rights}
+use Rattle.ring.specs.Ring.{storedQueue}
+use Rattle.ring.proofs.Simulation.{store-is-queue}
 use Rattle.working_theory.specs.State.{ringAt}
 use Rattle.working_theory.specs.Represents.{Represents}
-use Rattle.working_load.specs.Layout.{wordsAt, isQueue, queuesOut}
-use Rattle.working_load.specs.Claims.{PutOutIsTable}
+use Rattle.working_load.specs.Layout.{wordsAt, isQueue, storedQueues}
+use Rattle.working_load.specs.Claims.{StoreIsTable}
 
 -- a sound first word is made of n and m alone
 header-whole : (w : ℕ) → headerWordOk w ≡ true → w ≡ 268435456 + fieldB w * 256 + fieldC w
@@ -51,14 +51,14 @@ rights-whole w h =
 
 module _ (t₀ t : List ℕ) (n m : ℕ) (rows : List (List ℕ)) (rings names owned : List ℕ) (a₀ : Accepted t₀) (a : Accepted t) (frame : SameFrame t t₀) (x : Represents n m rows rings names owned t) where
   t₁ : List ℕ
-  t₁ = rowsOut n rows t₀
+  t₁ = storedRows n rows t₀
 
   size : length t ≡ 1 + n * n + 12 * m
   size = accepted-sized t a ∙ ap₂ (λ (i j : ℕ). 1 + i * i + 12 * j) (sym (x .domains)) (sym (x .endpoints))
 
-  out : OutTo n rows t₀ t₁
+  out : StoredTo n rows t₀ t₁
   unfolding t₁
-  out = put-out-rights n rows t₀ (omega (arith, size, frame .size))
+  out = stored-rights n rows t₀ (omega (arith, size, frame .size))
 
   same-header : getD t₀ 0 0 ≡ getD t 0 0
   unfolding domains endpoints
@@ -107,18 +107,18 @@ module _ (t₀ t : List ℕ) (n m : ℕ) (rows : List (List ℕ)) (rings names o
         ap (take 2) (words-still ∙ ap (λ (k : ℕ). wordsAt k t₀ e) (x .domains ∙ frame .sameDomains))
         ∙ sym (frame .identity e (omega (arith, x .endpoints, frame .sameEndpoints)))
 
-    queue-out : putOutQueue (ringAt rings e) (wordsAt n t₁ e) ≡ endpoint t e
+    queue-out : storedQueue (ringAt rings e) (wordsAt n t₁ e) ≡ endpoint t e
     unfolding endpointOk
     queue-out =
         let b : e < endpoints t = rw (x .endpoints) at l in
-        put-out-is-queue (wordsAt n t₁ e) (endpoint t e) (ringAt rings e) (part-length t₁ (endpointAt n e) 12 there)
+        store-is-queue (wordsAt n t₁ e) (endpoint t e) (ringAt rings e) (part-length t₁ (endpointAt n e) 12 there)
         (endpoint-length t (accepted-sized t a) e b)
         same-identity
         (and-right (identityOk (domains t) (endpoint t e)) (queueOk (endpoint t e)) (accepted-endpoint t a e b))
         (x .queues e l)
 
-  put-out-table : queuesOut n m rings t₁ ≡ t
-  unfolding queuesOut isQueue
+  put-out-table : storedQueues n m rings t₁ ≡ t
+  unfolding storedQueues isQueue
   put-out-table =
       ext-getD 0 (wordsBelow (length t₁) f) t (words-length (length t₁) f ∙ out .size ∙ sym (frame .size))
       (λ i b.
@@ -126,7 +126,7 @@ module _ (t₀ t : List ℕ) (n m : ℕ) (rows : List (List ℕ)) (rings names o
       words-at (length t₁) f i 0 inside ∙ go i (omega (arith, out .size, frame .size)) (decLt i (endpointAt n 0)))
     where
       f : ℕ → ℕ
-      f i = cond (leb (endpointAt n 0) i && ltb i (endpointAt n m)) (getD (putOutQueue (ringAt rings ((i - endpointAt n 0) / 12)) (wordsAt n t₁ ((i - endpointAt n 0) / 12))) ((i - endpointAt n 0) % 12) 0) (getD t₁ i 0)
+      f i = cond (leb (endpointAt n 0) i && ltb i (endpointAt n m)) (getD (storedQueue (ringAt rings ((i - endpointAt n 0) / 12)) (wordsAt n t₁ ((i - endpointAt n 0) / 12))) ((i - endpointAt n 0) % 12) 0) (getD t₁ i 0)
 
       front : (i : ℕ) → i < endpointAt n 0 → getD t₁ i 0 ≡ getD t i 0
       front zero l = out .header ∙ same-header
@@ -148,6 +148,6 @@ module _ (t₀ t : List ℕ) (n m : ℕ) (rows : List (List ℕ)) (rings names o
           ∙ ap (λ (d : ℕ). getD t (endpointAt d e + k) 0) (sym (x .domains))
           ∙ ap (λ (y : ℕ). getD t y 0) at)
 
-pub put-out-is-table : PutOutIsTable
+pub store-is-table : StoreIsTable
 unfolding t₁
-put-out-is-table = put-out-table
+store-is-table = put-out-table

@@ -6,13 +6,13 @@ use mathlib.Core.List.{List}
 use Rattle.machine.specs.Table.{domains, endpoints}
 use Rattle.machine.specs.Check.{Accepted}
 use Rattle.machine.specs.SameParts.{SameFrame}
-use Rattle.rights_matrix.specs.Rows.{rowsOf, rowsOut}
+use Rattle.rights_matrix.specs.Rows.{rowsOf, storedRows}
 use Rattle.working_theory.specs.Represents.{Represents}
-use Rattle.working_load.specs.Layout.{ringsOf, queuesOut, namesOf, ownedOf}
+use Rattle.working_load.specs.Layout.{ringsOf, storedQueues, namesOf, ownedOf}
 
 -- what is taken in stands for the table
-abbrev pub TakenInStands : Type 0
-TakenInStands =
+abbrev pub LoadedRepresents : Type 0
+LoadedRepresents =
     (t : List ℕ)
     → Accepted t
     → Represents (domains t) (endpoints t) (rowsOf (domains t) t) (ringsOf (domains t) (endpoints t) t)
@@ -21,11 +21,11 @@ TakenInStands =
     t
 
 -- what is put out is the table that the state stands for
-abbrev pub PutOutIsTable : Type 0
-PutOutIsTable =
+abbrev pub StoreIsTable : Type 0
+StoreIsTable =
     (t₀ t : List ℕ) (n m : ℕ) (rows : List (List ℕ)) (rings names owned : List ℕ)
     → Accepted t₀
     → Accepted t
     → SameFrame t t₀
     → Represents n m rows rings names owned t
-    → queuesOut n m rings (rowsOut n rows t₀) ≡ t
+    → storedQueues n m rings (storedRows n rows t₀) ≡ t

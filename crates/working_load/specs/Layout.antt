@@ -8,7 +8,7 @@ use lib.ListN.{length, getD, take, drop}
 use Rattle.machine.specs.Below.{wordsBelow, bitsBelow}
 use Rattle.machine.specs.Word.{payload, fieldB}
 use Rattle.machine.specs.Table.{endpointAt}
-use Rattle.ring.specs.Ring.{ringOf, putOutQueue}
+use Rattle.ring.specs.Ring.{ringOf, storedQueue}
 use Rattle.working_theory.specs.State.{ringAt}
 
 -- the twelve words of an endpoint among n domains
@@ -28,12 +28,12 @@ unfoldable pub isQueue : ℕ → ℕ → ℕ → Bool
 isQueue n m i = leb (endpointAt n 0) i && ltb i (endpointAt n m)
 
 -- the rings put out to the table, word by word: its other words stay
-unfoldable pub queuesOut : ℕ → ℕ → List ℕ → List ℕ → List ℕ
-queuesOut n m rings t =
+unfoldable pub storedQueues : ℕ → ℕ → List ℕ → List ℕ → List ℕ
+storedQueues n m rings t =
     wordsBelow (length t)
     (λ i.
     let j = i - endpointAt n 0 in
-    cond (isQueue n m i) (getD (putOutQueue (ringAt rings (j / 12)) (wordsAt n t (j / 12))) (j % 12) 0) (getD t i 0))
+    cond (isQueue n m i) (getD (storedQueue (ringAt rings (j / 12)) (wordsAt n t (j / 12))) (j % 12) 0) (getD t i 0))
 
 -- the names of the first 32 endpoints; 0 where there is none
 unfoldable pub namesOf : ℕ → ℕ → List ℕ → List ℕ

@@ -10,7 +10,7 @@ ghost use mathlib.Core.Path.{_≡_};
 ghost use mathlib.Core.Bool.{cond};
 ghost use Prim.Native.Nat.{_%_, min};
 ghost use lib.ListN.{length};
-ghost use Rattle.working_load.specs.Layout.{hasQueues, ringsOf, queuesOut, namesOf, ownedOf};
+ghost use Rattle.working_load.specs.Layout.{hasQueues, ringsOf, storedQueues, namesOf, ownedOf};
 
 // At most 32 endpoints, words enough for them in the table, and twelve lent for each.
 fn has_queues(n: u32, m: u32, size: usize, lent: usize) -> bool
@@ -24,7 +24,7 @@ fn has_queues(n: u32, m: u32, size: usize, lent: usize) -> bool
 }
 
 // The rings of the table's queues. They stay as they are where they or the table aren't of the right length.
-pub fn rings_in(table: &[u32], n: u32, m: u32, rings: &mut [u32])
+pub fn load_rings(table: &[u32], n: u32, m: u32, rings: &mut [u32])
     ensures { λ _. ⌜ now (rings .exit) ≡ cond (hasQueues (n % 256) m (length (now (table .entry))) (length (now (rings .entry)))) (ringsOf (n % 256) m (now (table .entry))) (now (rings .entry)) ⌝ }
 {
     if !has_queues(n, m, table.len(), rings.len()) {
@@ -36,14 +36,14 @@ pub fn rings_in(table: &[u32], n: u32, m: u32, rings: &mut [u32])
         let end = start + ENDPOINT_WORDS;
         let from = ENDPOINT_WORDS * e as usize;
         let to = from + ENDPOINT_WORDS;
-        ring::take_in(&table[start..end], &mut rings[from..to]);
+        ring::load(&table[start..end], &mut rings[from..to]);
         e += 1;
     }
 }
 
 // The rings put out to the table's queues. It stays as it is where it or the rings aren't of the right length.
-pub fn rings_out(rings: &[u32], n: u32, m: u32, table: &mut [u32])
-    ensures { λ _. ⌜ now (table .exit) ≡ cond (hasQueues (n % 256) m (length (now (table .entry))) (length (now (rings .entry)))) (queuesOut (n % 256) m (now (rings .entry)) (now (table .entry))) (now (table .entry)) ⌝ }
+pub fn store_rings(rings: &[u32], n: u32, m: u32, table: &mut [u32])
+    ensures { λ _. ⌜ now (table .exit) ≡ cond (hasQueues (n % 256) m (length (now (table .entry))) (length (now (rings .entry)))) (storedQueues (n % 256) m (now (rings .entry)) (now (table .entry))) (now (table .entry)) ⌝ }
 {
     if !has_queues(n, m, table.len(), rings.len()) {
         return;
@@ -54,7 +54,7 @@ pub fn rings_out(rings: &[u32], n: u32, m: u32, table: &mut [u32])
         let behind = place + ENDPOINT_WORDS;
         let first = endpoint_at(n, e);
         let next = first + ENDPOINT_WORDS;
-        ring::put_out(&rings[place..behind], &mut table[first..next]);
+        ring::store(&rings[place..behind], &mut table[first..next]);
         e += 1;
     }
 }
@@ -70,7 +70,7 @@ fn at_most(m: u32) -> u32
 }
 
 // The endpoints' names, side by side; 0 where there is none.
-pub fn names_in(table: &[u32], n: u32, m: u32) -> [u32; 32]
+pub fn load_names(table: &[u32], n: u32, m: u32) -> [u32; 32]
     ensures { λ r. ⌜ r ≡ namesOf (n % 256) m (now (table .entry)) ⌝ }
 {
     let mut names = [0u32; 32];
@@ -86,7 +86,7 @@ pub fn names_in(table: &[u32], n: u32, m: u32) -> [u32; 32]
 }
 
 // What each domain owns, a bit for each endpoint. Of an owner's number four bits count.
-pub fn owned_in(table: &[u32], n: u32, m: u32) -> [u32; 16]
+pub fn load_owned(table: &[u32], n: u32, m: u32) -> [u32; 16]
     ensures { λ r. ⌜ r ≡ ownedOf (n % 256) m (now (table .entry)) ⌝ }
 {
     let mut owned = [0u32; 16];

@@ -10,7 +10,7 @@ use Rattle.holders.specs.Noted.{holdersAfter}
 use Rattle.rights_matrix.specs.Rows.{heldIn}
 use Rattle.working_theory.specs.State.{rowBits, firstFrom, secondFrom, answerFrom, effectFrom, rowsAfter}
 use Rattle.working_theory.proofs.Answered.{refused-answer}
-use Rattle.working_rights_calls.specs.Served.{RightsServed}
+use Rattle.working_rights_calls.specs.Outcome.{RightsOutcome}
 
 -- the rights of a domain
 pub listed :
@@ -26,7 +26,7 @@ listed u d w x y rows rings owned words is told low high =
     (told ∙ ap₂ (λ (i j : ℕ). answerWord (one w) 0 ∷ i ∷ j ∷ []) low high)
 
 module _ (d : Decision) (w : ℕ) (rows : List (List ℕ)) (holders words : List ℕ) where
-  pub rights-refused : (k : ℕ) → machine.refused k ≡ d → words ≡ answerWord (one w) k ∷ 0 ∷ 0 ∷ [] → RightsServed d w rows holders words rows holders
+  pub rights-refused : (k : ℕ) → machine.refused k ≡ d → words ≡ answerWord (one w) k ∷ 0 ∷ 0 ∷ [] → RightsOutcome d w rows holders words rows holders
   unfolding rowsAfter holdersAfter effectFrom
   rights-refused k is told =
       record {
@@ -37,19 +37,19 @@ module _ (d : Decision) (w : ℕ) (rows : List (List ℕ)) (holders words : List
 
   -- a row is altered, whichever of the calls did it
   module _ (told : words ≡ answerWord (one w) 0 ∷ 0 ∷ 0 ∷ []) (h g s : ℕ) (rows′ : List (List ℕ)) (holders′ : List ℕ) (left : rows′ ≡ rowsAfter rows (newRights h g s)) (noted : holders′ ≡ holdersAfter holders (newRights h g s)) where
-    altered : (x : Decision) → x ≡ d → answerWord (one w) 0 ∷ 0 ∷ 0 ∷ [] ≡ answerFrom w rows [] [] x → newRights h g s ≡ effectFrom rows [] x → RightsServed d w rows holders words rows′ holders′
+    altered : (x : Decision) → x ≡ d → answerWord (one w) 0 ∷ 0 ∷ 0 ∷ [] ≡ answerFrom w rows [] [] x → newRights h g s ≡ effectFrom rows [] x → RightsOutcome d w rows holders words rows′ holders′
     altered x is plain same =
-        subst (λ (v : Decision). RightsServed v w rows holders words rows′ holders′) is
+        subst (λ (v : Decision). RightsOutcome v w rows holders words rows′ holders′) is
         (record { answer = told ∙ plain; left = left ∙ ap (rowsAfter rows) same; noted = noted ∙ ap (holdersAfter holders) same })
 
-    pub granted : (r : ℕ) → machine.grants g h r ≡ d → s ≡ adds (heldIn rows h g) r → RightsServed d w rows holders words rows′ holders′
+    pub granted : (r : ℕ) → machine.grants g h r ≡ d → s ≡ adds (heldIn rows h g) r → RightsOutcome d w rows holders words rows′ holders′
     unfolding answerFrom firstFrom secondFrom code effectFrom
     granted r is new = altered (machine.grants g h r) is refl (ap (newRights h g) new)
 
-    pub removed : (r : ℕ) → machine.removes g h r ≡ d → s ≡ without (heldIn rows h g) r → RightsServed d w rows holders words rows′ holders′
+    pub removed : (r : ℕ) → machine.removes g h r ≡ d → s ≡ without (heldIn rows h g) r → RightsOutcome d w rows holders words rows′ holders′
     unfolding answerFrom firstFrom secondFrom code effectFrom
     removed r is new = altered (machine.removes g h r) is refl (ap (newRights h g) new)
 
-    pub revoked : (r : ℕ) → machine.revokes g h r ≡ d → s ≡ without (heldIn rows h g) r → RightsServed d w rows holders words rows′ holders′
+    pub revoked : (r : ℕ) → machine.revokes g h r ≡ d → s ≡ without (heldIn rows h g) r → RightsOutcome d w rows holders words rows′ holders′
     unfolding answerFrom firstFrom secondFrom code effectFrom
     revoked r is new = altered (machine.revokes g h r) is refl (ap (newRights h g) new)

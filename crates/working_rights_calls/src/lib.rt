@@ -21,7 +21,7 @@ ghost use Rattle.calls.specs.declared.Call.the-variants as calls;
 ghost use Rattle.rules.specs.Access.{decidedBy};
 ghost use Rattle.holders.specs.Noted.{holdersAfter};
 ghost use Rattle.working_theory.specs.State.{nobody, readingFrom, rowBits, answerFrom, rowsAfter};
-ghost use Rattle.working_rights_calls.specs.Served.{RightsServed};
+ghost use Rattle.working_rights_calls.specs.Outcome.{RightsOutcome};
 
 // Returns the rights of a holder on the eight targets from one on, four bits each. It goes from the last to the first, so each step
 // moves up what is there; what goes past 32 bits is cut off.
@@ -71,7 +71,7 @@ pub fn grant(
     recipient: u32,
     given: u32,
 ) -> Answer
-    ensures { λ a. ⌜ RightsServed (decidedBy n 0 (readingFrom (now (rows .entry)) [] nobody) (calls.Grant caller target recipient given)) first (now (rows .entry)) (now (holders .entry)) (answerWords a) (now (rows .exit)) (now (holders .exit)) ⌝ }
+    ensures { λ a. ⌜ RightsOutcome (decidedBy n 0 (readingFrom (now (rows .entry)) [] nobody) (calls.Grant caller target recipient given)) first (now (rows .entry)) (now (holders .entry)) (answerWords a) (now (rows .exit)) (now (holders .exit)) ⌝ }
 {
     let range = of_grant(n, caller, target, recipient, given);
     if let Range::Outside(refused) = range {
@@ -99,7 +99,7 @@ pub fn remove(
     target: u32,
     given: u32,
 ) -> Answer
-    ensures { λ a. ⌜ RightsServed (decidedBy n 0 (readingFrom (now (rows .entry)) [] nobody) (calls.Remove caller target given)) first (now (rows .entry)) (now (holders .entry)) (answerWords a) (now (rows .exit)) (now (holders .exit)) ⌝ }
+    ensures { λ a. ⌜ RightsOutcome (decidedBy n 0 (readingFrom (now (rows .entry)) [] nobody) (calls.Remove caller target given)) first (now (rows .entry)) (now (holders .entry)) (answerWords a) (now (rows .exit)) (now (holders .exit)) ⌝ }
 {
     let range = of_remove(n, caller, target, given);
     if let Range::Outside(refused) = range {
@@ -126,7 +126,7 @@ pub fn revoke(
     holder: u32,
     given: u32,
 ) -> Answer
-    ensures { λ a. ⌜ RightsServed (decidedBy n 0 (readingFrom (now (rows .entry)) [] nobody) (calls.Revoke caller target holder given)) first (now (rows .entry)) (now (holders .entry)) (answerWords a) (now (rows .exit)) (now (holders .exit)) ⌝ }
+    ensures { λ a. ⌜ RightsOutcome (decidedBy n 0 (readingFrom (now (rows .entry)) [] nobody) (calls.Revoke caller target holder given)) first (now (rows .entry)) (now (holders .entry)) (answerWords a) (now (rows .exit)) (now (holders .exit)) ⌝ }
 {
     let range = of_grant(n, caller, target, holder, given);
     if let Range::Outside(refused) = range {

@@ -21,19 +21,19 @@ use Rattle.machine.proofs.Below.{first-same, all-at}
 use Rattle.machine.proofs.Bools.{and-left, and-right, cond-elim}
 use Rattle.calls.specs.Split.{callOf}
 use Rattle.calls.specs.declared.split.Second.{Second}
-use Rattle.calls.specs.Decode.{apart}
+use Rattle.calls.specs.Decode.{decoded}
 use Rattle.calls.proofs.Decided.{decided}
 use Rattle.rules.specs.Access.{decidedBy}
 use Rattle.rules.specs.Readings.{SameReading}
 use Rattle.rules.proofs.Places.{readingOf, decide-places}
 use Rattle.rules.proofs.Readings.{same-decision}
 use Rattle.ring.specs.Ring.{ringOwner}
-use Rattle.ring.specs.Claims.{Stands}
+use Rattle.ring.specs.Claims.{RepresentsQueue}
 use Rattle.working_theory.specs.State.{ringAt, hintPlace, namedIn, readingFrom}
 use Rattle.working_theory.specs.Represents.{Represents}
 
 -- a ring's owner is its queue's
-ring-owner : (r q : List ℕ) → Stands r q → ringOwner r ≡ owner q
+ring-owner : (r q : List ℕ) → RepresentsQueue r q → ringOwner r ≡ owner q
 unfolding ringOwner owner
 ring-owner r q s = ap fieldB (s .sameInfo)
 
@@ -96,9 +96,9 @@ module _ (n m : ℕ) (rows : List (List ℕ)) (rings names owned t : List ℕ) (
       }
 
   -- so a call comes to the same
-  pub decided-same : (hints : List ℕ) (w : ℕ) (s : Second) → decidedBy n m (readingFrom rows rings (namedIn m names hints)) (apart w s) ≡ decide t (callOf w s)
+  pub decided-same : (hints : List ℕ) (w : ℕ) (s : Second) → decidedBy n m (readingFrom rows rings (namedIn m names hints)) (decoded w s) ≡ decide t (callOf w s)
   decided-same hints w s =
-      same-decision n m (readingFrom rows rings (namedIn m names hints)) (readingOf t) (same-reading hints) (apart w s)
-      ∙ ap₂ (λ (i j : ℕ). decidedBy i j (readingOf t) (apart w s)) (x .domains) (x .endpoints)
-      ∙ decide-places t (apart w s)
+      same-decision n m (readingFrom rows rings (namedIn m names hints)) (readingOf t) (same-reading hints) (decoded w s)
+      ∙ ap₂ (λ (i j : ℕ). decidedBy i j (readingOf t) (decoded w s)) (x .domains) (x .endpoints)
+      ∙ decide-places t (decoded w s)
       ∙ sym (decided t w s)

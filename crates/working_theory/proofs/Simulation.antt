@@ -38,11 +38,11 @@ use Rattle.rights_matrix.specs.Rows.{heldIn, withHeld}
 use Rattle.rights_matrix.specs.Claims.{SameRights}
 use Rattle.rights_matrix.proofs.Rights.{put-is-held}
 use Rattle.ring.specs.Ring.{ofTwelve}
-use Rattle.ring.specs.Claims.{Stands}
+use Rattle.ring.specs.Claims.{RepresentsQueue}
 use Rattle.ring.proofs.Words.{of-twelve}
-use Rattle.ring.proofs.Simulation.{queues-go-along}
+use Rattle.ring.proofs.Simulation.{queues-simulate}
 use Rattle.working_theory.specs.State.{ringAt, withRing, rowBits, firstFrom, secondFrom, answerFrom, effectFrom, rowsAfter, ringsAfter}
-use Rattle.working_theory.specs.Represents.{Represents, CallsGoAlong}
+use Rattle.working_theory.specs.Represents.{Represents, CallsSimulate}
 use Rattle.working_theory.proofs.Rings.{ring-length, with-length, ring-same, ring-other}
 use Rattle.working_theory.proofs.Reading.{decided-same}
 
@@ -146,7 +146,7 @@ module _ (n m : ℕ) (rows : List (List ℕ)) (rings names owned t : List ℕ) (
   record Core (rows′ : List (List ℕ)) (rings′ t′ : List ℕ) : Type 0 where
     pub rights : SameRights n rows′ t′
     pub size : length rings′ ≡ 12 * m
-    pub queues : (e : ℕ) → e < m → Stands (ringAt rings′ e) (endpoint t′ e)
+    pub queues : (e : ℕ) → e < m → RepresentsQueue (ringAt rings′ e) (endpoint t′ e)
 
   unaltered : Core rows rings t
   unaltered = record { rights = x .rights; size = x .size; queues = x .queues }
@@ -155,7 +155,7 @@ module _ (n m : ℕ) (rows : List (List ℕ)) (rings names owned t : List ℕ) (
   z = accepted-sized t a
 
   -- one queue
-  module _ (e : ℕ) (l : e < machine.endpoints t) (r q : List ℕ) (twelve : length q ≡ 12) (st : Stands r q) where
+  module _ (e : ℕ) (l : e < machine.endpoints t) (r q : List ℕ) (twelve : length q ≡ 12) (st : RepresentsQueue r q) where
     queue-core : Core rows (withRing rings e r) (setEndpoint t e q)
     unfolding rights
     queue-core =
@@ -173,12 +173,12 @@ module _ (n m : ℕ) (rows : List (List ℕ)) (rings names owned t : List ℕ) (
           queues = λ f b. go f b (ℕ-discrete f e);
         }
       where
-        go : (f : ℕ) → f < m → Dec (f ≡ e) → Stands (ringAt (withRing rings e r) f) (endpoint (setEndpoint t e q) f)
+        go : (f : ℕ) → f < m → Dec (f ≡ e) → RepresentsQueue (ringAt (withRing rings e r) f) (endpoint (setEndpoint t e q) f)
         go f b (yes is) =
-            subst (λ (k : ℕ). Stands (ringAt (withRing rings e r) k) (endpoint (setEndpoint t e q) k)) (sym is)
-            (subst₂ Stands (sym (ring-same rings m (x .size) e (below-m e l) r (st .twelve))) (sym (table.setEndpoint-same t z e q l twelve)) st)
+            subst (λ (k : ℕ). RepresentsQueue (ringAt (withRing rings e r) k) (endpoint (setEndpoint t e q) k)) (sym is)
+            (subst₂ RepresentsQueue (sym (ring-same rings m (x .size) e (below-m e l) r (st .twelve))) (sym (table.setEndpoint-same t z e q l twelve)) st)
         go f b (no ne) =
-            subst₂ Stands (sym (ring-other rings m (x .size) e (below-m e l) r (st .twelve) f b ne))
+            subst₂ RepresentsQueue (sym (ring-other rings m (x .size) e (below-m e l) r (st .twelve) f b ne))
             (sym (table.setEndpoint-other t z e q l twelve f (rw (x .endpoints) at b) ne))
             (x .queues f b)
 
@@ -213,7 +213,7 @@ module _ (n m : ℕ) (rows : List (List ℕ)) (rings names owned t : List ℕ) (
                 nothing = λ i j li past lj. put .others i j (omega (arith, few)) lj (λ _ is. omega arith) ∙ x .rights .nothing i j li past lj;
               };
           size = x .size;
-          queues = λ e l. subst (Stands (ringAt rings e)) (sym (table.setRights-endpoint t z h g s lh lg e (rw (x .endpoints) at l))) (x .queues e l);
+          queues = λ e l. subst (RepresentsQueue (ringAt rings e)) (sym (table.setRights-endpoint t z h g s lh lg e (rw (x .endpoints) at l))) (x .queues e l);
         }
 
   -- the same rights, written to the rows and to the table
@@ -240,7 +240,7 @@ module _ (n m : ℕ) (rows : List (List ℕ)) (rings names owned t : List ℕ) (
             let small = message-small c in
             subst (λ (r : List ℕ). Core rows (withRing rings e r) (setEndpoint t e (sent q (secondPayload c)))) (sym (all-there e _ _ (below-m e l)))
             (queue-core e l _ (sent q (secondPayload c)) (sent-length (machine.domains t) q (twelve e l) ok _)
-            (queues-go-along q (ringAt rings e) (twelve e l) (info .1) (info .2) (x .queues e (below-m e l)) .0 _ small));
+            (queues-simulate q (ringAt rings e) (twelve e l) (info .1) (info .2) (x .queues e (below-m e l)) .0 _ small));
         receiving =
             λ _ _ l _ some.
             let e = fieldB (first c) in
@@ -249,7 +249,7 @@ module _ (n m : ℕ) (rows : List (List ℕ)) (rings names owned t : List ℕ) (
             let info = info-of (machine.domains t) q ok in
             subst (λ (r : List ℕ). Core rows (withRing rings e r) (setEndpoint t e (received q))) (sym (all-there e _ _ (below-m e l)))
             (queue-core e l _ (received q) (received-length q (twelve e l) some (waiting-most (machine.domains t) q ok))
-            (queues-go-along q (ringAt rings e) (twelve e l) (info .1) (info .2) (x .queues e (below-m e l)) .1 (omega (arith, some))));
+            (queues-simulate q (ringAt rings e) (twelve e l) (info .1) (info .2) (x .queues e (below-m e l)) .1 (omega (arith, some))));
         endpointsListed = λ _ _. unaltered;
         rightsListed = λ _ _. unaltered;
         granting = λ _ _ lg lh most _ _ _. rights-along _ _ (λ k. adds k (fieldC (first c))) lh lg (adds-within _ _ (rights-held t a _ _ lh lg) most);
@@ -284,8 +284,8 @@ module _ (n m : ℕ) (rows : List (List ℕ)) (rings names owned t : List ℕ) (
             (λ e b. ap (λ (o : ℕ). cond (eqb o u) (2 ^ e) 0) (owner-kept (endpoint (step t c) e) (endpoint t e) (frame .identity e b))));
       }
 
-pub calls-go-along : CallsGoAlong
-calls-go-along w s n m rows rings names hints owned t a x =
+pub calls-simulate : CallsSimulate
+calls-simulate w s n m rows rings names hints owned t a x =
     let c = callOf w s in
     record {
       decided = decided-same n m rows rings names owned t a x hints w s;

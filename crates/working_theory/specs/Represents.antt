@@ -11,11 +11,11 @@ use Rattle.machine.specs.Machine.{ownedBits, decide, step, answer}
 use Rattle.machine.specs.Holders.{holdersOf}
 use Rattle.calls.specs.Split.{callOf}
 use Rattle.calls.specs.declared.split.Second.{Second}
-use Rattle.calls.specs.Decode.{apart}
+use Rattle.calls.specs.Decode.{decoded}
 use Rattle.rules.specs.Access.{decidedBy}
 use Rattle.holders.specs.Noted.{holdersAfter}
 use Rattle.rights_matrix.specs.Claims.{SameRights}
-use Rattle.ring.specs.Claims.{Stands}
+use Rattle.ring.specs.Claims.{RepresentsQueue}
 use Rattle.working_theory.specs.State.{ringAt, namedIn, readingFrom, answerFrom, effectFrom, rowsAfter, ringsAfter}
 
 -- The state stands for the table t of n domains and m endpoints: the rows for its rights, each ring for its endpoint's queue,
@@ -25,15 +25,15 @@ pub record Represents (n m : ℕ) (rows : List (List ℕ)) (rings names owned t 
   pub endpoints : m ≡ machine.endpoints t
   pub rights : SameRights n rows t
   pub size : length rings ≡ 12 * m
-  pub queues : (e : ℕ) → e < m → Stands (ringAt rings e) (endpoint t e)
+  pub queues : (e : ℕ) → e < m → RepresentsQueue (ringAt rings e) (endpoint t e)
   pub sameNames : (e : ℕ) → e < m → getD names e 0 ≡ name (endpoint t e)
   pub sameOwned : (u : ℕ) → u < n → getD owned u 0 ≡ ownedBits t u
 
 -- A call of the first word w and what comes second, on a state, whatever the hints to its names, and on the table t: it comes to the
 -- same, it is answered the same, what it leaves stands for the table after it, and noting its effect makes of the holders those of
 -- the table after it.
-pub record GoesAlong (w : ℕ) (s : Second) (n m : ℕ) (rows : List (List ℕ)) (rings names hints owned t : List ℕ) : Type 0 where
-  pub decided : decidedBy n m (readingFrom rows rings (namedIn m names hints)) (apart w s) ≡ decide t (callOf w s)
+pub record Simulates (w : ℕ) (s : Second) (n m : ℕ) (rows : List (List ℕ)) (rings names hints owned t : List ℕ) : Type 0 where
+  pub decided : decidedBy n m (readingFrom rows rings (namedIn m names hints)) (decoded w s) ≡ decide t (callOf w s)
   pub answer : answerFrom w rows rings owned (decide t (callOf w s)) ≡ answer t (callOf w s)
   pub state :
       Represents n m (rowsAfter rows (effectFrom rows rings (decide t (callOf w s))))
@@ -43,9 +43,9 @@ pub record GoesAlong (w : ℕ) (s : Second) (n m : ℕ) (rows : List (List ℕ))
       (step t (callOf w s))
   pub holders : holdersAfter (holdersOf t) (effectFrom rows rings (decide t (callOf w s))) ≡ holdersOf (step t (callOf w s))
 
-abbrev pub CallsGoAlong : Type 0
-CallsGoAlong =
+abbrev pub CallsSimulate : Type 0
+CallsSimulate =
     (w : ℕ) (s : Second) (n m : ℕ) (rows : List (List ℕ)) (rings names hints owned t : List ℕ)
     → Accepted t
     → Represents n m rows rings names owned t
-    → GoesAlong w s n m rows rings names hints owned t
+    → Simulates w s n m rows rings names hints owned t

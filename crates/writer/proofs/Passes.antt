@@ -10,7 +10,7 @@ use lib.ListN.{length, getD, take, drop, length-append, drop-of-length-le}
 use lib.Seq.{drop-cons, getD-take, length-take-le, take-at, drop-at, drop-drop}
 use Rattle.machine.proofs.Bools.{and-left, and-right}
 use Rattle.calls.specs.declared.Call.{Call}
-use Rattle.writer_theory.specs.Words.{fits, wordsOf, allFit, written}
+use Rattle.writer_theory.specs.Words.{fits, encodedWords, allFit, written}
 use Rattle.call_encode.specs.Put.{putAt}
 use Rattle.call_encode.proofs.Putting.{put-there}
 use Rattle.writer.specs.declared.Measured.the-variants.{Words, Unfit}
@@ -44,7 +44,7 @@ module _ {cs : List Call} {words i : ℕ} (m : Measuring cs words i) where
         ap (λ (o : Option ℕ). found o (length (written cs))) (sym first ∙ m .unfit)
 
     -- one that fits is measured
-    pub measuring-next : (w : ℕ) → w ≡ length (wordsOf c) → w ≤ 2 → fits c ≡ true → Measuring cs (words + w) (i + 1)
+    pub measuring-next : (w : ℕ) → w ≡ length (encodedWords c) → w ≤ 2 → fits c ≡ true → Measuring cs (words + w) (i + 1)
     unfolding unfitFrom written
     measuring-next w e most h =
         record {
@@ -56,7 +56,7 @@ module _ {cs : List Call} {words i : ℕ} (m : Measuring cs words i) where
                 arith,
                 m .sum,
                 ap (λ (x : List Call). length (written x)) front,
-                length-append (wordsOf c) (written (drop (i + 1) cs)),
+                length-append (encodedWords c) (written (drop (i + 1) cs)),
               );
         }
 
@@ -93,7 +93,7 @@ module _ {cs : List Call} {list₀ list : List ℕ} {at i : ℕ} (p : Putting cs
     fits-here = and-left (fits c) (allFit (drop (i + 1) cs)) all-fit-here
 
     -- there is space for the call
-    room : at + length (wordsOf c) ≤ length list
+    room : at + length (encodedWords c) ≤ length list
     unfolding written
     room =
         omega (
@@ -103,24 +103,24 @@ module _ {cs : List Call} {list₀ list : List ℕ} {at i : ℕ} (p : Putting cs
           ap length (p .whole),
           length-append (p .done) (written (drop i cs)),
           ap (λ (x : List Call). length (written x)) front,
-          length-append (wordsOf c) (written (drop (i + 1) cs)),
+          length-append (encodedWords c) (written (drop (i + 1) cs)),
         )
 
-    pub putting-next : (w : ℕ) (list′ : List ℕ) → w ≡ length (wordsOf c) → list′ ≡ putAt list at c → length list′ ≡ length list → Putting cs list₀ list′ (at + w) (i + 1)
+    pub putting-next : (w : ℕ) (list′ : List ℕ) → w ≡ length (encodedWords c) → list′ ≡ putAt list at c → length list′ ≡ length list → Putting cs list₀ list′ (at + w) (i + 1)
     unfolding written
     putting-next w list′ e put same =
         record {
           within = omega arith;
           fit = and-right (fits c) (allFit (drop (i + 1) cs)) all-fit-here;
-          done = p .done ++ wordsOf c;
-          long = length-append (p .done) (wordsOf c) ∙ omega (arith, p .long);
+          done = p .done ++ encodedWords c;
+          long = length-append (p .done) (encodedWords c) ∙ omega (arith, p .long);
           filled =
               put
               ∙ put-there list at c fits-here room
-              ∙ ap₂ (λ (x y : List ℕ). x ++ (wordsOf c ++ y)) before behind
-              ∙ sym (append-assoc (p .done) (wordsOf c) (drop (at + w) list₀));
+              ∙ ap₂ (λ (x y : List ℕ). x ++ (encodedWords c ++ y)) before behind
+              ∙ sym (append-assoc (p .done) (encodedWords c) (drop (at + w) list₀));
           whole =
-              append-assoc (p .done) (wordsOf c) (written (drop (i + 1) cs))
+              append-assoc (p .done) (encodedWords c) (written (drop (i + 1) cs))
               ∙ ap (λ (x : List Call). p .done ++ written x) (sym front)
               ∙ p .whole;
           size = same ∙ p .size;
@@ -129,12 +129,12 @@ module _ {cs : List Call} {list₀ list : List ℕ} {at i : ℕ} (p : Putting cs
         before : take at list ≡ p .done
         before = ap (take at) (p .filled) ∙ take-at (p .done) (drop at list₀) at (p .long)
 
-        behind : drop (at + length (wordsOf c)) list ≡ drop (at + w) list₀
+        behind : drop (at + length (encodedWords c)) list ≡ drop (at + w) list₀
         behind =
-            sym (drop-drop (length (wordsOf c)) at list)
-            ∙ ap (λ (x : List ℕ). drop (length (wordsOf c)) (drop at x)) (p .filled)
-            ∙ ap (drop (length (wordsOf c))) (drop-at (p .done) (drop at list₀) at (p .long))
-            ∙ drop-drop (length (wordsOf c)) at list₀
+            sym (drop-drop (length (encodedWords c)) at list)
+            ∙ ap (λ (x : List ℕ). drop (length (encodedWords c)) (drop at x)) (p .filled)
+            ∙ ap (drop (length (encodedWords c))) (drop-at (p .done) (drop at list₀) at (p .long))
+            ∙ drop-drop (length (encodedWords c)) at list₀
             ∙ ap (λ (k : ℕ). drop (at + k) list₀) (sym e)
 
   -- the place is in the list

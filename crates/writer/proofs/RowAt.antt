@@ -10,7 +10,7 @@ use lib.ListN.{length, getD, drop, length-drop, drop-of-length-le}
 use lib.Seq.{drop-cons}
 use Rattle.calls.specs.declared.Call.{Call}
 use Rattle.writer_theory.specs.Words.{fieldsOf, withinBits, fits}
-use Rattle.writer_theory.specs.Rows.{noCall, rowCall, callAt, handedIn}
+use Rattle.writer_theory.specs.Rows.{noCall, rowCall, callAt, rowsHandedIn}
 
 module _ (ws : List ℕ) (at : ℕ) where
   pub too-few : length ws < at + 5 → noCall ≡ callAt ws at
@@ -37,8 +37,8 @@ five-words ws at h =
     )
 
 -- fewer than five words, but some
-few-words : (ws : List ℕ) → 1 ≤ length ws → length ws < 5 → handedIn ws ≡ noCall ∷ []
-unfolding handedIn
+few-words : (ws : List ℕ) → 1 ≤ length ws → length ws < 5 → rowsHandedIn ws ≡ noCall ∷ []
+unfolding rowsHandedIn
 few-words [] low high = absurd (omega arith)
 few-words (k ∷ []) low high = refl
 few-words (k ∷ (u ∷ [])) low high = refl
@@ -46,18 +46,18 @@ few-words (k ∷ (u ∷ (a ∷ []))) low high = refl
 few-words (k ∷ (u ∷ (a ∷ (b ∷ [])))) low high = refl
 few-words (k ∷ (u ∷ (a ∷ (b ∷ (c ∷ ws))))) low high = absurd (omega arith)
 
-pub front-row : (ws : List ℕ) (at : ℕ) → at < length ws → handedIn (drop at ws) ≡ callAt ws at ∷ handedIn (drop (at + 5) ws)
-unfolding handedIn
+pub front-row : (ws : List ℕ) (at : ℕ) → at < length ws → rowsHandedIn (drop at ws) ≡ callAt ws at ∷ rowsHandedIn (drop (at + 5) ws)
+unfolding rowsHandedIn
 front-row ws at l = go (decLe (at + 5) (length ws))
   where
-    go : Dec (at + 5 ≤ length ws) → handedIn (drop at ws) ≡ callAt ws at ∷ handedIn (drop (at + 5) ws)
-    go (yes h) = ap handedIn (five-words ws at h) ∙ ap (λ (c : Call). c ∷ handedIn (drop (at + 5) ws)) (a-row ws at h)
+    go : Dec (at + 5 ≤ length ws) → rowsHandedIn (drop at ws) ≡ callAt ws at ∷ rowsHandedIn (drop (at + 5) ws)
+    go (yes h) = ap rowsHandedIn (five-words ws at h) ∙ ap (λ (c : Call). c ∷ rowsHandedIn (drop (at + 5) ws)) (a-row ws at h)
     go (no n) =
         let short : length ws < at + 5 = omega arith in
         let end : length ws ≤ at + 5 = omega arith in
         let past : drop (at + 5) ws ≡ [] = drop-of-length-le ws end in
         few-words (drop at ws) (omega (arith, length-drop at ws)) (omega (arith, length-drop at ws))
-        ∙ ap₂ (λ (c : Call) (cs : List Call). c ∷ cs) (too-few ws at short) (sym (ap handedIn past))
+        ∙ ap₂ (λ (c : Call) (cs : List Call). c ∷ cs) (too-few ws at short) (sym (ap rowsHandedIn past))
 
 -- a call that fits has five words
 pub whole-row : (ws : List ℕ) (at : ℕ) → fits (callAt ws at) ≡ true → at + 5 ≤ length ws

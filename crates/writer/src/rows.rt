@@ -25,7 +25,7 @@ ghost use Rattle.writer_theory.specs.Words.{allFit, written};
 ghost use Rattle.writer.specs.Answer.{writtenCode, writtenNumber};
 ghost use Rattle.writer_theory.specs.Write.{WritePromise};
 ghost use Rattle.writer.specs.FirstPass.{measured};
-ghost use Rattle.writer_theory.specs.Rows.{whereZero, rowCall, callAt, handedIn};
+ghost use Rattle.writer_theory.specs.Rows.{whereZero, rowCall, callAt, rowsHandedIn};
 
 // What stands for a row that is no call.
 const NO_CALL: Call = Call::Refused {
@@ -138,7 +138,7 @@ fn call_at(rows: &[u32], at: usize) -> Call
 
 // The first pass, over all rows, also past the 4,096th.
 fn measure(rows: &[u32]) -> Measured
-    ensures { λ r. ⌜ r ≡ measured (handedIn (now (rows .entry))) ⌝ }
+    ensures { λ r. ⌜ r ≡ measured (rowsHandedIn (now (rows .entry))) ⌝ }
 {
     let mut words: usize = 0;
     let mut from: usize = 0;
@@ -157,9 +157,9 @@ fn measure(rows: &[u32]) -> Measured
 
 // The second pass: the words of the calls, which fit and have space.
 fn put_all(rows: &[u32], list: &mut [u32])
-    requires { ⌜ allFit (handedIn (now rows)) ≡ true ⌝ }
-    requires { ⌜ length (written (handedIn (now rows))) ≤ length (now list) ⌝ }
-    ensures { λ _. ⌜ now (list .exit) ≡ written (handedIn (now (rows .entry))) ++ drop (length (written (handedIn (now (rows .entry))))) (now (list .entry)) ⌝ }
+    requires { ⌜ allFit (rowsHandedIn (now rows)) ≡ true ⌝ }
+    requires { ⌜ length (written (rowsHandedIn (now rows))) ≤ length (now list) ⌝ }
+    ensures { λ _. ⌜ now (list .exit) ≡ written (rowsHandedIn (now (rows .entry))) ++ drop (length (written (rowsHandedIn (now (rows .entry))))) (now (list .entry)) ⌝ }
 {
     let mut from: usize = 0;
     let mut at: usize = 0;
@@ -175,7 +175,7 @@ fn put_all(rows: &[u32], list: &mut [u32])
 // is looked for among all rows before their words are too many. That there are more than 4,096 rows isn't looked at by itself:
 // each wants a word at least.
 pub fn write_rows(rows: &[u32], list: &mut [u32]) -> Written
-    ensures { λ r. ⌜ WritePromise (handedIn (now (rows .entry))) (length (handedIn (now (rows .entry)))) (now (list .entry)) (writtenCode r) (writtenNumber r) (now (list .exit)) ⌝ }
+    ensures { λ r. ⌜ WritePromise (rowsHandedIn (now (rows .entry))) (length (rowsHandedIn (now (rows .entry)))) (now (list .entry)) (writtenCode r) (writtenNumber r) (now (list .exit)) ⌝ }
 {
     let measured = measure(rows);
     match measured {

@@ -12,7 +12,7 @@ use Rattle.machine.specs.Word.{kind, payload, caller, fieldA, fieldB, fieldC, w
 use Rattle.machine.specs.Call.{wantsSecond}
 use Rattle.calls.specs.declared.Call.{Call}
 use Rattle.writer_theory.specs.declared.Fields.{Fields}
-use Rattle.writer_theory.specs.Words.{fieldsOf, withinBits, firstWord, fieldWords, wordsOf}
+use Rattle.writer_theory.specs.Words.{fieldsOf, withinBits, firstWord, fieldWords, encodedWords}
 
 -- the fields are within their bits
 pub record Bounds (f : Fields) : Type 0 where
@@ -83,8 +83,8 @@ width-of f = go (wantsSecond (f .kind))
     go false = refl
 
 -- so a call is one word or two
-pub one-or-two : (c : Call) → (1 ≤ length (wordsOf c)) × (length (wordsOf c) ≤ 2)
-unfolding wordsOf
+pub one-or-two : (c : Call) → (1 ≤ length (encodedWords c)) × (length (encodedWords c) ≤ 2)
+unfolding encodedWords
 one-or-two c = rw (width-of (fieldsOf c)) (go (wantsSecond (fieldsOf c .kind)))
   where
     go : (b : Bool) → (1 ≤ cond b 2 1) × (cond b 2 1 ≤ 2)

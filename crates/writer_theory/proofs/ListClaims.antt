@@ -10,18 +10,18 @@ use borrow.Author.Tests.{le-ltb, ltb-false, eqb-false}
 use lib.Dec.{ltb}
 use lib.ListN.{length, take, length-append, length-map}
 use lib.Seq.{take-at}
-use Rattle.machine.specs.Call.{cut}
+use Rattle.machine.specs.Call.{split}
 use Rattle.machine.specs.Entry.{longestList}
 use Rattle.machine.proofs.Bools.{and-left, and-right, or-none-left, or-none-right, cond-elim}
-use Rattle.machine.proofs.Split.{cut-few}
+use Rattle.machine.proofs.Split.{split-few}
 use Rattle.calls.specs.declared.Call.{Call}
-use Rattle.writer_theory.specs.Words.{fits, wordsOf, allFit, written}
-use Rattle.writer_theory.specs.Claims.{takenApart, readFrom}
+use Rattle.writer_theory.specs.Words.{fits, encodedWords, allFit, written}
+use Rattle.writer_theory.specs.Claims.{decodedCalls, readFrom}
 use Rattle.writer_theory.proofs.FieldWords.{one-or-two}
 use Rattle.writer_theory.proofs.Reading.{reads-back}
 use Rattle.writer_theory.proofs.Writing.{writes-back}
-use Rattle.writer_theory.specs.Write.{unfitFrom, firstUnfit, tooLong, Outcome, wordsPut, afterUnfit, writing}
-use Rattle.writer_theory.specs.Rows.{handedIn, writingRows}
+use Rattle.writer_theory.specs.Write.{unfitFrom, firstUnfit, tooLong, WriteOutcome, wordsPut, afterUnfit, writing}
+use Rattle.writer_theory.specs.Rows.{rowsHandedIn, writingRows}
 use Rattle.writer_theory.specs.ListClaims.{WrittenReadsBack, WrittenAsItCame, EachWantsAWord, RowsReadBack}
 
 -- where no call is found unfit, all fit
@@ -38,7 +38,7 @@ none-unfit i (c ∷ cs) h = go (fits c) h (none-unfit (i + 1) cs)
 in-front : (count : ℕ) (ws list : List ℕ) → wordsPut count ws list .code ≡ 0 → take (wordsPut count ws list .number) (wordsPut count ws list .list) ≡ ws
 unfolding wordsPut
 in-front count ws list =
-    cond-elim (λ (o : Outcome). o .code ≡ 0 → take (o .number) (o .list) ≡ ws) (tooLong count (length ws) (length list))
+    cond-elim (λ (o : WriteOutcome). o .code ≡ 0 → take (o .number) (o .list) ≡ ws) (tooLong count (length ws) (length list))
     (λ _ e. absurd (eqb-false 31 0 refl e))
     (λ _ _. take-at ws _ _ refl)
 
@@ -55,7 +55,7 @@ words-few cs count list = go (firstUnfit cs)
   where
     put : wordsPut count (written cs) list .code ≡ 0 → wordsPut count (written cs) list .number ≤ longestList
     put =
-        cond-elim (λ (o : Outcome). o .code ≡ 0 → o .number ≤ longestList) (tooLong count (length (written cs)) (length list))
+        cond-elim (λ (o : WriteOutcome). o .code ≡ 0 → o .number ≤ longestList) (tooLong count (length (written cs)) (length list))
         (λ _ e. absurd (eqb-false 31 0 refl e))
         (λ short _. ltb-false longestList (length (written cs)) (or-none-right (ltb longestList count) _ (or-none-left _ _ short)))
 
@@ -79,12 +79,12 @@ pub each-wants-a-word : EachWantsAWord
 unfolding written
 each-wants-a-word [] = omega arith
 each-wants-a-word (c ∷ cs) =
-    omega (arith, one-or-two c .0, each-wants-a-word cs, length-append (wordsOf c) (written cs))
+    omega (arith, one-or-two c .0, each-wants-a-word cs, length-append (encodedWords c) (written cs))
 
 -- as many calls as words at most
 few-calls : (ws : List ℕ) → length (readFrom ws) ≤ length ws
 unfolding readFrom
-few-calls ws = omega (arith, length-map (cut ws) takenApart, cut-few ws)
+few-calls ws = omega (arith, length-map (split ws) decodedCalls, split-few ws)
 
 pub written-as-it-came : WrittenAsItCame
 unfolding firstUnfit writing wordsPut tooLong
@@ -104,8 +104,8 @@ written-as-it-came ws list h short room =
 -- as many words as a list may have are told as they are
 pub rows-read-back : RowsReadBack
 rows-read-back rows list code number end p zero =
-    let few = words-few (handedIn rows) (length (handedIn rows)) list (sym (p .sameCode) ∙ zero) in
+    let few = words-few (rowsHandedIn rows) (length (rowsHandedIn rows)) list (sym (p .sameCode) ∙ zero) in
     let told : writingRows rows list .number ≤ 65535 = omega (arith, few) in
-    written-reads-back (handedIn rows) (length (handedIn rows)) list code number end
+    written-reads-back (rowsHandedIn rows) (length (rowsHandedIn rows)) list code number end
     (record { sameCode = p .sameCode; sameNumber = p .sameNumber ∙ min-eq-left told; sameWords = p .sameWords })
     zero

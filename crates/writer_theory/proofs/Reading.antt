@@ -6,33 +6,33 @@ use mathlib.Core.Bool.{Bool, true, false, cond, false≢true}
 use mathlib.Core.List.{List, [], _∷_, _++_, map}
 use Rattle.machine.specs.Word.{kind, word}
 use Rattle.machine.specs.Call as machine
-use Rattle.machine.specs.Call.{pairs, cut, wantsSecond, kindOf, unusedFields, allZero, hasSecond, secondPayload}
+use Rattle.machine.specs.Call.{pairs, split, wantsSecond, kindOf, unusedFields, allZero, hasSecond, secondPayload}
 use Rattle.machine.proofs.Bools.{and-left, and-right, and-intro}
-use Rattle.machine.proofs.Split.{cut-last, cut-one, cut-two}
+use Rattle.machine.proofs.Split.{split-last, split-one, split-two}
 use Rattle.calls.specs.Split.{callOf}
 use Rattle.calls.specs.declared.split.Second.{Second}
 use Rattle.calls.specs.declared.split.Second.the-variants.{Nothing, Word}
-use Rattle.calls.specs.Decode.{needsSecond, whole, ofKind, apart}
+use Rattle.calls.specs.Decode.{needsSecond, whole, ofKind, decoded}
 use Rattle.calls.specs.declared.Call.{Call}
 use Rattle.calls.specs.declared.Call.the-variants.{LookUp, Send, Receive, MyEndpoints, MyRights, Grant, Remove, Revoke, Refused}
 use Rattle.writer_theory.specs.declared.Fields.{Fields}
-use Rattle.writer_theory.specs.Words.{fieldsOf, withinBits, firstWord, fieldWords, fits, wordsOf, allFit, written}
-use Rattle.writer_theory.specs.Claims.{takenApart, readFrom, past, allPast, ReadsBack, DifferentWords, TakenByReader}
+use Rattle.writer_theory.specs.Words.{fieldsOf, withinBits, firstWord, fieldWords, fits, encodedWords, allFit, written}
+use Rattle.writer_theory.specs.Claims.{decodedCalls, readFrom, past, allPast, ReadsBack, DifferentWords, TakenByReader}
 use Rattle.writer_theory.proofs.FieldWords.{Holds, bounds, held, second-kind, second-holds}
 
 -- the second word of a call with these fields
 abbrev pub secondOf : Fields → Second
 secondOf f = cond (wantsSecond (f .kind)) (Word (word 15 (f .second))) Nothing
 
--- what is taken apart is a first word and what comes second
-pub taken-of : (w : ℕ) (s : Second) → takenApart (callOf w s) ≡ apart w s
-unfolding takenApart
+-- what is taken decoded is a first word and what comes second
+pub taken-of : (w : ℕ) (s : Second) → decodedCalls (callOf w s) ≡ decoded w s
+unfolding decodedCalls
 taken-of w Nothing = refl
 taken-of w (Word v) = refl
 
--- a first word that holds the fields of a call that fits is taken apart into the call
-apart-back : (c : Call) (w : ℕ) → fits c ≡ true → Holds w (fieldsOf c) → apart w (secondOf (fieldsOf c)) ≡ c
-unfolding fits withinBits fieldsOf apart ofKind whole needsSecond kindOf unusedFields allZero wantsSecond hasSecond secondPayload
+-- a first word that holds the fields of a call that fits is taken decoded into the call
+apart-back : (c : Call) (w : ℕ) → fits c ≡ true → Holds w (fieldsOf c) → decoded w (secondOf (fieldsOf c)) ≡ c
+unfolding fits withinBits fieldsOf decoded ofKind whole needsSecond kindOf unusedFields allZero wantsSecond hasSecond secondPayload
 apart-back (LookUp u x) w h r =
     simp (r .kind, r .caller, r .a, r .b, r .c, second-holds x (bounds (fieldsOf (LookUp u x)) h .second))
 apart-back (Send u e m) w h r =
@@ -55,34 +55,34 @@ unfolding pairs
 alone w v a = rw a
 
 -- the words of a call, cut off the front of a list
-cut-front : (f : Fields) → withinBits f ≡ true → (rest : List ℕ) → cut (fieldWords f ++ rest) ≡ callOf (firstWord f) (secondOf f) ∷ cut rest
+split-front : (f : Fields) → withinBits f ≡ true → (rest : List ℕ) → split (fieldWords f ++ rest) ≡ callOf (firstWord f) (secondOf f) ∷ split rest
 unfolding fieldWords
-cut-front f h rest = go (wantsSecond (f .kind)) (ap wantsSecond (held f h .kind)) rest
+split-front f h rest = go (wantsSecond (f .kind)) (ap wantsSecond (held f h .kind)) rest
   where
     go : (b : Bool) → wantsSecond (kind (firstWord f)) ≡ b → (rest : List ℕ)
-        → cut ((firstWord f ∷ cond b (word 15 (f .second) ∷ []) []) ++ rest) ≡ callOf (firstWord f) (cond b (Word (word 15 (f .second))) Nothing) ∷ cut rest
-    go true e rest = cut-two _ _ rest (both _ _ e (second-kind (f .second) (bounds f h .second)))
-    go false e [] = cut-last _
-    go false e (v ∷ rest) = cut-one _ v rest (alone _ v e)
+        → split ((firstWord f ∷ cond b (word 15 (f .second) ∷ []) []) ++ rest) ≡ callOf (firstWord f) (cond b (Word (word 15 (f .second))) Nothing) ∷ split rest
+    go true e rest = split-two _ _ rest (both _ _ e (second-kind (f .second) (bounds f h .second)))
+    go false e [] = split-last _
+    go false e (v ∷ rest) = split-one _ v rest (alone _ v e)
 
 -- a call's words, as the machine has them
 abbrev machineCall : Call → machine.Call
 machineCall c = callOf (firstWord (fieldsOf c)) (secondOf (fieldsOf c))
 
-cut-words : (c : Call) → fits c ≡ true → (rest : List ℕ) → cut (wordsOf c ++ rest) ≡ machineCall c ∷ cut rest
-unfolding fits wordsOf
-cut-words c h rest = cut-front (fieldsOf c) h rest
+split-words : (c : Call) → fits c ≡ true → (rest : List ℕ) → split (encodedWords c ++ rest) ≡ machineCall c ∷ split rest
+unfolding fits encodedWords
+split-words c h rest = split-front (fieldsOf c) h rest
 
-back : (c : Call) → fits c ≡ true → takenApart (machineCall c) ≡ c
+back : (c : Call) → fits c ≡ true → decodedCalls (machineCall c) ≡ c
 unfolding fits
 back c h = taken-of _ (secondOf (fieldsOf c)) ∙ apart-back c _ h (held (fieldsOf c) h)
 
 pub reads-back : ReadsBack
-unfolding readFrom written allFit cut
+unfolding readFrom written allFit split
 reads-back [] h = refl
 reads-back (c ∷ cs) h =
     let fit = and-left (fits c) (allFit cs) h in
-    ap (map takenApart) (cut-words c fit (written cs))
+    ap (map decodedCalls) (split-words c fit (written cs))
     ∙ ap₂ (λ (x : Call) (xs : List Call). x ∷ xs) (back c fit) (reads-back cs (and-right (fits c) (allFit cs) h))
 
 pub different-words : DifferentWords

@@ -10,20 +10,20 @@ use borrow.Author.Tests.{lt-ltb, ne-eqb, eqb-true, eqb-false}
 use lib.Arith.{mod-mul}
 use lib.Dec.{eqb, lit<}
 use Rattle.machine.specs.Word.{kind, payload, caller, fieldA, fieldB, fieldC, word}
-use Rattle.machine.specs.Call.{Kind, pairs, cut, wantsSecond, unusedFields, allZero, hasSecond, secondPayload}
+use Rattle.machine.specs.Call.{Kind, pairs, split, wantsSecond, unusedFields, allZero, hasSecond, secondPayload}
 use Rattle.machine.specs.Call.{Kind.lookUp, Kind.send, Kind.receive, Kind.myEndpoints, Kind.myRights, Kind.grant, Kind.remove, Kind.revoke}
 use Rattle.machine.proofs.Bools.{and-left, and-right, and-intro}
-use Rattle.machine.proofs.Split.{cut-last, cut-one, cut-two}
+use Rattle.machine.proofs.Split.{split-last, split-one, split-two}
 use Rattle.machine.proofs.Decide.{kind-elim}
 use Rattle.calls.specs.Split.{callOf}
 use Rattle.calls.specs.declared.split.Second.{Second}
 use Rattle.calls.specs.declared.split.Second.the-variants.{Nothing, Word}
-use Rattle.calls.specs.Decode.{needsSecond, whole, ofKind, apart}
+use Rattle.calls.specs.Decode.{needsSecond, whole, ofKind, decoded}
 use Rattle.calls.specs.declared.Call.{Call}
 use Rattle.calls.specs.declared.Call.the-variants.{Refused}
 use Rattle.calls.specs.declared.Refusal.the-variants.{UnusedField, NoSecondWord}
 use Rattle.writer_theory.specs.declared.Fields.{Fields}
-use Rattle.writer_theory.specs.Words.{fieldsAt, fieldsOf, withinBits, firstWord, fieldWords, fits, wordsOf, allFit, written}
+use Rattle.writer_theory.specs.Words.{fieldsAt, fieldsOf, withinBits, firstWord, fieldWords, fits, encodedWords, allFit, written}
 use Rattle.writer_theory.specs.Claims.{readFrom, past, allPast, ofTheFour, WritesBack}
 use Rattle.writer_theory.proofs.Reading.{taken-of}
 
@@ -37,9 +37,9 @@ wordsIn w Nothing = w ∷ []
 wordsIn w (Word v) = w ∷ v ∷ []
 
 -- what comes second, if anything, is what the cutting puts there
-abbrev FromCut : ℕ → Second → Type 0
-FromCut w Nothing = Unit {0}
-FromCut w (Word v) = pairs w v ≡ true
+abbrev FromSplit : ℕ → Second → Type 0
+FromSplit w Nothing = Unit {0}
+FromSplit w (Word v) = pairs w v ≡ true
 
 -- the fields of a word are within their bits
 second-below : (w : ℕ) (s : Second) → secondPayload (callOf w s) < 268435456
@@ -72,18 +72,18 @@ again w =
         → word (kind w) (u * 4194304 + a * 65536 + b * 256 + c) ≡ kind w * 268435456 + p
     digits u a b c e f g = omega arith
 
-same-words : (w : ℕ) (s : Second) → FromCut w s → hasSecond (callOf w s) ≡ wantsSecond (kind w) → fieldWords (fieldsIn w s) ≡ wordsIn w s
+same-words : (w : ℕ) (s : Second) → FromSplit w s → hasSecond (callOf w s) ≡ wantsSecond (kind w) → fieldWords (fieldsIn w s) ≡ wordsIn w s
 unfolding fieldWords firstWord hasSecond secondPayload pairs
-same-words w Nothing cut h = rw (again w, sym h)
-same-words w (Word v) cut h =
-    let k : kind v ≡ 15 = eqb-true _ _ (and-right (wantsSecond (kind w)) (eqb (kind v) 15) cut) in
+same-words w Nothing split h = rw (again w, sym h)
+same-words w (Word v) split h =
+    let k : kind v ≡ 15 = eqb-true _ _ (and-right (wantsSecond (kind w)) (eqb (kind v) 15) split) in
     let v-again : word 15 (payload v) ≡ v = omega arith in
     rw (again w, sym h, v-again)
 
 -- what a call is written in is what it was read from
 pub record Back (w : ℕ) (s : Second) (c : Call) : Type 0 where
   pub fit : fits c ≡ true
-  pub words : wordsOf c ≡ wordsIn w s
+  pub words : encodedWords c ≡ wordsIn w s
 
 -- fields that are all zero, one by one
 two-zero : (x y : ℕ) → allZero (x ∷ y ∷ []) ≡ true → (x ≡ 0) × (y ≡ 0)
@@ -108,15 +108,15 @@ no-payload w Nothing h = refl
 no-payload w (Word v) h = absurd (true≢false h)
 
 -- the cutting puts a second word only where it is wanted
-cut-wants : (w : ℕ) (s : Second) → FromCut w s → hasSecond (callOf w s) ≡ true → wantsSecond (kind w) ≡ true
+split-wants : (w : ℕ) (s : Second) → FromSplit w s → hasSecond (callOf w s) ≡ true → wantsSecond (kind w) ≡ true
 unfolding hasSecond pairs
-cut-wants w Nothing from h = absurd (false≢true h)
-cut-wants w (Word v) from h = and-left (wantsSecond (kind w)) (eqb (kind v) 15) from
+split-wants w Nothing from h = absurd (false≢true h)
+split-wants w (Word v) from h = and-left (wantsSecond (kind w)) (eqb (kind v) 15) from
 
-module _ (w : ℕ) (s : Second) (from : FromCut w s) where
+module _ (w : ℕ) (s : Second) (from : FromSplit w s) where
   -- where a second word is wanted there is one, and where none is wanted there is none
   as-wanted : (wantsSecond (kind w) && not (hasSecond (callOf w s))) ≡ false → hasSecond (callOf w s) ≡ wantsSecond (kind w)
-  as-wanted h = go (wantsSecond (kind w)) (hasSecond (callOf w s)) h (cut-wants w s from)
+  as-wanted h = go (wantsSecond (kind w)) (hasSecond (callOf w s)) h (split-wants w s from)
     where
       go : (wants has : Bool) → (wants && not has) ≡ false → (has ≡ true → wants ≡ true) → has ≡ wants
       go true true h f = refl
@@ -126,7 +126,7 @@ module _ (w : ℕ) (s : Second) (from : FromCut w s) where
 
   -- a call that holds the fields of its words
   held-back : (c : Call) → (kind w ≡ 0 → ⊥) → hasSecond (callOf w s) ≡ wantsSecond (kind w) → fieldsOf c ≡ fieldsIn w s → Back w s c
-  unfolding fits wordsOf
+  unfolding fits encodedWords
   held-back c some h e =
       record { fit = ap withinBits e ∙ within w s some; words = ap fieldWords e ∙ same-words w s from h }
 
@@ -152,8 +152,8 @@ module _ (w : ℕ) (s : Second) (from : FromCut w s) where
             held-back next (λ zero. eqb-false n 0 some (sym is ∙ zero)) h (same z (h ∙ ap wantsSecond is))
 
   -- each kind: its unused fields are zero, and where it wants no second word there is none
-  by-kind : past (apart w s) ≡ true → Back w s (apart w s)
-  unfolding apart ofKind fieldsOf unusedFields wantsSecond needsSecond past ofTheFour
+  by-kind : past (decoded w s) ≡ true → Back w s (decoded w s)
+  unfolding decoded ofKind fieldsOf unusedFields wantsSecond needsSecond past ofTheFour
   by-kind =
       kind-elim (kind w) (λ k. past (ofKind w s k) ≡ true → Back w s (ofKind w s k))
       (λ e. past-both 1 e lookUp _ refl refl (λ z h. let (a, b, c) = three-zero _ _ _ z in simp (e, a, b, c)))
@@ -172,21 +172,21 @@ abbrev AsItCame : List ℕ → Type 0
 AsItCame ws = allPast (readFrom ws) ≡ true → (allFit (readFrom ws) ≡ true) × (written (readFrom ws) ≡ ws)
 
 -- one call in front of a list
-in-front : (w : ℕ) (s : Second) (ws rest : List ℕ) → FromCut w s → cut ws ≡ callOf w s ∷ cut rest → wordsIn w s ++ rest ≡ ws → AsItCame rest → AsItCame ws
+in-front : (w : ℕ) (s : Second) (ws rest : List ℕ) → FromSplit w s → split ws ≡ callOf w s ∷ split rest → wordsIn w s ++ rest ≡ ws → AsItCame rest → AsItCame ws
 unfolding readFrom allPast allFit written
 in-front w s ws rest from e whole later h =
     let one = rw (e, taken-of w s) at h in
-    let here = by-kind w s from (and-left (past (apart w s)) (allPast (readFrom rest)) one) in
-    let behind = later (and-right (past (apart w s)) (allPast (readFrom rest)) one) in
+    let here = by-kind w s from (and-left (past (decoded w s)) (allPast (readFrom rest)) one) in
+    let behind = later (and-right (past (decoded w s)) (allPast (readFrom rest)) one) in
     rw (e, taken-of w s)
     (and-intro (here .fit) (behind .0), ap₂ (λ (x y : List ℕ). x ++ y) (here .words) (behind .1) ∙ whole)
 
 pub writes-back : WritesBack
-unfolding readFrom written allFit cut
+unfolding readFrom written allFit split
 writes-back [] h = (refl, refl)
-writes-back (w ∷ []) h = in-front w Nothing (w ∷ []) [] tt (cut-last w) refl (writes-back []) h
+writes-back (w ∷ []) h = in-front w Nothing (w ∷ []) [] tt (split-last w) refl (writes-back []) h
 writes-back (w ∷ (v ∷ ws)) h = go (pairs w v) refl (writes-back ws) (writes-back (v ∷ ws)) h
   where
     go : (b : Bool) → pairs w v ≡ b → AsItCame ws → AsItCame (v ∷ ws) → AsItCame (w ∷ (v ∷ ws))
-    go true e later next = in-front w (Word v) (w ∷ (v ∷ ws)) ws e (cut-two w v ws e) refl later
-    go false e later next = in-front w Nothing (w ∷ (v ∷ ws)) (v ∷ ws) tt (cut-one w v ws e) refl next
+    go true e later next = in-front w (Word v) (w ∷ (v ∷ ws)) ws e (split-two w v ws e) refl later
+    go false e later next = in-front w Nothing (w ∷ (v ∷ ws)) (v ∷ ws) tt (split-one w v ws e) refl next

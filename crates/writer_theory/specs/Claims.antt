@@ -8,19 +8,19 @@ use lib.Dec.{eqb}
 use Rattle.machine.specs.Call as machine
 use Rattle.calls.specs.declared.split.Second.the-variants.{Nothing, Word}
 use Rattle.calls.specs.Number.{numberOf}
-use Rattle.calls.specs.Decode.{apart}
+use Rattle.calls.specs.Decode.{decoded}
 use Rattle.calls.specs.declared.Call.{Call}
 use Rattle.calls.specs.declared.Call.the-variants.{LookUp, Send, Receive, MyEndpoints, MyRights, Grant, Remove, Revoke, Refused}
 use Rattle.writer_theory.specs.Words.{allFit, written}
 
--- a call of one or two words taken apart
-unfoldable pub takenApart : machine.Call → Call
-takenApart (machine.one w) = apart w Nothing
-takenApart (machine.two w v) = apart w (Word v)
+-- a call of one or two words taken decoded
+unfoldable pub decodedCalls : machine.Call → Call
+decodedCalls (machine.one w) = decoded w Nothing
+decodedCalls (machine.two w v) = decoded w (Word v)
 
--- what the reader makes of a list of words: the list is cut, and each call taken apart
+-- what the reader makes of a list of words: the list is cut, and each call taken decoded
 unfoldable pub readFrom : List ℕ → List Call
-readFrom ws = map takenApart (machine.cut ws)
+readFrom ws = map decodedCalls (machine.split ws)
 
 -- a number of the four places that need no table
 unfoldable pub ofTheFour : ℕ → Bool
@@ -43,7 +43,7 @@ unfoldable pub allPast : List Call → Bool
 allPast [] = true
 allPast (c ∷ cs) = past c && allPast cs
 
--- Calls that can be written are read back: taking their words apart gives the calls.
+-- Calls that can be written are read back: taking their words decoded gives the calls.
 abbrev pub ReadsBack : Type 0
 ReadsBack = (cs : List Call) → allFit cs ≡ true → readFrom (written cs) ≡ cs
 

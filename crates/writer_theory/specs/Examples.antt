@@ -7,14 +7,14 @@ use lib.ListN.{replicate}
 use Rattle.calls.specs.declared.Call.{Call}
 use Rattle.calls.specs.declared.Call.the-variants.{LookUp, Send, Receive, MyEndpoints, MyRights, Grant, Remove, Revoke, Refused}
 use Rattle.calls.specs.declared.Refusal.the-variants.{Stray, NoSecondWord}
-use Rattle.writer_theory.specs.Write.{Outcome, refusal, writing}
+use Rattle.writer_theory.specs.Write.{WriteOutcome, refusal, writing}
 
 -- a row: what the writing of so many calls into these words comes to
 pub record Row : Type 0 where
   pub calls : List Call
   pub count : ℕ
   pub list : List ℕ
-  pub leaves : Outcome
+  pub leaves : WriteOutcome
 
 -- every row holds of the definition
 abbrev pub EveryRow : List Row → Type 0

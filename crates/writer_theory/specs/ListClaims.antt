@@ -9,7 +9,7 @@ use Rattle.calls.specs.declared.Call.{Call}
 use Rattle.writer_theory.specs.Words.{written}
 use Rattle.writer_theory.specs.Claims.{readFrom, allPast}
 use Rattle.writer_theory.specs.Write.{writing, WritePromise}
-use Rattle.writer_theory.specs.Rows.{handedIn, RowsPromise}
+use Rattle.writer_theory.specs.Rows.{rowsHandedIn, RowsPromise}
 
 -- Where the answer is 0, taking apart as many words as it says gives the calls that were handed in.
 abbrev pub WrittenReadsBack : Type 0
@@ -38,4 +38,4 @@ RowsReadBack =
     (rows list : List ℕ) (code number : ℕ) (end : List ℕ)
     → RowsPromise rows list code number end
     → code ≡ 0
-    → readFrom (take number end) ≡ handedIn rows
+    → readFrom (take number end) ≡ rowsHandedIn rows

@@ -4,13 +4,13 @@ use mathlib.Core.Path.{_≡_}
 use mathlib.Core.List.{List, [], _∷_, _++_}
 use lib.ListN.{replicate}
 use Rattle.calls.specs.declared.Call.the-variants.{LookUp, Send, Receive, MyEndpoints, MyRights, Grant, Remove, Revoke}
-use Rattle.writer_theory.specs.Write.{Outcome, refusal}
-use Rattle.writer_theory.specs.Rows.{noCall, handedIn, writingRows}
+use Rattle.writer_theory.specs.Write.{WriteOutcome, refusal}
+use Rattle.writer_theory.specs.Rows.{noCall, rowsHandedIn, writingRows}
 
 -- one call of each kind, with a field of every column that it uses; a number is handed in as it is, whether it fits or not
 abbrev pub EachKindHandedIn : Type 0
 EachKindHandedIn =
-    handedIn
+    rowsHandedIn
     (1 ∷ 9 ∷ 0 ∷ 0 ∷ 268435456
     ∷ 2 ∷ 9 ∷ 0 ∷ 8 ∷ 7
     ∷ 3 ∷ 9 ∷ 0 ∷ 256 ∷ 0
@@ -47,13 +47,13 @@ noCalls =
     ∷ []
 
 abbrev pub NoCallsHandedIn : Type 0
-NoCallsHandedIn = handedIn noCalls ≡ replicate 19 noCall
+NoCallsHandedIn = rowsHandedIn noCalls ≡ replicate 19 noCall
 
 -- rows, lent words, and everything that comes of them
 pub record Row : Type 0 where
   pub rows : List ℕ
   pub list : List ℕ
-  pub leaves : Outcome
+  pub leaves : WriteOutcome
 
 abbrev pub EveryRow : List Row → Type 0
 EveryRow [] = Unit {0}

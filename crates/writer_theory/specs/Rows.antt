@@ -11,7 +11,7 @@ use Rattle.machine.specs.Call.{Kind.lookUp, Kind.send, Kind.receive, Kind.myEnd
 use Rattle.calls.specs.declared.Call.{Call}
 use Rattle.calls.specs.declared.Call.the-variants.{LookUp, Send, Receive, MyEndpoints, MyRights, Grant, Remove, Revoke, Refused}
 use Rattle.calls.specs.declared.Refusal.the-variants.{UnknownKind}
-use Rattle.writer_theory.specs.Write.{Outcome, writing}
+use Rattle.writer_theory.specs.Write.{WriteOutcome, writing}
 
 -- what stands for a row that is no call: a refused one
 abbrev pub noCall : Call
@@ -45,17 +45,17 @@ callAt ws at =
     (rowCall (getD ws at 0) (getD ws (at + 1) 0) (getD ws (at + 2) 0) (getD ws (at + 3) 0) (getD ws (at + 4) 0))
 
 -- the calls of some words, five a call; fewer than five left at the end are no call
-unfoldable pub handedIn : List ℕ → List Call
-handedIn [] = []
-handedIn (k ∷ []) = noCall ∷ []
-handedIn (k ∷ (u ∷ [])) = noCall ∷ []
-handedIn (k ∷ (u ∷ (a ∷ []))) = noCall ∷ []
-handedIn (k ∷ (u ∷ (a ∷ (b ∷ [])))) = noCall ∷ []
-handedIn (k ∷ (u ∷ (a ∷ (b ∷ (c ∷ ws))))) = rowCall k u a b c ∷ handedIn ws
+unfoldable pub rowsHandedIn : List ℕ → List Call
+rowsHandedIn [] = []
+rowsHandedIn (k ∷ []) = noCall ∷ []
+rowsHandedIn (k ∷ (u ∷ [])) = noCall ∷ []
+rowsHandedIn (k ∷ (u ∷ (a ∷ []))) = noCall ∷ []
+rowsHandedIn (k ∷ (u ∷ (a ∷ (b ∷ [])))) = noCall ∷ []
+rowsHandedIn (k ∷ (u ∷ (a ∷ (b ∷ (c ∷ ws))))) = rowCall k u a b c ∷ rowsHandedIn ws
 
 -- the writing of the calls that are handed in: all of them are there
-abbrev pub writingRows : List ℕ → List ℕ → Outcome
-writingRows rows list = writing (handedIn rows) (length (handedIn rows)) list
+abbrev pub writingRows : List ℕ → List ℕ → WriteOutcome
+writingRows rows list = writing (rowsHandedIn rows) (length (rowsHandedIn rows)) list
 
 -- What is promised of whoever writes the calls of rows into the words list and answers in 16 bits each: a number that doesn't
 -- fit there is answered as 65,535, the largest that does.

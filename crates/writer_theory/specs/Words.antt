@@ -45,8 +45,8 @@ unfoldable pub fits : Call → Bool
 fits c = withinBits (fieldsOf c)
 
 -- the words of a call
-unfoldable pub wordsOf : Call → List ℕ
-wordsOf c = fieldWords (fieldsOf c)
+unfoldable pub encodedWords : Call → List ℕ
+encodedWords c = fieldWords (fieldsOf c)
 
 -- every one of some calls can be written
 unfoldable pub allFit : List Call → Bool
@@ -56,4 +56,4 @@ allFit (c ∷ cs) = fits c && allFit cs
 -- the words of a list of calls, one call after the other
 unfoldable pub written : List Call → List ℕ
 written [] = []
-written (c ∷ cs) = wordsOf c ++ written cs
+written (c ∷ cs) = encodedWords c ++ written cs

@@ -25,29 +25,29 @@ unfoldable pub tooLong : ℕ → ℕ → ℕ → Bool
 tooLong count words size = ltb longestList count || ltb longestList words || ltb size words
 
 -- what writing answers and leaves: the code, the number that goes with it, and the lent words
-pub record Outcome : Type 0 where
+pub record WriteOutcome : Type 0 where
   pub code : ℕ
   pub number : ℕ
   pub list : List ℕ
 
 -- a refusal writes no word
-abbrev pub refusal : ℕ → ℕ → List ℕ → Outcome
+abbrev pub refusal : ℕ → ℕ → List ℕ → WriteOutcome
 refusal n i list = record { code = n; number = i; list = list }
 
 -- the words ws of so many calls: in front of the lent words, those past them left, or refused by 31
-unfoldable pub wordsPut : ℕ → List ℕ → List ℕ → Outcome
+unfoldable pub wordsPut : ℕ → List ℕ → List ℕ → WriteOutcome
 wordsPut count ws list =
     cond (tooLong count (length ws) (length list)) (refusal 31 0 list)
     (record { code = 0; number = length ws; list = ws ++ drop (length ws) list })
 
 -- 30 with the number of the first call that can't be written, before 31 is looked at
-abbrev pub afterUnfit : Option ℕ → ℕ → List ℕ → List ℕ → Outcome
+abbrev pub afterUnfit : Option ℕ → ℕ → List ℕ → List ℕ → WriteOutcome
 afterUnfit none count ws list = wordsPut count ws list
 afterUnfit (some i) count ws list = refusal 30 i list
 
 -- The writing of count calls into lent words. The calls cs are those of them that are there: an array may hold fewer than are
 -- counted, and for the others 31 is due, since each call wants a word at least.
-unfoldable pub writing : List Call → ℕ → List ℕ → Outcome
+unfoldable pub writing : List Call → ℕ → List ℕ → WriteOutcome
 writing cs count list = afterUnfit (firstUnfit cs) count (written cs) list
 
 -- What is promised of whoever writes count calls, of which cs are there, into the words list: it answered a code and a number

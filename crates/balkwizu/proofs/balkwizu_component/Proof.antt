@@ -5,7 +5,7 @@ use mathlib.Core.Path.{sym, subst₂, _∙_}
 use native.Mathlib.Omega.{arith}
 use borrow.Author.Needs.{needs}
 use denote.Ref.{now}
-use Rattle.components.specs.Reported.{ComponentTold}
+use Rattle.components.specs.Reported.{ComponentReported}
 use Rattle.components.proofs.Reported.{code-small, members-small}
 use Rattle.balkwizu.proofs.Halves.{low, high}
 use Rattle.balkwizu.proofs.balkwizu_component.Statement.{statement}
@@ -39,7 +39,7 @@ add-result c = omega (arith, bits c, small c)
 returns : tie.Need-returns
 returns c =
     let a = c .before .before .before .before .args in
-    subst₂ (λ (code members : ℕ). ComponentTold (now (a .table)) (a .domain) code members)
+    subst₂ (λ (code members : ℕ). ComponentReported (now (a .table)) (a .domain) code members)
     (sym (c .before .code .ensures) ∙ low (c .before .code .result) (c .members .result) (small c))
     (sym (c .members .ensures) ∙ high (c .before .code .result) (c .members .result) (small c))
     (c .before .before .component-of .ensures)

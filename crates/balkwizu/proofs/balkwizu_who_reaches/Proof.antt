@@ -5,7 +5,7 @@ use mathlib.Core.Path.{sym, subst₂, _∙_}
 use native.Mathlib.Omega.{arith}
 use borrow.Author.Needs.{needs}
 use denote.Ref.{now}
-use Rattle.holders.specs.Asked.{ReachTold}
+use Rattle.holders.specs.Asked.{ReachReported}
 use Rattle.holders.proofs.Reported.{code-small, asked-small}
 use Rattle.balkwizu.proofs.Halves.{low, high}
 use Rattle.balkwizu.proofs.balkwizu_who_reaches.Statement.{statement}
@@ -39,7 +39,7 @@ add-result c = omega (arith, bits c, small c)
 returns : tie.Need-returns
 returns c =
     let a = c .before .before .before .before .args in
-    subst₂ (λ (code domains : ℕ). ReachTold (now (a .holders)) (a .domain) code domains)
+    subst₂ (λ (code domains : ℕ). ReachReported (now (a .holders)) (a .domain) code domains)
     (sym (c .before .code .ensures) ∙ low (c .before .code .result) (c .set .result) (small c))
     (sym (c .set .ensures) ∙ high (c .before .code .result) (c .set .result) (small c))
     (c .before .before .who-reaches .ensures)

@@ -8,7 +8,7 @@ use borrow.Author.Tests.{not-true, not-false}
 use denote.Ref.{now}
 use lib.ListN.{length}
 use Rattle.writer_theory.specs.declared.Fields.{Fields}
-use Rattle.writer_theory.specs.Words.{fits, wordsOf, withinBits, fieldWords}
+use Rattle.writer_theory.specs.Words.{fits, encodedWords, withinBits, fieldWords}
 use Rattle.call_encode.specs.Put.{pasted}
 use Rattle.call_encode.proofs.Putting.{kind-small, put-unfit, put-past, put-there}
 use Rattle.call_encode.proofs.put.Statement.{statement}
@@ -18,7 +18,7 @@ use Rattle.call_encode.proofs.put.Tie as tie
 fit : (c : tie.Else3) → fits (c .before .before .before .before .before .before .args .call) ≡ true
 fit c = sym (c .before .before .before .before .fits2 .ensures) ∙ not-false _ (c .before .before .before .if1 .left)
 
-room : (c : tie.Else3) → (let a = c .before .before .before .before .before .before .args in a .at + length (wordsOf (a .call)) ≤ length (now (a .list)))
+room : (c : tie.Else3) → (let a = c .before .before .before .before .before .before .args in a .at + length (encodedWords (a .call)) ≤ length (now (a .list)))
 room c = omega (arith, c .before .width .ensures)
 
 returns : tie.Need-returns
@@ -35,14 +35,14 @@ returns-3 c =
     sym (put-past (now (a .list)) (a .at) (a .call) (omega (arith, c .if3 .taken, c .before .width .ensures)))
 
 put-fields-requires : tie.Need-put-fields-requires
-unfolding fits wordsOf
+unfolding fits encodedWords
 put-fields-requires c κs =
     let f = c .before .fields-of .ensures in
     let found = c .before .before in
     (ap withinBits f ∙ fit found, (rw f (kind-small _), rw f (room found)))
 
 returns-4 : tie.Need-returns-4
-unfolding wordsOf
+unfolding encodedWords
 returns-4 c =
     let wrote = c .before .before in
     let found = wrote .before .before .before in

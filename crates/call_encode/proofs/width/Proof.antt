@@ -2,15 +2,15 @@
 use mathlib.Core.Path.{_≡_, _∙_, sym, ap}
 use mathlib.Core.Bool.{Bool, cond}
 use lib.ListN.{length}
-use Rattle.writer_theory.specs.Words.{wordsOf, fieldWords}
+use Rattle.writer_theory.specs.Words.{encodedWords, fieldWords}
 use Rattle.writer_theory.specs.declared.Fields.{Fields}
 use Rattle.writer_theory.proofs.FieldWords.{width-of}
 use Rattle.call_encode.proofs.width.Statement.{statement}
 use Rattle.call_encode.proofs.width.Tie as tie
 
 -- by what was found of the kind
-width-is : (c : tie.After-wants-second) (b : Bool) → c .wants-second .result ≡ b → cond b 2 1 ≡ length (wordsOf (c .before .before .args .call))
-unfolding wordsOf
+width-is : (c : tie.After-wants-second) (b : Bool) → c .wants-second .result ≡ b → cond b 2 1 ≡ length (encodedWords (c .before .before .args .call))
+unfolding encodedWords
 width-is c b e =
     ap (λ (x : Bool). cond x 2 1) (sym e ∙ c .wants-second .ensures)
     ∙ sym (width-of (c .before .fields-of .result))

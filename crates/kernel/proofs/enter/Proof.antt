@@ -5,7 +5,7 @@ use lib.ListN.{length}
 use borrow.Author.Needs.{needs}
 use borrow.Author.Tests.{eqb-true, eqb-false, ltb-true, ltb-false, not-true, not-false}
 use Rattle.machine.specs.Check.{tableCode}
-use Rattle.machine.specs.Call.{cut}
+use Rattle.machine.specs.Call.{split}
 use Rattle.machine.proofs.Promise.{code-long, code-table, code-space, code-holders, holders-fit, holders-unfit}
 use Rattle.table_check.specs.Checked.{checkedCode}
 use Rattle.table_check.proofs.Refusals.{refusal-code}
@@ -16,7 +16,7 @@ accepted : (c : tie.After-enum-told) → tableCode (c .before .before .before .b
 accepted c = sym (sym (ap checkedCode (c .enum-told .given .1)) ∙ c .before .before .check .ensures)
 
 -- there is space for every answer
-enough : (c : tie.Else2) → let a = c .before .before .before .before .before .before .before .before .args in 3 * length (cut (a .list .now)) ≤ a .space
+enough : (c : tie.Else2) → let a = c .before .before .before .before .before .before .before .before .args in 3 * length (split (a .list .now)) ≤ a .space
 enough c = ltb-false _ _ (not-true _ (sym (c .before .has-space .ensures) ∙ not-false _ (c .if2 .left)))
 
 returns : tie.Need-returns

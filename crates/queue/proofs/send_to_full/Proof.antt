@@ -5,7 +5,7 @@ use mathlib.Core.List.{List}
 use Prim.Native.Nat.{ℕ}
 use lib.ListN.{length-set}
 use Rattle.machine.specs.Queue.{lost}
-use Rattle.queue.specs.Queue.{HasRoom}
+use Rattle.queue.specs.Queue.{QueueRoom}
 use Rattle.queue.proofs.Laws.{room-made, pushed-out}
 use Rattle.queue.proofs.send_to_full.Statement.{statement}
 use Rattle.queue.proofs.send_to_full.Tie as tie
@@ -14,7 +14,7 @@ send-with-space-requires : tie.Need-send-with-space-requires
 send-with-space-requires c κs =
     let took = c .before .before .before in
     let start = took .before .before .before .before .before in
-    subst (λ (q : List ℕ). HasRoom q (start .args .message)) (sym (took .take-oldest .ensures)) (room-made _ _ (start .pre))
+    subst (λ (q : List ℕ). QueueRoom q (start .args .message)) (sym (took .take-oldest .ensures)) (room-made _ _ (start .pre))
 
 -- neither call alters how many words there are
 slice-write-q : tie.Need-slice-write-q

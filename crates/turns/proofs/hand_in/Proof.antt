@@ -8,7 +8,7 @@ use borrow.Author.Tests.{eqb-true, not-true, not-false}
 use lib.ListN.{length}
 use Rattle.machine.specs.Table.{domains}
 use Rattle.machine.specs.Check.{Accepted}
-use Rattle.machine.specs.Call.{cut}
+use Rattle.machine.specs.Call.{split}
 use Rattle.table_check.specs.Checked.{checkedCode}
 use Rattle.table_check.proofs.Refusals.{refusal-code}
 use Rattle.turns_theory.specs.Turns.{isOneOf}
@@ -47,7 +47,7 @@ returns-3 c =
     (λ z. omega arith) _ refl
 
 -- the words are one call of the domain's
-one : (c : tie.Else2) → (let a = c .before .before .before .before .before .before .before .before .before .before .args in isOneOf (a .domain) (cut (a .words .now)) ≡ true)
+one : (c : tie.Else2) → (let a = c .before .before .before .before .before .before .before .before .before .before .args in isOneOf (a .domain) (split (a .words .now)) ≡ true)
 one c = sym (c .before .is-one-call .ensures) ∙ not-false _ (c .if2 .left)
 
 returns-4 : tie.Need-returns-4

@@ -5,7 +5,7 @@ use mathlib.Core.Path.{_≡_, _∙_}
 use mathlib.Core.Logic.{inl, inr, ⊎-elim}
 use Rattle.machine.specs.Call.{kindOf}
 use Rattle.calls.specs.Decode.{ofKind}
-use Rattle.calls.proofs.Decode.{of-kind, unknown-kind, eight-left}
+use Rattle.calls.proofs.DecodeLaws.{of-kind, unknown-kind, eight-left}
 use Rattle.calls.proofs.decode.decode.Statement.{statement}
 use Rattle.calls.proofs.decode.decode.Tie as tie
 

@@ -3,7 +3,7 @@
 use mathlib.Core.Path.{refl}
 use Rattle.machine.specs.Call.{unusedFields, Kind.grant}
 use Rattle.calls.specs.Decode.{needsSecond, ofKind}
-use Rattle.calls.proofs.Decode.{fine}
+use Rattle.calls.proofs.DecodeLaws.{fine}
 use Rattle.calls.proofs.decode.grant.Statement.{statement}
 use Rattle.calls.proofs.decode.grant.Tie as tie
 

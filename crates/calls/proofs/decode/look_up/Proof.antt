@@ -4,7 +4,7 @@ use mathlib.Core.Path.{refl}
 use borrow.Author.Needs.{needs}
 use Rattle.machine.specs.Call.{unusedFields, hasSecond, secondPayload, Kind.lookUp}
 use Rattle.calls.specs.Decode.{needsSecond, ofKind}
-use Rattle.calls.proofs.Decode.{no-field, unused, no-second, fine}
+use Rattle.calls.proofs.DecodeLaws.{no-field, unused, no-second, fine}
 use Rattle.calls.proofs.decode.look_up.Statement.{statement}
 use Rattle.calls.proofs.decode.look_up.Tie as tie
 

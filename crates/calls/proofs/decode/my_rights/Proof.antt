@@ -3,7 +3,7 @@
 use mathlib.Core.Path.{refl}
 use Rattle.machine.specs.Call.{unusedFields, Kind.myRights}
 use Rattle.calls.specs.Decode.{needsSecond, ofKind}
-use Rattle.calls.proofs.Decode.{no-field, unused, fine}
+use Rattle.calls.proofs.DecodeLaws.{no-field, unused, fine}
 use Rattle.calls.proofs.decode.my_rights.Statement.{statement}
 use Rattle.calls.proofs.decode.my_rights.Tie as tie
 

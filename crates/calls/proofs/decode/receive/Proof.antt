@@ -5,7 +5,7 @@ use native.Mathlib.Omega.{arith}
 use borrow.Author.Needs.{needs}
 use Rattle.machine.specs.Call.{unusedFields, Kind.receive}
 use Rattle.calls.specs.Decode.{needsSecond, ofKind}
-use Rattle.calls.proofs.Decode.{unused, fine}
+use Rattle.calls.proofs.DecodeLaws.{unused, fine}
 use Rattle.calls.proofs.decode.receive.Statement.{statement}
 use Rattle.calls.proofs.decode.receive.Tie as tie
 

@@ -4,7 +4,7 @@ use mathlib.Core.Path.{refl}
 use native.Mathlib.Omega.{arith}
 use Rattle.machine.specs.Call.{unusedFields, Kind.remove}
 use Rattle.calls.specs.Decode.{needsSecond, ofKind}
-use Rattle.calls.proofs.Decode.{unused, fine}
+use Rattle.calls.proofs.DecodeLaws.{unused, fine}
 use Rattle.calls.proofs.decode.remove.Statement.{statement}
 use Rattle.calls.proofs.decode.remove.Tie as tie
 

@@ -3,7 +3,7 @@
 use mathlib.Core.Path.{refl}
 use Rattle.machine.specs.Call.{unusedFields, Kind.revoke}
 use Rattle.calls.specs.Decode.{needsSecond, ofKind}
-use Rattle.calls.proofs.Decode.{fine}
+use Rattle.calls.proofs.DecodeLaws.{fine}
 use Rattle.calls.proofs.decode.revoke.Statement.{statement}
 use Rattle.calls.proofs.decode.revoke.Tie as tie
 

@@ -5,7 +5,7 @@ use native.Mathlib.Omega.{arith}
 use borrow.Author.Needs.{needs}
 use Rattle.machine.specs.Call.{unusedFields, hasSecond, secondPayload, Kind.send}
 use Rattle.calls.specs.Decode.{needsSecond, ofKind}
-use Rattle.calls.proofs.Decode.{unused, no-second, fine}
+use Rattle.calls.proofs.DecodeLaws.{unused, no-second, fine}
 use Rattle.calls.proofs.decode.send.Statement.{statement}
 use Rattle.calls.proofs.decode.send.Tie as tie
 

@@ -3,7 +3,7 @@ use mathlib.Core.Path.{refl}
 use Prim.Native.Nat.{_-_}
 use borrow.Author.Needs.{needs}
 use Rattle.machine.specs.Below.{bitsBelow}
-use Rattle.reachability.specs.Chain.{wordsOf}
+use Rattle.reachability.specs.Chain.{linkWords}
 use Rattle.isolation_theory.specs.Component.{joined}
 use Rattle.components.proofs.Words.{Filled, fill-start, fill-next, fill-end}
 use Rattle.components.proofs.connections.joined_words.Statement.{statement}
@@ -42,7 +42,7 @@ loop-again c =
     fill-next _ _ _ _ (c .before .before .loop .inv) _ (c .before .loop-test .taken) (start .pre .1) (c .joined-word .ensures)
 
 returns : tie.Need-returns Inv-loop μ-loop
-unfolding wordsOf
+unfolding linkWords
 returns c = fill-end _ _ _ _ (c .before .loop .inv) (c .loop-test .left)
 
 pub joined-words-spec : {M : Type 1} → statement M

@@ -7,8 +7,8 @@ use lib.Dec.{ltb}
 use lib.ListN.{length}
 use borrow.Author.Needs.{needs}
 use borrow.Author.Tests.{le-ltb}
-use Rattle.machine.specs.Call.{cut}
-use Rattle.machine.proofs.Split.{cut-few}
+use Rattle.machine.specs.Call.{split}
+use Rattle.machine.proofs.Split.{split-few}
 use Rattle.kernel.proofs.Entries.{at-most}
 use Rattle.kernel.proofs.lent_lengths.has_space.Statement.{statement}
 use Rattle.kernel.proofs.lent_lengths.has_space.Tie as tie
@@ -19,13 +19,13 @@ mul-if1 c = search needs
 returns : tie.Need-returns
 returns c =
     let a = c .before .before .args in
-    sym (ap not (le-ltb (a .size) (3 * length (cut (a .list .now))) (omega (arith, cut-few (a .list .now), c .if1 .taken))))
+    sym (ap not (le-ltb (a .size) (3 * length (split (a .list .now))) (omega (arith, split-few (a .list .now), c .if1 .taken))))
 
 count-requires : tie.Need-count-requires
 count-requires c κs = tt
 
 mul-result : tie.Need-mul-result
-mul-result c = omega (arith, c .count .ensures, cut-few (c .before .before .before .args .list .now), c .before .before .before .pre)
+mul-result c = omega (arith, c .count .ensures, split-few (c .before .before .before .args .list .now), c .before .before .before .pre)
 
 returns-2 : tie.Need-returns-2
 returns-2 c =

@@ -4,7 +4,7 @@ use Prim.Native.Nat.{_+_, _*_, _-_, _≤_}
 use native.Mathlib.Omega.{arith}
 use lib.ListN.{length}
 use borrow.Author.Needs.{needs}
-use Rattle.machine.proofs.Split.{cut-few}
+use Rattle.machine.proofs.Split.{split-few}
 use Rattle.holders.proofs.Filled.{filled-accepted}
 use Rattle.calls.proofs.SplitAt.{wide}
 use Rattle.answers.proofs.Space.{lent-back}
@@ -28,7 +28,7 @@ next-room c = room (c .before .loop .inv .underway) (c .loop-test .taken) (c .be
 few : (c : tie.In-loop Inv-loop μ-loop) → c .before .loop .calls ≤ 4096
 few c =
     let start = c .before .before .before .before .before .before .before .before .before .before .before .before .before .before .before in
-    omega (arith, c .before .loop .inv .underway .running .count, cut-few (start .args .list .now), start .pre .1 .0)
+    omega (arith, c .before .loop .inv .underway .running .count, split-few (start .args .list .now), start .pre .1 .0)
 
 -- one call more
 next : tie.Need-loop-again Inv-loop μ-loop

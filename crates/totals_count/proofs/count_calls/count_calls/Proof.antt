@@ -45,7 +45,7 @@ next-place c =
     let second = c .before .second-at in
     let list = c .before .before .before .before .before .before .before .before .before .before .args .list .now in
     let i = c .before .before .before .before .before .before .before .loop .i in
-    let cut = cutting.cut-at list i (c .before .before .before .before .before .before .loop-test .taken) in
+    let cut = cutting.split-at list i (c .before .before .before .before .before .before .loop-test .taken) in
     let wide : c .width .result ≡ widthOf (secondAt list i) = c .width .ensures ∙ ap widthOf (second .ensures) in
     (omega (arith, cut .within, wide), omega (arith, wide, cutting.wide (secondAt list i)))
 

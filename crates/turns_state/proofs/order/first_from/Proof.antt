@@ -8,7 +8,7 @@ use native.Mathlib.Numerals.{add-one}
 use native.Mathlib.Omega.{arith}
 use lib.Dec.{leb}
 use Rattle.machine.specs.Below.{firstBelow}
-use Rattle.turns_theory.specs.Turns.{waits, firstFrom}
+use Rattle.turns_theory.specs.Turns.{waits, firstPendingFrom}
 use Rattle.turns_theory.proofs.Pending.{first-not, first-found}
 use Rattle.turns_state.specs.State.{turnsIn, orNone}
 use Rattle.turns_state.proofs.order.first_from.Statement.{statement}
@@ -33,7 +33,7 @@ waits-from-requires c κs =
     (start .pre, c .loop-test .taken)
 
 returns : tie.Need-returns Inv-loop μ-loop
-unfolding orNone firstFrom
+unfolding orNone firstPendingFrom
 returns c =
     let at = c .before .before .before in
     let a = at .before .before .args in
@@ -51,7 +51,7 @@ loop-again c =
     )
 
 returns-2 : tie.Need-returns-2 Inv-loop μ-loop
-unfolding orNone firstFrom
+unfolding orNone firstPendingFrom
 returns-2 c =
     let at = c .before in
     let a = at .before .before .args in

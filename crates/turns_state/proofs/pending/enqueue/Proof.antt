@@ -1,4 +1,4 @@
--- `enqueue` meets its contract: words that pass the test are what `put_behind` asks for. Assumes nothing.
+-- `enqueue` meets its contract: words that pass the test are what `put_last` asks for. Assumes nothing.
 use mathlib.Core.Path.{_≡_, sym, _∙_}
 use mathlib.Core.Bool.{true, false}
 use borrow.Author.Needs.{needs}
@@ -26,7 +26,7 @@ returns-2 : tie.Need-returns-2
 returns-2 c =
     let call = c .before .before in
     let h = passed (call .before .before) in
-    (sym h, call .put-behind .ensures ∙ enqueued-there _ _ h)
+    (sym h, call .put-last .ensures ∙ enqueued-there _ _ h)
 
 pub enqueue-spec : {M : Type 1} → statement M
 enqueue-spec =

@@ -5,18 +5,18 @@ use Prim.Native.Nat.{ℕ, _+_, _*_, _-_, _≤_}
 use native.Mathlib.Omega.{arith}
 use lib.ListN.{length}
 use borrow.Author.Needs.{needs}
-use Rattle.machine.proofs.Split.{cut-few}
+use Rattle.machine.proofs.Split.{split-few}
 use Rattle.calls.proofs.SplitAt.{wide}
 use Rattle.answers.proofs.Space.{lent-back}
 use Rattle.kernel.proofs.RunInvariant.{room}
-use Rattle.working.specs.Run.{StandsFor}
+use Rattle.working.specs.Run.{RepresentsTable}
 use Rattle.working.proofs.RunInvariant.{OnItsWay, way-start, way-next, way-end}
 use Rattle.working.proofs.run_list.run_list.Statement.{statement}
 use Rattle.working.proofs.run_list.run_list.Tie as tie
 
 abbrev Inv-loop : tie.InvT-loop
 Inv-loop n m rows₀ rings₀ names hints owned list answers₀ holders₀ calls₀ i₀ rows rings answers holders calls i =
-    (t : List ℕ) → StandsFor n m rows₀ rings₀ names owned holders₀ t → OnItsWay n m names owned t list answers₀ holders₀ rows rings answers holders calls i
+    (t : List ℕ) → RepresentsTable n m rows₀ rings₀ names owned holders₀ t → OnItsWay n m names owned t list answers₀ holders₀ rows rings answers holders calls i
 
 abbrev μ-loop : tie.MeasureT-loop
 μ-loop n m rows₀ rings₀ names hints owned list answers₀ holders₀ calls₀ i₀ rows rings answers holders calls i = length list - i
@@ -31,7 +31,7 @@ next-room c =
 few : (c : tie.In-loop Inv-loop μ-loop) → c .before .loop .calls ≤ 4096
 few c =
     let start = c .before .before .before .before .before .before in
-    omega (arith, c .before .loop .inv _ (start .pre .0 .stands) .underway .running .count, cut-few (start .args .list .now), start .pre .1 .0)
+    omega (arith, c .before .loop .inv _ (start .pre .0 .stands) .underway .running .count, split-few (start .args .list .now), start .pre .1 .0)
 
 -- one call more
 next : tie.Need-loop-again Inv-loop μ-loop

@@ -6,7 +6,7 @@ use borrow.Author.Tests.{not-true, not-false}
 use denote.Ref.{now}
 use lib.ListN.{length}
 use Rattle.calls.specs.declared.Call.{Call}
-use Rattle.writer_theory.specs.Words.{fits, wordsOf}
+use Rattle.writer_theory.specs.Words.{fits, encodedWords}
 use Rattle.writer_theory.specs.Rows.{callAt}
 use Rattle.writer.proofs.Rounds.{Measures, measures-start, measures-unfit, measures-next, measures-all}
 use Rattle.writer.proofs.rows.measure.Statement.{statement}
@@ -29,7 +29,7 @@ next c =
     let asked = c .before .before in
     let here = asked .before .before in
     measures-next (here .before .loop .inv) (here .loop-test .taken) _
-    (c .width .ensures ∙ ap (λ (x : Call). length (wordsOf x)) (asked .before .call-at .ensures))
+    (c .width .ensures ∙ ap (λ (x : Call). length (encodedWords x)) (asked .before .call-at .ensures))
     (fits-is asked ∙ not-false _ (c .before .if1 .left))
 
 returns : tie.Need-returns Inv-loop μ-loop

@@ -4,7 +4,7 @@ use mathlib.Core.Path.{ap, _∙_}
 use native.Mathlib.Omega.{arith}
 use lib.ListN.{length}
 use Rattle.calls.specs.declared.Call.{Call}
-use Rattle.writer_theory.specs.Words.{wordsOf}
+use Rattle.writer_theory.specs.Words.{encodedWords}
 use Rattle.call_encode.specs.Put.{putAt}
 use Rattle.writer.proofs.Passes.{place-within}
 use Rattle.writer.proofs.Rounds.{Puts, puts-start, puts-next, puts-done}
@@ -25,7 +25,7 @@ next c =
     let here = found .before in
     let call = found .call-at .ensures in
     puts-next (here .before .loop .inv) (here .before .before .before .before .pre .1) (here .loop-test .taken) _ _
-    (c .width .ensures ∙ ap (λ (x : Call). length (wordsOf x)) call)
+    (c .width .ensures ∙ ap (λ (x : Call). length (encodedWords x)) call)
     (put .put .ensures ∙ ap (putAt _ _) call)
     (put .put .kept .0)
 

@@ -7,24 +7,24 @@ use Rattle.writer.specs.declared.Measured.the-variants.{Words}
 use Rattle.writer_theory.specs.Write.{tooLong}
 use Rattle.writer.specs.FirstPass.{measured}
 use Rattle.writer.proofs.Outcomes.{unfit, all-fit, words-counted, too-long, room, done}
-use Rattle.writer_theory.specs.Rows.{handedIn}
+use Rattle.writer_theory.specs.Rows.{rowsHandedIn}
 use Rattle.writer.proofs.Rounds.{count-left-out}
 use Rattle.writer.proofs.rows.write_rows.Statement.{statement}
 use Rattle.writer.proofs.rows.write_rows.Tie as tie
 
 -- the words that were counted, where no call was found unfit
-counted : (c : tie.After-measured2) → Words (c .measured2 .given .0 .0) ≡ measured (handedIn (now (c .before .before .before .before .before .args .rows)))
+counted : (c : tie.After-measured2) → Words (c .measured2 .given .0 .0) ≡ measured (rowsHandedIn (now (c .before .before .before .before .before .args .rows)))
 counted c = sym (c .measured2 .given .1) ∙ c .before .before .measure .ensures
 
 -- whether they are too long
 told : (c : tie.After-too-long)
     → (let a = c .before .before .before .before .before .before .before .args in
-    tooLong (length (handedIn (now (a .rows)))) (c .before .before .measured2 .given .0 .0) (length (now (a .list))) ≡ c .too-long .result)
+    tooLong (length (rowsHandedIn (now (a .rows)))) (c .before .before .measured2 .given .0 .0) (length (now (a .list))) ≡ c .too-long .result)
 told c =
     let found = c .before .before in
     let a = found .before .before .before .before .before .args in
-    let words = words-counted (handedIn (now (a .rows))) (length (handedIn (now (a .rows)))) (now (a .list)) _ (counted found) in
-    sym (count-left-out (handedIn (now (a .rows))) _ _ words) ∙ sym (c .too-long .ensures)
+    let words = words-counted (rowsHandedIn (now (a .rows))) (length (rowsHandedIn (now (a .rows)))) (now (a .list)) _ (counted found) in
+    sym (count-left-out (rowsHandedIn (now (a .rows))) _ _ words) ∙ sym (c .too-long .ensures)
 
 returns : tie.Need-returns
 returns c = too-long _ _ _ _ (counted (c .before .before .before)) (told (c .before) ∙ c .if1 .taken)
@@ -33,7 +33,7 @@ put-all-requires : tie.Need-put-all-requires
 put-all-requires c κs =
     let found = c .before .before .before .before in
     let a = found .before .before .before .before .before .args in
-    let cs = handedIn (now (a .rows)) in
+    let cs = rowsHandedIn (now (a .rows)) in
     (all-fit cs (length cs) (now (a .list)) _ (counted found), room cs (length cs) (now (a .list)) _ (counted found) (told (c .before .before) ∙ c .before .if1 .left))
 
 returns-2 : tie.Need-returns-2

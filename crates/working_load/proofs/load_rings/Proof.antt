@@ -1,4 +1,4 @@
--- `rings_in` meets its contract: the rings are taken in one after the other. Assumes nothing.
+-- `load_rings` meets its contract: the rings are taken in one after the other. Assumes nothing.
 use mathlib.Core.Path.{sym, _∙_}
 use Prim.Native.Nat.{_+_, _-_, _*_, _%_, _≤_}
 use native.Mathlib.Omega.{arith}
@@ -7,8 +7,8 @@ use lib.ListN.{length}
 use Rattle.working_load.proofs.Places.{HasQueues, has-queues, words-within}
 use Rattle.working_load.proofs.LoadLoop.{Taking, taking-start, taken-next, taking-end, taken-none, taken-all}
 use borrow.Author.Needs.{needs}
-use Rattle.working_load.proofs.rings_in.Statement.{statement}
-use Rattle.working_load.proofs.rings_in.Tie as tie
+use Rattle.working_load.proofs.load_rings.Statement.{statement}
+use Rattle.working_load.proofs.load_rings.Tie as tie
 
 abbrev Inv-loop : tie.InvT-loop
 Inv-loop table n m rings₀ e₀ rings e = Taking (n % 256) m table rings e × HasQueues (n % 256) m (length table) (length rings₀) × (e ≤ m)
@@ -57,32 +57,32 @@ mul-from c = omega (arith, small c)
 add-to : tie.Need-add-to Inv-loop μ-loop
 add-to c = omega (arith, small c)
 
-mul-take-in : tie.Need-mul-take-in Inv-loop μ-loop
-mul-take-in c = omega (arith, end-within c)
+mul-load : tie.Need-mul-load Inv-loop μ-loop
+mul-load c = omega (arith, end-within c)
 
-sub-take-in : tie.Need-sub-take-in Inv-loop μ-loop
-sub-take-in c = omega arith
+sub-load : tie.Need-sub-load Inv-loop μ-loop
+sub-load c = omega arith
 
-part-take-in-start : tie.Need-part-take-in-start Inv-loop μ-loop
-part-take-in-start c = omega arith
+part-load-start : tie.Need-part-load-start Inv-loop μ-loop
+part-load-start c = omega arith
 
-part-take-in-end : tie.Need-part-take-in-end Inv-loop μ-loop
-part-take-in-end c = end-within c
+part-load-end : tie.Need-part-load-end Inv-loop μ-loop
+part-load-end c = end-within c
 
-mul-take-in-2 : tie.Need-mul-take-in-2 Inv-loop μ-loop
-mul-take-in-2 c = omega (arith, small (c .before))
+mul-load-2 : tie.Need-mul-load-2 Inv-loop μ-loop
+mul-load-2 c = omega (arith, small (c .before))
 
-sub-take-in-2 : tie.Need-sub-take-in-2 Inv-loop μ-loop
-sub-take-in-2 c = omega arith
+sub-load-2 : tie.Need-sub-load-2 Inv-loop μ-loop
+sub-load-2 c = omega arith
 
-part-take-in-start-2 : tie.Need-part-take-in-start-2 Inv-loop μ-loop
-part-take-in-start-2 c = omega arith
+part-load-start-2 : tie.Need-part-load-start-2 Inv-loop μ-loop
+part-load-start-2 c = omega arith
 
-part-take-in-end-2 : tie.Need-part-take-in-end-2 Inv-loop μ-loop
-part-take-in-end-2 c = to-within (c .before)
+part-load-end-2 : tie.Need-part-load-end-2 Inv-loop μ-loop
+part-load-end-2 c = to-within (c .before)
 
-take-in-requires : tie.Need-take-in-requires Inv-loop μ-loop
-take-in-requires c κs = search needs
+load-requires : tie.Need-load-requires Inv-loop μ-loop
+load-requires c κs = search needs
 
 add-e : tie.Need-add-e Inv-loop μ-loop
 add-e c = omega arith
@@ -95,7 +95,7 @@ loop-again c =
     let call = c .before .before in
     let at = call .before .before .before in
     let inv = at .before .before .loop .inv in
-    (taken-next _ _ _ _ _ (inv .0) (at .before .loop-test .taken) (still at) _ (at .endpoint-at .ensures) _ (call .take-in .ensures), inv .1, omega arith)
+    (taken-next _ _ _ _ _ (inv .0) (at .before .loop-test .taken) (still at) _ (at .endpoint-at .ensures) _ (call .load .ensures), inv .1, omega arith)
 
 same-length : tie.Need-same-length Inv-loop μ-loop
 same-length c = c .before .loop .inv .0 .size ∙ sym (c .before .loop .inv .1 .twelve)
@@ -105,8 +105,8 @@ returns-2 c =
     let inv = c .before .loop .inv in
     taken-all _ _ (c .before .before .before .before .before .before .args .table .now) (c .before .before .before .before .before .before .args .rings .now) _ (sym (c .before .before .before .has-queues .ensures) ∙ not-false _ (c .before .before .if1 .left)) (taking-end _ _ _ _ _ (inv .0) (omega arith))
 
-pub rings-in-spec : {M : Type 1} → statement M
-rings-in-spec =
+pub load-rings-spec : {M : Type 1} → statement M
+load-rings-spec =
     tie.close
     (tie.spec
     Inv-loop
@@ -119,15 +119,15 @@ rings-in-spec =
     cast-from
     mul-from
     add-to
-    mul-take-in
-    sub-take-in
-    part-take-in-start
-    part-take-in-end
-    mul-take-in-2
-    sub-take-in-2
-    part-take-in-start-2
-    part-take-in-end-2
-    take-in-requires
+    mul-load
+    sub-load
+    part-load-start
+    part-load-end
+    mul-load-2
+    sub-load-2
+    part-load-start-2
+    part-load-end-2
+    load-requires
     add-e
     loop-less
     loop-again

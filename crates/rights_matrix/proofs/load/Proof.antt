@@ -1,4 +1,4 @@
--- `take_in` meets its contract: the rows are filled one after the other. Assumes nothing.
+-- `load` meets its contract: the rows are filled one after the other. Assumes nothing.
 use mathlib.Core.List.{[]}
 use mathlib.Core.Path.{sym, ap, _∙_}
 use Prim.Native.Nat.{_+_, _-_, _<_, _≤_}
@@ -10,8 +10,8 @@ use Rattle.rights_matrix_theory.specs.Rows.{rowOf}
 use Rattle.rights_matrix.proofs.Filling.{Filling, filling-start, filling-next}
 use Rattle.rights_matrix.proofs.LoadLoop.{HasRights, has-rights, row-within, row-part, row-short, rowAt, rows-filled, taken-none, taken-all}
 use borrow.Author.Needs.{needs}
-use Rattle.rights_matrix.proofs.take_in.Statement.{statement}
-use Rattle.rights_matrix.proofs.take_in.Tie as tie
+use Rattle.rights_matrix.proofs.load.Statement.{statement}
+use Rattle.rights_matrix.proofs.load.Tie as tie
 
 abbrev Inv-loop : tie.InvT-loop
 Inv-loop table n rows₀ h₀ rows h = Filling [] (rowAt n table) rows₀ rows h × HasRights n (length table) × (h ≤ n)
@@ -26,7 +26,7 @@ row-there c = row-within _ _ _ (c .before .before .loop .inv .1) (c .before .loo
 end-within : (c : tie.After-rights-at Inv-loop μ-loop) → c .rights-at .result + c .before .before .before .before .before .before .args .n ≤ length (c .before .before .before .before .before .before .args .table .now)
 end-within c = omega (arith, c .rights-at .ensures, row-there c)
 
-small : (c : tie.After-row-in Inv-loop μ-loop) → c .before .before .before .before .loop .h < 16
+small : (c : tie.After-load-row Inv-loop μ-loop) → c .before .before .before .before .loop .h < 16
 small c = omega (arith, c .before .before .before .before .loop .inv .1 .few, c .before .before .before .loop-test .taken)
 
 has-rights-requires : tie.Need-has-rights-requires Inv-loop μ-loop
@@ -47,20 +47,20 @@ add-end c = omega (arith, end-within c)
 cast-at : tie.Need-cast-at Inv-loop μ-loop
 cast-at c = omega arith
 
-mul-row-in : tie.Need-mul-row-in Inv-loop μ-loop
-mul-row-in c = omega (arith, end-within c)
+mul-load-row : tie.Need-mul-load-row Inv-loop μ-loop
+mul-load-row c = omega (arith, end-within c)
 
-sub-row-in : tie.Need-sub-row-in Inv-loop μ-loop
-sub-row-in c = omega arith
+sub-load-row : tie.Need-sub-load-row Inv-loop μ-loop
+sub-load-row c = omega arith
 
-part-row-in-start : tie.Need-part-row-in-start Inv-loop μ-loop
-part-row-in-start c = omega arith
+part-load-row-start : tie.Need-part-load-row-start Inv-loop μ-loop
+part-load-row-start c = omega arith
 
-part-row-in-end : tie.Need-part-row-in-end Inv-loop μ-loop
-part-row-in-end c = end-within c
+part-load-row-end : tie.Need-part-load-row-end Inv-loop μ-loop
+part-load-row-end c = end-within c
 
-row-in-requires : tie.Need-row-in-requires Inv-loop μ-loop
-row-in-requires c κs = row-short _ _ (c .before .rights-at .result) (c .before .before .before .loop .inv .1 .few)
+load-row-requires : tie.Need-load-row-requires Inv-loop μ-loop
+load-row-requires c κs = row-short _ _ (c .before .rights-at .result) (c .before .before .before .loop .inv .1 .few)
 
 mul-rows : tie.Need-mul-rows Inv-loop μ-loop
 mul-rows c = omega (arith, small c)
@@ -78,15 +78,15 @@ loop-again : tie.Need-loop-again Inv-loop μ-loop
 loop-again c =
     let at = c .before .before in
     let inv = at .before .before .loop .inv in
-    (filling-next [] _ _ _ _ _ (inv .0) (small c) (c .row-in .ensures ∙ ap rowOf (row-part _ _ _ _ (at .rights-at .ensures))), inv .1, omega arith)
+    (filling-next [] _ _ _ _ _ (inv .0) (small c) (c .load-row .ensures ∙ ap rowOf (row-part _ _ _ _ (at .rights-at .ensures))), inv .1, omega arith)
 
 returns-2 : tie.Need-returns-2 Inv-loop μ-loop
 returns-2 c =
     let inv = c .before .loop .inv in
     taken-all _ (c .before .before .before .before .before .args .table .now) _ (sym (c .before .before .before .has-rights .ensures) ∙ not-false _ (c .before .before .if1 .left)) (rows-filled _ _ _ _ (inv .1 .few) (inv .0) (omega arith))
 
-pub take-in-spec : {M : Type 1} → statement M
-take-in-spec =
+pub load-spec : {M : Type 1} → statement M
+load-spec =
     tie.close
     (tie.spec
     Inv-loop
@@ -97,11 +97,11 @@ take-in-spec =
     rights-at-requires
     add-end
     cast-at
-    mul-row-in
-    sub-row-in
-    part-row-in-start
-    part-row-in-end
-    row-in-requires
+    mul-load-row
+    sub-load-row
+    part-load-row-start
+    part-load-row-end
+    load-row-requires
     mul-rows
     array-set-from-rows
     add-h

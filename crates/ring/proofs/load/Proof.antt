@@ -1,4 +1,4 @@
--- `take_in` meets its contract: the first four words, then the places one after the other. Assumes nothing.
+-- `load` meets its contract: the first four words, then the places one after the other. Assumes nothing.
 use mathlib.Core.Path.{refl, sym, _∙_}
 use Prim.Native.Nat.{_+_, _-_}
 use native.Mathlib.Omega.{arith}
@@ -9,8 +9,8 @@ use Rattle.machine.specs.Queue.{waiting, lost}
 use Rattle.ring_theory.specs.Ring.{ringOf}
 use Rattle.ring.proofs.Words.{not-twelve, of-twelve}
 use Rattle.ring_theory.proofs.Filled.{Filled, fill-start, fill-next, behind-four}
-use Rattle.ring.proofs.take_in.Statement.{statement}
-use Rattle.ring.proofs.take_in.Tie as tie
+use Rattle.ring.proofs.load.Statement.{statement}
+use Rattle.ring.proofs.load.Tie as tie
 
 abbrev Inv-loop : tie.InvT-loop
 Inv-loop q ring₀ i₀ ring i = Filled (λ j. payload (getD q (4 + j) 0)) (take 4 ring₀) ring i
@@ -87,8 +87,8 @@ returns-3 c =
     of-twelve _ _ _ (c .before .before .before .before .before .before .if1 .left)
     (of-twelve _ _ _ long (behind-four _ (a .ring .now) _ _ long (c .loop-test .left) _ _ _ _ (c .before .loop .inv)))
 
-pub take-in-spec : {M : Type 1} → statement M
-take-in-spec =
+pub load-spec : {M : Type 1} → statement M
+load-spec =
     tie.close
     (tie.spec
     Inv-loop

@@ -1,4 +1,4 @@
--- `names_in` meets its contract: the names are filled in one after the other. Assumes nothing.
+-- `load_names` meets its contract: the names are filled in one after the other. Assumes nothing.
 use mathlib.Core.Path.{ap, _∙_}
 use Prim.Native.Nat.{ℕ, _-_, _%_, _≤_}
 use native.Mathlib.Nat.{add-zero}
@@ -9,8 +9,8 @@ use Rattle.machine.specs.Table.{endpointAt}
 use Rattle.rights_matrix.proofs.Filling.{Filling, filling-start, filling-next}
 use Rattle.working_load.proofs.Gathering.{names-filled}
 use borrow.Author.Needs.{needs}
-use Rattle.working_load.proofs.names_in.Statement.{statement}
-use Rattle.working_load.proofs.names_in.Tie as tie
+use Rattle.working_load.proofs.load_names.Statement.{statement}
+use Rattle.working_load.proofs.load_names.Tie as tie
 
 abbrev Inv-loop : tie.InvT-loop
 Inv-loop table n m names₀ few e₀ names e =
@@ -58,8 +58,8 @@ returns c =
     let at = c .before in
     names-filled _ _ _ _ _ (at .loop .inv .0) (omega (arith, at .loop .inv .1, c .loop-test .left, c .before .before .at-most .ensures))
 
-pub names-in-spec : {M : Type 1} → statement M
-names-in-spec =
+pub load-names-spec : {M : Type 1} → statement M
+load-names-spec =
     tie.close
     (tie.spec
     Inv-loop

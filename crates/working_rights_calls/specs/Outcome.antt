@@ -7,7 +7,7 @@ use Rattle.holders.specs.Noted.{holdersAfter}
 use Rattle.working_theory.specs.State.{answerFrom, effectFrom, rowsAfter}
 
 -- a call on which the decision d fell is answered by these words, and leaves the rows rows′ and the holders holders′
-pub record RightsServed (d : Decision) (w : ℕ) (rows : List (List ℕ)) (holders words : List ℕ) (rows′ : List (List ℕ)) (holders′ : List ℕ) : Type 0 where
+pub record RightsOutcome (d : Decision) (w : ℕ) (rows : List (List ℕ)) (holders words : List ℕ) (rows′ : List (List ℕ)) (holders′ : List ℕ) : Type 0 where
   pub answer : words ≡ answerFrom w rows [] [] d
   pub left : rows′ ≡ rowsAfter rows (effectFrom rows [] d)
   pub noted : holders′ ≡ holdersAfter holders (effectFrom rows [] d)

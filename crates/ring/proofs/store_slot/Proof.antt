@@ -1,8 +1,8 @@
--- `slot_out` meets its contract. Assumes nothing.
+-- `store_slot` meets its contract. Assumes nothing.
 use borrow.Author.Needs.{needs}
 use Rattle.ring.proofs.Words.{slot-filled, slot-empty}
-use Rattle.ring.proofs.slot_out.Statement.{statement}
-use Rattle.ring.proofs.slot_out.Tie as tie
+use Rattle.ring.proofs.store_slot.Statement.{statement}
+use Rattle.ring.proofs.store_slot.Tie as tie
 
 place-from-requires : tie.Need-place-from-requires
 place-from-requires c κs = search needs
@@ -24,7 +24,7 @@ returns c =
 returns-2 : tie.Need-returns-2
 returns-2 c = slot-empty _ _ _ (c .before .before .pre .1 .1) (c .if1 .left)
 
-pub slot-out-spec : {M : Type 1} → statement M
-slot-out-spec =
+pub store-slot-spec : {M : Type 1} → statement M
+store-slot-spec =
     tie.close
     (tie.spec place-from-requires mul-result shared-slice-read-result add-result returns returns-2)

@@ -1,18 +1,18 @@
--- `put_out` meets its contract: the two counts, then the slots one after the other. Assumes nothing.
+-- `store` meets its contract: the two counts, then the slots one after the other. Assumes nothing.
 use mathlib.Core.Path.{_≡_, refl, sym, _∙_}
 use Prim.Native.Nat.{_-_}
 use native.Mathlib.Omega.{arith}
 use lib.ListN.{take, length-set}
 use borrow.Author.Needs.{needs}
-use Rattle.ring_theory.specs.Ring.{firstPlace, count, lostCount, slotOut, putOutQueue}
+use Rattle.ring_theory.specs.Ring.{firstPlace, count, lostCount, storedSlot, storedQueue}
 use Rattle.ring.proofs.Words.{not-twelve, of-twelve}
 use Rattle.ring_theory.proofs.Filled.{Filled, fill-start, fill-next, behind-two}
-use Rattle.ring.proofs.put_out.Statement.{statement}
-use Rattle.ring.proofs.put_out.Tie as tie
+use Rattle.ring.proofs.store.Statement.{statement}
+use Rattle.ring.proofs.store.Tie as tie
 
 abbrev Inv-loop : tie.InvT-loop
 Inv-loop ring q₀ first waits i₀ q i =
-    Filled (slotOut ring) (take 4 q₀) q i × (first ≡ firstPlace ring) × (waits ≡ count ring)
+    Filled (storedSlot ring) (take 4 q₀) q i × (first ≡ firstPlace ring) × (waits ≡ count ring)
 
 abbrev μ-loop : tie.MeasureT-loop
 μ-loop ring q₀ first waits i₀ q i = 8 - i
@@ -54,8 +54,8 @@ cast-slot c = search needs
 add-slot : tie.Need-add-slot Inv-loop μ-loop
 add-slot c = search needs
 
-slot-out-requires : tie.Need-slot-out-requires Inv-loop μ-loop
-slot-out-requires c κs = (c .before .before .before .before .before .before .if1 .left, (c .before .loop .inv .1, c .before .loop .inv .2))
+store-slot-requires : tie.Need-store-slot-requires Inv-loop μ-loop
+store-slot-requires c κs = (c .before .before .before .before .before .before .if1 .left, (c .before .loop .inv .1, c .before .loop .inv .2))
 
 mul-q : tie.Need-mul-q Inv-loop μ-loop
 mul-q c = search needs
@@ -72,21 +72,21 @@ loop-less c = search needs
 loop-again : tie.Need-loop-again Inv-loop μ-loop
 loop-again c =
     let inv = c .before .before .loop .inv in
-    (fill-next _ _ _ _ _ (inv .0) (c .before .loop-test .taken) (c .slot-out .ensures), inv .1, inv .2)
+    (fill-next _ _ _ _ _ (inv .0) (c .before .loop-test .taken) (c .store-slot .ensures), inv .1, inv .2)
 
 same-length : tie.Need-same-length Inv-loop μ-loop
 same-length c = c .before .loop .inv .0 .twelve ∙ sym (c .before .before .before .before .before .if2 .left)
 
 returns-3 : tie.Need-returns-3 Inv-loop μ-loop
-unfolding putOutQueue count lostCount
+unfolding storedQueue count lostCount
 returns-3 c =
     let long = c .before .before .before .before .before .if2 .left in
     let a = c .before .before .before .before .before .before .before .before .before .args in
     of-twelve _ _ _ (c .before .before .before .before .before .before .if1 .left)
     (of-twelve _ _ _ long (behind-two _ (a .q .now) _ _ long (c .loop-test .left) _ _ (c .before .loop .inv .0)))
 
-pub put-out-spec : {M : Type 1} → statement M
-put-out-spec =
+pub store-spec : {M : Type 1} → statement M
+store-spec =
     tie.close
     (tie.spec
     Inv-loop
@@ -103,7 +103,7 @@ put-out-spec =
     loop-holds
     cast-slot
     add-slot
-    slot-out-requires
+    store-slot-requires
     mul-q
     slice-write-q-3
     add-i

@@ -1,4 +1,4 @@
--- `rings_out` meets its contract: the rings are put out one after the other. Assumes nothing.
+-- `store_rings` meets its contract: the rings are put out one after the other. Assumes nothing.
 use mathlib.Core.Path.{sym, _∙_}
 use Prim.Native.Nat.{_+_, _-_, _%_, _≤_}
 use native.Mathlib.Omega.{arith}
@@ -7,8 +7,8 @@ use lib.ListN.{length}
 use Rattle.working_load.proofs.Places.{HasQueues, has-queues, words-within}
 use Rattle.working_load.proofs.StoreLoop.{Out, out-start, put-next, out-end, out-none, out-all}
 use borrow.Author.Needs.{needs}
-use Rattle.working_load.proofs.rings_out.Statement.{statement}
-use Rattle.working_load.proofs.rings_out.Tie as tie
+use Rattle.working_load.proofs.store_rings.Statement.{statement}
+use Rattle.working_load.proofs.store_rings.Tie as tie
 
 abbrev Inv-loop : tie.InvT-loop
 Inv-loop rings n m table₀ e₀ table e = Out (n % 256) m rings table₀ table e × HasQueues (n % 256) m (length table₀) (length rings) × (e ≤ m)
@@ -48,32 +48,32 @@ endpoint-at-requires c κs = search needs
 add-next : tie.Need-add-next Inv-loop μ-loop
 add-next c = omega (arith, end-within c)
 
-mul-put-out : tie.Need-mul-put-out Inv-loop μ-loop
-mul-put-out c = omega (arith, small (c .before))
+mul-store : tie.Need-mul-store Inv-loop μ-loop
+mul-store c = omega (arith, small (c .before))
 
-sub-put-out : tie.Need-sub-put-out Inv-loop μ-loop
-sub-put-out c = omega arith
+sub-store : tie.Need-sub-store Inv-loop μ-loop
+sub-store c = omega arith
 
-part-put-out-start : tie.Need-part-put-out-start Inv-loop μ-loop
-part-put-out-start c = omega arith
+part-store-start : tie.Need-part-store-start Inv-loop μ-loop
+part-store-start c = omega arith
 
-part-put-out-end : tie.Need-part-put-out-end Inv-loop μ-loop
-part-put-out-end c = omega (arith, c .before .before .loop .inv .1 .twelve, c .before .loop-test .taken)
+part-store-end : tie.Need-part-store-end Inv-loop μ-loop
+part-store-end c = omega (arith, c .before .before .loop .inv .1 .twelve, c .before .loop-test .taken)
 
-mul-put-out-2 : tie.Need-mul-put-out-2 Inv-loop μ-loop
-mul-put-out-2 c = omega (arith, end-within (c .before))
+mul-store-2 : tie.Need-mul-store-2 Inv-loop μ-loop
+mul-store-2 c = omega (arith, end-within (c .before))
 
-sub-put-out-2 : tie.Need-sub-put-out-2 Inv-loop μ-loop
-sub-put-out-2 c = omega arith
+sub-store-2 : tie.Need-sub-store-2 Inv-loop μ-loop
+sub-store-2 c = omega arith
 
-part-put-out-start-2 : tie.Need-part-put-out-start-2 Inv-loop μ-loop
-part-put-out-start-2 c = omega arith
+part-store-start-2 : tie.Need-part-store-start-2 Inv-loop μ-loop
+part-store-start-2 c = omega arith
 
-part-put-out-end-2 : tie.Need-part-put-out-end-2 Inv-loop μ-loop
-part-put-out-end-2 c = end-within (c .before)
+part-store-end-2 : tie.Need-part-store-end-2 Inv-loop μ-loop
+part-store-end-2 c = end-within (c .before)
 
-put-out-requires : tie.Need-put-out-requires Inv-loop μ-loop
-put-out-requires c κs = search needs
+store-requires : tie.Need-store-requires Inv-loop μ-loop
+store-requires c κs = search needs
 
 add-e : tie.Need-add-e Inv-loop μ-loop
 add-e c = omega arith
@@ -86,7 +86,7 @@ loop-again c =
     let call = c .before .before in
     let at = call .before .before .before in
     let inv = at .before .before .loop .inv in
-    (put-next _ _ _ _ _ _ (inv .0) (inv .1) (at .before .loop-test .taken) _ (at .endpoint-at .ensures) _ (call .put-out .ensures), inv .1, omega arith)
+    (put-next _ _ _ _ _ _ (inv .0) (inv .1) (at .before .loop-test .taken) _ (at .endpoint-at .ensures) _ (call .store .ensures), inv .1, omega arith)
 
 same-length : tie.Need-same-length Inv-loop μ-loop
 same-length c = c .before .loop .inv .0 .size
@@ -96,8 +96,8 @@ returns-2 c =
     let inv = c .before .loop .inv in
     out-all _ _ (c .before .before .before .before .before .before .args .rings .now) (c .before .before .before .before .before .before .args .table .now) _ (sym (c .before .before .before .has-queues .ensures) ∙ not-false _ (c .before .before .if1 .left)) (out-end _ _ _ _ _ _ (inv .0) (omega arith))
 
-pub rings-out-spec : {M : Type 1} → statement M
-rings-out-spec =
+pub store-rings-spec : {M : Type 1} → statement M
+store-rings-spec =
     tie.close
     (tie.spec
     Inv-loop
@@ -110,15 +110,15 @@ rings-out-spec =
     add-behind
     endpoint-at-requires
     add-next
-    mul-put-out
-    sub-put-out
-    part-put-out-start
-    part-put-out-end
-    mul-put-out-2
-    sub-put-out-2
-    part-put-out-start-2
-    part-put-out-end-2
-    put-out-requires
+    mul-store
+    sub-store
+    part-store-start
+    part-store-end
+    mul-store-2
+    sub-store-2
+    part-store-start-2
+    part-store-end-2
+    store-requires
     add-e
     loop-less
     loop-again

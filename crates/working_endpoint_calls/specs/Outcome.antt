@@ -6,11 +6,11 @@ use Rattle.machine.specs.Machine.{Decision}
 use Rattle.working_theory.specs.State.{ringAt, withRing, answerFrom, effectFrom, ringsAfter}
 
 -- a call on which the decision d fell is answered by these words, and leaves the rings rings′
-pub record QueueServed (d : Decision) (w : ℕ) (rings words rings′ : List ℕ) : Type 0 where
+pub record RingsOutcome (d : Decision) (w : ℕ) (rings words rings′ : List ℕ) : Type 0 where
   pub answer : words ≡ answerFrom w [] rings [] d
   pub left : rings′ ≡ ringsAfter rings (effectFrom [] rings d)
 
 -- The ring r of the endpoint e served alone: among whichever rings it stands, such a call is answered by these words, and leaves
 -- them with the ring r′ in its place.
-pub record RingServed (d : Decision) (e w : ℕ) (r words r′ : List ℕ) : Type 0 where
-  pub among : (rings : List ℕ) → ringAt rings e ≡ r → QueueServed d w rings words (withRing rings e r′)
+pub record RingOutcome (d : Decision) (e w : ℕ) (r words r′ : List ℕ) : Type 0 where
+  pub among : (rings : List ℕ) → ringAt rings e ≡ r → RingsOutcome d w rings words (withRing rings e r′)

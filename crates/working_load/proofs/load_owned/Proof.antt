@@ -1,4 +1,4 @@
--- `owned_in` meets its contract: the bits are set one after the other. Assumes nothing.
+-- `load_owned` meets its contract: the bits are set one after the other. Assumes nothing.
 use mathlib.Core.Path.{_≡_, ap}
 use Prim.Native.Nat.{ℕ, _-_, _%_, _<_, _≤_}
 use native.Mathlib.Omega.{arith}
@@ -9,8 +9,8 @@ use Rattle.machine.specs.Word.{fieldB}
 use Rattle.reachability.proofs.Bits.{bit-is}
 use Rattle.working_load.proofs.Gathering.{Gathered, gather-start, gather-room, gather-next, gather-end}
 use borrow.Author.Needs.{needs}
-use Rattle.working_load.proofs.owned_in.Statement.{statement}
-use Rattle.working_load.proofs.owned_in.Tie as tie
+use Rattle.working_load.proofs.load_owned.Statement.{statement}
+use Rattle.working_load.proofs.load_owned.Tie as tie
 
 abbrev Inv-loop : tie.InvT-loop
 Inv-loop table n m owned₀ few e₀ owned e = Gathered (n % 256) table owned e × (e ≤ few) × (few ≤ 32)
@@ -73,8 +73,8 @@ returns c =
     let at = c .before in
     gather-end _ _ _ _ _ (at .loop .inv .0) (omega (arith, at .loop .inv .1, c .loop-test .left, c .before .before .at-most .ensures))
 
-pub owned-in-spec : {M : Type 1} → statement M
-owned-in-spec =
+pub load-owned-spec : {M : Type 1} → statement M
+load-owned-spec =
     tie.close
     (tie.spec
     Inv-loop

@@ -1,4 +1,4 @@
--- `put_behind` meets its contract. The loop's invariant: the words passed stand behind those that were pending, and the rest of the
+-- `put_last` meets its contract. The loop's invariant: the words passed stand behind those that were pending, and the rest of the
 -- words are as they came. Assumes nothing.
 use mathlib.Core.Path.{_≡_, sym, ap, _∙_}
 use mathlib.Core.List.{List}
@@ -10,8 +10,8 @@ use lib.ListN.{length, getD, set, length-set}
 use lib.Seq.{paste, paste-zero, paste-suc}
 use Rattle.turns_state.specs.Pending.{count}
 use Rattle.turns_state.proofs.Laws.{enqueue-end}
-use Rattle.turns_state.proofs.pending.put_behind.Statement.{statement}
-use Rattle.turns_state.proofs.pending.put_behind.Tie as tie
+use Rattle.turns_state.proofs.pending.put_last.Statement.{statement}
+use Rattle.turns_state.proofs.pending.put_last.Tie as tie
 
 abbrev Inv-loop : tie.InvT-loop
 Inv-loop block₀ words pending i₀ block i =
@@ -54,8 +54,8 @@ returns c =
     ∙ ap (λ (k : ℕ). set (paste b (1 + k) ws (length ws)) 0 (k + length ws)) pending
     ∙ enqueue-end b ws (omega arith)
 
-pub put-behind-spec : {M : Type 1} → statement M
-put-behind-spec =
+pub put-last-spec : {M : Type 1} → statement M
+put-last-spec =
     tie.close
     (tie.spec
     Inv-loop

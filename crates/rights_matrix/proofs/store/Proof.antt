@@ -1,4 +1,4 @@
--- `put_out` meets its contract: the rows are put out one after the other. Assumes nothing.
+-- `store` meets its contract: the rows are put out one after the other. Assumes nothing.
 use mathlib.Core.Path.{sym, _∙_}
 use Prim.Native.Nat.{_+_, _-_, _≤_}
 use native.Mathlib.Omega.{arith}
@@ -8,8 +8,8 @@ use Rattle.machine.specs.Table.{rightsAt}
 use Rattle.rights_matrix.proofs.LoadLoop.{HasRights, has-rights, row-within, row-short}
 use Rattle.rights_matrix.proofs.StoreLoop.{Out, out-start, out-row, out-end, out-none, out-all}
 use borrow.Author.Needs.{needs}
-use Rattle.rights_matrix.proofs.put_out.Statement.{statement}
-use Rattle.rights_matrix.proofs.put_out.Tie as tie
+use Rattle.rights_matrix.proofs.store.Statement.{statement}
+use Rattle.rights_matrix.proofs.store.Tie as tie
 
 abbrev Inv-loop : tie.InvT-loop
 Inv-loop rows n table₀ h₀ table h = Out n rows table₀ table h × HasRights n (length table₀) × (h ≤ n)
@@ -39,20 +39,20 @@ rights-at-requires c κs = search needs
 add-to : tie.Need-add-to Inv-loop μ-loop
 add-to c = omega (arith, end-within c)
 
-mul-row-out : tie.Need-mul-row-out Inv-loop μ-loop
-mul-row-out c = omega (arith, end-within c)
+mul-store-row : tie.Need-mul-store-row Inv-loop μ-loop
+mul-store-row c = omega (arith, end-within c)
 
-sub-row-out : tie.Need-sub-row-out Inv-loop μ-loop
-sub-row-out c = omega arith
+sub-store-row : tie.Need-sub-store-row Inv-loop μ-loop
+sub-store-row c = omega arith
 
-part-row-out-start : tie.Need-part-row-out-start Inv-loop μ-loop
-part-row-out-start c = omega arith
+part-store-row-start : tie.Need-part-store-row-start Inv-loop μ-loop
+part-store-row-start c = omega arith
 
-part-row-out-end : tie.Need-part-row-out-end Inv-loop μ-loop
-part-row-out-end c = end-within c
+part-store-row-end : tie.Need-part-store-row-end Inv-loop μ-loop
+part-store-row-end c = end-within c
 
-row-out-requires : tie.Need-row-out-requires Inv-loop μ-loop
-row-out-requires c κs = row-short _ _ (c .before .rights-at .result) (c .before .before .before .loop .inv .1 .few)
+store-row-requires : tie.Need-store-row-requires Inv-loop μ-loop
+store-row-requires c κs = row-short _ _ (c .before .rights-at .result) (c .before .before .before .loop .inv .1 .few)
 
 add-h : tie.Need-add-h Inv-loop μ-loop
 add-h c = omega arith
@@ -65,7 +65,7 @@ loop-again c =
     let call = c .before .before in
     let at = call .before .before in
     let inv = at .before .before .loop .inv in
-    (out-row _ _ _ _ _ (inv .0) (inv .1) (at .before .loop-test .taken) _ (at .rights-at .ensures) _ (call .row-out .ensures), inv .1, omega arith)
+    (out-row _ _ _ _ _ (inv .0) (inv .1) (at .before .loop-test .taken) _ (at .rights-at .ensures) _ (call .store-row .ensures), inv .1, omega arith)
 
 same-length : tie.Need-same-length Inv-loop μ-loop
 same-length c = c .before .loop .inv .0 .size
@@ -75,8 +75,8 @@ returns-2 c =
     let inv = c .before .loop .inv in
     out-all _ _ _ _ (sym (c .before .before .before .has-rights .ensures) ∙ not-false _ (c .before .before .if1 .left)) (out-end _ _ _ _ _ (inv .0) (omega arith))
 
-pub put-out-spec : {M : Type 1} → statement M
-put-out-spec =
+pub store-spec : {M : Type 1} → statement M
+store-spec =
     tie.close
     (tie.spec
     Inv-loop
@@ -86,11 +86,11 @@ put-out-spec =
     loop-holds
     rights-at-requires
     add-to
-    mul-row-out
-    sub-row-out
-    part-row-out-start
-    part-row-out-end
-    row-out-requires
+    mul-store-row
+    sub-store-row
+    part-store-row-start
+    part-store-row-end
+    store-row-requires
     add-h
     loop-less
     loop-again

@@ -1,4 +1,4 @@
--- Taking a call apart, by what the code tests: a sum for the unused fields, a match for the second word and for the kind.
+-- Taking a call decoded, by what the code tests: a sum for the unused fields, a match for the second word and for the kind.
 -- Assumes nothing.
 use Prim.Native.Nat.{ℕ, _+_, _*_, _%_, _^_, _<_, _≤_}
 use mathlib.Core.Path.{_≡_, refl, sym, ap, _∙_}
@@ -11,7 +11,7 @@ use lib.Dec.{eqb, lit<}
 use borrow.Author.Tests.{eqb-true, eqb-false, eq-eqb, ne-eqb}
 use Rattle.machine.specs.Word.{kind, caller, fieldA, fieldB, fieldC}
 use Rattle.machine.specs.Call.{Kind, kindOf, unusedFields, allZero, hasSecond}
-use Rattle.calls.specs.Decode.{needsSecond, whole, ofKind, apart}
+use Rattle.calls.specs.Decode.{needsSecond, whole, ofKind, decoded}
 use Rattle.calls.specs.Split.{callOf}
 use Rattle.calls.specs.declared.Call.{Call}
 use Rattle.calls.specs.declared.Call.the-variants.{Refused}
@@ -68,13 +68,13 @@ unfolding whole hasSecond
 no-second w k next h wants = rw (all-zero, eq-eqb _ _ h, wants)
 
 -- a call goes by its kind
-pub of-kind : {n : ℕ} (w : ℕ) (s : Second) → kind w ≡ n → ofKind w s (kindOf n) ≡ apart w s
-unfolding apart
+pub of-kind : {n : ℕ} (w : ℕ) (s : Second) → kind w ≡ n → ofKind w s (kindOf n) ≡ decoded w s
+unfolding decoded
 of-kind w s is = ap (λ (k : ℕ). ofKind w s (kindOf k)) (sym is)
 
 -- kinds 9 to 14 are unknown
-pub unknown-kind : (w : ℕ) (s : Second) → 9 ≤ kind w → kind w < 15 → Refused (caller w) UnknownKind ≡ apart w s
-unfolding apart ofKind kindOf
+pub unknown-kind : (w : ℕ) (s : Second) → 9 ≤ kind w → kind w < 15 → Refused (caller w) UnknownKind ≡ decoded w s
+unfolding decoded ofKind kindOf
 unknown-kind w s low high =
     let differs : (k : ℕ) → (kind w ≡ k → ⊥) → eqb (kind w) k ≡ false = ne-eqb (kind w) in
     rw (

@@ -9,7 +9,7 @@ use Rattle.holders.specs.Noted.{holdersAfter}
 use Rattle.working_theory.specs.State.{readingFrom, answerFrom, effectFrom, rowsAfter, ringsAfter}
 
 -- the call, with the first word w, is answered by these words and leaves the rows rows′, the rings rings′ and the holders holders′
-pub record Served (n m : ℕ) (rows : List (List ℕ)) (rings : List ℕ) (named : ℕ → Option ℕ) (owned holders : List ℕ) (w : ℕ) (call : Call) (words : List ℕ) (rows′ : List (List ℕ)) (rings′ holders′ : List ℕ) : Type 0 where
+pub record StateOutcome (n m : ℕ) (rows : List (List ℕ)) (rings : List ℕ) (named : ℕ → Option ℕ) (owned holders : List ℕ) (w : ℕ) (call : Call) (words : List ℕ) (rows′ : List (List ℕ)) (rings′ holders′ : List ℕ) : Type 0 where
   pub answer : words ≡ answerFrom w rows rings owned (decidedBy n m (readingFrom rows rings named) call)
   pub rowsLeft : rows′ ≡ rowsAfter rows (effectFrom rows rings (decidedBy n m (readingFrom rows rings named) call))
   pub ringsLeft : rings′ ≡ ringsAfter rings (effectFrom rows rings (decidedBy n m (readingFrom rows rings named) call))

@@ -1,9 +1,9 @@
--- `hints_in` goes through the endpoints and stays within the hints. Assumes nothing.
+-- `make_hints` goes through the endpoints and stays within the hints. Assumes nothing.
 use Prim.Native.Nat.{_-_, _≤_}
 use native.Mathlib.Omega.{arith}
 use borrow.Author.Needs.{needs}
-use Rattle.working.proofs.hints_in.Statement.{statement}
-use Rattle.working.proofs.hints_in.Tie as tie
+use Rattle.working.proofs.make_hints.Statement.{statement}
+use Rattle.working.proofs.make_hints.Tie as tie
 
 abbrev Inv-loop : tie.InvT-loop
 Inv-loop names m hints₀ e₀ hints e = e ≤ m
@@ -44,8 +44,8 @@ loop-again c = omega arith
 returns : tie.Need-returns Inv-loop μ-loop
 returns c = search needs
 
-pub hints-in-spec : {M : Type 1} → statement M
-hints-in-spec =
+pub make-hints-spec : {M : Type 1} → statement M
+make-hints-spec =
     tie.close
     (tie.spec
     Inv-loop

@@ -1,4 +1,4 @@
--- `row_out` meets its contract: the words are filled one after the other. Assumes nothing.
+-- `store_row` meets its contract: the words are filled one after the other. Assumes nothing.
 use Prim.Native.Nat.{_-_, _<_}
 use native.Mathlib.Omega.{arith}
 use lib.ListN.{length}
@@ -7,8 +7,8 @@ use Rattle.rights_matrix_theory.specs.Rows.{heldIn}
 use Rattle.rights_matrix.proofs.Filling.{Filling, filling-start, filling-next, words-filled}
 use Rattle.rights_matrix.proofs.RowWords.{row-place}
 use borrow.Author.Needs.{needs}
-use Rattle.rights_matrix.proofs.row_out.Statement.{statement}
-use Rattle.rights_matrix.proofs.row_out.Tie as tie
+use Rattle.rights_matrix.proofs.store_row.Statement.{statement}
+use Rattle.rights_matrix.proofs.store_row.Tie as tie
 
 abbrev Inv-loop : tie.InvT-loop
 Inv-loop rows holder words₀ h row₀ g₀ words g = Filling 0 (λ j. word 2 (heldIn rows holder j)) words₀ words g
@@ -64,8 +64,8 @@ same-length c = c .before .loop .inv .size
 returns : tie.Need-returns Inv-loop μ-loop
 returns c = words-filled _ _ _ _ (c .before .loop .inv) (omega (arith, c .loop-test .left, c .before .loop .inv .size))
 
-pub row-out-spec : {M : Type 1} → statement M
-row-out-spec =
+pub store-row-spec : {M : Type 1} → statement M
+store-row-spec =
     tie.close
     (tie.spec
     Inv-loop

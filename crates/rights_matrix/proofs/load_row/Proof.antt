@@ -1,4 +1,4 @@
--- `row_in` meets its contract: the places are filled one after the other. Assumes nothing.
+-- `load_row` meets its contract: the places are filled one after the other. Assumes nothing.
 use mathlib.Core.Path.{refl}
 use Prim.Native.Nat.{_-_, _%_}
 use native.Mathlib.Omega.{arith}
@@ -6,8 +6,8 @@ use lib.ListN.{length, getD}
 use Rattle.rights_matrix.proofs.Filling.{Filling, filling-start, filling-next}
 use Rattle.rights_matrix.proofs.RowWords.{row-filled}
 use borrow.Author.Needs.{needs}
-use Rattle.rights_matrix.proofs.row_in.Statement.{statement}
-use Rattle.rights_matrix.proofs.row_in.Tie as tie
+use Rattle.rights_matrix.proofs.load_row.Statement.{statement}
+use Rattle.rights_matrix.proofs.load_row.Tie as tie
 
 abbrev Inv-loop : tie.InvT-loop
 Inv-loop words row₀ g₀ row g = Filling 0 (λ j. getD words j 0 % 256) row₀ row g
@@ -42,8 +42,8 @@ loop-again c = filling-next 0 _ _ _ _ _ (c .before .before .loop .inv) (omega (a
 returns : tie.Need-returns Inv-loop μ-loop
 returns c = row-filled _ _ _ (c .before .loop .inv) (c .loop-test .left)
 
-pub row-in-spec : {M : Type 1} → statement M
-row-in-spec =
+pub load-row-spec : {M : Type 1} → statement M
+load-row-spec =
     tie.close
     (tie.spec
     Inv-loop
