@@ -1,4 +1,5 @@
-// The calls of a list one after the other, in the lent table's own words, with the holders worked out first and kept call by call.
+// Runs the calls of a list one after the other, in the lent table's own words (document 01, 'The calls'), with the holders worked
+// out first and kept call by call.
 use crate::serve::serve;
 use answers::by_value::put;
 use calls::split::second_at;
@@ -14,7 +15,7 @@ ghost use Rattle.machine.specs.Check.{Accepted};
 ghost use Rattle.machine.specs.Call.{split};
 ghost use Rattle.kernel.specs.Run.{AllRun};
 
-// Runs the calls of a list and returns how many they were.
+// Runs the calls of a list and returns how many there are.
 pub fn run_calls(table: &mut [u32], list: &[u32], answers: &mut [u32], holders: &mut [u32]) -> usize
     requires { ⌜ Accepted (now table) ⌝ }
     requires { ⌜ length (now list) ≤ 4096 ⌝ }
@@ -28,12 +29,14 @@ pub fn run_calls(table: &mut [u32], list: &[u32], answers: &mut [u32], holders: 
     let mut calls: usize = 0;
     let mut i: usize = 0;
     while i < list.len() {
+        let first = list[i];
         let second = second_at(list, i);
-        let words = serve(table, n, m, holders, list[i], second);
+        // The next place is known before the call is served, so the processor can fetch the next call meanwhile.
+        i += width(second);
+        let words = serve(table, n, m, holders, first, second);
         let at = 3 * calls;
         let end = at + 3;
         put(&mut answers[at..end], words);
-        i += width(second);
         calls += 1;
     }
     calls

@@ -1,4 +1,4 @@
-// The calls of a list one after the other, on a working state.
+// Runs the calls of a list one after the other on a working state (document 02 (l)).
 use crate::serve::serve;
 use answers::by_value::put;
 use calls::split::second_at;
@@ -31,7 +31,10 @@ pub fn run_list(
     let mut calls: usize = 0;
     let mut i: usize = 0;
     while i < list.len() {
+        let first = list[i];
         let second = second_at(list, i);
+        // The next place is known before the call is served, so the processor can fetch the next call meanwhile.
+        i += width(second);
         let words = serve(
             n,
             m,
@@ -41,13 +44,12 @@ pub fn run_list(
             hints,
             owned,
             holders,
-            list[i],
+            first,
             second,
         );
         let at = 3 * calls;
         let end = at + 3;
         put(&mut answers[at..end], words);
-        i += width(second);
         calls += 1;
     }
     calls

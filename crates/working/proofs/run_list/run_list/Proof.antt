@@ -1,4 +1,5 @@
--- `list::run_list` meets its contract: the loop's invariant is a run on its way on a working state. Assumes nothing.
+-- `run_list::run_list` meets its contract: the loop's invariant is that of a run on a working state (proofs/RunInvariant).
+-- Assumes nothing.
 use mathlib.Core.Path.{sym, _∙_}
 use mathlib.Core.List.{List}
 use Prim.Native.Nat.{ℕ, _+_, _*_, _-_, _≤_}
@@ -6,7 +7,7 @@ use native.Mathlib.Omega.{arith}
 use lib.ListN.{length}
 use borrow.Author.Needs.{needs}
 use Rattle.machine.proofs.Split.{split-few}
-use Rattle.calls.proofs.SplitAt.{wide}
+use Rattle.calls.proofs.SplitAt.{split-at, wide}
 use Rattle.answers.proofs.Space.{lent-back}
 use Rattle.kernel.proofs.RunInvariant.{room}
 use Rattle.working.specs.Run.{RepresentsTable}
@@ -33,49 +34,44 @@ few c =
     let start = c .before .before .before .before .before .before in
     omega (arith, c .before .loop .inv _ (start .pre .0 .stands) .underway .running .count, split-few (start .args .list .now), start .pre .1 .0)
 
--- one call more
-next : tie.Need-loop-again Inv-loop μ-loop
-next c t s =
-    let put = c .before .before .before in
-    let call = put .before .before .before .before .before .before in
-    let second = call .before .before .before .before .before in
-    let at = second .before in
-    way-next _ _ _ _ _ _ _ _ _ _ _ _ _ _ _ (at .before .loop .inv t s) (at .loop-test .taken) _ _ _ _ _ _ _ (second .second-at .ensures) (c .width .ensures) (call .serve .ensures)
-    (call .serve .kept .1 .1 .1 .1 .1 .1 .1 .0)
-    (lent-back _ _ _ _ (next-room at) (put .put .ensures))
-    (search needs)
-
--- a call is one word at least, and within the list
+-- the next call begins within the list or at its end, and after this one
 next-place : (c : tie.After-width Inv-loop μ-loop)
-    → let at = c .before .before .before .before .before .before .before .before .before .before .before .before .before .before .before .before in
+    → let at = c .before .before .before .before in
     (at .loop .i + c .width .result ≤ length (at .before .before .before .before .before .args .list .now)) × (1 ≤ c .width .result)
 next-place c =
-    let second = c .before .before .before .before .before .before .before .before .before .before .before .before .before .before in
-    (next c _ (second .before .before .before .before .before .before .before .pre .0 .stands) .underway .within, omega (arith, c .width .ensures, wide (second .second-at .result)))
+    let second = c .before in
+    let at = second .before .before .before in
+    (rw (c .width .ensures, second .second-at .ensures) (split-at (at .before .before .before .before .before .args .list .now) (at .loop .i) (second .before .before .loop-test .taken) .within), omega (arith, c .width .ensures, wide (second .second-at .result)))
 
 loop-holds : tie.Need-loop-holds Inv-loop μ-loop
 loop-holds c t s = way-start _ _ _ (c .before .before .before .before .args .hints .now) _ _ _ _ _ _ t s
 
+mul-first : tie.Need-mul-first Inv-loop μ-loop
+mul-first c = search needs
+
+shared-slice-read-first : tie.Need-shared-slice-read-first Inv-loop μ-loop
+shared-slice-read-first c = search needs
+
 second-at-requires : tie.Need-second-at-requires Inv-loop μ-loop
 second-at-requires c κs = tt
 
-mul-serve : tie.Need-mul-serve Inv-loop μ-loop
-mul-serve c = search needs
+width-requires : tie.Need-width-requires Inv-loop μ-loop
+width-requires c κs = tt
 
-shared-slice-read-serve : tie.Need-shared-slice-read-serve Inv-loop μ-loop
-shared-slice-read-serve c = search needs
+add-i : tie.Need-add-i Inv-loop μ-loop
+add-i c = omega (arith, next-place c, c .before .before .before .before .before .before .before .before .before .pre .1 .0)
 
 serve-requires : tie.Need-serve-requires Inv-loop μ-loop
 serve-requires c κs = tt
 
 mul-at : tie.Need-mul-at Inv-loop μ-loop
-mul-at c = omega (arith, few (c .before .before .before .before .before .before .before .before .before .before))
+mul-at c = omega (arith, few (c .before .before .before .before .before .before .before .before .before .before .before))
 
 add-end : tie.Need-add-end Inv-loop μ-loop
-add-end c = omega (arith, few (c .before .before .before .before .before .before .before .before .before .before))
+add-end c = omega (arith, few (c .before .before .before .before .before .before .before .before .before .before .before))
 
 mul-put : tie.Need-mul-put Inv-loop μ-loop
-mul-put c = omega (arith, few (c .before .before .before .before .before .before .before .before .before .before))
+mul-put c = omega (arith, few (c .before .before .before .before .before .before .before .before .before .before .before))
 
 sub-put : tie.Need-sub-put Inv-loop μ-loop
 sub-put c = search needs
@@ -84,25 +80,27 @@ part-put-start : tie.Need-part-put-start Inv-loop μ-loop
 part-put-start c = search needs
 
 part-put-end : tie.Need-part-put-end Inv-loop μ-loop
-part-put-end c = next-room (c .before .before .before .before .before .before .before .before .before .before)
+part-put-end c = next-room (c .before .before .before .before .before .before .before .before .before .before .before)
 
 put-requires : tie.Need-put-requires Inv-loop μ-loop
 put-requires c κs = tt
-
-width-requires : tie.Need-width-requires Inv-loop μ-loop
-width-requires c κs = tt
-
-add-i : tie.Need-add-i Inv-loop μ-loop
-add-i c = omega (arith, next-place c, c .before .before .before .before .before .before .before .before .before .before .before .before .before .before .before .before .before .before .before .before .before .pre .1 .0)
 
 add-calls : tie.Need-add-calls Inv-loop μ-loop
 add-calls c = omega (arith, few (c .before .before .before .before .before .before .before .before .before .before .before .before .before .before .before))
 
 loop-less : tie.Need-loop-less Inv-loop μ-loop
-loop-less c = omega (arith, next-place c)
+loop-less c = omega (arith, next-place (c .before .before .before .before .before .before .before .before .before .before .before .before))
 
 loop-again : tie.Need-loop-again Inv-loop μ-loop
-loop-again c = next c
+loop-again c t s =
+    let put = c .before .before in
+    let call = put .before .before .before .before .before .before in
+    let width = call .before .before .before .before in
+    let at = width .before .before .before in
+    way-next _ _ _ _ _ _ _ _ _ _ _ _ _ _ _ (at .before .loop .inv t s) (at .loop-test .taken) _ _ _ _ _ _ _ (width .before .second-at .ensures) (width .width .ensures) (call .serve .ensures)
+    (call .serve .kept .1 .1 .1 .1 .1 .1 .1 .0)
+    (lent-back _ _ _ _ (next-room at) (put .put .ensures))
+    (search needs)
 
 same-length : tie.Need-same-length Inv-loop μ-loop
 same-length c =
@@ -125,9 +123,11 @@ run-list-spec =
     Inv-loop
     μ-loop
     loop-holds
+    mul-first
+    shared-slice-read-first
     second-at-requires
-    mul-serve
-    shared-slice-read-serve
+    width-requires
+    add-i
     serve-requires
     mul-at
     add-end
@@ -136,8 +136,6 @@ run-list-spec =
     part-put-start
     part-put-end
     put-requires
-    width-requires
-    add-i
     add-calls
     loop-less
     loop-again
