@@ -50,7 +50,7 @@ head-other w other =
     (fields w (kind w) (w % 268435456) (caller w) (w % 4194304) (div-add-mod' w 268435456)
     (mod-mul w {m = 64} {c = 4194304} (lit< tt) (lit< tt)))
 
--- there is room for a code in it
+-- there is space for a code in it
 pub head-room : (w : ℕ) → w < 2 ^ 32 → headOf w + 23 < 2 ^ 32
 head-room w fits = go (ℕ-discrete (kind w) 15)
   where
@@ -117,7 +117,7 @@ no-right : (t : List ℕ) (u g i : ℕ) → domains t ≤ g + i → rightsOn t u
 no-right t u g i past = rw (le-ltb (g + i) (domains t) past)
 
 module _ (t : List ℕ) (n : ℕ) (is : n ≡ domains t) (u : ℕ) where
-  -- on the targets from low up to high stand all that the data word shows
+  -- the rights on the targets from low up to high are all that the data word shows
   pub rights-start : (low high : ℕ) → Eight n low high → digitSum 16 (rightsOn t u low) (high - low) ≡ rightsBits t u low
   unfolding rightsBits
   rights-start low high e =

@@ -1,4 +1,4 @@
--- An answer's words as they are put at the start of a lent space. Assumes nothing.
+-- An answer's words, stored at the start of a lent space. Assumes nothing.
 use mathlib.Core.Path.{_≡_, _∙_}
 use mathlib.Core.List.{List, [], _∷_, _++_, append-nil}
 use Prim.Native.Nat.{ℕ, _+_, _-_, _<_, _≤_}
@@ -21,7 +21,7 @@ pub three-put : (space : List ℕ) (a b c : ℕ) → 3 ≤ length space → set 
 unfolding answersPut
 three-put space a b c enough = rw (le-ltb (length space) 3 enough) (three-sets space 0 a b c (omega arith))
 
--- three words that are lent from a place on, and come back with an answer
+-- three words that are lent from an index on, and returned with an answer
 pub lent-back : (space words q : List ℕ) (at : ℕ)
     → at + 3 ≤ length space
     → q ≡ answersPut (take (at + 3 - at) (drop at space)) words

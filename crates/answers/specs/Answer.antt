@@ -17,17 +17,17 @@ answerWords a = a .head ∷ a .first ∷ a .second ∷ []
 unfoldable pub headOf : ℕ → ℕ
 headOf w = answerWord (one w) 0
 
--- the words that the data is read from are in the table: every endpoint's, a holder's rights
+-- the words that the data is read from are in the table: every endpoint's, and a holder's rights
 unfoldable pub hasEndpoints : List ℕ → Bool
 hasEndpoints t = leb (endpointAt (domains t) (endpoints t)) (length t)
 
 unfoldable pub hasRow : List ℕ → ℕ → Bool
 hasRow t u = leb (rightsAt (domains t) u (domains t)) (length t)
 
--- a data word as it is shown: 32 bits of it, and nothing where its words aren't in the table
+-- a data word as it is shown: the lowest 32 bits of it, and 0 where its words aren't in the table
 unfoldable pub shown : Bool → ℕ → ℕ
 shown there x = cond there (x % 2 ^ 32) 0
 
--- the space with these words at its start; one under three words as it is
+-- the space with these words at its start; one of fewer than three words is left as it is
 unfoldable pub answersPut : List ℕ → List ℕ → List ℕ
 answersPut space words = cond (ltb (length space) 3) space (words ++ drop 3 space)

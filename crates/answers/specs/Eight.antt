@@ -1,4 +1,4 @@
--- The targets of a data word, as the code goes through them.
+-- The targets of a data word, as the code goes through them (document 01, 'The calls').
 use Prim.Native.Nat.{ℕ, _+_, _<_, _≤_}
 
 -- the targets from low up to high are the domains among the eight from low on

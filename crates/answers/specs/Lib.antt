@@ -1,3 +1,3 @@
--- What the contracts of the answers cite.
+-- What the contracts of crate answers cite.
 pub mod Answer
 pub mod Eight

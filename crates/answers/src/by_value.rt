@@ -1,4 +1,5 @@
-// Answers by plain values, for whoever has read the data in a layout of its own, and the writing of an answer's words.
+// Answers made of plain values, for code that has read the data in a layout of its own, and the storing of an answer's words
+// (document 01, 'The calls').
 use crate::Answer;
 use crate::head;
 use crate::refused;
@@ -13,7 +14,7 @@ ghost use Rattle.calls.specs.Number.{numberOf};
 ghost use Rattle.rules.specs.Range.{refusedNumbers};
 ghost use Rattle.answers.specs.Answer.{answerWords, answersPut};
 
-// Answers a call, given by its first word, that is refused.
+// Returns the answer to a refused call, which is passed by its first word.
 pub fn refusal(first: u32, refusal: Refusal) -> Answer
     ensures { λ a. ⌜ answerWords a ≡ answerWord (one first) (numberOf refusal) ∷ 0 ∷ 0 ∷ [] ⌝ }
 {
@@ -21,7 +22,7 @@ pub fn refusal(first: u32, refusal: Refusal) -> Answer
     refused(head, refusal)
 }
 
-// Answers a call that is refused without a table: 12 may come before its own number.
+// Returns the answer to a call that is refused without a table: 12 may come before its own code.
 pub fn refuse(n: u32, first: u32, caller: u32, number: Refusal) -> Answer
     ensures { λ a. ⌜ answerWords a ≡ answerWord (one first) (code (refusedNumbers n caller number (refused (numberOf number)))) ∷ 0 ∷ 0 ∷ [] ⌝ }
 {
@@ -32,7 +33,7 @@ pub fn refuse(n: u32, first: u32, caller: u32, number: Refusal) -> Answer
     refusal(first, number)
 }
 
-// Answers one that is done, with its data words.
+// Returns the answer to a call that is done, with its data words.
 pub fn done(first: u32, x: u32, y: u32) -> Answer
     ensures { λ a. ⌜ answerWords a ≡ answerWord (one first) 0 ∷ x ∷ y ∷ [] ⌝ }
 {
@@ -44,7 +45,7 @@ pub fn done(first: u32, x: u32, y: u32) -> Answer
     }
 }
 
-// Puts an answer's words at the start of a space; a space under three words is left as it is.
+// Stores an answer's words at the start of a space. A space of fewer than three words is left as it is.
 pub fn put(space: &mut [u32], words: Answer)
     ensures { λ _. ⌜ now (space .exit) ≡ answersPut (now (space .entry)) (answerWords words) ⌝ }
 {

@@ -1,5 +1,6 @@
-// What a domain has, as the bits of a data word: the endpoints that it owns and its rights on eight targets. Both go from the last to
-// the first, so each step moves up what is there; what goes past 32 bits is cut off. The callers have seen that the words are in the table.
+// What a domain has, as the bits of a data word (document 01, 'The calls'): the endpoints that it owns, and its rights on eight
+// targets. Both loops go from the last to the first, so each step shifts up what is there. What passes 32 bits is cut off. Both
+// have the precondition that the words are in the table.
 use format::KIND_UNIT;
 use table_layout::endpoint_at;
 use table_layout::rights_at;
@@ -10,7 +11,7 @@ ghost use Rattle.machine.specs.Table.{domains, endpoints, rightsAt, endpointAt}
 ghost use Rattle.machine.specs.Machine.{ownedBits, rightsBits};
 ghost use Rattle.answers.specs.Eight.{Eight};
 
-// Bit e is set for each endpoint e that the caller owns.
+// Returns a word in which bit e is set for each endpoint e that the caller owns.
 pub fn owned_bits(table: &[u32], n: u32, m: u32, caller: u32) -> u32
     requires { ⌜ n ≡ domains (now table) ⌝ }
     requires { ⌜ m ≡ endpoints (now table) ⌝ }
@@ -30,7 +31,7 @@ pub fn owned_bits(table: &[u32], n: u32, m: u32, caller: u32) -> u32
     bits
 }
 
-// The rights of the caller on the targets from low up to high, four bits each.
+// Returns the rights of the caller on the targets from low up to high, four bits each.
 pub fn rights_bits(table: &[u32], n: u32, caller: u32, low: u32, high: u32) -> u32
     requires { ⌜ n ≡ domains (now table) ⌝ }
     requires { ⌜ Eight n low high ⌝ }

@@ -1,5 +1,6 @@
-// A call's three answer words: made of its first word and of plain values, or of what a table says of the caller. Any words will do
-// as a table: data that isn't in it is 0, and data of more than 32 bits, which no accepted table has, is cut.
+// A call's three answer words (document 01, 'The calls'): made of its first word and of plain values, or of what a table says of
+// the caller. Total: accepts arbitrary words as a table. Data that isn't in it is 0, and data of more than 32 bits, which no
+// accepted table has, is cut to 32.
 pub mod by_value;
 mod data_bits;
 
@@ -31,7 +32,7 @@ pub struct Answer {
     pub second: u32,
 }
 
-// Returns the first answer word of a call without its code: the kind and the caller of the call's first word, as found; a stray
+// Returns the first answer word of a call without its code: the kind and the caller of the call's first word, as found. A stray
 // shows no caller.
 fn head(first: u32) -> u32
     ensures { λ r. ⌜ r ≡ headOf first ⌝ }
@@ -43,7 +44,7 @@ fn head(first: u32) -> u32
     first - first % CALLER_UNIT
 }
 
-// Adds a refusal's number to a first word without one; the data words are 0.
+// Returns the answer to a refused call: a first word without a code, with the refusal's code added, and data words that are 0.
 fn refused(head: u32, refusal: Refusal) -> Answer
     requires { ⌜ head + 23 < 2 ^ 32 ⌝ }
     ensures { λ a. ⌜ answerWords a ≡ (head + numberOf refusal) ∷ 0 ∷ 0 ∷ [] ⌝ }
@@ -57,7 +58,7 @@ fn refused(head: u32, refusal: Refusal) -> Answer
     }
 }
 
-// Answers my endpoints: a bit for each endpoint that the caller owns.
+// Returns the answer to my endpoints: a bit for each endpoint that the caller owns.
 pub fn endpoints_listed(table: &[u32], first: u32, caller: u32) -> Answer
     ensures { λ a. ⌜ answerWords a ≡ answerWord (one first) 0 ∷ shown (hasEndpoints (now (table .entry))) (ownedBits (now (table .entry)) caller) ∷ 0 ∷ [] ⌝ }
 {
@@ -71,7 +72,8 @@ pub fn endpoints_listed(table: &[u32], first: u32, caller: u32) -> Answer
     done(first, 0, 0)
 }
 
-// Answers my rights among more than eight domains: the rights on the first eight targets in one word, the others in the next.
+// Returns the answer to my rights among more than eight domains: the rights on targets 0 to 7 in the first data word, those on
+// targets 8 to 15 in the second.
 fn two_words(table: &[u32], n: u32, first: u32, caller: u32) -> Answer
     requires { ⌜ n ≡ domains (now table) ⌝ }
     requires { ⌜ 8 < n ⌝ }
@@ -87,7 +89,7 @@ fn two_words(table: &[u32], n: u32, first: u32, caller: u32) -> Answer
     done(first, low, high)
 }
 
-// Answers my rights: the caller's rights, eight targets to a word.
+// Returns the answer to my rights: the caller's rights, eight targets to a word.
 pub fn rights_listed(table: &[u32], first: u32, caller: u32) -> Answer
     ensures { λ a. ⌜ answerWords a ≡ answerWord (one first) 0 ∷ shown (hasRow (now (table .entry)) caller) (rightsBits (now (table .entry)) caller 0) ∷ shown (hasRow (now (table .entry)) caller) (rightsBits (now (table .entry)) caller 8) ∷ [] ⌝ }
 {

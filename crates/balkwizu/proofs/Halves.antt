@@ -12,7 +12,7 @@ low code number h = omega arith
 pub high : (code number : ℕ) → code < 65536 → number ≡ (code + 65536 * number) / 65536
 high code number h = omega arith
 
--- a run's code and its number of calls go into one word
+-- a run's code and its count of calls fit one word
 pub record Fits (code calls : ℕ) : Type 0 where
   pub small : code ≤ 6
   pub few : calls ≤ 4096

@@ -1,2 +1,2 @@
--- What the C boundary's own contracts cite.
+-- What the C boundary's own contracts cite: the release.
 pub mod Version

@@ -1,4 +1,4 @@
--- Which release this is. The file VERSION has the same three numbers, and the gate holds the two to be the same.
+-- The number of this release. The file VERSION has the same three numbers, and the gate checks that the two are the same.
 use Prim.Native.Nat.{ℕ, _+_, _*_}
 
 unfoldable pub major : ℕ

@@ -1,14 +1,13 @@
-// The run on a working layout, and the run that chooses between it and balkwizu_run by the length of the list. A module can't have
-// the name of a crate that it calls.
+// The working run, and the run that chooses between it and the in-place run by the length of the list. A module can't have the name
+// of a crate that it calls.
 ghost use Prim.Native.Nat.{_/_, _%_};
 ghost use Rattle.machine.specs.Promise.{RunPromise};
 
-// The run of a list of calls on a table that is taken in once and put out once: the promise of balkwizu_run, word for word.
-// C: uint32_t balkwizu_run_working(uint32_t *table, size_t table_len, const uint32_t *list, size_t list_len, uint32_t *answers, size_t answers_len,
-//                                  uint32_t *holders, size_t holders_len)
-//
-// The parameters, the answer and every word left are those of balkwizu_run. The table is taken in after the entry's checks, and
-// none of its words is read or written from then until the last call has run.
+// Runs a list of calls on a table that is loaded once and stored once, with the promise of balkwizu_run, word for word: the
+// parameters, the answer and every word left are those of balkwizu_run. The table is loaded after the entry's checks, and none of
+// its words is read or written from then until the last call has run.
+// C: uint32_t balkwizu_run_working(uint32_t *table, size_t table_len, const uint32_t *list, size_t list_len,
+//                                  uint32_t *answers, size_t answers_len, uint32_t *holders, size_t holders_len)
 #[no_mangle]
 pub extern "C" fn balkwizu_run_working(
     table: &mut [u32],
@@ -24,12 +23,10 @@ pub extern "C" fn balkwizu_run_working(
     code + 65536 * calls as u32
 }
 
-// The run of a list of calls, in the working layout where the list is long enough for it, else on the table as it stands: the
-// promise of balkwizu_run, word for word.
-// C: uint32_t balkwizu_run_by_length(uint32_t *table, size_t table_len, const uint32_t *list, size_t list_len, uint32_t *answers, size_t answers_len,
-//                                    uint32_t *holders, size_t holders_len)
-//
-// The parameters, the answer and every word left are those of balkwizu_run.
+// Runs a list of calls, by the working run where the list is long enough for it, else in place, with the promise of balkwizu_run,
+// word for word: the parameters, the answer and every word left are those of balkwizu_run.
+// C: uint32_t balkwizu_run_by_length(uint32_t *table, size_t table_len, const uint32_t *list, size_t list_len,
+//                                    uint32_t *answers, size_t answers_len, uint32_t *holders, size_t holders_len)
 #[no_mangle]
 pub extern "C" fn balkwizu_run_by_length(
     table: &mut [u32],

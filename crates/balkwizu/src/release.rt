@@ -1,4 +1,4 @@
-// Which release this is, for C.
+// The number of this release, for C.
 ghost use mathlib.Core.Path.{_≡_};
 ghost use Rattle.balkwizu.specs.Version.{version};
 
@@ -8,7 +8,7 @@ const MINOR: u32 = 0;
 
 const PATCH: u32 = 0;
 
-// The release's three numbers in one word, each but the first in eight bits: a later release is a larger number.
+// Returns the release's three numbers in one word, each but the first in eight bits: a later release is a larger number.
 // C: uint32_t balkwizu_version(void)
 #[no_mangle]
 pub extern "C" fn balkwizu_version() -> u32

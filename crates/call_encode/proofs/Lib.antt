@@ -1,2 +1,2 @@
--- What the proofs of several functions cite, and callers.
+-- What the proofs of several functions and of callers cite.
 pub mod Putting

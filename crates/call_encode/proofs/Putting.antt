@@ -1,4 +1,4 @@
--- A call's words put into a list, by what the code tests (specs/Put). Assumes nothing.
+-- A call's words stored into a list, by what the code tests (specs/Put). Assumes nothing.
 use Prim.Native.Nat.{ℕ, _+_, _<_, _≤_}
 use mathlib.Core.Path.{_≡_, _∙_}
 use mathlib.Core.Bool.{true, false, and-false}

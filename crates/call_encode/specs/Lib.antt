@@ -1,2 +1,2 @@
--- What the contracts of this crate cite besides the words of a call, which stand in crates/written_calls.
+-- What the contracts of this crate cite besides the words of a call, which are in crate writer_theory.
 pub mod Put

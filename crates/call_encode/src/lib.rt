@@ -1,5 +1,5 @@
-// A call as a value and the words that it is written in (document 02, (c)): the other way round from crate calls, which takes
-// words apart. No table is lent: what is asked of a call is that it is no refused one and that its fields are within their bits.
+// Encodes a call, passed as a value, into the words that it is written in (document 02, (c)): the inverse of crate calls, which
+// decodes words. No table is lent. A call can be written if it isn't a refused one and its fields are within their bits.
 use calls::Call;
 use format::KIND_UNIT;
 use format::calls::A_UNIT;
@@ -23,7 +23,7 @@ ghost use Rattle.machine.specs.Call.{wantsSecond};
 ghost use Rattle.writer_theory.specs.Words.{fieldsAt, fieldsOf, withinBits, firstWord, fieldWords, fits, encodedWords};
 ghost use Rattle.call_encode.specs.Put.{pasted, putAt};
 
-// The six fields in the order of their bits.
+// Returns the six fields, which are passed in the order of their bits.
 fn fields_at(kind: u32, caller: u32, a: u32, b: u32, c: u32, second: u32) -> Fields
     ensures { λ r. ⌜ r ≡ fieldsAt kind caller a b c second ⌝ }
 {
@@ -37,7 +37,7 @@ fn fields_at(kind: u32, caller: u32, a: u32, b: u32, c: u32, second: u32) -> Fie
     }
 }
 
-// Where each kind of call has its fields.
+// Returns the fields of a call, each where the call's kind has it.
 pub fn fields_of(call: Call) -> Fields
     ensures { λ r. ⌜ r ≡ fieldsOf call ⌝ }
 {
@@ -72,7 +72,7 @@ pub fn fields_of(call: Call) -> Fields
     }
 }
 
-// Every field is within its bits, and the call is no refused one.
+// Returns whether every field is within its bits and the call isn't a refused one.
 fn within_bits(f: Fields) -> bool
     ensures { λ r. ⌜ r ≡ withinBits f ⌝ }
 {
@@ -84,7 +84,7 @@ fn within_bits(f: Fields) -> bool
         & (f.second < KIND_UNIT)
 }
 
-// The call can be written.
+// Returns whether the call can be written.
 pub fn fits(call: Call) -> bool
     ensures { λ r. ⌜ r ≡ fits call ⌝ }
 {
@@ -92,14 +92,14 @@ pub fn fits(call: Call) -> bool
     within_bits(fields)
 }
 
-// Kinds 1 and 2 want a second word, as the cutting has it.
+// Returns whether a kind wants a second word: kinds 1 and 2 do, as where a list is split.
 fn wants_second(kind: u32) -> bool
     ensures { λ r. ⌜ r ≡ wantsSecond kind ⌝ }
 {
     (kind == KIND_LOOK_UP) | (kind == KIND_SEND)
 }
 
-// How many words the call is written in.
+// Returns how many words the call is written in.
 pub fn width(call: Call) -> usize
     ensures { λ r. ⌜ r ≡ length (encodedWords call) ⌝ }
 {
@@ -108,7 +108,7 @@ pub fn width(call: Call) -> usize
     if wants_second(kind) { 2 } else { 1 }
 }
 
-// The first word: each field at its bits.
+// Returns the first word, with each field at its bits.
 fn first_word(f: Fields) -> u32
     requires { ⌜ withinBits f ≡ true ⌝ }
     requires { ⌜ f .kind < 16 ⌝ }
@@ -117,7 +117,7 @@ fn first_word(f: Fields) -> u32
     f.kind * KIND_UNIT + (f.caller * CALLER_UNIT + f.a * A_UNIT + f.b * B_UNIT + f.c)
 }
 
-// The words of fields that are within their bits, from a place of the list on.
+// Stores the words of fields that are within their bits, from an index of the list on.
 fn put_fields(list: &mut [u32], at: usize, f: Fields)
     requires { ⌜ withinBits f ≡ true ⌝ }
     requires { ⌜ f .kind < 16 ⌝ }
@@ -131,7 +131,8 @@ fn put_fields(list: &mut [u32], at: usize, f: Fields)
     }
 }
 
-// The words of a call, from a place of the list on. Nothing is written where the call can't be, or its words would pass the end.
+// Stores the words of a call, from an index of the list on. Nothing is stored where the call can't be written, or where its words
+// would pass the end.
 pub fn put(list: &mut [u32], at: usize, call: Call)
     ensures { λ _. ⌜ now (list .exit) ≡ putAt (now (list .entry)) at call ⌝ }
 {

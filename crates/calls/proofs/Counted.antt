@@ -1,5 +1,5 @@
--- What a loop that counts the calls of a list keeps: the calls counted, and those that begin among the words behind the last
--- word read, are those of the list. The loop goes by the word before: a word that makes one call with it begins none.
+-- What a loop that counts the calls of a list keeps: the calls counted, and those that begin among the words after the last
+-- word read, are together those of the list. The loop has the word before: a word that makes one call with it begins none.
 -- Assumes nothing.
 use mathlib.Core.Path.{_≡_, refl, ap}
 use mathlib.Core.Bool.{Bool, true, false, cond}
@@ -16,7 +16,7 @@ use Rattle.machine.specs.Call.{wantsSecond, pairs, split}
 use Rattle.machine.proofs.Bools.{and-right}
 use Rattle.machine.proofs.Split.{split-one, split-two}
 
--- how many calls begin among the words ws, which stand behind the word p
+-- how many calls begin among the words ws, which come after the word p
 unfoldable pub begunAfter : ℕ → List ℕ → ℕ
 begunAfter p [] = 0
 begunAfter p (w ∷ ws) = cond (pairs p w) 0 1 + begunAfter w ws
@@ -28,7 +28,7 @@ second-pairs w v x h =
     let k : kind v ≡ 15 = eqb-true _ _ (and-right (wantsSecond (kind w)) (eqb (kind v) 15) h) in
     rw k
 
--- nor does 0, which stands before the first word
+-- nor does 0, which the loop has before the first word
 zero-pairs : (w : ℕ) → pairs 0 w ≡ false
 unfolding pairs wantsSecond
 zero-pairs w = refl
@@ -48,7 +48,7 @@ begun-two w v ws both alone = go (pairs w v) refl
     go true h = omega (arith, both h, ap length (split-two w v ws h))
     go false h = omega (arith, next, ap length (split-one w v ws h))
 
--- behind a word that makes no call with the next, every call of the words begins
+-- after a word that makes no call with the next, every call of the words begins
 begun-all : (p : ℕ) (ws : List ℕ) → ((w : ℕ) → pairs p w ≡ false) → begunAfter p ws ≡ length (split ws)
 unfolding begunAfter split
 begun-all p [] f = refl

@@ -1,4 +1,4 @@
--- To decide on a call is to take it decoded and then to decide on what that gives.
+-- To decide on a call is to decode it and then to decide on the decoded call.
 -- Assumes nothing.
 use Prim.Native.Nat.{ℕ}
 use mathlib.Core.Path.{_≡_, refl, sym}
@@ -18,7 +18,7 @@ use Rattle.calls.specs.declared.Refusal.the-variants.{UnusedField, NoSec
 use Rattle.calls.specs.declared.split.Second.{Second}
 use Rattle.calls.proofs.SplitAt.{first-of}
 
--- a kind of call wants a second word exactly if a word of its number does
+-- a kind of call wants a second word exactly if a word of that kind does
 wants-second : (n : ℕ) → wantsSecond n ≡ needsSecond (kindOf n)
 unfolding wantsSecond needsSecond kindOf
 wants-second n = go (eqb n 1) (eqb n 2) (eqb n 3) (eqb n 4) (eqb n 5) (eqb n 6) (eqb n 7) (eqb n 8) (eqb n 15)
@@ -44,7 +44,7 @@ wants-second n = go (eqb n 1) (eqb n 2) (eqb n 3) (eqb n 4) (eqb n 5) (eqb n 6) 
     go false false false false false false false false false = refl
 
 module _ (t : List ℕ) (w : ℕ) (s : Second) where
-  -- 12 before 13 and 14, whatever these two find
+  -- 12 comes before 13 and 14, whatever these two find
   framed-whole : (k : Kind) (next : Decision) (call : Call)
       → wantsSecond (kind w) ≡ needsSecond k
       → decideCall t call ≡ knownCaller t (caller w) next

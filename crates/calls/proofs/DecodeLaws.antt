@@ -1,4 +1,4 @@
--- Taking a call decoded, by what the code tests: a sum for the unused fields, a match for the second word and for the kind.
+-- The decoding of a call, by what the code tests: a sum for the unused fields, a match for the second word and for the kind.
 -- Assumes nothing.
 use Prim.Native.Nat.{ℕ, _+_, _*_, _%_, _^_, _<_, _≤_}
 use mathlib.Core.Path.{_≡_, refl, sym, ap, _∙_}
@@ -48,7 +48,7 @@ digits x a b c e = ((λ z. omega arith), (λ z. omega arith))
 pub no-field : (w : ℕ) → (w % 4194304 ≡ 0) ↔ (total (fieldA w ∷ fieldB w ∷ fieldC w ∷ []) ≡ 0)
 no-field w = digits (w % 4194304) (fieldA w) (fieldB w) (fieldC w) (low-bits w)
 
--- what the places 13 and 14 come to: 13 refuses, neither does, or 14 does
+-- the result of the places 13 and 14: 13 refuses, neither does, or 14 does
 module _ (w : ℕ) (s : Second) (k : Kind) (next : Call) where
   pub unused : (total (unusedFields k w) ≡ 0 → ⊥) → Refused (caller w) UnusedField ≡ whole w s k next
   unfolding whole
@@ -67,7 +67,7 @@ pub no-second : (w : ℕ) (k : Kind) (next : Call)
 unfolding whole hasSecond
 no-second w k next h wants = rw (all-zero, eq-eqb _ _ h, wants)
 
--- a call goes by its kind
+-- a call is decoded by its kind
 pub of-kind : {n : ℕ} (w : ℕ) (s : Second) → kind w ≡ n → ofKind w s (kindOf n) ≡ decoded w s
 unfolding decoded
 of-kind w s is = ap (λ (k : ℕ). ofKind w s (kindOf k)) (sym is)
@@ -103,7 +103,7 @@ from-four n d0 d1 d2 d3 = omega arith
 from-eight : (n : ℕ) → 4 ≤ n → (n ≡ 4 → ⊥) → (n ≡ 5 → ⊥) → (n ≡ 6 → ⊥) → (n ≡ 7 → ⊥) → 8 ≤ n
 from-eight n low d4 d5 d6 d7 = omega arith
 
--- with 9 to 14 gone too, 8 is the one kind left
+-- without 9 to 14 too, 8 is the one kind left
 pub eight-left : (w : ℕ) → w < 2 ^ 32 → Others (kind w) → (kind w < 9) ⊎ (15 ≤ kind w) → kind w ≡ 8
 eight-left w fits (((((((((_, d15), d0), d1), d2), d3), d4), d5), d6), d7) (inl h) =
     omega (arith, from-eight (kind w) (from-four (kind w) d0 d1 d2 d3) d4 d5 d6 d7)

@@ -1,4 +1,4 @@
--- What is proved of taking a call apart.
+-- What is proved of decoding a call and of splitting a list.
 pub mod DecodeLaws
 pub mod Decided
 pub mod Numbers

@@ -1,4 +1,4 @@
--- The numbers of the refusals: none is above 23. Assumes nothing.
+-- The codes of the refusals: none is above 23. Assumes nothing.
 use Prim.Native.Nat.{_≤_}
 use native.Mathlib.Omega.{arith}
 use Rattle.calls.specs.Number.{numberOf}

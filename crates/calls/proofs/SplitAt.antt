@@ -1,4 +1,4 @@
--- A list is cut at the place of a call into that call and the words behind it (specs/Cutting).
+-- A list is split at the index of a call into that call and the words after it (specs/Split).
 -- Assumes nothing.
 use mathlib.Core.Path.{_≡_, refl, sym, ap, _∙_}
 use mathlib.Core.Bool.{Bool, true, false, cond, _&&_}
@@ -17,7 +17,7 @@ use Rattle.calls.specs.Split.{callOf, secondAt, widthOf}
 use Rattle.calls.specs.declared.split.Second.{Second}
 use Rattle.calls.specs.declared.split.Second.the-variants.{Nothing, Word}
 
--- the first word of a call, and how many words it is at the least
+-- the first word of a call, and how many words it has at least
 pub first-of : (w : ℕ) (s : Second) → first (callOf w s) ≡ w
 unfolding first
 first-of w Nothing = refl
@@ -35,7 +35,7 @@ module _ (ws : List ℕ) (i : ℕ) (l : i < length ws) where
   here : drop i ws ≡ getD ws i 0 ∷ drop (i + 1) ws
   here = rw (add-one i) (drop-cons ws i 0 l)
 
-  -- the word behind is there or not, and makes one call with this one or not
+  -- the next word is there or not, and makes one call with this one or not
   pub split-at : SplitAt ws i (secondAt ws i)
   unfolding secondAt
   split-at = go (ltb (i + 1) (length ws)) refl (pairs (getD ws i 0) (getD ws (i + 1) 0)) refl

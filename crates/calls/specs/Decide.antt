@@ -1,5 +1,5 @@
--- The machine's decision on a call that is taken apart. Place 12 is the one that needs a table before the kind's own: it
--- stands between 11 and 13, so it comes before a refusal by 13 or 14 and after one by 10 or 11
+-- The machine's decision on a decoded call. Place 12 is the one that needs a table before the kind's own places. It is between
+-- 11 and 13, so it comes before a refusal by 13 or 14 and after one by 10 or 11
 -- (document 01, 'Where each number is checked').
 use Prim.Native.Nat.{ℕ}
 use mathlib.Core.Bool.{cond, not}
@@ -21,7 +21,7 @@ knownCaller t u next = place (not (ltb u (domains t))) 12 next
 unfoldable pub refusedCall : List ℕ → ℕ → Refusal → Decision
 refusedCall t u r = cond (ltb (numberOf r) 12) (refused (numberOf r)) (knownCaller t u (refused (numberOf r)))
 
--- what a call that is taken apart comes to on the table t
+-- the decision on a decoded call, on the table t
 unfoldable pub decideCall : List ℕ → Call → Decision
 decideCall t (Refused u r) = refusedCall t u r
 decideCall t (LookUp u x) = knownCaller t u (lookUpPlaces (named t x))

@@ -1,5 +1,5 @@
--- A call taken decoded: what it asks for, or its refusal by one of the places that need no table: 10, 11, 13 and 14, in this
--- order (document 01, 'The calls' and 'Where each number is checked').
+-- A decoded call: what it asks for, or its refusal by one of the places that need no table: 10, 11, 13 and 14, in this order
+-- (document 01, 'The calls' and 'Where each number is checked').
 use Prim.Native.Nat.{ℕ}
 use mathlib.Core.Bool.{Bool, true, false, cond, not, _&&_}
 use Rattle.machine.specs.Word.{kind, caller, fieldA, fieldB, fieldC}
@@ -30,7 +30,7 @@ whole w s k next =
     cond (not (machine.allZero (machine.unusedFields k w))) (Refused (caller w) UnusedField)
     (cond (needsSecond k && not (machine.hasSecond (callOf w s))) (Refused (caller w) NoSecondWord) next)
 
--- a call of a kind: its caller and the fields that the kind uses; a stray has no caller, and 0 stands in its place
+-- a call of a kind: its caller and the fields that the kind uses; a stray has no caller, and 0 is in its place
 unfoldable pub ofKind : ℕ → Second → machine.Kind → Call
 ofKind w s stray = Refused 0 Stray
 ofKind w s unknown = Refused (caller w) UnknownKind

@@ -1,4 +1,4 @@
--- What the contracts of the calls cite.
+-- What the contracts of crate calls cite.
 pub mod Number
 pub mod Decode
 pub mod Decide

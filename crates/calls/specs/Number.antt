@@ -1,4 +1,4 @@
--- The paper's number of each refusal (document 01, 'Where each number is checked').
+-- The paper's code of each refusal (document 01, 'Where each number is checked').
 use Prim.Native.Nat.{ℕ}
 use Rattle.calls.specs.declared.Refusal.{Refusal}
 use Rattle.calls.specs.declared.Refusal.the-variants.{Stray, UnknownKind, UnknownCaller, UnusedField, NoSecondWord, NoSuchName, NoSuchEndpoint, MayNotSend, NotOwner, NothingWaiting, NoSuchDomain, BadRights, LacksRight, NoInfluence}

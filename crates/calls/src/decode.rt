@@ -1,6 +1,6 @@
-// What each kind of call makes of its words: the fields that it uses, once those that it doesn't use are found zero (13) and
-// its second word, if it wants one, is there (14). A, B and C are bits 21–16, 15–8 and 7–0 of the first word: all three are
-// zero when bits 21–0 are, two of them when their sum is.
+// The decoding of a call, kind by kind (document 01, 'The calls'): the fields that it uses, once those that it doesn't use are
+// zero (13) and its second word, if it wants one, is there (14). A, B and C are bits 21–16, 15–8 and 7–0 of the first word. All
+// three are zero if bits 21–0 are, and two of them are if their sum is.
 use crate::Call;
 use crate::Refusal;
 use crate::split::Second;
@@ -72,7 +72,7 @@ pub fn send(first: u32, second: Second) -> Call
 }
 
 // Returns the receive that the word asks for, or its refusal by 13. This kind and those below want no second word: a call of one
-// comes to the same whatever stands there.
+// of them decodes to the same, whatever the second word is.
 pub fn receive(first: u32) -> Call
     ensures { λ r. ⌜ ((second : AnySecond) → r ≡ ofKind first second receive) ⌝ }
 {
@@ -117,7 +117,7 @@ pub fn my_rights(first: u32) -> Call
     Call::MyRights { caller }
 }
 
-// Returns the grant that the word asks for: it uses every field, so nothing refuses it here.
+// Returns the grant that the word asks for. It uses every field, so nothing refuses it here.
 pub fn grant(first: u32) -> Call
     ensures { λ r. ⌜ ((second : AnySecond) → r ≡ ofKind first second grant) ⌝ }
 {
@@ -150,7 +150,7 @@ pub fn remove(first: u32) -> Call
     }
 }
 
-// Returns the revoke that the word asks for: it uses every field, so nothing refuses it here.
+// Returns the revoke that the word asks for. It uses every field, so nothing refuses it here.
 pub fn revoke(first: u32) -> Call
     ensures { λ r. ⌜ ((second : AnySecond) → r ≡ ofKind first second revoke) ⌝ }
 {
@@ -162,7 +162,8 @@ pub fn revoke(first: u32) -> Call
     }
 }
 
-// Takes a call of one or two words decoded. Any words will do: what the cutting of a list gives is a special case.
+// Returns the decoded call of a first word and, if there is one, a second, or its refusal by 10, 11, 13 or 14. Total: accepts
+// arbitrary words, of which the words of a split list are a special case.
 pub fn decode(first: u32, second: Second) -> Call
     ensures { λ r. ⌜ r ≡ decoded first second ⌝ }
 {

@@ -1,4 +1,4 @@
-// The calls of documents 01 and 02, taken apart without a table: what a call asks for, as one choice among its kinds, or the refusal
+// The calls of documents 01 and 02, decoded without a table: what a call asks for, as one choice among its kinds, or its refusal
 // by a place that needs no table (10, 11, 13 and 14). Crate rules puts 12, which needs one, between 11 and 13.
 pub mod decode;
 pub mod split;
@@ -24,9 +24,9 @@ pub enum Refusal {
     NoInfluence, // 23
 }
 
-// A call taken apart: its caller and the fields that its kind uses, as found. A refused one has its caller for place 12 alone,
-// which comes before 13 and 14; a stray has none, and the 0 in its place is never looked at. The answer's kind and caller come
-// from the call's first word.
+// A decoded call: its caller and the fields that its kind uses, as found. A refused one has its caller for place 12 alone, which
+// comes before 13 and 14. A stray has no caller, and the 0 in its place is never read. The answer's kind and caller come from
+// the call's first word.
 pub enum Call {
     LookUp {
         caller: u32,
@@ -70,7 +70,7 @@ pub enum Call {
     },
 }
 
-// Returns the paper's number of a refusal.
+// Returns the paper's code of a refusal.
 pub fn number(refusal: Refusal) -> u32
     ensures { λ r. ⌜ r ≡ numberOf refusal ⌝ }
 {

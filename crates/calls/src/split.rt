@@ -1,4 +1,5 @@
-// The cutting of a list into calls. It looks at kinds only, so it can't depend on a table: no function here is lent one.
+// Splits a list into calls (document 01, 'The calls'). It looks at kinds only, so it can't depend on a table: no function here is
+// lent one.
 use format::KIND_UNIT;
 use format::calls::KIND_LOOK_UP;
 use format::calls::KIND_SECOND;
@@ -15,14 +16,14 @@ pub enum Second {
     Word(u32),
 }
 
-// Kinds 1 and 2 want a second word.
+// Returns whether a kind wants a second word: kinds 1 and 2 do.
 fn wants_second(kind: u32) -> bool
     ensures { λ r. ⌜ r ≡ wantsSecond kind ⌝ }
 {
     kind == KIND_LOOK_UP || kind == KIND_SEND
 }
 
-// The words first and next, one directly after the other, make one call of both.
+// Returns whether the words first and next, one directly after the other, make one call of both.
 pub fn make_one_call(first: u32, next: u32) -> bool
     ensures { λ r. ⌜ r ≡ pairs first next ⌝ }
 {
@@ -34,14 +35,14 @@ pub fn make_one_call(first: u32, next: u32) -> bool
     }
 }
 
-// How many calls the word begins that stands behind the word before: one, or none where the two make one call.
+// Returns how many calls a word begins: one, or none where it makes one call with the word before it.
 fn begun(before: u32, word: u32) -> usize
     ensures { λ r. ⌜ r ≡ cond (pairs before word) 0 1 ⌝ }
 {
     if make_one_call(before, word) { 0 } else { 1 }
 }
 
-// How many calls a list has: every word begins one, but for a word that makes one call with the word before it.
+// Returns how many calls a list has. Every word begins one, except a word that makes one call with the word before it.
 pub fn count(list: &[u32]) -> usize
     ensures { λ r. ⌜ r ≡ length (split (now (list .entry))) ⌝ }
 {
@@ -57,7 +58,7 @@ pub fn count(list: &[u32]) -> usize
     calls
 }
 
-// The second word of the call that begins at place i of a list, if it has one; nothing behind the list's end.
+// Returns the second word of the call that begins at index i of a list, if it has one. Past the list's end there is none.
 pub fn second_at(list: &[u32], i: usize) -> Second
     ensures { λ r. ⌜ r ≡ secondAt (now (list .entry)) i ⌝ }
 {
@@ -75,7 +76,7 @@ pub fn second_at(list: &[u32], i: usize) -> Second
     }
 }
 
-// How many words a call is.
+// Returns how many words a call has.
 pub fn width(second: Second) -> usize
     ensures { λ r. ⌜ r ≡ widthOf second ⌝ }
 {

@@ -1,4 +1,4 @@
--- What is told in each of the three cases (specs/Told). Assumes nothing.
+-- What is reported in each of the three cases (specs/Reported). Assumes nothing.
 use mathlib.Core.Path.{_≡_, _∙_}
 use mathlib.Core.List.{List}
 use Prim.Native.Nat.{ℕ, _<_, _≤_}
@@ -29,7 +29,7 @@ module _ (t : List ℕ) (d : ℕ) where
       record { sameCode = rw bad e; sameMembers = rw (bad, bad) }
 
   module _ (a : Accepted t) where
-    -- a number that is no domain's
+    -- an index that is no domain's
     pub told-none : domains t ≤ d → ComponentReported t d 32 0
     unfolding reportedMembers reportedCode
     told-none l = record { sameCode = rw (a, le-ltb d (domains t) l); sameMembers = rw (a, le-ltb d (domains t) l) }
@@ -59,7 +59,7 @@ module _ (t : List ℕ) (d : ℕ) where
       lt-of-lt-of-le (relation-lt (domains t) (joined t) d l) (pow-mono (accepted-counts t a .1)))
       (λ _. omega arith)
 
--- an answer's number is small
+-- an answer's code is small
 pub code-small : (c : Component) → componentCode c ≤ 32
 code-small (Of members) = omega arith
 code-small (BadTable r) = go r

@@ -31,7 +31,7 @@ pub joined-read :
 unfolding joined reaches rights rightsWord
 joined-read t n u v held back e p q = rw (p, q, e)
 
--- ---- the set of those below n of which p holds, bit by bit: u of them have been asked
+-- ---- the set of those below n of which p holds, bit by bit: u of them have been tested
 pub record Gathered (p : ℕ → Bool) (n bits u : ℕ) : Type 0 where
   pub within : u ≤ n
   pub found : bits ≡ bitsBelow u p

@@ -1,4 +1,4 @@
--- What is told of a domain's component in any words as a table: a code, and the members as bits.
+-- What is reported of a domain's component (document 02 (j)) in arbitrary words as a table: a code, and the members as bits.
 use Prim.Native.Nat.{ℕ}
 use mathlib.Core.Path.{_≡_}
 use mathlib.Core.Bool.{cond}
@@ -19,18 +19,18 @@ reportedCode t d = cond (eqb (tableCode t) 0) (cond (ltb d (domains t)) 0 32) (t
 unfoldable pub reportedMembers : List ℕ → ℕ → ℕ
 reportedMembers t d = cond (eqb (reportedCode t d) 0) (component t d) 0
 
--- Of the domain d in the words t, a code and members were told: these.
+-- The code and the members are what is reported of the domain d in the words t.
 pub record ComponentReported (t : List ℕ) (d code members : ℕ) : Type 0 where
   pub sameCode : code ≡ reportedCode t d
   pub sameMembers : members ≡ reportedMembers t d
 
--- the number of an answer
+-- the code of an answer
 abbrev pub componentCode : Component → ℕ
 componentCode (Of members) = 0
 componentCode (BadTable r) = refusalCode r
 componentCode NotADomain = 32
 
--- the members that an answer tells
+-- the members that an answer has
 abbrev pub componentMembers : Component → ℕ
 componentMembers (Of members) = members
 componentMembers (BadTable r) = 0

@@ -1,5 +1,5 @@
-// Who is joined to whom in a table, as words, and what hangs together by them: bit u of word v is set where either of u and v has
-// a right on the other.
+// Who is joined to whom in a table, as words, and the connected component of a domain by them (document 02 (j)): bit u of word v is
+// set where either of u and v has a right on the other.
 use reachability::bit;
 use reachability::closure;
 use table_layout::rights;
@@ -11,7 +11,7 @@ ghost use Rattle.machine.specs.Table.{domains};
 ghost use Rattle.reachability.specs.Chain.{linkWords};
 ghost use Rattle.isolation_theory.specs.Component.{joined, component};
 
-// Either of two domains has a right on the other.
+// Returns whether either of two domains has a right on the other.
 fn joins(table: &[u32], n: u32, u: u32, v: u32) -> bool
     requires { ⌜ n ≡ domains (now table) ⌝ }
     ensures { λ b. ⌜ b ≡ joined (now (table .entry)) u v ⌝ }
@@ -23,7 +23,7 @@ fn joins(table: &[u32], n: u32, u: u32, v: u32) -> bool
     reaches | reached
 }
 
-// All that are joined to a domain.
+// Returns the set of all that are joined to a domain.
 fn joined_word(table: &[u32], n: u32, v: u32) -> u32
     requires { ⌜ n ≡ domains (now table) ⌝ }
     requires { ⌜ n ≤ 16 ⌝ }
@@ -41,7 +41,7 @@ fn joined_word(table: &[u32], n: u32, v: u32) -> u32
     bits
 }
 
-// The words of all n domains, from the first place on.
+// Returns the words of all n domains, from the first place on.
 fn joined_words(table: &[u32], n: u32) -> [u32; 16]
     requires { ⌜ n ≡ domains (now table) ⌝ }
     requires { ⌜ n ≤ 16 ⌝ }
@@ -58,7 +58,7 @@ fn joined_words(table: &[u32], n: u32) -> [u32; 16]
     words
 }
 
-// The component of a domain below n.
+// Returns the connected component of a domain below n.
 pub fn members(table: &[u32], n: u32, domain: u32) -> u32
     requires { ⌜ n ≡ domains (now table) ⌝ }
     requires { ⌜ n ≤ 16 ⌝ }

@@ -1,5 +1,5 @@
-// The component of a domain: all that hang together with it by rights in a table, in either direction (document 02 (j): its
-// group). Any words will do as a table, and any number as a domain.
+// The connected component of a domain (document 02 (j): its group): all that are connected with it by rights in a table, in
+// either direction. Total: accepts arbitrary words as a table, and any index as a domain.
 mod connections;
 
 use connections::members;
@@ -10,7 +10,7 @@ use table_layout::domains;
 ghost use mathlib.Core.Path.{_≡_};
 ghost use Rattle.components.specs.Reported.{ComponentReported, componentCode, componentMembers};
 
-// What is told of a domain's component.
+// The answer about a domain's component.
 pub enum Component {
     // the members, a bit for each
     Of(u32),
@@ -21,7 +21,7 @@ pub enum Component {
 }
 
 impl Component {
-    // The number of the answer: 0 where the component is told.
+    // Returns the code of the answer, 0 where it has the component.
     pub fn code(self) -> u32
         ensures { λ r. ⌜ r ≡ componentCode self ⌝ }
     {
@@ -32,7 +32,7 @@ impl Component {
         }
     }
 
-    // The members as bits: none where the component isn't told.
+    // Returns the members as bits, none where the answer has no component.
     pub fn members(self) -> u32
         ensures { λ r. ⌜ r ≡ componentMembers self ⌝ }
     {
@@ -44,7 +44,7 @@ impl Component {
     }
 }
 
-// The component of a domain in a table.
+// Returns the connected component of a domain in a table, or why it is refused.
 pub fn component_of(table: &[u32], domain: u32) -> Component
     ensures { λ r. ⌜ ComponentReported (now (table .entry)) domain (componentCode r) (componentMembers r) ⌝ }
 {

@@ -1,4 +1,4 @@
-// Document 01, 'The calls': the answer words of a call.
+// The answer words of a call: document 01, 'The calls'.
 use crate::calls::LONGEST_LIST;
 
 // An answer's code, bits 15–0 of its first word, is the remainder by this.

@@ -1,10 +1,10 @@
-// Document 01, 'The calls', with the kind that document 02 adds.
+// The words of a call: document 01, 'The calls', with the kind that document 02 adds.
 use crate::KIND_UNIT;
 
 // The most words of a list.
 pub const LONGEST_LIST: usize = 4096;
 
-// The fields of a call's first word begin at these: the caller in bits 27–22, A in bits 21–16, B in bits 15–8. C is bits 7–0.
+// The lowest bit of each field of a call's first word: the caller is bits 27–22, A bits 21–16, B bits 15–8. C is bits 7–0.
 pub const CALLER_UNIT: u32 = 0x40_0000;
 
 pub const A_UNIT: u32 = 0x1_0000;
@@ -31,5 +31,5 @@ pub const KIND_REVOKE: u32 = 8;
 // The kind of a call's second word.
 pub const KIND_SECOND: u32 = 15;
 
-// A second word with nothing in it: the name or the message is added to it.
+// A second word that holds nothing. The name or the message is added to it.
 pub const SECOND_WORD: u32 = KIND_SECOND * KIND_UNIT;

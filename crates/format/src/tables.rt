@@ -1,4 +1,4 @@
-// Document 01, 'The table'.
+// The words of a table and its bounds: document 01, 'The table'.
 use crate::KIND_UNIT;
 
 // The kinds of a table's words: word 0, a rights word, and an endpoint's name, info, waiting count, lost count and slots.
@@ -16,8 +16,8 @@ pub const KIND_LOST: u32 = 6;
 
 pub const KIND_SLOT: u32 = 15;
 
-// A rights word with no right, and the words of an empty queue: nothing waits, nothing was lost, a slot has no message. What such a
-// word holds otherwise is added to it.
+// A rights word with no right, and the words of an empty queue: nothing waits, nothing was lost, a slot has no message. What
+// such a word holds otherwise is added to it.
 pub const NO_RIGHT: u32 = KIND_RIGHTS * KIND_UNIT;
 
 pub const NONE_WAITING: u32 = KIND_WAITING * KIND_UNIT;
@@ -36,7 +36,7 @@ pub const MOST_ENDPOINTS: u32 = 32;
 
 pub const SLOTS: u32 = 8;
 
-// As many places, where they are lengths.
+// The same three bounds as lengths.
 pub const DOMAIN_PLACES: usize = MOST_DOMAINS as usize;
 
 pub const ENDPOINT_PLACES: usize = MOST_ENDPOINTS as usize;

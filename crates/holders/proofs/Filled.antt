@@ -1,5 +1,5 @@
--- The words as they are worked out from a table, one after the other and row by row; for callers, that it is done for each accepted
--- table. Assumes nothing.
+-- The holders as they are computed from a table, one after the other and row by row, and for callers that it is done for each
+-- accepted table. Assumes nothing.
 use mathlib.Core.Path.{_≡_, refl, sym, ap, ap₂, _∙_}
 use mathlib.Core.Bool.{true, cond, _&&_}
 use mathlib.Core.List.{List, [], _∷_, _++_}
@@ -112,7 +112,7 @@ module _ (t : List ℕ) (n : ℕ) (ps : List ℕ) (h : ℕ) (x : Gathered t n ps
         let all : h ≡ domains t = omega (arith, x .within) in
         x .found ∙ ap₂ (λ (k j : ℕ). wordsBelow k (λ g. bitsBelow j (λ u. reaches t u g))) e all
 
--- ---- whether the words are worked out at all
+-- ---- whether the holders are computed at all
 
 pub has-room : (t : List ℕ) (n : ℕ) (p : List ℕ) → roomFor n (length t) (length p) ≡ true → HoldersFit t n p
 unfolding roomFor

@@ -1,4 +1,4 @@
--- What is told of who can reach a domain; for callers, that the numbers are small. Assumes nothing.
+-- What is reported of who can reach a domain, and for callers that the code and the set are small. Assumes nothing.
 use mathlib.Core.Path.{_≡_, refl, sym, subst}
 use mathlib.Core.Bool.{true, false, and-false}
 use mathlib.Core.List.{List}
@@ -19,7 +19,7 @@ pub use Rattle.holders_theory.proofs.Reported.{asked-small}
 
 -- ---- when words can be asked
 
--- no bit from their number on in the first v words
+-- the first v words have no bit at or above the count of the words
 pub record Within (ws : List ℕ) (v : ℕ) : Type 0 where
   pub most : v ≤ length ws
   pub small : allBelow v (λ i. ltb (getD ws i 0) (2 ^ length ws)) ≡ true
@@ -52,7 +52,7 @@ module _ (ws : List ℕ) (d : ℕ) where
   unfolding askable
   no-domain l = rw (le-ltb d (length ws) l, and-false)
 
-  -- ---- what is told
+  -- ---- what is reported
 
   pub told-nothing : false ≡ askable ws d → ReachReported ws d 32 0
   unfolding askCode asked
@@ -62,7 +62,7 @@ module _ (ws : List ℕ) (d : ℕ) where
   unfolding askCode asked
   told h set e = record { sameCode = rw (← h); sameSet = rw (← h) e }
 
--- an answer's number is small
+-- an answer's code is small
 pub code-small : (a : Asked) → askedCode a ≤ 32
 code-small (Reach set) = omega arith
 code-small NotAskable = omega arith

@@ -1,4 +1,4 @@
--- What the contracts of this crate cite besides the words themselves, which stand in crates/holder_words.
+-- What the contracts of this crate cite besides the definitions of crates/holders_theory.
 pub mod Noted
 pub mod Rows
 pub mod Asked

@@ -1,2 +1,2 @@
--- For callers: the words of the holders after an effect of the machine.
+-- For callers: the holders after a change of rights, and after an effect of the machine.
 unfoldable pub use Rattle.holders_theory.specs.Noted.{noted, holdersAfter}

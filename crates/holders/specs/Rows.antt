@@ -1,4 +1,4 @@
--- What working the panel's words out row by row asks for, and what one row adds.
+-- What computing the holders row by row requires, and what one row adds.
 use Prim.Native.Nat.{ℕ, _*_, _^_, _<_, _≤_}
 use mathlib.Core.Path.{_≡_}
 use mathlib.Core.Bool.{cond}
@@ -9,7 +9,7 @@ use Rattle.machine.specs.Word.{payload}
 use Rattle.machine.specs.Right.{hasAny}
 use Rattle.machine.specs.Table.{rightsAt}
 
--- As much is lent: the words p are those of n domains, at most 16, and the table t has all their rights words.
+-- The lent words fit: p has one for each of n domains, at most 16, and the table t has all their rights words.
 pub record HoldersFit (t : List ℕ) (n : ℕ) (p : List ℕ) : Type 0 where
   pub few : n ≤ 16
   pub words : length p ≡ n

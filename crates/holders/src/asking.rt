@@ -1,4 +1,4 @@
-// When words can be asked about a domain.
+// Whether words can be asked about a domain (document 02 (h): 32).
 use format::tables::DOMAIN_PLACES;
 use reachability::bit;
 ghost use mathlib.Core.Path.{_≡_};
@@ -6,7 +6,7 @@ ghost use Prim.Native.Nat.{_≤_};
 ghost use lib.ListN.{length};
 ghost use Rattle.holders_theory.specs.Asked.{bitsWithin, askable};
 
-// No word has a bit from their number on.
+// Returns whether no word has a bit at or above the count of the words.
 fn bits_within(words: &[u32]) -> bool
     requires { ⌜ length (now words) ≤ 16 ⌝ }
     ensures { λ b. ⌜ b ≡ bitsWithin (now (words .entry)) ⌝ }
@@ -22,7 +22,7 @@ fn bits_within(words: &[u32]) -> bool
     true
 }
 
-// The words are 1 to 16, none has a bit from their number on, and the domain is below it.
+// Returns whether the words are 1 to 16, none has a bit at or above their count, and the domain is below it.
 pub fn askable(words: &[u32], domain: u32) -> bool
     ensures { λ b. ⌜ b ≡ askable (now (words .entry)) domain ⌝ }
 {

@@ -1,4 +1,4 @@
-// Sets of domains as words, with a bit for each member.
+// Sets of domains as words, with a bit for each member (document 02 (h)).
 use format::KIND_UNIT;
 use reachability::bit;
 ghost use mathlib.Core.Path.{_≡_};
@@ -8,7 +8,7 @@ ghost use Rattle.machine.specs.Word.{payload};
 ghost use Rattle.machine.specs.Right.{hasAny};
 ghost use Rattle.holders_theory.specs.Noted.{withBit};
 
-// A bit of a word set or cleared.
+// Returns the word with bit i set or cleared.
 pub fn with_bit(word: u32, i: u32, set: bool) -> u32
     requires { ⌜ i < 32 ⌝ }
     ensures { λ r. ⌜ r ≡ withBit word i set ⌝ }
@@ -20,7 +20,7 @@ pub fn with_bit(word: u32, i: u32, set: bool) -> u32
     word - (word & one)
 }
 
-// A holder's own set where a rights word has any right in it, else none.
+// Returns the holder's own set where a rights word has any right in it, else the empty set.
 pub fn held(rights: u32, holder: u32) -> u32
     ensures { λ r. ⌜ r ≡ cond (hasAny (payload rights)) holder 0 ⌝ }
 {

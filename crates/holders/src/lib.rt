@@ -1,6 +1,6 @@
-// The panel's words (document 02 (h)): beside a table stands one word a domain, in which bit h is set where domain h has a right on
-// it. They are worked out from a table, kept by noting each change of rights, and asked for all that have a chain of rights to a
-// domain. Any words will do, as a table and as the panel's.
+// The holders (document 02 (h)): one bitmap a domain beside a table, in which bit h is set where domain h has a right on that
+// domain. They are computed from a table, kept by noting each change of rights, and asked for all that have a chain of rights to
+// a domain. Total: accepts arbitrary words as a table and as holders.
 mod asking;
 mod bits;
 mod rows;
@@ -17,8 +17,8 @@ ghost use Rattle.holders_theory.specs.Noted.{noted, filled};
 ghost use Rattle.holders_theory.specs.Asked.{ReachReported};
 ghost use Rattle.holders.specs.Asked.{askedCode, askedSet};
 
-// What the table says, worked out afresh. Where the words aren't those of the table's domains, or the table has not all its rights
-// words, they stay.
+// Computes the holders of a table afresh. Leaves the words as they are where the table has more than 16 domains or lacks rights
+// words, or where other than one word a domain is lent.
 pub fn fill(table: &[u32], holders: &mut [u32])
     ensures { λ _. ⌜ now (holders .exit) ≡ filled (now (table .entry)) (now (holders .entry)) ⌝ }
 {
@@ -28,7 +28,7 @@ pub fn fill(table: &[u32], holders: &mut [u32])
     }
 }
 
-// A holder's rights on a target have become these. Where the words have no such bit they stay.
+// Notes that a holder's rights on a target have become these. Leaves the words as they are where they have no such bit.
 pub fn note(holders: &mut [u32], holder: u32, target: u32, rights: u32)
     ensures { λ _. ⌜ now (holders .exit) ≡ noted (now (holders .entry)) holder target rights ⌝ }
 {
@@ -44,16 +44,16 @@ pub fn note(holders: &mut [u32], holder: u32, target: u32, rights: u32)
     }
 }
 
-// What is told of who can reach a domain.
+// The answer to who can reach a domain.
 pub enum Asked {
-    // those with a chain of rights to it, a bit for each, the domain itself among them
+    // the domains with a chain of rights to it, a bit for each, the domain itself among them
     Reach(u32),
-    // 32: the words aren't 1 to 16, or one has a bit from their number on, or the domain isn't below it
+    // 32: the words aren't 1 to 16, or one has a bit at or above their count, or the domain isn't below it
     NotAskable,
 }
 
 impl Asked {
-    // The number of the answer: 0 where the question is answered.
+    // Returns the code of the answer, 0 where the question is answered.
     pub fn code(self) -> u32
         ensures { λ r. ⌜ r ≡ askedCode self ⌝ }
     {
@@ -63,7 +63,7 @@ impl Asked {
         }
     }
 
-    // The domains as bits: none where the question isn't answered.
+    // Returns the domains as bits, none where the question isn't answered.
     pub fn set(self) -> u32
         ensures { λ r. ⌜ r ≡ askedSet self ⌝ }
     {
@@ -74,7 +74,7 @@ impl Asked {
     }
 }
 
-// Every domain with a chain of rights to a given one, in the words lent.
+// Returns every domain with a chain of rights to a given one in the lent words, or that they can't be asked.
 pub fn who_reaches(words: &[u32], domain: u32) -> Asked
     ensures { λ r. ⌜ ReachReported (now (words .entry)) domain (askedCode r) (askedSet r) ⌝ }
 {

@@ -1,4 +1,4 @@
-// The words worked out from a table, row by row: the rights that one domain holds stand side by side.
+// The holders computed from a table row by row (document 02 (h)): the rights that one domain holds are side by side.
 use crate::bits::held;
 use format::tables::MOST_DOMAINS;
 use reachability::bit;
@@ -12,7 +12,7 @@ ghost use Rattle.machine.specs.Holders.{holdersOf};
 ghost use Rattle.holders_theory.specs.Noted.{roomFor};
 ghost use Rattle.holders.specs.Rows.{HoldersFit, withRow};
 
-// As many words are lent as there are domains, at most 16, and the table has their rights words.
+// Returns whether there are at most 16 domains, as many words are lent, and the table has all their rights words.
 pub fn fillable(n: u32, size: usize, lent: usize) -> bool
     ensures { λ b. ⌜ b ≡ roomFor n size lent ⌝ }
 {
@@ -23,7 +23,7 @@ pub fn fillable(n: u32, size: usize, lent: usize) -> bool
     (lent == count) & (count * count < size)
 }
 
-// No domain holds anything.
+// Clears every word: no domain holds anything.
 fn clear(holders: &mut [u32])
     ensures { λ _. ⌜ now (holders .exit) ≡ wordsBelow (length (now (holders .entry))) (λ _. 0) ⌝ }
 {
@@ -34,7 +34,7 @@ fn clear(holders: &mut [u32])
     }
 }
 
-// What one domain holds is added.
+// Adds what one domain holds: its bit in the word of each domain that it has a right on.
 fn add_row(table: &[u32], n: u32, h: u32, holders: &mut [u32])
     requires { ⌜ HoldersFit (now table) n (now holders) ⌝ }
     requires { ⌜ h < n ⌝ }
@@ -51,7 +51,7 @@ fn add_row(table: &[u32], n: u32, h: u32, holders: &mut [u32])
     }
 }
 
-// The words of all n domains.
+// Computes the words of all n domains.
 pub fn fill_rows(table: &[u32], n: u32, holders: &mut [u32])
     requires { ⌜ HoldersFit (now table) n (now holders) ⌝ }
     requires { ⌜ n ≡ domains (now table) ⌝ }

@@ -1,4 +1,4 @@
--- The rows of the panel's words hold, each by computation (specs/Examples). Assumes nothing.
+-- The rows of the holders hold, each by computation (specs/Examples). Assumes nothing.
 use mathlib.Core.Path.{refl}
 use Rattle.machine.specs.Below.{wordsBelow, bitsBelow}
 use Rattle.machine.specs.Holders.{holdersOf}

@@ -1,4 +1,4 @@
--- The words as they are worked out from a table, or left (specs/Noted). Assumes nothing.
+-- The holders as they are computed from a table, or the words as they are left (specs/Noted). Assumes nothing.
 use mathlib.Core.Path.{_≡_, refl, sym}
 use mathlib.Core.Bool.{true, false}
 use mathlib.Core.List.{List}
@@ -25,7 +25,7 @@ module _ (t p : List ℕ) (n : ℕ) (e : n ≡ domains t) where
   unfolding filled
   filled-stays h = rw (← e, h)
 
--- ---- for callers: an accepted table is worked out into as many words as it has domains
+-- ---- for callers: the holders of an accepted table are computed into as many words as it has domains
 pub filled-accepted : (t p : List ℕ) → Accepted t → length p ≡ domains t → filled t p ≡ holdersOf t
 unfolding roomFor
 filled-accepted t p a e =

@@ -1,4 +1,4 @@
--- The words are kept: noting what a call alters leaves those of the table after it (specs/Claims). Assumes nothing.
+-- The holders are kept: noting what a call alters leaves those of the table after it (specs/Claims). Assumes nothing.
 use mathlib.Core.Path.{_≡_, refl, sym, ap, _∙_}
 use mathlib.Core.Logic.{⊎-elim}
 use mathlib.Core.List.{List, [], _∷_}
@@ -52,7 +52,7 @@ same-holders s t e same =
     ap (λ n. wordsBelow n (λ g. bitsBelow n (λ h. reaches s h g))) e
     ∙ words-same (domains t) _ _ (λ g lg. bits-same (domains t) _ _ (λ h lh. same h g lh lg))
 
--- word v of a table's words
+-- word v of a table's holders
 word-of : (t : List ℕ) (v : ℕ) → v < domains t → getD (holdersOf t) v 0 ≡ bitsBelow (domains t) (λ u. reaches t u v)
 unfolding holdersOf
 word-of t v l = words-at (domains t) (λ g. bitsBelow (domains t) (λ h. reaches t h g)) v 0 l
@@ -131,7 +131,7 @@ module _ (t : List ℕ) (a : Accepted t) where
   effect-kept (newRights h g s) o = rights-noted h g s o
   effect-kept (newEndpoint e q) o = endpoint-kept e q o
 
--- ---- one call, and calls of any number
+-- ---- one call, and any calls, however many
 
 pub holders-kept : HoldersKept
 unfolding step

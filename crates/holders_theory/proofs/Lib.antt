@@ -1,4 +1,4 @@
--- What is proved of the panel's words, and laws of them that the proofs of functions cite.
+-- What is proved of the holders, and laws of them that the proofs of functions cite.
 pub mod OneBit
 pub mod Filled
 pub mod Kept

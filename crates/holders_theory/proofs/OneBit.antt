@@ -74,7 +74,7 @@ module _ (w i one : ℕ) (b : Bool) (e : one ≡ 2 ^ i) where
   unfolding withBit
   made-cleared h = rw (e, h)
 
--- of those below n of which p holds: i alone is asked anew
+-- the set of those below n of which p holds, where the answer for i alone changes
 pub bits-with :
     (n i : ℕ) (p q : ℕ → Bool) (b : Bool)
     → i < n

@@ -1,4 +1,4 @@
--- What is told of who can reach a domain, and that it is exactly the chains (specs/Asked, specs/Claims). Assumes nothing.
+-- What is reported of who can reach a domain, and that it is exactly the chains (specs/Asked, specs/Claims). Assumes nothing.
 use mathlib.Core.Path.{_≡_, sym, subst, _∙_}
 use mathlib.Core.Bool.{true, _&&_, and-true}
 use mathlib.Core.List.{List}
@@ -67,7 +67,7 @@ asked-exactly ws d u h =
     rw h
     (λ m. let (v, own, c) = closed-exactly ws (2 ^ d) u .0 m in subst (λ v. Chain (linked ws) v u) (bit-other d v own) c, λ c. closed-exactly ws (2 ^ d) u .1 (d, bit-own d, c))
 
--- the words of an accepted table can be asked about each of its domains
+-- the holders of an accepted table can be asked about each of its domains
 holders-askable : (t : List ℕ) (d : ℕ) → Accepted t → d < domains t → askable (holdersOf t) d ≡ true
 unfolding bitsWithin holdersOf
 holders-askable t d a l =

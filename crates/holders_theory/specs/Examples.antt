@@ -1,4 +1,4 @@
--- Rows that pin the panel's words, the noting of changes and what is asked, on literal words. Worked out by hand.
+-- Rows that pin the holders, the noting of changes and what is asked (document 02 (h)), on literal words. Worked out by hand.
 use Prim.Native.Nat.{ℕ}
 use mathlib.Core.Path.{_≡_}
 use mathlib.Core.List.{List, [], _∷_, _++_}
@@ -6,12 +6,12 @@ use lib.ListN.{take, replicate}
 use Rattle.machine.specs.Call.{split}
 use Rattle.machine.specs.Holders.{holdersOf}
 use Rattle.machine.specs.Examples.{T, L}
-use Rattle.reachability.specs.Examples.{road, ring}
+use Rattle.reachability.specs.Examples.{chain, ring}
 use Rattle.holders_theory.specs.Noted.{noted, filled, holdersAfterCalls}
 use Rattle.holders_theory.specs.Asked.{askCode, asked}
 
--- A row: the words of a table; those lent, once a table is worked out into them; those noted along a list that runs from a table;
--- words before and after new rights of a holder on a target; or what is told of a domain.
+-- A row is one of five: the holders of a table, lent words once a table's holders are computed into them, the holders noted
+-- along a list that runs from a table, words before and after new rights of a holder on a target, or the report of a domain.
 pub data HoldersRow : Type 0 where
   shows : (table words : List ℕ) → HoldersRow
   fills : (table lent words : List ℕ) → HoldersRow
@@ -51,7 +51,7 @@ tableRows =
     ∷ shows (0x1000_1000 ∷ replicate 256 0x2000_000F) (replicate 16 0xFFFF)
     -- whatever the lent words held
     ∷ fills T (7 ∷ 0xFFFF_FFFF ∷ 9 ∷ []) (0b010 ∷ 0b001 ∷ 0b010 ∷ [])
-    -- fewer and more than there are domains, a table without its last rights word, none at all, and one of seventeen domains
+    -- fewer and more words than domains, a table without its last rights word, an empty one, and one of seventeen domains
     ∷ fills T (7 ∷ 8 ∷ []) (7 ∷ 8 ∷ [])
     ∷ fills T (7 ∷ 8 ∷ 9 ∷ 10 ∷ []) (7 ∷ 8 ∷ 9 ∷ 10 ∷ [])
     ∷ fills (take 9 T) (7 ∷ 8 ∷ 9 ∷ []) (7 ∷ 8 ∷ 9 ∷ [])
@@ -85,9 +85,9 @@ changeRows =
 abbrev pub askingRows : List HoldersRow
 askingRows =
     -- a chain of length three, one of two, and nobody but the domain itself
-    tells road 3 0 0b1111
-    ∷ tells road 2 0 0b0111
-    ∷ tells road 0 0 0b0001
+    tells chain 3 0 0b1111
+    ∷ tells chain 2 0 0b0111
+    ∷ tells chain 0 0 0b0001
     -- table T: its link reaches the drive through 1
     ∷ tells (0b010 ∷ 0b001 ∷ 0b010 ∷ []) 2 0 0b111
     ∷ tells (0b010 ∷ 0b001 ∷ 0b010 ∷ []) 0 0 0b011
@@ -96,7 +96,7 @@ askingRows =
     ∷ tells ring 9 0 0xFFFF
     -- every bit that sixteen words can have
     ∷ tells (replicate 16 0xFFFF) 15 0 0xFFFF
-    -- 32: no word, seventeen words, a bit from their number on, and a number that is no domain's
+    -- 32: no word, seventeen words, a bit at or above their count, and an index that is no domain's
     ∷ tells [] 0 32 0
     ∷ tells (replicate 17 0) 0 32 0
     ∷ tells (0b00 ∷ 0b100 ∷ []) 0 32 0

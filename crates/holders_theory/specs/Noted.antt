@@ -1,5 +1,5 @@
--- What becomes of the panel's words (document 02 (h)): they are worked out from a table, and each change of rights is noted in them.
--- Any words will do.
+-- What becomes of the holders (document 02 (h)): they are computed from a table, and each change of rights is noted in them.
+-- Total: accepts arbitrary words.
 use Prim.Native.Nat.{ℕ, _-_, _*_, _^_}
 use mathlib.Core.Bool.{Bool, cond, _&&_}
 use mathlib.Core.List.{List, [], _∷_}
@@ -21,12 +21,12 @@ withBit w i b = cond b (bitOr w (2 ^ i)) (w - bitAnd w (2 ^ i))
 unfoldable pub noted : List ℕ → ℕ → ℕ → ℕ → List ℕ
 noted p h g s = cond (ltb h 32 && ltb g (length p)) (set p g (withBit (getD p g 0) h (hasAny s))) p
 
--- so many lent words are those of n domains, at most 16, and a table of that size has all their rights words
+-- there are n domains, at most 16, as many words are lent, and a table of that size has all their rights words
 unfoldable pub roomFor : ℕ → ℕ → ℕ → Bool
 roomFor n size lent = leb n 16 && eqb lent n && ltb (n * n) size
 
--- the words p once they are worked out from the table t; where they aren't those of its domains, or it has not all its rights
--- words, p as it is
+-- the words p once they are computed from the table t, or p as it is where it doesn't have one word for each of at most 16
+-- domains, or the table lacks rights words
 unfoldable pub filled : List ℕ → List ℕ → List ℕ
 filled t p = cond (roomFor (domains t) (length t) (length p)) (holdersOf t) p
 
@@ -36,7 +36,7 @@ holdersAfter p nothing = p
 holdersAfter p (newRights h g s) = noted p h g s
 holdersAfter p (newEndpoint e q) = p
 
--- the words p after the calls, of which each is noted on the table that it finds, the first on t
+-- the words p after the calls, each noted on the table that it finds, the first on t
 unfoldable pub holdersAfterCalls : List ℕ → List ℕ → List Call → List ℕ
 holdersAfterCalls p t [] = p
 holdersAfterCalls p t (c ∷ cs) = holdersAfterCalls (holdersAfter p (effect t (decide t c))) (step t c) cs

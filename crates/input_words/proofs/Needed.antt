@@ -12,7 +12,7 @@ use Rattle.input_words.specs.TableInput.{NeededBy}
 pub needed-none : (asks : List ℕ → ℕ) → NeededBy asks []
 needed-none asks k l = absurd (omega arith)
 
--- what wants bytes, and while fewer follow than are wanted still wants some
+-- `asks` is how many more bytes are wanted after any bytes; while fewer follow than that, some are still wanted
 module _ (asks : List ℕ → ℕ) (still : (bytes more : List ℕ) → length more < asks bytes → 0 < asks (bytes ++ more)) where
   pub needed-more : (bytes more : List ℕ) → NeededBy asks bytes → length more ≤ asks bytes → NeededBy asks (bytes ++ more)
   needed-more bytes more needed asked k l = go (decLt k (length bytes))
@@ -25,6 +25,6 @@ module _ (asks : List ℕ → ℕ) (still : (bytes more : List ℕ) → length m
           rw (place, take-append-add bytes more behind)
           (still bytes (take behind more) (omega (arith, length-take behind more, length-append bytes more)))
 
--- a buffer of which the first bytes stayed while a read stored its own behind them
+-- a buffer of which the first bytes stayed while a read stored its own after them
 pub stored : (before after : List ℕ) (have got : ℕ) → take have after ≡ take have before → take (have + got) after ≡ take have before ++ take got (drop have after)
 stored before after have got kept = take-add have got after ∙ ap (λ (l : List ℕ). l ++ take got (drop have after)) kept

@@ -42,7 +42,7 @@ pub fills-none : (bytes table : List ℕ) → length bytes < 4 → Fills (tableO
 fills-none bytes table h =
     rw (no-words bytes h) (record { count-is = omega arith; items-are = sym (overwrite-none 0 table) })
 
--- what stands past the end is nothing, from wherever it is taken
+-- an index capped at the input's length gives the same bytes from it on, since there are none past the end
 drop-capped : (start n : ℕ) (bytes : List ℕ) → start ≡ min n (length bytes) → drop start bytes ≡ drop n bytes
 drop-capped start n bytes e = go (decLe n (length bytes))
   where
@@ -85,7 +85,7 @@ pub length-tableOf : (bytes : List ℕ) → Whole bytes → length (tableOf byte
 unfolding tableOf
 length-tableOf bytes w = omega (arith, w .short, length-take (tableLength bytes) (wordsOf (drop 4 bytes)))
 
--- the three ways of asking for more: the length word, nothing after one that says too much, and the table
+-- the three cases of asking for more: the length word, nothing after one that is too large, and the table
 data Asks (bytes : List ℕ) : Type 0 where
   word : length bytes < 4 → tableWanted bytes ≡ 4 - length bytes → Asks bytes
   nothing : 4 ≤ length bytes → longestTable < tableLength bytes → tableWanted bytes ≡ 0 → Asks bytes
@@ -112,7 +112,7 @@ table-within bytes most room h = go (asks bytes)
     go (nothing some long e) = omega arith
     go (table some fits e) = omega arith
 
--- where it asks for nothing more and there is no table, the length word says too much
+-- where it asks for nothing more and there is no table, the length word is too large
 pub no-more : (bytes : List ℕ) → noTable bytes ≡ true → tableWanted bytes ≡ 0
     → (4 ≤ length bytes) × (longestTable < tableLength bytes)
 no-more bytes none done = go (asks bytes)

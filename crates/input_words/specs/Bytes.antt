@@ -7,7 +7,7 @@ use lib.ListN.{getD}
 abbrev pub wordOf : ℕ → ℕ → ℕ → ℕ → ℕ
 wordOf a b c d = a + 256 * b + 65536 * c + 16777216 * d
 
--- the word of the four bytes from a place on; a byte past the end counts as 0
+-- the word of the four bytes from an index on; a byte past the end counts as 0
 abbrev pub wordAt : List ℕ → ℕ → ℕ
 wordAt bytes at = wordOf (getD bytes at 0) (getD bytes (at + 1) 0) (getD bytes (at + 2) 0) (getD bytes (at + 3) 0)
 

@@ -1,3 +1,3 @@
--- What the contracts of `reading` cite: bytes as words, and a table out of a program's input.
+-- What the contracts of `input_words` cite: bytes as words, and a table from a program's input.
 pub mod Bytes
 pub mod TableInput

@@ -1,5 +1,5 @@
 -- How a program's input gives a table: a word with the table's length in words, then the table's words (document 01, 'Into
--- firmware and onto the bench', and the first three conditions of code 7); and when the bytes of an input were needed.
+-- firmware and onto the bench', and the first three conditions of code 7). Also when the bytes of an input were needed.
 use Prim.Native.Nat.{ℕ, _+_, _-_, _*_, _<_}
 use mathlib.Core.Bool.{Bool, cond, _||_}
 use mathlib.Core.List.{List}
@@ -12,7 +12,7 @@ use Rattle.input_words.specs.Bytes.{wordAt, wordsOf}
 abbrev pub longestTable : ℕ
 longestTable = lengthFor 16 32
 
--- the table's length in words, as the input says it
+-- the table's length in words, by the input's first word
 abbrev pub tableLength : List ℕ → ℕ
 tableLength bytes = wordAt bytes 0
 
@@ -20,7 +20,7 @@ tableLength bytes = wordAt bytes 0
 abbrev pub tableEnd : List ℕ → ℕ
 tableEnd bytes = 4 + 4 * tableLength bytes
 
--- the input has no whole table: under 4 bytes, a length above the longest, or fewer words than that
+-- the input has no whole table: under 4 bytes, a length above the longest, or fewer words than its length says
 unfoldable pub noTable : List ℕ → Bool
 noTable bytes =
     ltb (length bytes) 4 || ltb longestTable (tableLength bytes) || ltb (length bytes) (tableEnd bytes)
@@ -32,12 +32,12 @@ tableOf bytes = take (tableLength bytes) (wordsOf (drop 4 bytes))
 unfoldable pub afterTable : List ℕ → List ℕ
 afterTable bytes = drop (tableEnd bytes) bytes
 
--- how many bytes more to read, where the input so far is these: first the length word, then the table that it announces
+-- how many more bytes to read, where the input so far is these: first the length word, then the table that it announces
 unfoldable pub tableWanted : List ℕ → ℕ
 tableWanted bytes =
     cond (ltb (length bytes) 4) (4 - length bytes)
     (cond (ltb longestTable (tableLength bytes)) 0 (tableEnd bytes - length bytes))
 
--- Each of these bytes was needed, where so many more are wanted behind any bytes: behind the ones before it some were.
+-- Each of these bytes was needed, where `wanted` is how many more are wanted after any bytes: after the bytes before it, some were.
 abbrev pub NeededBy : (List ℕ → ℕ) → List ℕ → Type 0
 NeededBy wanted bytes = (k : ℕ) → k < length bytes → 0 < wanted (take k bytes)

@@ -1,4 +1,4 @@
-// Words out of bytes, and a table out of a program's input: what the programs' reading has in common.
+// Reads words from bytes, and a table from a program's input: the part of reading that the programs have in common.
 mod bounds;
 pub mod table_input;
 pub mod words;

@@ -1,4 +1,4 @@
-// A table out of a program's input: its length word, then its words.
+// Reads a table from a program's input: a word with its length, then its words (document 01, 'Into firmware and onto the bench').
 use crate::bounds::least;
 use crate::words::fill;
 use crate::words::word_at;
@@ -9,7 +9,7 @@ ghost use lib.ListN.{length};
 ghost use Rattle.input_words.specs.TableInput.{noTable, tableEnd, tableOf, afterTable, tableWanted};
 ghost use Rattle.text.specs.Write.{Fills};
 
-// Where the table's bytes end: by the length word, or where the input ends before that.
+// Returns the index where the table's bytes end by the length word, or the input's length where that is lower.
 fn table_end(bytes: &[u8]) -> usize
     ensures { λ r. ⌜ r ≡ min (tableEnd (now (bytes .entry))) (length (now (bytes .entry))) ⌝ }
 {
@@ -17,7 +17,7 @@ fn table_end(bytes: &[u8]) -> usize
     least(4 + 4 * length, bytes.len())
 }
 
-// Whether the input has no whole table: under 4 bytes, a length above the longest, or fewer words than that.
+// Returns whether the input has no whole table: under 4 bytes, a length above the longest, or fewer words than its length says.
 pub fn no_table(bytes: &[u8]) -> bool
     ensures { λ r. ⌜ r ≡ noTable (now (bytes .entry)) ⌝ }
 {
@@ -31,7 +31,7 @@ pub fn no_table(bytes: &[u8]) -> bool
     bytes.len() < 4 + 4 * length
 }
 
-// How many bytes more to read for the length word and then for the table that it announces, where the input so far is bytes.
+// Returns how many more bytes to read, where the input so far is `bytes`: first the length word, then the table that it announces.
 pub fn table_wanted(bytes: &[u8]) -> usize
     ensures { λ r. ⌜ r ≡ tableWanted (now (bytes .entry)) ⌝ }
 {
@@ -47,7 +47,7 @@ pub fn table_wanted(bytes: &[u8]) -> usize
     if have < end { end - have } else { 0 }
 }
 
-// Fills table from the front with the table's words, as many as there is room for, and answers how many.
+// Fills `table` from the front with the table's words, as many as fit, and returns how many.
 pub fn read_table(bytes: &[u8], table: &mut [u32]) -> usize
     ensures { λ r. ⌜ Fills (tableOf (now (bytes .entry))) (now (table .entry)) r (now (table .exit)) ⌝ }
 {
@@ -58,7 +58,7 @@ pub fn read_table(bytes: &[u8], table: &mut [u32]) -> usize
     fill(&bytes[4..end], table)
 }
 
-// The bytes after the table.
+// Returns the bytes after the table.
 pub fn after_table(bytes: &[u8]) -> &[u8]
     ensures { λ r. ⌜ now r ≡ afterTable (now (bytes .entry)) ⌝ }
 {

@@ -1,25 +1,25 @@
-// Little-endian words out of bytes.
+// Reads little-endian words from bytes (document 01, 'Into firmware and onto the bench').
 use crate::bounds::least;
 ghost use mathlib.Core.Path.{_≡_};
 ghost use lib.ListN.{getD};
 ghost use Rattle.input_words.specs.Bytes.{wordOf, wordAt, wordsOf};
 ghost use Rattle.text.specs.Write.{Fills};
 
-// The word of four bytes, the lowest first.
+// Returns the word of four bytes, the lowest first.
 pub fn word(a: u8, b: u8, c: u8, d: u8) -> u32
     ensures { λ r. ⌜ r ≡ wordOf a b c d ⌝ }
 {
     a as u32 + 256 * (b as u32) + 65536 * (c as u32) + 16777216 * (d as u32)
 }
 
-// The byte at a place, 0 past the end.
+// Returns the byte at an index, or 0 past the end.
 fn byte_at(bytes: &[u8], at: usize) -> u8
     ensures { λ r. ⌜ r ≡ getD (now (bytes .entry)) at 0 ⌝ }
 {
     if at < bytes.len() { bytes[at] } else { 0 }
 }
 
-// The word of the four bytes from a place on; a byte past the end counts as 0.
+// Returns the word of the four bytes from an index on. A byte past the end counts as 0.
 pub fn word_at(bytes: &[u8], at: usize) -> u32
     ensures { λ r. ⌜ r ≡ wordAt (now (bytes .entry)) at ⌝ }
 {
@@ -34,8 +34,8 @@ pub fn word_at(bytes: &[u8], at: usize) -> u32
     )
 }
 
-// Fills words from the front with the whole words of bytes, as many as there is room for, and answers how many. No byte is asked for
-// that isn't there, so that four of them are one load.
+// Fills `words` from the front with the whole words of `bytes`, as many as fit, and returns how many. It asks for no byte that
+// isn't there, so that four bytes are one load.
 pub fn fill(bytes: &[u8], words: &mut [u32]) -> usize
     ensures { λ r. ⌜ Fills (wordsOf (now (bytes .entry))) (now (words .entry)) r (now (words .exit)) ⌝ }
 {

@@ -1,5 +1,5 @@
--- Components stand, and noninterference by component (specs/Component). A call gives a right only where its caller has rights on
--- the target and on the recipient, so all three hang together already: the laws of a single right say so (EachRight, GivenBy),
+-- Components stay, and noninterference by component (specs/Component). A call gives a right only where its caller has rights on
+-- the target and on the recipient, so all three are connected already: the laws of a single right say so (EachRight, GivenBy),
 -- and no kind of call is looked at here. The rest is a case of the unwinding theorem. Assumes nothing.
 use mathlib.Core.Path.{_≡_, refl, sym, ap, ap₂, subst, _∙_}
 use mathlib.Core.Bool.{true, cond, _&&_, and-comm, or-comm}
@@ -43,7 +43,7 @@ pub every-component : EveryComponent
 unfolding component
 every-component t d v = relation-closed-exactly (domains t) (joined t) d v
 
--- ---- what hangs together, in any table
+-- ---- what is connected, in any table
 
 module _ (t : List ℕ) where
   -- a right joins two domains
@@ -55,7 +55,7 @@ module _ (t : List ℕ) where
   unfolding joined
   right-joins u v lu lv r = link (join u v lu lv (rw r)) end
 
-  -- joins go both ways, so what hangs together does
+  -- joins go both ways, so connections do
   turned : (u v : ℕ) → among (domains t) (joined t) u v ≡ true → among (domains t) (joined t) v u ≡ true
   unfolding among joined
   turned u v h =
@@ -85,14 +85,14 @@ right-reaches : (s : List ℕ) (h g k : ℕ) → holds (rights s h g) (2 ^ k) �
 unfolding reaches
 right-reaches s h g k b = holds-any (rights s h g) (2 ^ k) (λ e. omega (arith, pow-pos k)) b
 
--- A table that came of t: accepted, with as many domains, and all its rights lie within components of t.
+-- A table that results from t: accepted, with as many domains, and all its rights lie within components of t.
 record Within (t s : List ℕ) : Type 0 where
   pub accepted : Accepted s
   pub count : domains s ≡ domains t
   pub right : (h g : ℕ) → h < domains t → g < domains t → reaches s h g ≡ true → Connected t g h
 
 module _ (t s : List ℕ) (w : Within t s) where
-  -- whoever influences a domain hangs together with it
+  -- whoever influences a domain is connected with it
   influence-within : (u v : ℕ) → u < domains t → v < domains t → influences s u v ≡ true → Connected t v u
   unfolding influences
   influence-within u v lu lv i =
@@ -130,7 +130,7 @@ unfolding machine.run
 run-within t s [] w = w
 run-within t s (c ∷ cs) w = run-within t (step s c) cs (step-within t s w c)
 
--- ---- components stand
+-- ---- components stay
 
 pub components-stay : EveryRunComponentsStay
 components-stay t cs a u v lu lv i =

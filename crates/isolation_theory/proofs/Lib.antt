@@ -1,4 +1,4 @@
--- What is proved of two lines, and of what hangs together.
+-- What is proved of two lines, and of connected components.
 pub mod Ran
 pub mod TwoLines
 pub mod LineExamples

@@ -1,4 +1,4 @@
--- The isolation rule between two lines (specs/TwoLines), as a case of the unwinding theorem in which nothing is struck, and of
+-- The isolation rule between two lines (specs/TwoLines), as a case of the unwinding theorem in which nothing is purged, and of
 -- the equality of the sources. What is new is that accepted tables with equal names, owners and capacities have equal words
 -- there. Assumes nothing.
 use mathlib.Core.Path.{_≡_, refl, sym, ap, ap₂, subst, subst₂, _∙_}
@@ -54,7 +54,7 @@ same-identity p q lp lq e f =
     word-at (suc zero) l = f
     word-at (suc (suc i)) l = absurd (omega arith)
 
--- an endpoint that is in order, among n domains: its name word and its info word by its name, owner and capacity
+-- a sound endpoint, among n domains: its name word and its info word by its name, owner and capacity
 module _ (n : ℕ) (q : List ℕ) (ok : endpointOk n q ≡ true) where
   identity : identityOk n q ≡ true
   unfolding endpointOk
@@ -97,7 +97,7 @@ same-frame s t l =
           ∙ sym (info-word _ _ okT));
     }
 
--- words behind the answers, as in a larger answer space, are no domain's
+-- words after the answers, as in a larger answer space, are no domain's
 answers-alone :
     (d : ℕ) (t : List ℕ) (cs : List Call) (ws : List ℕ)
     → answersOf d cs (machine.answers t cs ++ ws) ≡ answersOf d cs (machine.answers t cs)

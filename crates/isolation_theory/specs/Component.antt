@@ -1,6 +1,6 @@
--- What hangs together by rights in a table, and that no list joins what doesn't (document 02 (j): groups, and walls between them).
--- A claim about the words that a run left is a predicate of table, calls, answers and end; those that begin with `Every` are closed
--- and the types of theorems in proofs/Component.
+-- Connected components by rights in a table, and that no list joins two of them (document 02 (j), which calls them groups). A
+-- claim about the words that a run left is a predicate of table, calls, answers and end. Those that begin with `Every` are
+-- closed and the types of theorems in proofs/Component.
 use Prim.Native.Nat.{ℕ, _<_, _^_}
 use mathlib.Core.Path.{_≡_}
 use mathlib.Core.Bool.{Bool, true, cond, _||_}
@@ -22,19 +22,19 @@ use Rattle.isolation_theory.specs.PromisedRun.{PromisedRun}
 unfoldable pub joined : List ℕ → ℕ → ℕ → Bool
 joined t u v = reaches t u v || reaches t v u
 
--- the component of the domain d in a table (document 02: its group), as bits: d alone, closed over the joins
+-- the connected component of the domain d in a table (document 02: its group), as bits: d alone, closed over the joins
 unfoldable pub component : List ℕ → ℕ → ℕ
 component t d = closed (linkWords (domains t) (joined t)) (2 ^ d)
 
--- v hangs together with d: there is a chain of joins between them, of any length
+-- v is connected with d: there is a chain of joins between them, of any length
 abbrev pub Connected : List ℕ → ℕ → ℕ → Type 0
 Connected t d v = Chain (among (domains t) (joined t)) d v
 
--- A component is exactly what hangs together with its domain, in any words at all.
+-- A component is exactly what is connected with its domain, in arbitrary words.
 abbrev pub EveryComponent : Type 0
 EveryComponent = (t : List ℕ) (d v : ℕ) → (hasBit (component t d) v ≡ true) ↔ Connected t d v
 
--- Components stand: at the end no domain influences one outside the component that it had in the table t.
+-- Components stay: at the end no domain influences one outside the component that it had in the table t.
 abbrev pub ComponentsStay : List ℕ → List ℕ → Type 0
 ComponentsStay t end =
     (u v : ℕ) → u < domains t → v < domains t → influences end u v ≡ true → hasBit (component t u) v ≡ true
@@ -59,7 +59,7 @@ ComponentNoninterference t cs answers end =
     → view d cs answers end
     ≡ view d (componentCalls t cs d) (machine.answers t (componentCalls t cs d)) (machine.run t (componentCalls t cs d))
 
--- ---- of the machine: calls of any number, run from an accepted table; the words rest may follow the answers
+-- ---- of the machine: any calls, however many, run from an accepted table. The words rest may follow the answers
 
 abbrev pub EveryRunComponentsStay : Type 0
 EveryRunComponentsStay = (t : List ℕ) (cs : List Call) → Accepted t → ComponentsStay t (machine.run t cs)
@@ -79,7 +79,7 @@ abbrev pub EveryPromisedRunComponentNoninterference : Type 0
 EveryPromisedRunComponentNoninterference =
     (t ws : List ℕ) (p : PromisedRun t ws) → ComponentNoninterference t (split ws) (p .answers) (p .end)
 
--- ---- a component holds domains alone, so that a call of an unknown caller is struck whatever the table
+-- ---- a component holds domains alone, so that a call of an unknown caller is purged whatever the table
 
 abbrev pub EveryComponentOfDomains : Type 0
 EveryComponentOfDomains = (t : List ℕ) (d u : ℕ) → d < domains t → hasBit (component t d) u ≡ true → u < domains t

@@ -1,4 +1,5 @@
--- Rows that pin components and the calls kept for a domain, on small tables. Inputs and outcomes are literals, worked out by hand.
+-- Rows that pin connected components and the calls kept for a domain (document 02 (j)), on small tables. Inputs and outcomes are
+-- literals, worked out by hand.
 use Prim.Native.Nat.{ℕ, _+_, _/_, _%_}
 use mathlib.Core.Path.{_≡_}
 use mathlib.Core.Bool.{cond}
@@ -12,7 +13,7 @@ use Rattle.machine.specs.Purge.{View, view}
 use Rattle.machine.specs.Examples.{emptySlots}
 use Rattle.isolation_theory.specs.Component.{component, componentCalls}
 
--- what the rows speak of: the component of d, the kept calls, and what d sees of the whole run
+-- what the rows state: the component of d, the kept calls, and what d sees of the whole run
 pub record Kept : Type 0 where
   pub members : ℕ
   pub calls : List Call
@@ -22,7 +23,7 @@ pub record Kept : Type 0 where
 unfoldable pub kept : List ℕ → List Call → ℕ → Kept
 kept t cs d = record { members = component t d; calls = componentCalls t cs d; seen = view d cs (answers t cs) (run t cs) }
 
--- A row: the components of all domains of a table, lowest number first; or, from a table, a list and a domain, what is kept.
+-- A row: the components of all domains of a table, lowest index first, or what is kept of a list for a domain, from a table.
 pub data ComponentRow : Type 0 where
   components : (table members : List ℕ) → ComponentRow
   keeps : (table list : List ℕ) (d : ℕ) (outcome : Kept) → ComponentRow
@@ -59,8 +60,8 @@ sixDomains =
 abbrev pub sixteenInLine : List ℕ
 sixteenInLine = 0x1000_1000 ∷ wordsBelow 256 (λ i. cond (eqb (i / 16 + 1) (i % 16)) 0x2000_0001 0x2000_0000)
 
--- Calls from all of them: 0 sends 7 to 1, 4 sends 9 to 3, and 0 gives up its rights on 1; a stray that names 1, and the unknown
--- caller 6; 2 sends 8 to 1, and makes a call of an unknown kind; 1 and 3 receive, and 5 asks for its rights.
+-- Calls from all of them. 0 sends 7 to 1, 4 sends 9 to 3, and 0 gives up its rights on 1. Then a stray that names 1, and the
+-- unknown caller 6. 2 sends 8 to 1, and makes a call of an unknown kind. 1 and 3 receive, and 5 asks for its rights.
 abbrev pub mixedCalls : List ℕ
 mixedCalls =
     0x2000_0000
@@ -82,7 +83,7 @@ mixedCalls =
 -- the rows
 abbrev pub componentRows : List ComponentRow
 componentRows =
-    -- a chain of three, a component by a right of the other side, and a domain alone
+    -- a chain of three, a component by a right of the other domain alone, and a domain alone
     components sixDomains (0b000111 ∷ 0b000111 ∷ 0b000111 ∷ 0b011000 ∷ 0b011000 ∷ 0b100000 ∷ [])
     -- a chain of sixteen: from each end fifteen joins lead to the other
     ∷ components sixteenInLine

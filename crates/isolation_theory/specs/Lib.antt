@@ -1,4 +1,4 @@
--- What is claimed of two lines that run one list (document 02 (g)), and of what hangs together (document 02 (j)).
+-- What is claimed of two lines that run one list (document 02 (g)), and of connected components (document 02 (j)).
 pub mod PromisedRun
 pub mod TwoLines
 pub mod LineExamples

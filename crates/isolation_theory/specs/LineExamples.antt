@@ -1,5 +1,5 @@
--- Rows that pin the isolation rule between two lines on small tables: a pair that differs and meets its condition, and pairs
--- that don't meet it, whose views or sets differ. Inputs and outcomes are literals, worked out by hand.
+-- Rows that pin the isolation rule between two lines (document 02 (g)) on small tables: a pair that differs and meets its
+-- condition, and pairs that don't, whose views or source sets differ. Inputs and outcomes are literals, worked out by hand.
 use Prim.Native.Nat.{ℕ, _<_}
 use mathlib.Core.Path.{_≡_}
 use mathlib.Core.Bool.{true}
@@ -14,7 +14,7 @@ use Rattle.machine.specs.Examples.{emptySlots}
 use Rattle.machine.specs.PurgeExamples.{bitsOf, none3, quiet, gotSeven}
 use Rattle.isolation_theory.specs.TwoLines.{TwoLines, AgreeOnSources}
 
--- what the rows speak of: the set for d over all calls, as bits, and what d sees of the run
+-- what the rows state: the source set of d over all calls, as bits, and what d sees of the run
 pub record Seen : Type 0 where
   pub set : ℕ
   pub view : View
@@ -23,7 +23,7 @@ pub record Seen : Type 0 where
 unfoldable pub seen : ℕ → List Call → List ℕ → Seen
 seen d cs t = record { set = bitsOf (domains t) (sources t cs d); view = view d cs (answers t cs) (run t cs) }
 
--- A row: from two tables, a list and a domain to what is so on the first and on the second.
+-- A row: from two tables, a list and a domain to what holds on the first and on the second.
 pub data LineRow : Type 0 where
   pair : (s t list : List ℕ) (d : ℕ) (onFirst onSecond : Seen) → LineRow
 
@@ -128,9 +128,9 @@ lineRows =
             lost = (2, 0x6000_0004) ∷ [];
           };
     })
-    -- the rights held on domain 0 differ: so do its set and what it sees
+    -- the rights held on domain 0 differ: so do its source set and what it sees
     ∷ pair closedLine openLine oneSend 0 (record { set = 0b001; view = quiet [] }) (record { set = 0b011; view = gotSeven })
-    -- where domain 1 only asks for its rights domain 0 sees the same, but the sets differ
+    -- where domain 1 only asks for its rights domain 0 sees the same, but the source sets differ
     ∷ pair closedLine openLine (0x5040_0000 ∷ []) 0 (record { set = 0b001; view = quiet [] }) (record { set = 0b011; view = quiet [] })
     -- what domain 0 has is the same, but not what the member 1 has: it gives a right away that it has on the second line alone
     ∷ pair poorLine richLine giveAndGo 0 (record { set = 0b011; view = quiet [] })
@@ -161,6 +161,6 @@ PartsAreNotEnough = RuleWith (λ d cs s t. (v : ℕ) → member v (sources s cs 
 abbrev pub OwnPartIsNotEnough : Type 0
 OwnPartIsNotEnough = RuleWith (λ d cs s t. Agree d s t) → ⊥
 
--- nor on the set that is worked out on the table at the end: rights that were used and then removed are missed.
+-- nor on the source set that is computed on the table at the end: rights that were used and then removed are missed.
 abbrev pub LastTableIsNotEnough : Type 0
 LastTableIsNotEnough = RuleWith (λ d cs s t. (v : ℕ) → member v (sources (run s cs) cs d) ≡ true → Agree v s t) → ⊥

@@ -1,5 +1,5 @@
 -- The isolation rule between two lines (document 02 (g)): two lines run one list, from tables that differ only where a domain
--- can't be reached; then that domain sees the same on both. Each claim is the type of a theorem in proofs/TwoLines.
+-- can't be reached, and that domain sees the same on both. Each claim is the type of a theorem in proofs/TwoLines.
 use Prim.Native.Nat.{ℕ, _<_}
 use mathlib.Core.Path.{_≡_}
 use mathlib.Core.Bool.{true}
@@ -14,7 +14,7 @@ use Rattle.machine.specs.Purge.{sources, view}
 use Rattle.machine.specs.SameParts.{Agree}
 use Rattle.isolation_theory.specs.PromisedRun.{PromisedRun}
 
--- Two accepted tables with equal n, m, names, owners and capacities, as numbers.
+-- Two accepted tables with equal n, m, names, owners and capacities, compared as numbers.
 pub record TwoLines (s t : List ℕ) : Type 0 where
   pub first : Accepted s
   pub second : Accepted t
@@ -24,17 +24,17 @@ pub record TwoLines (s t : List ℕ) : Type 0 where
   pub sameOwner : (e : ℕ) → e < endpoints t → owner (endpoint s e) ≡ owner (endpoint t e)
   pub sameCapacity : (e : ℕ) → e < endpoints t → capacity (endpoint s e) ≡ capacity (endpoint t e)
 
--- The tables s and t agree on each member of the set for d over all the calls cs, worked out on s: on the rights it holds, on the
--- rights each domain holds on it, and on the waiting, lost and message words of its endpoints.
+-- The tables s and t agree on each member of the source set of d over all the calls cs, computed on s: on the rights it holds,
+-- on the rights each domain holds on it, and on the waiting, lost and message words of its endpoints.
 abbrev pub AgreeOnSources : ℕ → List Call → List ℕ → List ℕ → Type 0
 AgreeOnSources d cs s t = (v : ℕ) → member v (sources s cs d) ≡ true → Agree v s t
 
--- The calls cs run from s and from t: d sees the same of both, and the set for d over all of them is the same.
+-- The calls cs run from s and from t: d sees the same of both, and the source set of d over all of them is the same.
 pub record SameOnBoth (d : ℕ) (cs : List Call) (s t : List ℕ) : Type 0 where
   pub seen : view d cs (machine.answers s cs) (machine.run s cs) ≡ view d cs (machine.answers t cs) (machine.run t cs)
   pub set : sources s cs d ≡ sources t cs d
 
--- The isolation rule between two lines, of the machine fed calls of any number.
+-- The isolation rule between two lines, of the machine fed any calls, however many.
 abbrev pub IsolationBetweenLines : Type 0
 IsolationBetweenLines =
     (s t : List ℕ) (cs : List Call) (d : ℕ)

@@ -44,7 +44,7 @@ module _ (t : List ℕ) (lent : ℕ) where
   unfolding stepEntryCode
   step-holders a = rw (eq-eqb (tableCode t) 0 a)
 
--- Whoever refuses by that code and changes nothing keeps the step's promise,
+-- Code that refuses by that code and changes nothing keeps the step's promise,
 pub step-refused : (t : List ℕ) (c : Call) (holders : List ℕ) (r : EntryRefusal)
     → entryRefusalCode r ≡ stepEntryCode t (length holders)
     → StepPromise t c holders (Refused r) t holders
@@ -52,7 +52,7 @@ step-refused t c holders r e =
     let bad = ne-eqb (stepEntryCode t (length holders)) 0 (λ none. entry-refusal-code r (e ∙ none)) in
     record { code = e; words = rw bad; table = rw bad; sameHolders = rw bad }
 
--- and so does whoever serves the call where nothing refuses it.
+-- and so does code that serves the call where nothing refuses it.
 pub step-served : (t : List ℕ) (c : Call) (holders : List ℕ) (a : Answer) (t′ kept : List ℕ)
     → stepEntryCode t (length holders) ≡ 0
     → StepOutcome t c (answerWords a) t′ kept
@@ -66,7 +66,7 @@ step-served t c holders a t′ kept e served =
       sameHolders = rw fine (served .holders);
     }
 
--- ---- a run, by what it comes to at its entry
+-- ---- a run, by the result of its entry
 module _ (t ws : List ℕ) (size lent : ℕ) (x : Entered) (told : enteredCode x ≡ entryCode t ws size lent) (is : x ≡ entered.Runs) where
   runs : Runs t ws size lent
   runs = sym (sym (ap enteredCode is) ∙ told)
@@ -91,7 +91,7 @@ module _ (t ws : List ℕ) (size lent : ℕ) (x : Entered) (told : enteredCode x
           absurd
           (omega (arith, runs, code-holders t ws size lent short a (enough (decLt size (3 * length (split ws)))) ∙ holders-unfit t lent n))
 
--- Whoever stops where the entry refuses keeps the run's promise,
+-- Code that stops where the entry refuses keeps the run's promise,
 pub promise-entered : (t ws space holders : List ℕ) (x : Entered) (r : EntryRefusal)
     → enteredCode x ≡ entryCode t ws (length space) (length holders)
     → x ≡ entered.Refused r
@@ -99,7 +99,7 @@ pub promise-entered : (t ws space holders : List ℕ) (x : Entered) (r : EntryRe
 promise-entered t ws space holders x r told is =
     promise-refused t ws space holders (entryRefusalCode r) (sym (ap enteredCode is) ∙ told) (entry-refusal-code r)
 
--- and so does whoever runs the calls where it doesn't.
+-- and so does code that runs the calls where it doesn't.
 pub promise-all-run : (t ws space holders : List ℕ) (x : Entered)
     → enteredCode x ≡ entryCode t ws (length space) (length holders)
     → x ≡ entered.Runs

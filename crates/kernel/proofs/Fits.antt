@@ -1,5 +1,5 @@
--- On an accepted table the queue of every endpoint can be sent to, and received from where a message waits, and the data words of an
--- answer are in the table and have at most 32 bits. Assumes nothing.
+-- On an accepted table the queue of every endpoint can be sent to, and received from where a message waits. The data words of
+-- an answer are in the table and have at most 32 bits. Assumes nothing.
 use mathlib.Core.Path.{_≡_, sym, subst, _∙_}
 use mathlib.Core.Bool.{Bool, true, false, cond, not, _&&_}
 use mathlib.Core.List.{List}
@@ -37,7 +37,7 @@ all-shown : {there : Bool} {x : ℕ} → there ≡ true → x < 2 ^ 32 → shown
 unfolding shown
 all-shown there fits = rw there (mod-eq-of-lt fits)
 
--- ---- the message of a send that is taken decoded fits a word
+-- ---- the message of a send that is decoded fits a word
 abbrev MessageFits : Call → Type 0
 MessageFits (Send u e message) = message ≤ mostPayload
 MessageFits (Refused u r) = Unit {0}

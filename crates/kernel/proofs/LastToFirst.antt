@@ -1,4 +1,4 @@
--- The first of some numbers that passes a test, looked for from the last to the first. Assumes nothing.
+-- The first index that passes a test, searched for from the last to the first. Assumes nothing.
 use mathlib.Core.Path.{_≡_, refl, sym, ap, subst, _∙_}
 use mathlib.Core.Bool.{Bool, true, false}
 use mathlib.Core.Option.{none, some}
@@ -18,7 +18,7 @@ none-below p (suc k) fails =
     ap (λ (i : ℕ). firstBelow i p) (sym (add-one k))
     ∙ none-more p k (none-below p k (λ i l. fails i (omega arith))) (fails k (omega arith))
 
--- of the numbers from e up to k, x is the first that passes, or k where none does
+-- of the indices from e up to k, x is the first that passes, or k where none does
 pub record From (p : ℕ → Bool) (k e x : ℕ) : Type 0 where
   pub most : x ≤ k
   pub least : e ≤ x

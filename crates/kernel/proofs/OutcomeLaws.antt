@@ -1,4 +1,5 @@
--- A call that is settled is served as the machine serves it, and is one call more of a run on its way. Assumes nothing.
+-- A call that has its outcome (specs/Outcome) is served as the machine serves it, and is one call more of a run under way.
+-- Assumes nothing.
 use mathlib.Core.Path.{_≡_, refl, sym, ap, ap₂, subst, _∙_}
 use mathlib.Core.List.{List, _++_}
 use Prim.Native.Nat.{ℕ, _+_, _*_, _<_}
@@ -23,7 +24,7 @@ use Rattle.kernel.specs.Step.{StepOutcome}
 use Rattle.kernel.specs.Outcome.{CallOutcome}
 use Rattle.kernel.proofs.RunInvariant.{Underway, underway-next}
 
--- an answer shows of a call its first word alone
+-- an answer shows only the first word of a call
 by-first : (t : List ℕ) (w : ℕ) (s : Second) (d : Decision) → answerTo t (one w) d ≡ answerTo t (callOf w s) d
 unfolding answerTo answerWord shownCaller first
 by-first t w Nothing d = refl
@@ -53,7 +54,7 @@ pub here : {t p : List ℕ} {w : ℕ} {call x y : Call} {words t′ p′ : List 
 here {t} {p} {w} {call} {x} {y} {words} {t′} {p′} is same s =
     subst (λ (c : Call). CallOutcome t p w (decideCall t c) words t′ p′) (sym is ∙ same) s
 
--- ---- a run on its way, with n and m read once
+-- ---- a run under way, with n and m read once
 pub record OnItsWay (n m : ℕ) (t₀ ws space₀ p₀ t space p : List ℕ) (k i : ℕ) : Type 0 where
   pub underway : Underway t₀ ws space₀ p₀ t space p k i
   pub domains : n ≡ domains t

@@ -1,4 +1,4 @@
--- What is answered and left, by what a call came to. Assumes nothing.
+-- What is answered and left, by the decision on a call. Assumes nothing.
 use mathlib.Core.Path.{_≡_, refl, ap, ap₂, subst, _∙_}
 use mathlib.Core.Bool.{Bool, true, false, cond, not}
 use mathlib.Core.List.{List, [], _∷_}
@@ -91,7 +91,7 @@ module _ (t p : List ℕ) (w : ℕ) (d : Decision) (words : List ℕ) where
     unfolding answerTo code firstData secondData effect
     revoked r is new = altered (machine.revokes g h r) is refl (ap (newRights h g) new)
 
--- refused without a table: 12 may come before the call's own number
+-- refused without a table: 12 may come before the call's own code
 refused-either : (first unknown : Bool) (k : ℕ)
     → let d = cond first (machine.refused k) (place unknown 12 (machine.refused k)) in
     machine.refused (code d) ≡ d

@@ -1,4 +1,4 @@
--- What a call's numbers are once their tests are passed, and what an accepted table has at their places. Assumes nothing.
+-- What a call's indices and rights are once the range tests are passed, and what an accepted table has there. Assumes nothing.
 use mathlib.Core.Path.{_≡_, refl, sym, ap, subst, _∙_}
 use mathlib.Core.Bool.{Bool, true, false, not, _&&_}
 use mathlib.Core.List.{List}
@@ -26,7 +26,7 @@ use Rattle.rules.specs.declared.range.Range.{Range}
 use Rattle.rules.specs.declared.range.Range.the-variants.{Within}
 use Rattle.rules.proofs.Guards.{within}
 
--- a decision that is no refusal
+-- a decision that isn't a refusal
 abbrev Goes : Decision → Type 0
 Goes (machine.refused k) = ⊥
 Goes (machine.lookedUp e) = Unit {0}
@@ -51,7 +51,7 @@ holds-then false h = sym h
 below : (a b : ℕ) → not (ltb a b) ≡ false → a < b
 below a b h = ltb-true a b (holds-then (ltb a b) h)
 
--- ---- the numbers, where none of their tests failed
+-- ---- the indices and rights, where no range test failed
 module _ (r : Range) (is : r ≡ Within) where
   goes : (X : Decision → Decision) → ((next : Decision) → followed r next ≡ X next) → Goes (X (machine.listsRights 0))
   goes X tested = subst (λ (d : Decision). Goes d) (within (machine.listsRights 0) is (tested (machine.listsRights 0))) tt
@@ -88,7 +88,7 @@ module _ (r : Range) (is : r ≡ Within) where
       let set = passes (not (isSet s)) 21 _ (target .1) in
       (below u n (caller .0), below g n (target .0), leb-true s 15 (and-right (leb 1 s) (leb s 15) (holds-then (isSet s) (set .0))))
 
--- ---- their places in an accepted table
+-- ---- the words at these indices in an accepted table
 module _ (t : List ℕ) (a : Accepted t) (n : ℕ) (is : n ≡ domains t) where
   pub right-in : (h g at : ℕ) → h < n → g < n → at ≡ rightsAt n h g → at < length t
   right-in h g at ph pg place =
@@ -106,7 +106,7 @@ module _ (t : List ℕ) (a : Accepted t) (n : ℕ) (is : n ≡ domains t) where
       let q : e < endpoints t = omega (arith, l, all) in
       omega (arith, info-of (domains t) (endpoint t e) (accepted-endpoint t a e q) .0, own, is)
 
-  -- the lost word bears its kind
+  -- the lost word has its kind
   pub lost-in : (e m w : ℕ) → m ≡ endpoints t → e < m → w ≡ getD (endpoint t e) 3 0 → kind w ≡ 6
   unfolding endpointOk
   lost-in e m w all l same =

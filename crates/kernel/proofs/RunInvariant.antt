@@ -1,4 +1,4 @@
--- A run of a list on its way, as the kernel's loop has it: the machine's run of the calls done, and what the next call needs.
+-- A list's run under way, as the kernel's loop has it: the machine's run of the calls done, and what the next call needs.
 -- Assumes nothing.
 use mathlib.Core.Path.{_≡_, refl, sym, ap, subst, subst₂, _∙_}
 use mathlib.Core.List.{List, _++_}
@@ -16,8 +16,7 @@ use Rattle.calls.proofs.SplitAt.{SplitAt, split-at}
 use Rattle.kernel.specs.Step.{StepOutcome}
 use Rattle.kernel.specs.Run.{AllRun}
 
--- k calls of the list ws are done, the next begins at place i, and t, space and p are the table, the answer space and the holders
--- now
+-- k calls of the list ws are done, the next begins at index i, and t, space and p are the present table, answer space and holders
 pub record Underway (t₀ ws space₀ p₀ t space p : List ℕ) (k i : ℕ) : Type 0 where
   pub running : Running t₀ ws space₀ t (drop i ws) k space
   pub accepted : Accepted t
@@ -46,7 +45,7 @@ module _ {t₀ ws space₀ p₀ t space p : List ℕ} {k i : ℕ} (u : Underway 
       let more = ap length (split-at ws i l .front) in
       omega (arith, u .running .count, u .spaceSize)
 
-  -- one call more, whose answer words are put behind the others
+  -- one call more, whose answer words are put after the others
   pub underway-next : (s : Second) (w : ℕ) (words t′ space′ p′ : List ℕ)
       → s ≡ secondAt ws i
       → w ≡ widthOf s

@@ -1,4 +1,4 @@
--- The words that a call writes, by n: one rights word, and an endpoint's part, lent from its place on and put back.
+-- The words that a call writes, by n: one rights word, and an endpoint's part, lent from its index on and put back.
 -- Assumes nothing.
 use mathlib.Core.Path.{_≡_, ap, ap₂, _∙_}
 use mathlib.Core.Bool.{true}

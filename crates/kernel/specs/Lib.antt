@@ -1,4 +1,4 @@
--- What the kernel's contracts cite.
+-- What the contracts of crate kernel cite.
 pub mod Step
 pub mod Outcome
 pub mod Run

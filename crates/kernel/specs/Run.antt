@@ -1,4 +1,4 @@
--- What the calls of a list leave.
+-- What the calls of a list leave (document 01, 'The calls').
 use Prim.Native.Nat.{ℕ, _*_}
 use mathlib.Core.Path.{_≡_}
 use mathlib.Core.List.{List, _++_}

@@ -1,5 +1,5 @@
-// The calls about endpoints, in the lent table's own words: each tests the call's numbers, then what the table holds; a send and a
-// receive lend the endpoint's twelve words to the queue.
+// The calls about endpoints (document 01, 'The calls'), in the lent table's own words. Each makes its range tests, then reads what
+// the table holds. A send and a receive lend the endpoint's twelve words to crate queue.
 use crate::rights_calls::held;
 use answers::Answer;
 use answers::by_value::done;
@@ -29,7 +29,7 @@ ghost use Rattle.calls.specs.declared.Call.the-variants.{LookUp, Send, Receive,
 ghost use Rattle.rules.specs.Access.{foundOf};
 ghost use Rattle.kernel.specs.Outcome.{CallOutcome};
 
-// Returns the first endpoint that has the name, if one has it. It looks at all of them, from the last to the first: which one has the
+// Returns the first endpoint that has the name, or nothing. It looks at all of them, from the last to the first: which one has the
 // name is as good as random to the processor, and a mispredicted branch costs more than the names after it.
 fn find(table: &[u32], n: u32, m: u32, name: u32) -> Found
     requires { ⌜ Accepted (now table) ⌝ }
@@ -123,12 +123,12 @@ pub fn receive(table: &mut [u32], n: u32, m: u32, first: u32, caller: u32, e: u3
     let lost = table[start + 3];
     let end = start + ENDPOINT_WORDS;
     queue::receive(&mut table[start..end]);
-    // Subtracts the kind, where the message has a remainder: two words side by side that are cut alike become one read of 64 bits,
-    // which waits for the 32-bit write of the message.
+    // Subtracts the kind of the lost count, but takes the remainder of the message: two adjacent words that are masked alike become
+    // one read of 64 bits, which waits for the 32-bit write of the message.
     done(first, message % KIND_UNIT, lost - NONE_LOST)
 }
 
-// Answers my endpoints.
+// Returns the answer to my endpoints.
 pub fn my_endpoints(table: &[u32], n: u32, first: u32, caller: u32) -> Answer
     requires { ⌜ Accepted (now table) ⌝ }
     requires { ⌜ n ≡ domains (now table) ⌝ }

@@ -1,4 +1,5 @@
-// What a run must be lent besides its table and its list: space for the answers, and one word a domain for the holders.
+// What must be lent to a run besides its table and its list: space for the answers, and one word a domain for the holders. Else
+// the entry refuses it by 6 (document 01, 'Where each number is checked'; document 02, (h)).
 use calls::split::count;
 use table_layout::domains;
 ghost use mathlib.Core.Path.{_≡_};
@@ -9,7 +10,7 @@ ghost use lib.Dec.{eqb, ltb};
 ghost use Rattle.machine.specs.Table as machine;
 ghost use Rattle.machine.specs.Call.{split};
 
-// Three words a call. A list has no more calls than words, so a large enough space needs no count.
+// Returns whether the space has three words a call. A list has no more calls than words, so a large enough space needs no count.
 pub fn has_space(list: &[u32], size: usize) -> bool
     requires { ⌜ length (now list) ≤ 4096 ⌝ }
     ensures { λ b. ⌜ b ≡ not (ltb size (3 * length (split (now (list .entry))))) ⌝ }
@@ -21,7 +22,7 @@ pub fn has_space(list: &[u32], size: usize) -> bool
     3 * calls <= size
 }
 
-// One word a domain.
+// Returns whether one word a domain is lent.
 pub fn one_a_domain(table: &[u32], lent: usize) -> bool
     ensures { λ b. ⌜ b ≡ eqb lent (machine.domains (now (table .entry))) ⌝ }
 {

@@ -1,5 +1,5 @@
 // The kernel: what a call and a list of calls do to a lent table and to the holders kept beside it, and what they answer. A table
-// is checked before any call runs.
+// is checked before any call runs (document 01, 'Where each number is checked'; the holders: document 02, (h)).
 mod endpoint_calls;
 mod lent_lengths;
 mod rights_calls;
@@ -29,20 +29,21 @@ ghost use Rattle.kernel.specs.Step.{StepPromise};
 ghost use Rattle.kernel.specs.Entered.{enteredCode};
 ghost use Rattle.run_result.specs.Entry.{ranCode, ranCalls};
 
-// What one call by itself comes to: it is refused at the entry, or answered.
+// The result of one call by itself: it is refused at the entry, or answered.
 pub enum Stepped {
     Refused(EntryRefusal),
     Answered(Answer),
 }
 
-// The check of a table by itself.
+// Checks a table by itself and returns the result.
 pub fn check(table: &[u32]) -> Checked
     ensures { λ r. ⌜ checkedCode r ≡ tableCode (now (table .entry)) ⌝ }
 {
     table_check::check(table)
 }
 
-// One call on any table, with any words for the holders: a run of one call.
+// Runs one call by itself, as a run of one call does, and returns the result. Total: accepts arbitrary words as the table and as
+// the holders.
 pub fn step(table: &mut [u32], first: u32, second: Second, holders: &mut [u32]) -> Stepped
     ensures { λ r. ⌜ StepPromise (now (table .entry)) (callOf first second) (now (holders .entry)) r (now (table .exit)) (now (holders .exit)) ⌝ }
 {
@@ -60,13 +61,13 @@ pub fn step(table: &mut [u32], first: u32, second: Second, holders: &mut [u32]) 
     Stepped::Answered(words)
 }
 
-// What a run comes to at its entry: it is refused, or its calls may run.
+// The result of a run's entry: it is refused, or its calls may run.
 pub enum Entered {
     Refused(EntryRefusal),
     Runs,
 }
 
-// The entry of a run, place by place, with so many words lent for the answers and for the holders.
+// Tests the entry of a run, place by place, with so many words lent for the answers and for the holders, and returns the result.
 pub fn enter(table: &[u32], list: &[u32], space: usize, lent: usize) -> Entered
     ensures { λ r. ⌜ enteredCode r ≡ entryCode (now (table .entry)) (now (list .entry)) space lent ⌝ }
 {
@@ -86,7 +87,8 @@ pub fn enter(table: &[u32], list: &[u32], space: usize, lent: usize) -> Entered
     Entered::Runs
 }
 
-// A list of calls on any table, with any answer space and any words for the holders.
+// Runs a list of calls and returns the result. Total: accepts arbitrary words as the table, the list, the answer space and the
+// holders.
 pub fn run(table: &mut [u32], list: &[u32], answers: &mut [u32], holders: &mut [u32]) -> Ran
     ensures { λ r. ⌜ RunPromise (now (table .entry)) (now (list .entry)) (now (answers .entry)) (now (holders .entry)) (ranCode r) (ranCalls r) (now (answers .exit)) (now (table .exit)) (now (holders .exit)) ⌝ }
 {

@@ -1,5 +1,5 @@
-// The calls about rights, in the lent table's own words: each tests the call's numbers, then what the table holds, writes one rights
-// word and notes the change in the holders.
+// The calls about rights (document 01, 'The calls'; document 02, (b) and (i)), in the lent table's own words. Each makes its range
+// tests. A grant, a remove and a revoke then test what the table holds, write one rights word and note the change in the holders.
 use answers::Answer;
 use answers::by_value::done;
 use answers::by_value::refusal;
@@ -146,7 +146,7 @@ pub fn revoke(
     done(first, 0, 0)
 }
 
-// Answers my rights.
+// Returns the answer to my rights.
 pub fn my_rights(table: &[u32], n: u32, first: u32, caller: u32) -> Answer
     requires { ⌜ Accepted (now table) ⌝ }
     requires { ⌜ n ≡ domains (now table) ⌝ }

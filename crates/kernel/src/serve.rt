@@ -1,5 +1,5 @@
-// One call on an accepted table: it is taken decoded into one choice among its kinds, and each kind is served by a function of its own,
-// which tests the call's numbers, then what the table holds, and writes and answers.
+// One call on an accepted table (document 01, 'The calls'). It is decoded into one choice among its kinds, and each kind is served
+// by a function of its own, which makes its range tests, then tests what the table holds, and writes and answers.
 use crate::endpoint_calls::look_up;
 use crate::endpoint_calls::my_endpoints;
 use crate::endpoint_calls::receive;

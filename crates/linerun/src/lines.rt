@@ -1,5 +1,6 @@
-// The lines that linerun prints, some at a time: line 0 is the first, and line i + 1 that of call i.
-use linerun_report::Told;
+// Writes the lines that linerun prints into a lent buffer, some at a time (document 01, 'Into firmware and onto the bench').
+// Line 0 is the first, and line i + 1 is that of call i.
+use linerun_report::Head;
 use linerun_text::lines::call_line;
 use linerun_text::lines::first_line;
 ghost use Prim.Native.Nat.{_+_, _-_, _*_, _≤_, _<_};
@@ -9,7 +10,8 @@ ghost use lib.ListN.{length};
 ghost use Rattle.text.specs.Write.{Writes};
 ghost use Rattle.linerun_report.specs.Lines.{mostBytes, linesFrom, linesBetween, printedBefore};
 
-// The lines of the calls from one on and below another; each has few bytes.
+// Writes the lines of the calls from `from` on and below `to`, from the index `start` on, and returns the index after them. They
+// have at most 66 bytes a call.
 fn call_lines(answers: &[u32], from: usize, to: usize, out: &mut [u8], start: usize) -> usize
     requires { ⌜ (from ≤ to) × (to ≤ 10000) ⌝ }
     requires { ⌜ 3 * to ≤ length (now answers) ⌝ }
@@ -28,8 +30,8 @@ fn call_lines(answers: &[u32], from: usize, to: usize, out: &mut [u8], start: us
     at
 }
 
-// The lines from one line on and before another, from the buffer's front on.
-fn put_lines(told: Told, answers: &[u32], line: usize, next: usize, out: &mut [u8]) -> usize
+// Writes the lines from `line` on and before `next`, from the buffer's front on, and returns how many bytes they have.
+fn put_lines(told: Head, answers: &[u32], line: usize, next: usize, out: &mut [u8]) -> usize
     requires { ⌜ (line < next) × (next ≤ told .calls + 1) × (told .calls ≤ 4096) ⌝ }
     requires { ⌜ 3 * told .calls ≤ length (now answers) ⌝ }
     requires { ⌜ mostBytes (next - line) ≤ length (now out) ⌝ }
@@ -43,10 +45,10 @@ fn put_lines(told: Told, answers: &[u32], line: usize, next: usize, out: &mut [u
     call_lines(answers, line - 1, next - 1, out, 0)
 }
 
-// The same as the part of the lent buffer that they fill: what is printed before the one line, and then they, is what is printed
-// before the other.
+// Returns the same lines as the part of the lent buffer that they fill. What is printed before `line`, with these lines after it,
+// is what is printed before `next`.
 pub fn lines_between<'a>(
-    told: Told,
+    told: Head,
     answers: &[u32],
     line: usize,
     next: usize,

@@ -1,6 +1,6 @@
-// The program `linerun`: a table and a list of calls from standard input, the calls' answers as lines on standard output
-// (document 01, 'Into firmware and onto the bench'). What is read is crate linerun_input's, what is answered to it crate
-// linerun_report's; here the one is handed to the other, and the lines are written, some at a time.
+// The program `linerun`: it reads a table and a list of calls from standard input, and prints the calls' answers as lines on
+// standard output (document 01, 'Into firmware and onto the bench'). Crate linerun_input reads, and crate linerun_report runs what
+// was read. This crate passes the one's result to the other, and writes the lines, some at a time.
 mod lines;
 
 use format::answers::MOST_ANSWER_WORDS;
@@ -9,7 +9,7 @@ use libc::STDOUT_FILENO;
 use linerun_input::stdin::Input;
 use linerun_input::stdin::MOST_INPUT;
 use linerun_input::stdin::read_input;
-use linerun_report::Told;
+use linerun_report::Head;
 use linerun_report::answer;
 use lines::lines_between;
 ghost use Prim.Native.Nat.{_+_, _≤_, _<_};
@@ -19,14 +19,15 @@ ghost use Rattle.linerun_input.specs.Input.{Reads};
 ghost use Rattle.linerun_report.specs.Lines.{printedBefore};
 ghost use Rattle.linerun_report.specs.Report.{answerSpace, Prints};
 
-// So many lines are written at a time: a page of memory is not free, and a write isn't either.
+// The most lines that are written at a time: a page of memory is not free, and a write isn't either.
 const LINES: usize = 256;
 
 // At most 28 bytes in the first line and 66 in each other.
 const LINES_BYTES: usize = 16924;
 
-// Runs what was read. What is printed before the line that would follow the last is all that is to be printed.
-fn answer_input(input: &[u8], read: Input, answers: &mut [u32]) -> Told
+// Runs what was read, and returns the count of calls and the code. What is printed before the line that would follow the last is
+// all that is to be printed.
+fn answer_input(input: &[u8], read: Input, answers: &mut [u32]) -> Head
     requires { ⌜ read .have ≤ length (now input) ⌝ }
     requires { ⌜ Reads (take (read .have) (now input)) (read .ended) ⌝ }
     requires { ⌜ now answers ≡ answerSpace ⌝ }
@@ -37,7 +38,7 @@ fn answer_input(input: &[u8], read: Input, answers: &mut [u32]) -> Told
     answer(&input[0..have], answers)
 }
 
-// The line up to which is written next.
+// Returns the line before which the next write ends: at least 1 and at most 256 lines after `line`, and at most `all`.
 fn next_line(line: usize, all: usize) -> usize
     requires { ⌜ line < all ⌝ }
     ensures { λ r. ⌜ (line < r) × (r ≤ all) × (r ≤ line + 256) ⌝ }
@@ -48,6 +49,7 @@ fn next_line(line: usize, all: usize) -> usize
     line + LINES
 }
 
+// Reads standard input, runs it, and writes its lines to standard output.
 fn main() {
     let mut input = [0u8; MOST_INPUT];
     let read = read_input(&mut input);
@@ -60,7 +62,7 @@ fn main() {
     while line < all {
         let next = next_line(line, all);
         let lines = lines_between(told, &answers, line, next, &mut out);
-        // a program has no exit status to give, so lines that can't be written are told of on standard error
+        // a program has no exit status to give, so lines that can't be written are reported on standard error
         if !io::write_all(STDOUT_FILENO, lines) {
             io::write_all(STDERR_FILENO, b"linerun: not all lines could be written\n");
             return;

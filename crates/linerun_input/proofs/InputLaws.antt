@@ -1,5 +1,5 @@
--- The reading: it stays within what a program has room for; where it stops before the input ends, no further byte makes a
--- difference to what is refused or to the list; and what its steps leave. Assumes nothing.
+-- The reading stays within the program's buffer. Where it stops before the input ends, no further byte makes a difference to what
+-- is refused or to the list. Also what its steps leave. Assumes nothing.
 use Prim.Native.Nat.{ℕ, _+_, _-_, _*_, _≤_, _<_}
 use mathlib.Core.Path.{_≡_, refl, sym, ap, _∙_}
 use mathlib.Core.Bool.{Bool, true, false}
@@ -51,7 +51,7 @@ pub no-left-over : (rest : List ℕ) → 4 * listWordsRead ≤ length rest → l
 unfolding leftOver
 no-left-over rest h = simp (le-ltb _ _ h)
 
--- behind a list that is one word too long, what follows makes no difference to it
+-- after a list that is one word too long, what follows makes no difference to it
 pub listOf-more : (bytes more : List ℕ) → Whole bytes → 4 * listWordsRead ≤ length (afterTable bytes)
     → listOf (bytes ++ more) ≡ listOf bytes
 unfolding listOf
@@ -73,7 +73,7 @@ still-wanted bytes more h = go (noTable bytes) refl
 
 -- ---- the two ways to stop, and the step between
 
--- of no byte at all the length word is wanted
+-- where there is no byte, the length word is wanted
 pub stops-empty : Reads [] true
 unfolding wanted noTable tableWanted
 stops-empty = record { reason = refl; needed = needed-none wanted }
@@ -81,7 +81,7 @@ stops-empty = record { reason = refl; needed = needed-none wanted }
 pub stops-full : (bytes : List ℕ) → Needed bytes → wanted bytes ≡ 0 → Reads bytes false
 stops-full bytes needed done = record { reason = sym (le-ltb 0 (wanted bytes) (omega arith)); needed = needed }
 
--- a buffer of which the first bytes stayed while a read, which asked for no more than was wanted, stored its own behind them: these
+-- a buffer of which the first bytes stayed while a read, which asked for no more than was wanted, stored its own after them: these
 -- were needed too
 module _ (before after : List ℕ) (have got : ℕ) (kept : take have after ≡ take have before) (room : have + got ≤ length after)
     (needed : Needed (take have before)) where

@@ -9,7 +9,7 @@ use Rattle.machine.specs.Entry.{longestList}
 use Rattle.input_words.specs.Bytes.{wordsOf}
 use Rattle.input_words.specs.TableInput.{longestTable, noTable, afterTable, tableWanted, NeededBy}
 
--- the reading stops at the first list word that is one too many
+-- the count of list words at which the reading stops: the last of them is one too many
 abbrev pub listWordsRead : ℕ
 listWordsRead = longestList + 1
 
@@ -25,7 +25,7 @@ leftOver rest = ltb (length rest) (4 * listWordsRead) && not (eqb (length rest %
 unfoldable pub unreadable : List ℕ → Bool
 unreadable bytes = noTable bytes || leftOver (afterTable bytes)
 
--- how many bytes more to read, where the input so far is these; 0 where no further byte can matter
+-- how many more bytes to read, where the input so far is these; 0 where no further byte can matter
 unfoldable pub wanted : List ℕ → ℕ
 wanted bytes = cond (noTable bytes) (tableWanted bytes) (4 * listWordsRead - length (afterTable bytes))
 
@@ -33,13 +33,13 @@ wanted bytes = cond (noTable bytes) (tableWanted bytes) (4 * listWordsRead - len
 abbrev pub mostInput : ℕ
 mostInput = 4 + 4 * longestTable + 4 * listWordsRead
 
--- each of these bytes was needed: behind the ones before it more was wanted
+-- each of these bytes was needed: after the bytes before it, more was wanted
 abbrev pub Needed : List ℕ → Type 0
 Needed bytes = NeededBy wanted bytes
 
--- what the reading leaves: these bytes, and the answer whether more is wanted behind them. It reads no byte past the first place
--- where nothing more is wanted, so that it waits for none. That a reading which stops while more is wanted has met the input's
--- end is believed of the world.
+-- What the reading leaves: these bytes, and whether more is wanted after them. It reads no byte past the first point where nothing
+-- more is wanted, so that it waits for none. That a reading which stops while more is wanted has met the input's end is believed of
+-- the world.
 pub record Reads (bytes : List ℕ) (ended : Bool) : Type 0 where
   pub reason : ended ≡ ltb 0 (wanted bytes)
   pub needed : Needed bytes

@@ -1,5 +1,5 @@
-// What linerun reads: the table, then the list's words up to word 4,097. Which input 7 refuses and how much is wanted, as bytes, and
-// the reading of standard input by it.
+// What linerun reads: the table, then the list's words up to word 4,097 (document 01, 'Into firmware and onto the bench').
+// This file says which input code 7 refuses and how many more bytes are wanted. Module stdin reads standard input by it.
 pub mod stdin;
 
 use format::calls::LONGEST_LIST;
@@ -9,10 +9,10 @@ use input_words::table_input::table_wanted;
 ghost use mathlib.Core.Path.{_≡_};
 ghost use Rattle.linerun_input.specs.Input.{unreadable, wanted};
 
-// The bytes of 4,097 list words: where the reading stops.
+// The bytes of 4,097 list words, at which the reading stops.
 const LIST_BYTES: usize = 4 * (LONGEST_LIST + 1);
 
-// Whether the input is one of those that code 7 refuses.
+// Returns whether code 7 refuses the input.
 pub fn unreadable(bytes: &[u8]) -> bool
     ensures { λ r. ⌜ r ≡ unreadable (now (bytes .entry)) ⌝ }
 {
@@ -26,7 +26,7 @@ pub fn unreadable(bytes: &[u8]) -> bool
     false
 }
 
-// How many bytes more to read, where the input so far is bytes; 0 where no further byte can matter.
+// Returns how many more bytes to read, where the input so far is `bytes`. It is 0 where no further byte can matter.
 pub fn wanted(bytes: &[u8]) -> usize
     ensures { λ r. ⌜ r ≡ wanted (now (bytes .entry)) ⌝ }
 {

@@ -1,5 +1,5 @@
-// Standard input, read in steps: the length word, the table, the list. Each step asks for what the bytes read so far leave wanted
-// and for no byte more, so that the program never waits for one that can't matter.
+// Reads standard input in steps: the length word, the table, the list. Each step asks for what is wanted after the bytes read so
+// far and for no byte more, so that the program never waits for one that can't matter.
 use crate::wanted;
 use format::calls::LONGEST_LIST;
 use format::tables::LONGEST_TABLE;
@@ -9,13 +9,13 @@ ghost use mathlib.Core.Path.{_≡_};
 ghost use lib.ListN.{length, take};
 ghost use Rattle.linerun_input.specs.Input.{wanted, mostInput, Reads};
 
-// What was read: how many bytes, and whether more was wanted behind them, which is so where the input ended there.
+// What was read: how many bytes, and whether more was wanted after them, which is so where the input ended there.
 pub struct Input {
     pub have: usize,
     pub ended: bool,
 }
 
-// How many bytes more to read behind the first ones.
+// Returns how many more bytes to read after the first `have`. There is room for them.
 fn wanted_after(input: &[u8], have: usize) -> usize
     requires { ⌜ length (now input) ≡ mostInput ⌝ }
     requires { ⌜ have ≤ mostInput ⌝ }
@@ -24,8 +24,8 @@ fn wanted_after(input: &[u8], have: usize) -> usize
     wanted(&input[0..have])
 }
 
-// Reads so many bytes behind the first ones, fewer only where the input ends, and answers how many. No more may be asked for than
-// the first ones leave wanted.
+// Reads `want` bytes after the first `have`, fewer only where the input ends, and returns how many. The caller must not ask for
+// more than is wanted after the first `have`.
 fn read_after(input: &mut [u8], have: usize, want: usize) -> usize
     requires { ⌜ have + want ≤ length (now input) ⌝ }
     requires { ⌜ want ≤ wanted (take have (now input)) ⌝ }
@@ -35,7 +35,7 @@ fn read_after(input: &mut [u8], have: usize, want: usize) -> usize
     io::read_full(STDIN_FILENO, &mut input[have..end])
 }
 
-// Reads until nothing more is wanted or the input ends, and answers which of the two it was.
+// Reads until nothing more is wanted or the input ends. Returns how many bytes it read, and which of the two it was.
 fn read_all(input: &mut [u8]) -> Input
     requires { ⌜ length (now input) ≡ mostInput ⌝ }
     ensures { λ r. ⌜ (r .have ≤ mostInput) × Reads (take (r .have) (now (input .exit))) (r .ended) ⌝ }
@@ -57,8 +57,8 @@ fn read_all(input: &mut [u8]) -> Input
 // The most bytes that are read: the length word, 641 table words and 4,097 list words.
 pub const MOST_INPUT: usize = 4 * (1 + LONGEST_TABLE + LONGEST_LIST + 1);
 
-// Reads standard input into a buffer of that length. Into any other nothing is read, and the answer is that more is wanted.
-// Free: which bytes come, and what stands in the buffer behind them.
+// Reads standard input into a buffer of MOST_INPUT bytes. Into a buffer of another length it reads nothing, and returns that more
+// is wanted. The contract leaves open which bytes come, and what the buffer has after them.
 pub fn read_input(input: &mut [u8]) -> Input
     ensures { λ r. ⌜ (r .have ≤ length (now (input .exit))) × Reads (take (r .have) (now (input .exit))) (r .ended) ⌝ }
     ensures { λ r. ⌜ ((length (now (input .entry)) ≡ mostInput → ⊥) → (r .have ≡ 0) × (now (input .exit) ≡ now (input .entry))) ⌝ }

@@ -1,5 +1,5 @@
--- Lines that are written some at a time: what a turn of the loop that writes them adds, and that the lines from one line on join
--- what is printed before it. Assumes nothing.
+-- Lines that are written some at a time: what an iteration of the loop that writes them adds, and that the lines from one line on
+-- continue what is printed before it. Assumes nothing.
 use Prim.Native.Nat.{ℕ, zero, suc, _+_, _-_, _≤_, _<_}
 use mathlib.Core.Path.{_≡_, sym, ap, _∙_}
 use mathlib.Core.List.{List, _++_, append-assoc, append-nil}
@@ -9,7 +9,7 @@ use Rattle.text.proofs.WriteLaws.{then}
 use Rattle.linerun_text.specs.Lines.{firstLine}
 use Rattle.linerun_report.specs.Lines.{lineOf, callLines, allLines, printedBefore, linesFrom, linesBetween}
 
--- a turn: the line of call i after the lines of those before it
+-- an iteration: the line of call i after the lines of those before it
 pub next-line : {at : ℕ} (answers : List ℕ) (from i : ℕ) {buffer : List ℕ} {here : ℕ} {left : List ℕ} {next : ℕ} {left′ : List ℕ}
     → from ≤ i
     → Writes at (linesFrom answers from (i - from)) buffer here left

@@ -1,5 +1,5 @@
--- Two refusals of `linerun` for every input: a list one word too long gives 1, whatever is wrong with the table and whatever
--- follows; and 6 never comes, since there is space for every list that is short enough, and a word for each domain of a table that
+-- Two refusals of `linerun` for every input. A list one word too long gives code 1, whatever is wrong with the table and whatever
+-- follows. Code 6 never comes, since there is space for every list that is short enough, and a word for each domain of a table that
 -- is accepted. Assumes nothing.
 use Prim.Native.Nat.{ℕ, _*_, _≤_, _<_}
 use mathlib.Core.Path.{_≡_, sym, _∙_}
@@ -48,7 +48,7 @@ one-word-too-many bytes w h =
     let refused = entry-refused t ws answerSpace (holdersSpace t) (λ z. omega arith) in
     simp (whole-table bytes w, no-left-over (afterTable bytes) h, refused, one, append-nil)
 
--- 6 comes from an answer space that is too small, and one with three words for each word of the longest list never is,
+-- Code 6 comes from an answer space that is too small, and one with three words for each word of the longest list never is.
 no-table-six : (t : List ℕ) → tableCode t ≡ 6 → ⊥
 unfolding tableCode
 no-table-six t =
@@ -59,7 +59,7 @@ no-table-six t =
     cond-elim (λ (code : ℕ). code ≡ 6 → ⊥) (not (rightsOk t)) (λ _ e. omega arith)
     (λ _. cond-elim (λ (code : ℕ). code ≡ 6 → ⊥) (not (endpointsOk t)) (λ _ e. omega arith) (λ _ e. omega arith))))
 
--- or from other than a word for each domain, of which an accepted table has at most sixteen
+-- Code 6 also comes from other than a word for each domain, of which an accepted table has at most sixteen.
 one-a-domain : (t : List ℕ) → Accepted t → length (holdersSpace t) ≡ domains t
 unfolding holdersSpace
 one-a-domain t a = length-replicate _ _ ∙ min-eq-left (accepted-counts t a .1)

@@ -1,5 +1,5 @@
--- The report as the functions make it up: the two ways that the definition goes, and how many calls there are; and where the
--- reading stops before the input ends, no further byte makes a difference to it. Assumes nothing.
+-- The report as the functions make it: the two cases of the definition, and how many calls there are. Where the reading stops
+-- before the input ends, no further byte makes a difference to it. Assumes nothing.
 use Prim.Native.Nat.{ℕ, zero, suc, _-_, _*_, _≤_, min}
 use mathlib.Core.Path.{_≡_, refl, sym, ap, _∙_}
 use mathlib.Core.Bool.{Bool, true, false}

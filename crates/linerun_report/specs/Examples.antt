@@ -33,7 +33,7 @@ rows =
     -- 7: no input, and under 4 bytes of it
     ∷ record { input = []; printed = "calls 0 code 7\n" }
     ∷ record { input = 34 ∷ 0 ∷ 0 ∷ []; printed = "calls 0 code 7\n" }
-    -- 7: a first word above 641, with as many words behind it as it says; 641 with as many is a table
+    -- 7: a first word above 641, with as many words after it as it says; 641 with as many is a table
     ∷ record { input = bytesOf (642 ∷ replicate 642 0); printed = "calls 0 code 7\n" }
     ∷ record { input = bytesOf (641 ∷ replicate 641 0); printed = "calls 0 code 2\n" }
     -- 7: fewer words than the first says

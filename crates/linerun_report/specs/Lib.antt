@@ -1,5 +1,5 @@
--- What a reader must believe of `linerun`: from the bytes read to the bytes written. How many bytes it asks for stands in
--- crate linerun_input, and a line in linerun_text.
+-- What a reader must believe of `linerun`: from the bytes read to the bytes written. Crate linerun_input defines how many bytes it
+-- asks for, and linerun_text a line.
 pub mod Lines
 pub mod Report
 pub mod Examples

@@ -4,7 +4,7 @@ use mathlib.Core.List.{List, [], _++_}
 use lib.ListN.{getD}
 use Rattle.linerun_text.specs.Lines.{firstLine, callLine}
 
--- the line of call i, whose answer is three of the words
+-- the line of call i, whose answer is three of the words, from word 3 i on
 abbrev pub lineOf : List ℕ → ℕ → List ℕ
 lineOf answers i = callLine i (getD answers (3 * i) 0) (getD answers (3 * i + 1) 0) (getD answers (3 * i + 2) 0)
 
@@ -13,7 +13,7 @@ unfoldable pub callLines : List ℕ → ℕ → List ℕ
 callLines answers zero = []
 callLines answers (suc k) = callLines answers k ++ lineOf answers k
 
--- all lines: an entry refusal has no calls, so its first line stands alone
+-- all lines: an entry refusal has no calls, so it has its first line only
 unfoldable pub allLines : ℕ → ℕ → List ℕ → List ℕ
 allLines calls code answers = firstLine calls code ++ callLines answers calls
 
@@ -21,17 +21,17 @@ allLines calls code answers = firstLine calls code ++ callLines answers calls
 abbrev pub mostBytes : ℕ → ℕ
 mostBytes calls = 28 + 66 * calls
 
--- Lines are written some at a time. Line 0 is the first, and line i + 1 that of call i: what is printed before a line,
+-- Lines are written some at a time. Line 0 is the first, and line i + 1 is that of call i. This is what is printed before a line.
 unfoldable pub printedBefore : ℕ → ℕ → List ℕ → ℕ → List ℕ
 printedBefore calls code answers zero = []
 printedBefore calls code answers (suc i) = firstLine calls code ++ callLines answers i
 
--- the lines of k calls from call i on,
+-- the lines of k calls from call i on
 unfoldable pub linesFrom : List ℕ → ℕ → ℕ → List ℕ
 linesFrom answers i zero = []
 linesFrom answers i (suc k) = linesFrom answers i k ++ lineOf answers (i + k)
 
--- and the lines from one line on and before another
+-- the lines from one line on and before another
 unfoldable pub linesBetween : ℕ → ℕ → List ℕ → ℕ → ℕ → List ℕ
 linesBetween calls code answers zero next = firstLine calls code ++ linesFrom answers 0 (next - 1)
 linesBetween calls code answers (suc i) next = linesFrom answers i (next - suc i)

@@ -19,31 +19,31 @@ answerSpace = replicate (3 * longestList) 0
 unfoldable pub holdersSpace : List ℕ → List ℕ
 holdersSpace t = replicate (min (domains t) 16) 0
 
--- the lines of what a run came to
+-- the lines of a run's outcome
 unfoldable pub outcomeLines : Outcome → List ℕ
 outcomeLines o = allLines (o .calls) (o .code) (o .answers)
 
--- what is printed for these bytes: 7 where they are refused by it, else the lines of their table's and list's run
+-- what is printed for these bytes: code 7 where it refuses them, else the lines of the run of their list on their table
 unfoldable pub report : List ℕ → List ℕ
 report bytes =
     cond (unreadable bytes) (firstLine 0 7)
     (outcomeLines (entry (tableOf bytes) (listOf bytes) answerSpace (holdersSpace (tableOf bytes))))
 
--- What a run of the bytes tells, in lent words that were as the definition has them: the number of calls, of which there are no more
--- than the longest list has words, the code and the answers, of which the lines are the report.
+-- What a run of the bytes returns, where the lent words were as the definition has them: the count of calls, which is at most the
+-- longest list's count of words, the code and the answers. Their lines are the report.
 pub record Reports (bytes space : List ℕ) (calls code : ℕ) (answers : List ℕ) : Type 0 where
   pub few : calls ≤ longestList
   pub lines : space ≡ answerSpace → report bytes ≡ allLines calls code answers
 
--- Where no further byte is wanted, what follows alters nothing;
+-- Where no further byte is wanted, what follows changes nothing.
 abbrev pub NothingFollows : Type 0
 NothingFollows = (bytes more : List ℕ) → wanted bytes ≡ 0 → report (bytes ++ more) ≡ report bytes
 
--- and 6 never comes.
+-- Code 6 never comes.
 abbrev pub NeverSix : Type 0
 NeverSix = (t ws : List ℕ) → entry t ws answerSpace (holdersSpace t) .code ≡ 6 → ⊥
 
--- what may follow the bytes read in the input: nothing where it ended behind them, anything where it did not
+-- what may follow the bytes read in the input: nothing where it ended after them, anything where it did not
 abbrev pub Follows : Bool → List ℕ → Type 0
 Follows ended more = ended ≡ true → more ≡ []
 

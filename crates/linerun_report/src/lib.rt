@@ -1,4 +1,4 @@
-// What linerun answers to what it read: the program without its reading and writing.
+// Runs what linerun read: the program without its reading and writing (document 01, 'Into firmware and onto the bench').
 use format::calls::LONGEST_LIST;
 use format::tables::DOMAIN_PLACES;
 use format::tables::LONGEST_TABLE;
@@ -13,13 +13,13 @@ ghost use Prim.Native.Nat.{_≤_, min};
 ghost use Rattle.machine.specs.Table.{domains};
 ghost use Rattle.linerun_report.specs.Report.{Reports};
 
-// How many calls there are, and the entry's code.
-pub struct Told {
+// The count of calls, and the entry's code.
+pub struct Head {
     pub calls: usize,
     pub code: u32,
 }
 
-// How many words are lent for the holders: one for each domain, up to the sixteen that an accepted table may have.
+// Returns how many words are lent for the holders: one for each domain, up to the sixteen that an accepted table may have.
 fn holders_lent(table: &[u32]) -> usize
     ensures { λ k. ⌜ k ≡ min (domains (now (table .entry))) 16 ⌝ }
 {
@@ -30,12 +30,12 @@ fn holders_lent(table: &[u32]) -> usize
     n
 }
 
-// Runs what was read; the calls' answers are left in the lent words.
-pub fn answer(bytes: &[u8], answers: &mut [u32]) -> Told
+// Runs what was read. Returns the count of calls and the code, and leaves the calls' answers in the lent words.
+pub fn answer(bytes: &[u8], answers: &mut [u32]) -> Head
     ensures { λ r. ⌜ Reports (now (bytes .entry)) (now (answers .entry)) (r .calls) (r .code) (now (answers .exit)) ⌝ }
 {
     if unreadable(bytes) {
-        return Told { calls: 0, code: 7 };
+        return Head { calls: 0, code: 7 };
     }
     let mut table = [0u32; LONGEST_TABLE];
     let words = read_table(bytes, &mut table);
@@ -51,7 +51,7 @@ pub fn answer(bytes: &[u8], answers: &mut [u32]) -> Told
         answers,
         &mut holders[0..lent],
     );
-    Told {
+    Head {
         calls: ran.calls(),
         code: ran.code(),
     }

@@ -5,7 +5,7 @@ use Rattle.machine.specs.Word.{kind, caller, answerCode}
 use Rattle.text.specs.Ascii.{ascii}
 use Rattle.text.specs.Decimal.{labelled}
 
--- the first line: the number of calls and the entry's code
+-- the first line: the count of calls and the entry's code
 unfoldable pub firstLine : ℕ → ℕ → List ℕ
 firstLine calls code = labelled (ascii "calls ") calls ++ labelled (ascii " code ") code ++ ascii "\n"
 

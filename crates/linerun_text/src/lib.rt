@@ -1,2 +1,2 @@
-// The lines that linerun prints, as bytes, without the kernel and without writing.
+// The lines that linerun prints, as bytes. The crate needs neither the kernel nor output.
 pub mod lines;

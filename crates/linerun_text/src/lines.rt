@@ -1,4 +1,5 @@
-// The lines that linerun prints, into a lent buffer from a place on.
+// Writes the lines that linerun prints into a lent buffer from the index `at` on, and returns the index after them
+// (document 01, 'Into firmware and onto the bench').
 use format::KIND_UNIT;
 use format::answers::CODE;
 use format::calls::CALLER_UNIT;
@@ -7,7 +8,7 @@ use text::write::put_labelled;
 ghost use Rattle.text.specs.Write.{Writes};
 ghost use Rattle.linerun_text.specs.Lines.{firstLine, callLine};
 
-// The number of calls and the entry's code.
+// Writes the first line: the count of calls and the entry's code.
 pub fn first_line(calls: usize, code: u32, out: &mut [u8], at: usize) -> usize
     ensures { λ r. ⌜ Writes at (firstLine calls code) (now (out .entry)) r (now (out .exit)) ⌝ }
 {
@@ -16,7 +17,7 @@ pub fn first_line(calls: usize, code: u32, out: &mut [u8], at: usize) -> usize
     put(b"\n", out, code_end)
 }
 
-// Call i, whose answer is the words w, x and y: caller, kind and code out of w, and x and y as they are.
+// Writes the line of call i, whose answer is the words w, x and y: caller, kind and code from w, and x and y as they are.
 pub fn call_line(i: usize, w: u32, x: u32, y: u32, out: &mut [u8], at: usize) -> usize
     ensures { λ r. ⌜ Writes at (callLine i w x y) (now (out .entry)) r (now (out .exit)) ⌝ }
 {

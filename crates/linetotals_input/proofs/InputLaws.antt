@@ -20,7 +20,7 @@ use Rattle.linetotals_input.specs.Input.{headWanted}
 use Rattle.linetotals_input.specs.Read.{listBytes, ListRead, TableRead}
 use Rattle.linetotals_input.proofs.ListLaws.{head-few}
 
--- the table's bytes, in a buffer of which the first stayed while a read stored its own behind them
+-- the table's bytes, in a buffer of which the first stayed while a read stored its own after them
 module _ (before after : List ℕ) (have got : ℕ) (kept : take have after ≡ take have before) (room : have + got ≤ length after) where
   pub table-needed : NeededBy tableWanted (take have before) → got ≤ tableWanted (take have before) → NeededBy tableWanted (take (have + got) after)
   table-needed needed asked =
@@ -35,13 +35,13 @@ first-needed before after got kept room few =
     rw (zero-add got) at
     (table-needed before after 0 got kept (omega arith) (needed-none tableWanted) few)
 
--- what a length word announces has room behind it
+-- what a length word announces fits after it
 pub table-fits : (bytes : List ℕ) → length bytes ≤ 4 → length bytes + tableWanted bytes ≤ 4 + 4 * longestTable
 table-fits bytes h = table-within bytes (4 + 4 * longestTable) (omega arith) (omega arith)
 
 -- ---- what the steps leave
 
--- a list that is too long, or that has no room, isn't read
+-- a list that is too long, or that doesn't fit, isn't read
 pub nothing-read : (words left : ℕ) (buffer : List ℕ) → ListRead words left buffer (record { got = 0; short = true })
 nothing-read words left buffer =
     record { room = omega arith; asked = omega arith; shortBy = sym (lt-ltb 0 (listBytes words left) (omega (arith, head-few left))) }
@@ -67,7 +67,7 @@ first-read before after got kept room few =
       shortBy = sym (lt-ltb 0 (tableWanted (take got after)) (rw (lt-ltb (length (take got after)) 4 (omega arith)) (omega arith)));
     }
 
--- behind a whole length word, what is wanted falls by what comes
+-- after a whole length word, what is wanted falls by what comes
 wanted-falls : (bytes more : List ℕ) → length bytes ≡ 4 → length more ≤ tableWanted bytes → tableWanted (bytes ++ more) ≡ tableWanted bytes - length more
 unfolding tableWanted
 wanted-falls bytes more four asked =

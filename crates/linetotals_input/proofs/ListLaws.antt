@@ -1,4 +1,4 @@
--- The lists that bytes give: what stands at the front of the bytes, bytes that follow, and how much is wanted. Assumes nothing.
+-- The lists that bytes give: what is at the front of the bytes, bytes that follow, and how much is wanted. Assumes nothing.
 use Prim.Native.Nat.{ℕ, zero, suc, _+_, _-_, _*_, _≤_, _<_}
 use mathlib.Core.Path.{_≡_, refl, sym, ap, _∙_}
 use mathlib.Core.List.{List, [], _∷_, _++_}
@@ -12,7 +12,7 @@ use Rattle.input_words.specs.Bytes.{wordAt, wordsOf}
 use Rattle.input_words.proofs.WordLaws.{wordAt-append, take-wordsOf-append}
 use Rattle.linetotals_input.specs.Input.{Lists, stopped, then, headWanted, listFirst, listsFrom}
 
--- ---- what stands at the front
+-- ---- what is at the front
 
 pub from-none : (left : ℕ) → listsFrom left [] ≡ stopped 0 (headWanted left)
 unfolding listsFrom headWanted
@@ -91,7 +91,7 @@ head-few (suc left) = omega arith
 head-some : (left : ℕ) → 0 < headWanted left
 head-some left = head-few left .0
 
--- while what stands before a list isn't all there, more is wanted
+-- while the bytes before a list aren't all there, more is wanted
 head-still : (left : ℕ) (bytes : List ℕ) → length bytes < headWanted left → 0 < listsFrom left bytes .wanted
 unfolding headWanted stopped
 head-still left bytes h = go left h (front left bytes)
@@ -120,7 +120,7 @@ module _ (left : ℕ) (bytes more : List ℕ) (word : 4 ≤ length bytes) where
       ∙ ap (λ (n : ℕ). fromList left n (drop 4 (bytes ++ more))) word-stays
       ∙ ap (fromList left (wordAt bytes 0)) (drop-append-le 4 bytes more word)
 
--- nor do they make one to a list that is whole
+-- nor do they make a difference to a list that is whole
 pub whole-stays : (left n : ℕ) (bytes more : List ℕ) → 4 * n ≤ length bytes
     → fromList left n (bytes ++ more) ≡ then (take n (wordsOf bytes)) (listsFrom left (drop (4 * n) bytes ++ more))
 whole-stays left n bytes more h =
@@ -138,11 +138,11 @@ nothing-follows zero bytes more done = go (front zero bytes)
     go (many some is) = from-many (bytes ++ more) (omega (arith, length-append bytes more)) ∙ sym is
 nothing-follows (suc left) bytes more done = go (λ xs z. nothing-follows left xs more z) (front (suc left) bytes)
   where
-    -- what the lists behind the first say
-    Behind : Type 0
-    Behind = (xs : List ℕ) → listsFrom left xs .wanted ≡ 0 → listsFrom left (xs ++ more) ≡ listsFrom left xs
+    -- what the lists after the first say
+    Afterwards : Type 0
+    Afterwards = (xs : List ℕ) → listsFrom left xs .wanted ≡ 0 → listsFrom left (xs ++ more) ≡ listsFrom left xs
 
-    list-follows : Behind → (n : ℕ) (xs : List ℕ) → fromList left n xs .wanted ≡ 0 → Dec (length xs < 4 * n) → fromList left n (xs ++ more) ≡ fromList left n xs
+    list-follows : Afterwards → (n : ℕ) (xs : List ℕ) → fromList left n xs .wanted ≡ 0 → Dec (length xs < 4 * n) → fromList left n (xs ++ more) ≡ fromList left n xs
     list-follows behind n xs z (yes h) = absurd (omega (arith, z, ap (λ (x : Lists). x .wanted) (list-cut left n xs h), head-some left))
     list-follows behind n xs z (no h) =
         let all : 4 * n ≤ length xs = omega arith in
@@ -150,7 +150,7 @@ nothing-follows (suc left) bytes more done = go (λ xs z. nothing-follows left x
         ∙ ap (then (take n (wordsOf xs))) (behind (drop (4 * n) xs) (sym (ap (λ (x : Lists). x .wanted) (list-whole left n xs all)) ∙ z))
         ∙ sym (list-whole left n xs all)
 
-    go : Behind → Front bytes (suc left) → listsFrom (suc left) (bytes ++ more) ≡ listsFrom (suc left) bytes
+    go : Afterwards → Front bytes (suc left) → listsFrom (suc left) (bytes ++ more) ≡ listsFrom (suc left) bytes
     go behind (none e is) = absurd (omega (arith, done, ap (λ (x : Lists). x .wanted) is, head-some (suc left)))
     go behind (cutWord some short is) = absurd (omega (arith, done, ap (λ (x : Lists). x .wanted) is))
     go behind (long word above is) = long-stays left bytes more word above ∙ sym is
@@ -169,10 +169,10 @@ still-wanted zero bytes more h = go (front zero bytes)
     go (many some is) = absurd (omega (arith, h, ap (λ (x : Lists). x .wanted) is))
 still-wanted (suc left) bytes more h = go (λ xs l. still-wanted left xs more l) (front (suc left) bytes)
   where
-    Behind : Type 0
-    Behind = (xs : List ℕ) → length more < listsFrom left xs .wanted → 0 < listsFrom left (xs ++ more) .wanted
+    Afterwards : Type 0
+    Afterwards = (xs : List ℕ) → length more < listsFrom left xs .wanted → 0 < listsFrom left (xs ++ more) .wanted
 
-    list-still : Behind → (n : ℕ) (xs : List ℕ) → length more < fromList left n xs .wanted → Dec (length xs < 4 * n) → Dec (length (xs ++ more) < 4 * n) → 0 < fromList left n (xs ++ more) .wanted
+    list-still : Afterwards → (n : ℕ) (xs : List ℕ) → length more < fromList left n xs .wanted → Dec (length xs < 4 * n) → Dec (length (xs ++ more) < 4 * n) → 0 < fromList left n (xs ++ more) .wanted
     list-still behind n xs l (yes k) (yes j) = rw (list-cut left n (xs ++ more) j) (omega (arith, head-some left))
     list-still behind n xs l (yes k) (no j) =
         let all : 4 * n ≤ length (xs ++ more) = omega arith in
@@ -184,7 +184,7 @@ still-wanted (suc left) bytes more h = go (λ xs l. still-wanted left xs more l)
         rw (whole-stays left n xs more all)
         (behind (drop (4 * n) xs) (omega (arith, l, ap (λ (x : Lists). x .wanted) (list-whole left n xs all))))
 
-    go : Behind → Front bytes (suc left) → 0 < listsFrom (suc left) (bytes ++ more) .wanted
+    go : Afterwards → Front bytes (suc left) → 0 < listsFrom (suc left) (bytes ++ more) .wanted
     go behind (none e is) = head-still (suc left) (bytes ++ more) (omega (arith, h, ap (λ (x : Lists). x .wanted) is, length-append bytes more))
     go behind (cutWord some short is) = head-still (suc left) (bytes ++ more) (omega (arith, h, ap (λ (x : Lists). x .wanted) is, length-append bytes more))
     go behind (long word above is) = absurd (omega (arith, h, ap (λ (x : Lists). x .wanted) is))

@@ -1,4 +1,4 @@
--- Going on list by list, as the program's loop does: the bytes read so far, the lists that they gave, and what remains. Assumes nothing.
+-- List after list, as in the program's loop: the bytes read so far, the lists that they gave, and what remains. Assumes nothing.
 use Prim.Native.Nat.{ℕ, suc, _+_, _-_, _*_, _≤_, _<_}
 use mathlib.Core.Path.{_≡_, refl, sym, ap, subst, _∙_}
 use mathlib.Core.List.{List, [], _∷_, _++_, append-nil, append-assoc}
@@ -17,9 +17,9 @@ use Rattle.linetotals_input.specs.declared.Next.the-variants.{Ends, Word
 use Rattle.linetotals_input.proofs.ListLaws.{Front, front, fromList, head-few, from-none, list-cut, list-whole, list-stays, whole-stays, still-wanted}
 use Rattle.linetotals_input.proofs.ListLaws.{Front.none, Front.many, Front.cutWord, Front.long, Front.list}
 
--- ---- what stands before a list
+-- ---- the bytes before a list
 
--- the lists end here, by a number
+-- the lists end here, with a code
 record EndsBy (left : ℕ) (bytes : List ℕ) (code : ℕ) : Type 0 where
   noList : listsFrom left bytes .lists ≡ []
   byCode : listsFrom left bytes .code ≡ code
@@ -69,19 +69,19 @@ prepend-then : (lists : List (List ℕ)) (ws : List ℕ) (others : Lists) → pr
 unfolding prepend then
 prepend-then lists ws others = ap (λ (x : List (List ℕ)). record { lists = x; code = others .code; wanted = others .wanted }) (sym (append-assoc lists (ws ∷ []) (others .lists)))
 
--- how many bytes are wanted behind those that were read from the first list on
+-- how many bytes are wanted after those that were read from the first list on
 abbrev pub listsWanted : List ℕ → ℕ
 listsWanted bytes = listsFrom mostLists bytes .wanted
 
--- The bytes read gave these lists, and end with the bytes head, which stand before the next list, of which so many may still come;
--- whatever follows goes on from there.
+-- The bytes read gave these lists, and end with the bytes `head`, which are before the next list, where `left` more lists may come.
+-- Whatever follows continues from there.
 pub record AtHead (read : List ℕ) (lists : List (List ℕ)) (left : ℕ) (head : List ℕ) : Type 0 where
   pub goes : (more : List ℕ) → listsFrom mostLists (read ++ more) ≡ prepend lists (listsFrom left (head ++ more))
   pub count : length lists + left ≡ mostLists
   pub few : length head ≤ headWanted left
   pub needed : NeededBy listsWanted read
 
--- The bytes read gave these lists and the length of one more, behind which so many may still come; whatever follows goes on from
+-- The bytes read gave these lists and the length of one more, after which `left` more may come. Whatever follows continues from
 -- there.
 pub record Going (read : List ℕ) (lists : List (List ℕ)) (left n : ℕ) : Type 0 where
   pub goes : (more : List ℕ) → listsFrom mostLists (read ++ more) ≡ prepend lists (fromList left n more)
@@ -89,19 +89,19 @@ pub record Going (read : List ℕ) (lists : List (List ℕ)) (left n : ℕ) : Ty
   pub short : n ≤ longestList
   pub needed : NeededBy listsWanted read
 
--- The bytes read gave these lists, which end by a number, and so many bytes more are wanted behind them.
+-- The bytes read gave these lists, which end with a code, and so many more bytes are wanted after them.
 pub record Over (read : List ℕ) (lists : List (List ℕ)) (code more : ℕ) : Type 0 where
   pub allLists : listsFrom mostLists read .lists ≡ lists
   pub byCode : listsFrom mostLists read .code ≡ code
   pub missing : listsWanted read ≡ more
   pub needed : NeededBy listsWanted read
 
--- which of the two it is, by what stands before a list; more is what is wanted of that
+-- which of the two it is, by the bytes before a list; `more` is how many of them are still wanted
 abbrev pub GoesOn : List ℕ → List (List ℕ) → ℕ → ℕ → Next → Type 0
 GoesOn read lists left more (Ends code) = Over read lists code more
 GoesOn read lists left more (Words n) = Going read lists (left - 1) n
 
--- by what stands before a list, the lists are over, or one more follows
+-- by the bytes before a list, the lists are over, or one more follows
 module _ {read : List ℕ} {lists : List (List ℕ)} {left : ℕ} {head : List ℕ} (x : AtHead read lists left head) where
   over : (code : ℕ) → EndsBy left head code → Over read lists code (headWanted left - length head)
   unfolding prepend
@@ -140,7 +140,7 @@ module _ {read : List ℕ} {lists : List (List ℕ)} {left : ℕ} {head : List �
       go (Ends code) y = over code y
       go (Words n) y = going n y
 
--- the bytes that stand before the first list
+-- the bytes before the first list
 pub at-start : (head : List ℕ) → length head ≤ headWanted mostLists → AtHead head [] mostLists head
 unfolding prepend stopped
 at-start head few =
@@ -151,9 +151,9 @@ at-start head few =
       needed = needed-more listsWanted (still-wanted mostLists) [] head (λ k l. absurd (omega arith)) (omega (arith, few, ap (λ (y : Lists). y .wanted) (from-none mostLists)));
     }
 
--- a list more
+-- one more list
 module _ {read : List ℕ} {lists : List (List ℕ)} {left n : ℕ} (x : Going read lists left n) (chunk : List ℕ) (asked : length chunk ≤ 4 * n + headWanted left) where
-  -- what is wanted where a list's length is known: its words, and what stands before the next
+  -- what is wanted where a list's length is known: its words, and the bytes before the next
   wanted-now : listsWanted read ≡ 4 * n + headWanted left
   unfolding prepend stopped then
   wanted-now =

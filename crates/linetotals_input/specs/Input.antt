@@ -1,4 +1,4 @@
--- What `linetotals` reads (document 02 (e), end-of-shift totals): the table as `linerun` takes it, then each list with its length
+-- What `linetotals` reads (document 02 (e), end-of-shift totals): the table as `linerun` reads it, then each list with its length
 -- in words before it.
 use Prim.Native.Nat.{ℕ, zero, suc, _+_, _-_, _*_}
 use mathlib.Core.Bool.{cond}
@@ -14,35 +14,35 @@ use Rattle.input_words.specs.TableInput.{noTable, tableOf, afterTable, tableWan
 abbrev pub mostLists : ℕ
 mostLists = 65536
 
--- what bytes give as lists: those that run; the number that ends them where nothing follows the bytes, 0 at the input's end; and
--- how many bytes more to read, 0 where no further byte can matter
+-- the lists that bytes give: those that run; the code that ends them where nothing follows the bytes, 0 at the input's end; and
+-- how many more bytes to read, 0 where no further byte can matter
 pub record Lists : Type 0 where
   pub lists : List (List ℕ)
   pub code : ℕ
   pub wanted : ℕ
 
--- no list, or none any more
+-- no list, or no further one
 unfoldable pub stopped : ℕ → ℕ → Lists
 stopped code wanted = record { lists = []; code = code; wanted = wanted }
 
--- a list, and others behind it
+-- a list, and others after it
 unfoldable pub then : List ℕ → Lists → Lists
 then ws others = record { lists = ws ∷ others .lists; code = others .code; wanted = others .wanted }
 
--- the bytes to read of what stands before a list, where so many lists may still come: its length word, and behind the last list
--- that there may be one byte, since any is too many
+-- how many bytes to read of those before a list, where so many more lists may come: its length word, and after the last list that
+-- there may be one byte, since any is too many
 unfoldable pub headWanted : ℕ → ℕ
 headWanted zero = 1
 headWanted (suc left) = 4
 
--- a list of n words at the front of bytes, and others behind it, of which so many may still come; 7 where it is cut short
+-- a list of n words at the front of bytes, and others after it, where `left` more lists may come; 7 where it is cut short
 unfoldable pub listFirst : ℕ → ℕ → List ℕ → Lists → Lists
 listFirst left n bytes others =
     cond (ltb (length bytes) (4 * n)) (stopped 7 (4 * n - length bytes + headWanted left))
     (then (take n (wordsOf bytes)) others)
 
--- the lists that bytes give, where so many may still come: 1 for one too many and for a length word above the longest list's, else
--- 7 for a length word and for a list that is cut short
+-- the lists that bytes give, where so many more may come: code 1 for one too many and for a length word above the longest list's,
+-- else code 7 for a length word and for a list that is cut short
 unfoldable pub listsFrom : ℕ → List ℕ → Lists
 listsFrom zero [] = stopped 0 1
 listsFrom zero (b ∷ bytes) = stopped 1 0
@@ -59,13 +59,13 @@ listsFrom (suc left) (b ∷ bytes) =
 abbrev pub listsOf : List ℕ → Lists
 listsOf bytes = listsFrom mostLists (afterTable bytes)
 
--- how many bytes more to read, where the input so far is these; 0 where no further byte can matter: a refused table ends the
+-- how many more bytes to read, where the input so far is these; 0 where no further byte can matter: a refused table ends the
 -- reading before any list
 unfoldable pub wanted : List ℕ → ℕ
 wanted bytes =
     cond (noTable bytes) (tableWanted bytes)
     (cond (eqb (tableCode (tableOf bytes)) 0) (listsOf bytes .wanted) 0)
 
--- each of these bytes was needed: behind the ones before it more was wanted
+-- each of these bytes was needed: after the bytes before it, more was wanted
 abbrev pub Needed : List ℕ → Type 0
 Needed bytes = NeededBy wanted bytes

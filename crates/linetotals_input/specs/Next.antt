@@ -1,5 +1,5 @@
--- What the bytes that stand before a list say: that no list follows, with the number that ends the lists, or how many words the
--- list has. Laws tie it to the definition of the lists (proofs/ListLaws).
+-- What the bytes before a list say: that no list follows, with the code that ends the lists, or how many words the list has.
+-- Laws tie it to the definition of the lists (proofs/ListLaws).
 use Prim.Native.Nat.{ℕ}
 use mathlib.Core.Bool.{cond}
 use mathlib.Core.List.{List}
@@ -10,7 +10,7 @@ use Rattle.input_words.specs.Bytes.{wordAt}
 use Rattle.linetotals_input.specs.declared.Next.{Next}
 use Rattle.linetotals_input.specs.declared.Next.the-variants.{Ends, Words}
 
--- where so many lists may still come
+-- what the bytes before a list say, where `left` more lists may come
 unfoldable pub nextOf : ℕ → List ℕ → Next
 nextOf left bytes =
     cond (eqb (length bytes) 0) (Ends 0)

@@ -1,5 +1,5 @@
-// What linetotals reads: the table, then each list with its length in words before it. What the bytes before a list
-// say, and the reading of standard input.
+// What linetotals reads: the table, then each list with its length in words before it (document 02 (e), end-of-shift totals).
+// This file decodes the bytes before a list. Module stdin reads standard input.
 pub mod stdin;
 
 use format::calls::LONGEST_LIST;
@@ -7,13 +7,13 @@ use input_words::words::word_at;
 ghost use mathlib.Core.Path.{_≡_};
 ghost use Rattle.linetotals_input.specs.Next.{nextOf};
 
-// What comes next: the lists end, by a number that is 0 at the input's end, or a list of so many words.
+// What comes next: the lists end, with a code that is 0 at the input's end, or a list follows, with its count of words.
 pub enum Next {
     Ends(u32),
     Words(usize),
 }
 
-// By the bytes that stand before a list, where so many lists may still come.
+// Returns what comes next, by the bytes before a list, where `left` more lists may come.
 pub fn next_list(left: usize, bytes: &[u8]) -> Next
     ensures { λ r. ⌜ r ≡ nextOf left (now (bytes .entry)) ⌝ }
 {

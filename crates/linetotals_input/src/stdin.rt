@@ -1,5 +1,5 @@
-// Standard input, read in steps: the length word, the table, then each list together with what stands before the next. Each step
-// asks for what can't but be wanted and for no byte more, so that the program never waits for one that can't matter.
+// Reads standard input in steps: the length word, the table, then each list together with the bytes before the next. Each step
+// asks for what is wanted in any case and for no byte more, so that the program never waits for one that can't matter.
 use format::calls::LONGEST_LIST;
 use input_words::table_input::table_wanted;
 use libc::STDIN_FILENO;
@@ -18,7 +18,7 @@ pub struct Read {
     pub short: bool,
 }
 
-// Reads so many bytes behind the first ones, fewer only where the input ends, and answers how many.
+// Reads `want` bytes after the first `have`, fewer only where the input ends, and returns how many.
 fn read_after(input: &mut [u8], have: usize, want: usize) -> usize
     requires { ⌜ have + want ≤ length (now input) ⌝ }
     ensures { λ r. ⌜ (r ≤ want) × (take have (now (input .exit)) ≡ take have (now (input .entry))) ⌝ }
@@ -27,15 +27,16 @@ fn read_after(input: &mut [u8], have: usize, want: usize) -> usize
     io::read_full(STDIN_FILENO, &mut input[have..end])
 }
 
-// How many bytes stand before a list, where so many lists may still come: behind the last that there may be, one is too many.
+// Returns how many bytes to read of those before a list, where `left` more lists may come. After the last list that there may be
+// it is 1, since one byte is too many.
 fn head_wanted(left: usize) -> usize
     ensures { λ r. ⌜ r ≡ headWanted left ⌝ }
 {
     if left == 0 { 1 } else { 4 }
 }
 
-// Reads a list of so many words, and what stands before the next, of which so many may still come.
-// Free: which bytes come, and what stands in the buffer behind them. A list that is too long, or that has no room, isn't read.
+// Reads a list of `words` words and the bytes before the next list, where `left` more lists may come after it. A list that is too
+// long, or that doesn't fit, isn't read. The contract leaves open which bytes come, and what the buffer has after them.
 pub fn read_list(input: &mut [u8], words: usize, left: usize) -> Read
     ensures { λ r. ⌜ ListRead words left (now (input .exit)) r ⌝ }
 {
@@ -59,7 +60,7 @@ pub fn read_list(input: &mut [u8], words: usize, left: usize) -> Read
     }
 }
 
-// Reads the length word, then the table that it announces. Into a buffer that is too short nothing is read.
+// Reads the length word, then the table that it announces. Into a buffer that is too short it reads nothing.
 pub fn read_table_input(input: &mut [u8]) -> Read
     ensures { λ r. ⌜ TableRead (now (input .exit)) r ⌝ }
 {

@@ -1,4 +1,4 @@
--- The bytes of the table and those of the lists behind it, as one input: each was needed, and what is printed for them is the
+-- The bytes of the table and those of the lists after it, as one input: each was needed, and what is printed for them is the
 -- sheet of all. Assumes nothing.
 use Prim.Native.Nat.{ℕ, _+_, _-_, _≤_, _<_}
 use mathlib.Core.Path.{_≡_, refl, sym, ap, _∙_}
@@ -27,7 +27,7 @@ use Rattle.linetotals_report.specs.Report.{TableReported, Reported}
 no-table : (bytes : List ℕ) → 0 < tableWanted bytes → noTable bytes ≡ true
 no-table bytes h = rw append-nil at (still-asks bytes [] h .0)
 
--- behind a whole table no byte is wanted for it
+-- after a whole table no byte is wanted for it
 no-more-wanted : (bytes : List ℕ) → Whole bytes → tableEnd bytes < length bytes → tableWanted (take (tableEnd bytes) bytes) ≡ 0
 unfolding tableWanted
 no-more-wanted bytes w h =
@@ -39,7 +39,7 @@ no-more-wanted bytes w h =
     let short : wordAt front 0 ≤ longestTable = omega (arith, w .short) in
     rw (le-ltb (length front) 4 word, le-ltb longestTable (wordAt front 0) short) (omega arith)
 
--- what is printed behind a table doesn't depend on the lists where it is refused
+-- what is printed for a table doesn't depend on the lists after it where it is refused
 same-sheet : (t : List ℕ) (given : Lists) (b : Bool) → eqb (tableCode t) 0 ≡ b → tableSheet t given ≡ tableSheet t (cond b given (stopped (tableCode t) 0))
 unfolding tableSheet
 same-sheet t given true e = refl
@@ -51,7 +51,7 @@ module _ (head : List ℕ) (needed : NeededBy tableWanted head) where
   unfolding wanted
   table-needed k l = rw (no-table (take k head) (needed k l)) (needed k l)
 
-  -- none is behind a whole table
+  -- after a whole table there are no more of them
   nothing-behind : Whole head → afterTable head ≡ []
   unfolding afterTable
   nothing-behind w = drop-of-length-le head {i = tableEnd head} (go (decLt (tableEnd head) (length head)))
@@ -60,7 +60,7 @@ module _ (head : List ℕ) (needed : NeededBy tableWanted head) where
       go (yes h) = absurd (omega (arith, needed (tableEnd head) h, no-more-wanted head w h))
       go (no h) = omega arith
 
-  -- the bytes that lists were read from behind it
+  -- the bytes after it that lists were read from
   module _ (w : Whole head) where
     behind-is : (xs : List ℕ) → afterTable (head ++ xs) ≡ xs
     behind-is xs = afterTable-more head xs w ∙ ap (λ (ys : List ℕ). ys ++ xs) (nothing-behind w)
@@ -91,7 +91,7 @@ module _ (head : List ℕ) (needed : NeededBy tableWanted head) where
           rw (whole-table (head ++ behind) (whole-more head behind w), tableOf-more head behind w, behind-is behind)
           (sym (same-sheet (tableOf head) (listsFrom mostLists behind) (eqb (tableCode (tableOf head)) 0) refl))
 
--- ---- what is put into a buffer
+-- ---- what is written into a buffer
 
 pub reported-none : (head : List ℕ) {buffer : List ℕ} {count : ℕ} {left : List ℕ} → NeededBy tableWanted head → noTable head ≡ true
     → Writes 0 (lastLine 0 7) buffer count left → Reported buffer count left

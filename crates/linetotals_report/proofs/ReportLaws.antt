@@ -1,5 +1,5 @@
 -- What is printed for an input: the lines of the words that were counted are the sheet's, and the bytes of the table and of the
--- lists behind it were needed together. Assumes nothing.
+-- lists after it were needed together. Assumes nothing.
 use Prim.Native.Nat.{ℕ, zero, suc, _≤_, _<_}
 use mathlib.Core.Path.{_≡_, refl, ap, ap₂, _∙_}
 use mathlib.Core.Bool.{Bool, cond}
@@ -38,12 +38,12 @@ unfolding ofEndpoints
 of-length m f is = ap length is ∙ words-length 32 (λ e. cond (ltb e m) (f e) 0)
 
 -- what was counted over lists that were run from the table t, and what waited, as words
-pub record Told (t : List ℕ) (lists : List (List ℕ)) (tally : Tally) (start end : List ℕ) : Type 0 where
+pub record CountedLines (t : List ℕ) (lists : List (List ℕ)) (tally : Tally) (start end : List ℕ) : Type 0 where
   pub tallyIs : tally ≡ tallyOf t lists
   pub startIs : start ≡ wordsBelow 32 (λ e. waiting (endpoint t e))
   pub endIs : end ≡ wordsBelow 32 (λ e. waiting (endpoint (tableAfterLists t lists) e))
 
-module _ {t : List ℕ} {lists : List (List ℕ)} {tally : Tally} {start end : List ℕ} (x : Told t lists tally start end) where
+module _ {t : List ℕ} {lists : List (List ℕ)} {tally : Tally} {start end : List ℕ} (x : CountedLines t lists tally start end) where
   sent-is : tally .sent ≡ ofEndpoints (endpoints t) (λ e. totals e t lists .sent)
   unfolding tallyOf
   sent-is = ap (λ (a : Tally). a .sent) (x .tallyIs)
@@ -85,9 +85,9 @@ module _ {t : List ℕ} {lists : List (List ℕ)} {tally : Tally} {start end : L
 
 -- ---- the lists of a table
 
--- what is told of lists that were run from any table
+-- what is reported of lists that were run from any table
 pub told : {t : List ℕ} {ran : declared.Lists} {end starts ends : List ℕ} (x : ListsRan t ran end) → starts ≡ wordsBelow 32 (λ e. waiting (endpoint t e))
-    → ends ≡ wordsBelow 32 (λ e. waiting (endpoint end e)) → Told t (listsAfter t (x .bytes) .lists) (ran .tally) starts ends
+    → ends ≡ wordsBelow 32 (λ e. waiting (endpoint end e)) → CountedLines t (listsAfter t (x .bytes) .lists) (ran .tally) starts ends
 told x starts ends = record { tallyIs = x .tallyIs; startIs = starts; endIs = rw (x .tableIs) at ends }
 
 module _ {t : List ℕ} {ran : declared.Lists} {end : List ℕ} (x : ListsRan t ran end) where
@@ -97,7 +97,7 @@ module _ {t : List ℕ} {ran : declared.Lists} {end : List ℕ} (x : ListsRan t 
   at-none : (tableCode t ≡ 0 → ⊥) → ran .endpoints ≡ 0
   at-none n = x .endpointsAre ∙ ap (λ (b : Bool). cond b (endpoints t) 0) (ne-eqb (tableCode t) 0 n)
 
-  -- an accepted table has at most 32 endpoints, and a refused one isn't counted at any
+  -- an accepted table has at most 32 endpoints, and with a refused one the count is 0
   pub few-endpoints : ran .endpoints ≤ 32
   few-endpoints = go (decLt 0 (tableCode t))
     where
@@ -105,8 +105,8 @@ module _ {t : List ℕ} {ran : declared.Lists} {end : List ℕ} (x : ListsRan t 
       go (yes h) = omega (arith, at-none (omega arith))
       go (no h) = let a : Accepted t = omega arith in omega (arith, at-all a, accepted-counts t a .2)
 
-  -- the lines of the table and of the lists behind it
-  pub sheet-is : {starts ends : List ℕ} → Told t (listsAfter t (x .bytes) .lists) (ran .tally) starts ends
+  -- the lines of the table and of the lists after it
+  pub sheet-is : {starts ends : List ℕ} → CountedLines t (listsAfter t (x .bytes) .lists) (ran .tally) starts ends
       → countsLines (ran .tally .sent) (ran .tally .received) (ran .tally .lost) starts ends (ran .endpoints) ++ lastLine (ran .count) (ran .code)
       ≡ tableSheet t (listsAfter t (x .bytes))
   unfolding tableSheet totalsLines countsLines listsAfter stopped

@@ -1,2 +1,2 @@
--- What the contracts of `totals_report` cite: what is printed, as bytes in a buffer.
+-- What the contracts of `linetotals_report` cite: what is printed, as bytes in a buffer.
 pub mod Report

@@ -1,4 +1,5 @@
-// What linetotals prints for its standard input, as bytes: the whole program without its writing.
+// What linetotals prints for its standard input, as bytes: the whole program without its writing (document 02 (e), end-of-shift
+// totals).
 mod lines;
 
 use format::tables::LONGEST_TABLE;
@@ -12,7 +13,7 @@ use linetotals_text::lines::last_line;
 use totals_count::waiting::waiting_counts;
 ghost use Rattle.linetotals_report.specs.Report.{TableReported, Reported};
 
-// What is printed for a table and the lists of standard input, from the buffer's front on.
+// Writes what is printed for a table and the lists of standard input, from the buffer's front on, and returns the index after it.
 fn report_table(table: &mut [u32], out: &mut [u8]) -> usize
     ensures { λ r. ⌜ TableReported (now (table .entry)) (now (out .entry)) r (now (out .exit)) ⌝ }
 {
@@ -28,8 +29,8 @@ fn report_table(table: &mut [u32], out: &mut [u8]) -> usize
     last_line(ran.count, ran.code, out, at)
 }
 
-// Reads standard input as far as it is wanted and puts what is printed for it into a buffer, from the front on; answers how many
-// bytes that is. A buffer that is too short gets what fits, and the answer is then one past its length.
+// Reads standard input as far as it is wanted, writes what is printed for it from the buffer's front on, and returns how many bytes
+// that is. A buffer that is too short gets what fits, and the function then returns one past the buffer's length.
 pub fn report(out: &mut [u8]) -> usize
     ensures { λ r. ⌜ Reported (now (out .entry)) r (now (out .exit)) ⌝ }
 {

@@ -1,11 +1,11 @@
-// The lines of the endpoints, one after another.
+// Writes the lines of the endpoints, one after another (document 02 (e), end-of-shift totals).
 use linetotals_text::lines::endpoint_line;
 ghost use Prim.Native.Nat.{_*_, _≤_};
 ghost use Rattle.text.specs.Write.{Writes};
 ghost use Rattle.linetotals_report.specs.Report.{Counted, countsLines};
 
-// The lines of the endpoints below m, lowest number first, from the buffer's front on: what was counted at each, and what waited
-// there at the start and at the end. Each has few bytes.
+// Writes the lines of the endpoints below m, lowest index first, from the buffer's front on: what was counted at each, and what
+// waited there at the start and at the end. They have at most 146 bytes an endpoint.
 pub fn endpoint_lines(
     m: usize,
     sent: &[u64],

@@ -1,5 +1,5 @@
 -- Running list after list, as the program's loop does: a list that is short enough always runs, and what is known between two
--- lists goes on. Assumes noTotals.
+-- lists holds after the next. Assumes nothing.
 use Prim.Native.Nat.{ℕ, _+_, _-_, _*_, _≤_, _<_}
 use mathlib.Core.Path.{_≡_, refl, sym, ap, _∙_}
 use mathlib.Core.List.{List, [], _∷_, _++_}
@@ -29,7 +29,7 @@ use Rattle.linetotals_input.specs.declared.Next.the-variants.{Ends, Words}
 use Rattle.linetotals_input.proofs.ListLoop.{AtHead, Going, Over, at-start, goes-on, list-taken, list-short}
 use Rattle.linetotals_run.specs.Ran.{RunSpace, WordsAdded, AllRan, listsAfter, ListsRan}
 
--- a part that is lent, as what was read from a place on
+-- a part that is lent, as what was read from an index on
 part-of : (from got : ℕ) (input : List ℕ) → from ≤ got → got ≤ length input → drop from (take got input) ≡ take (got - from) (drop from input)
 part-of from got input h room =
     let all : got ≡ from + (got - from) = omega arith in
@@ -37,7 +37,7 @@ part-of from got input h room =
     ∙ ap (drop from) (take-add from (got - from) input)
     ∙ drop-at (take from input) (take (got - from) (drop from input)) from (length-take-le from input (omega arith))
 
--- the words of so few bytes have room
+-- the words of so few bytes fit
 pub words-fit : {t bytes list answers holders : List ℕ} → RunSpace t bytes list answers holders → length (wordsOf bytes) ≤ longestList
 words-fit {bytes = bytes} x = omega (arith, x .short, length-wordsOf bytes)
 
@@ -58,8 +58,8 @@ words-added x y =
 
 -- ---- between two lists
 
--- The bytes read so far gave lists which left the table and the tally, and end with the bytes head, which stand before the next
--- list, of which so many may still come.
+-- The bytes read so far gave lists which left the table and the tally, and end with the bytes `head`, which are before the next
+-- list, where so many more lists may come.
 pub record Between (t table : List ℕ) (tally : Tally) (left : ℕ) (head : List ℕ) : Type 0 where
   pub read : List ℕ
   pub lists : List (List ℕ)
@@ -72,7 +72,7 @@ between-first t head new few =
     record { read = head; lists = []; at = at-start head few; tallied = rw new (every-tally-list-by-list t .begins) }
 
 module _ {t table : List ℕ} {tally : Tally} {left : ℕ} {head : List ℕ} (x : Between t table tally left head) where
-  -- the table is an accepted one still, with the domains that it had
+  -- the table is still an accepted one, with the domains that it had
   pub still-accepted : Accepted t → Accepted table × (domains table ≡ domains t)
   still-accepted a =
       let is = x .tallied .tableIs ∙ one-run t (x .lists) in
@@ -124,7 +124,7 @@ module _ {t table : List ℕ} {tally : Tally} {left : ℕ} {head : List ℕ} (x 
             tallied = every-tally-list-by-list t .goesOn _ _ _ _ _ _ _ _ _ _ _ _ a (x .tallied) (omega (arith, x .at .count)) (y .added) refl;
           }
 
--- ---- behind any table
+-- ---- after any table
 
 -- an accepted one has the lists of the bytes
 pub ran-accepted : {t : List ℕ} {m count code : ℕ} {tally : Tally} {end : List ℕ} → Accepted t → m ≡ endpoints t → AllRan t count code tally end

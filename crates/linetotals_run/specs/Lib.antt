@@ -1,2 +1,2 @@
--- What the contracts of `totals_run` cite: what running the lists of an input leaves.
+-- What the contracts of `linetotals_run` cite: what running the lists of an input leaves.
 pub mod Ran

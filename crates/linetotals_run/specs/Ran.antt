@@ -1,5 +1,5 @@
--- What running the lists behind a table leaves: how many ran, the number that ended them, their totals and the table. Which bytes
--- are read is not known beforehand: there are some, each of which was needed, whose lists these are.
+-- What running the lists after a table leaves: how many ran, the code that ended them, their totals and the table (document 02 (e),
+-- end-of-shift totals). Which bytes are read is not known beforehand: these are the lists of some bytes, each of which was needed.
 use Prim.Native.Nat.{ℕ, _*_, _≤_}
 use mathlib.Core.Path.{_≡_}
 use mathlib.Core.Bool.{cond}
@@ -44,13 +44,13 @@ pub record AllRan (t : List ℕ) (count code : ℕ) (tally : Tally) (end : List 
   pub tallyIs : tally ≡ tallyOf t (listsFrom mostLists bytes .lists)
   pub tableIs : end ≡ tableAfterLists t (listsFrom mostLists bytes .lists)
 
--- the lists that bytes behind the table t give: behind a refused table none, and its code ends them
+-- the lists that bytes after the table t give: after a refused table none, and its code ends them
 unfoldable pub listsAfter : List ℕ → List ℕ → Lists
 listsAfter t bytes =
     let given = listsFrom mostLists bytes in
     cond (eqb (tableCode t) 0) given (stopped (tableCode t) 0)
 
--- the lists that bytes give behind the table t, any words at all, were run from it
+-- the lists that bytes give after the table t, which may be arbitrary words, were run from it
 pub record ListsRan (t : List ℕ) (ran : declared.Lists) (end : List ℕ) : Type 0 where
   pub bytes : List ℕ
   pub needed : NeededBy (λ xs. listsAfter t xs .wanted) bytes

@@ -1,10 +1,11 @@
-// One list, from the bytes read to the totals with it.
+// Runs one list: from the bytes read to the totals with it.
 use input_words::words::fill;
 use totals_add::Tally;
 use totals_add::add_list;
 ghost use Rattle.linetotals_run.specs.Ran.{RunSpace, WordsAdded};
 
-// The words of the bytes are run from an accepted table, with room for the longest list and its answers.
+// Runs the words of `bytes` from an accepted table, and returns the tally with what they count added. The caller must lend room for
+// the longest list and its answers, and a word for each domain.
 pub fn add_words(
     table: &mut [u32],
     bytes: &[u8],

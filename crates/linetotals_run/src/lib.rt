@@ -1,5 +1,5 @@
-// Runs the lists of standard input one after another from one table, each as it is read, and adds up what they count. One list is
-// held at a time, however many come.
+// Runs the lists of standard input one after another from one table, each as it is read, and adds up what they count (document 02
+// (e), end-of-shift totals). One list is held at a time, however many come.
 mod add_words;
 
 use add_words::add_words;
@@ -23,8 +23,8 @@ ghost use Rattle.linetotals_run.specs.Ran.{AllRan, ListsRan};
 // The most lists that there may be.
 const MOST_LISTS: usize = 65536;
 
-// What lists came to: the endpoints that they were counted at, none where the table is refused; how many lists ran, the number that
-// ended them, and their totals.
+// The result of running lists: the count of endpoints that they were counted at, 0 where the table is refused; how many lists ran,
+// the code that ended them, and their totals.
 pub struct Lists {
     pub endpoints: usize,
     pub count: usize,
@@ -32,14 +32,14 @@ pub struct Lists {
     pub tally: Tally,
 }
 
-// How many lists ran, the number that ended them, and their totals.
+// How many lists ran, the code that ended them, and their totals.
 struct Ran {
     count: usize,
     code: u32,
     tally: Tally,
 }
 
-// All lists, from an accepted table.
+// Runs all lists of standard input from an accepted table. The caller must lend a word for each domain.
 fn run_all(table: &mut [u32], holders: &mut [u32]) -> Ran
     requires { ⌜ Accepted (now table) ⌝ }
     requires { ⌜ length (now holders) ≡ domainsOf (now table) ⌝ }
@@ -51,7 +51,7 @@ fn run_all(table: &mut [u32], holders: &mut [u32]) -> Ran
     let mut answers = [0u32; MOST_ANSWER_WORDS];
     let mut tally = Tally::new();
     let mut count: usize = 0;
-    // the words of the list that was run last: what stands before the next one was read behind them
+    // the count of words of the list that was run last: the bytes before the next list were read after them
     let mut words: usize = 0;
     let mut got = read_list(&mut input, 0, MOST_LISTS).got;
     loop {
@@ -80,7 +80,7 @@ fn run_all(table: &mut [u32], holders: &mut [u32]) -> Ran
     }
 }
 
-// All lists, from any table. A refused one is told by its code, and no list is looked at.
+// Runs all lists of standard input from any table. For a refused table it returns the table's code and looks at no list.
 pub fn run_lists(table: &mut [u32]) -> Lists
     ensures { λ r. ⌜ ListsRan (now (table .entry)) r (now (table .exit)) ⌝ }
 {

@@ -1,2 +1,2 @@
--- What the contracts of `totals_text` cite: linetotals' lines.
+-- What the contracts of `linetotals_text` cite: linetotals' lines.
 pub mod Lines

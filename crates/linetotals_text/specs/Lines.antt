@@ -4,7 +4,7 @@ use mathlib.Core.List.{List, _++_}
 use Rattle.text.specs.Ascii.{ascii}
 use Rattle.text.specs.Decimal.{labelled}
 
--- the line of the endpoint e: sends answered 0, messages received and lost, waiting at the start and at the end
+-- the line of endpoint e: sends answered 0, messages received and lost, and messages waiting at the start and at the end
 unfoldable pub endpointLine : ℕ → ℕ → ℕ → ℕ → ℕ → ℕ → List ℕ
 endpointLine e sent received lost start end =
     labelled (ascii "endpoint ") e
@@ -15,6 +15,6 @@ endpointLine e sent received lost start end =
     ++ labelled (ascii " end ") end
     ++ ascii "\n"
 
--- the last line: the number of lists that ran, and the code
+-- the last line: the count of lists that ran, and the code
 unfoldable pub lastLine : ℕ → ℕ → List ℕ
 lastLine lists code = labelled (ascii "lists ") lists ++ labelled (ascii " code ") code ++ ascii "\n"

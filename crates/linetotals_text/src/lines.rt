@@ -1,10 +1,11 @@
-// The lines that linetotals prints: that of an endpoint, and the last.
+// Writes the lines that linetotals prints, that of an endpoint and the last, into a lent buffer from the index `at` on, and returns
+// the index after them (document 02 (e), end-of-shift totals).
 use text::write::put;
 use text::write::put_labelled;
 ghost use Rattle.text.specs.Write.{Writes};
 ghost use Rattle.linetotals_text.specs.Lines.{endpointLine, lastLine};
 
-// An endpoint's totals, and what waited there at the start and at the end.
+// Writes the line of endpoint e: its totals, and how many messages waited there at the start and at the end.
 pub fn endpoint_line(
     e: usize,
     sent: u64,
@@ -26,7 +27,7 @@ pub fn endpoint_line(
     put(b"\n", out, end_end)
 }
 
-// The number of lists that ran, and the code.
+// Writes the last line: the count of lists that ran, and the code.
 pub fn last_line(lists: usize, code: u32, out: &mut [u8], at: usize) -> usize
     ensures { λ r. ⌜ Writes at (lastLine lists code) (now (out .entry)) r (now (out .exit)) ⌝ }
 {

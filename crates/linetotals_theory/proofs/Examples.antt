@@ -1,4 +1,4 @@
--- The rows hold, each by computation. Assumes noCounts.
+-- The rows hold, each by computation. Assumes nothing.
 use mathlib.Core.Path.{refl}
 use Rattle.machine.proofs.Everything.{everything}
 use Rattle.text.specs.Ascii.{ascii}

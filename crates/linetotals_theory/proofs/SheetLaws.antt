@@ -1,4 +1,4 @@
--- The sheet of an input: where the reading asks for nothing more, what follows makes no difference; and what is printed for the
+-- The sheet of an input: where the reading asks for nothing more, what follows makes no difference, so that what is printed for the
 -- bytes read is the whole input's sheet. Assumes nothing.
 use Prim.Native.Nat.{ℕ, _<_}
 use mathlib.Core.Path.{_≡_, refl, sym, ap, _∙_}

@@ -1,5 +1,5 @@
--- Inputs of `linetotals` and what it prints for them: list L of document 01 twice on table T, lists that are cut by themselves, each
--- refusal, a table without endpoints, an empty list and no list.
+-- Inputs of `linetotals` and what it prints for them: list L of document 01 twice on table T, two lists each of which is split by
+-- itself, each refusal, a table without endpoints, an empty list and no list.
 use Prim.Native.Nat.{ℕ}
 use Prim.Native.String.{String}
 use mathlib.Core.Path.{_≡_}
@@ -32,7 +32,7 @@ rows =
       input = bytesOf (34 ∷ T ++ (1 ∷ 0x2000_0000 ∷ 1 ∷ 0xF000_0007 ∷ []));
       printed = "endpoint 0 sent 0 received 0 lost 0 start 0 end 0\nendpoint 1 sent 0 received 0 lost 0 start 0 end 0\nlists 2 code 0\n";
     }
-    -- what waits at the start and at the end are told apart, and lost isn't the table's count, which is at its largest
+    -- what waits at the start and at the end are distinct, and lost isn't the table's count, which is at its largest
     ∷ record {
       input =
           bytesOf
@@ -50,14 +50,14 @@ rows =
       input = bytesOf (34 ∷ T ++ (0 ∷ []));
       printed = "endpoint 0 sent 0 received 0 lost 0 start 0 end 0\nendpoint 1 sent 0 received 0 lost 0 start 0 end 0\nlists 1 code 0\n";
     }
-    -- m 0: the last line alone
+    -- m is 0: the last line only
     ∷ record { input = bytesOf (2 ∷ 0x1000_0100 ∷ 0x2000_0000 ∷ 1 ∷ 0x5000_0000 ∷ []); printed = "lists 1 code 0\n" }
-    -- 7: the table's length word cut short, above 641, or with fewer words behind it
+    -- 7: the table's length word cut short, above 641, or with fewer words after it
     ∷ record { input = []; printed = "lists 0 code 7\n" }
     ∷ record { input = 34 ∷ 0 ∷ 0 ∷ []; printed = "lists 0 code 7\n" }
     ∷ record { input = bytesOf (642 ∷ replicate 642 0); printed = "lists 0 code 7\n" }
     ∷ record { input = bytesOf (34 ∷ take 33 T); printed = "lists 0 code 7\n" }
-    -- 2 to 5, whatever stands behind the table
+    -- 2 to 5, whatever follows the table
     ∷ record { input = bytesOf (0 ∷ 4097 ∷ []); printed = "lists 0 code 2\n" }
     ∷ record { input = bytesOf (33 ∷ take 33 T ++ (0 ∷ [])); printed = "lists 0 code 3\n" }
     ∷ record { input = bytesOf (34 ∷ set T 9 0x2000_0010 ++ (0 ∷ [])); printed = "lists 0 code 4\n" }

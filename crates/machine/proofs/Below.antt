@@ -151,7 +151,7 @@ bits-past k p i l = rw (div-eq-of-lt (lt-of-lt-of-le (bits-lt k p) (pow-mono l))
 pub one-bit : (i : ℕ) → i < 32 → 1 * 2 ^ i % 2 ^ 32 ≡ 2 ^ i
 one-bit i l = shl-exact 1 i 32 (omega arith) (omega arith) ∙ one-mul (2 ^ i)
 
--- two tests that agree below k, and what is made of each number of which they hold
+-- two tests that agree below k, and two functions that agree on each number of which they hold
 pub map-same : {A : Type 0} (k : ℕ) (p q : ℕ → Bool) (f g : ℕ → A) → ((i : ℕ) → i < k → p i ≡ q i) → ((i : ℕ) → i < k → q i ≡ true → f i ≡ g i) → map f (numbersBelow k p) ≡ map g (numbersBelow k q)
 unfolding numbersBelow
 map-same zero p q f g e same = refl

@@ -1,4 +1,4 @@
--- Laws of tests: conjunctions and disjunctions taken apart and put together, and choices by a test.
+-- Laws of tests: conjunctions and disjunctions from their parts and back, and choices by a test.
 -- Assumes nothing.
 use mathlib.Core.Path.{_≡_, refl, ap, _∙_}
 use mathlib.Core.Bool.{Bool, true, false, cond, _&&_, _||_, true≢false, false≢true}

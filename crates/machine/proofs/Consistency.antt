@@ -1,4 +1,4 @@
--- Output consistency: what a call comes to, and its answer, depend only on its own words, its caller's part and the
+-- Output consistency: the decision on a call, and its answer, depend only on its own words, its caller's part and the
 -- unchanging parts (specs/MachineClaims: EveryCallAnswerDepends).
 -- Assumes nothing.
 use mathlib.Core.Path.{_≡_, refl, sym, ap, ap₂, subst, _∙_}
@@ -99,7 +99,7 @@ module _ (s t : List ℕ) (f : SameFrame s t) where
         (ap (λ (q : List ℕ). eqb (waiting q) 0) (owned-same u (mine k) e l (eqb-true _ _ (not-false _ o))))
         (λ _. refl)))
 
-    -- 20 to 23 of a grant and of a revoke, which ask what the caller may by its rights on the target
+    -- 20 to 23 of a grant and of a revoke, which test what the caller may do by its rights on the target
     rights-places-same : Known t c → (g h r : ℕ) (may : ℕ → Bool) (row : Decision) → rightsPlaces s u g h r (may (rights s u g)) row ≡ rightsPlaces t u g h r (may (rights t u g)) row
     unfolding rightsPlaces influences reaches
     rights-places-same k g h r may row =
@@ -133,7 +133,7 @@ module _ (s t : List ℕ) (f : SameFrame s t) where
         (ap (λ (x : ℕ). not (holds x REMOVE && holds x r)) (rights-same u (mine k) g (ltb-true _ _ (not-false _ b))))
         (λ _. refl)))
 
-    -- a call comes to the same on both tables
+    -- the decision on a call is the same on both tables
     pub decide-same : decide s c ≡ decide t c
     unfolding decide places callKind
     decide-same =
@@ -163,7 +163,7 @@ module _ (s t : List ℕ) (f : SameFrame s t) where
         ap (λ (x : ℕ). x * 16 ^ i)
         (cond-same 0 (ap (λ (n : ℕ). ltb (g + i) n) (f .sameDomains)) (λ l. rights-same v p (g + i) (ltb-true _ _ l))))
 
-    -- and is answered the same
+    -- and so is its answer
     pub answer-same : answer s c ≡ answer t c
     unfolding answer answerTo code firstData secondData
     answer-same =

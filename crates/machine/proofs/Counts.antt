@@ -1,6 +1,6 @@
--- The counts of an endpoint are borne out by a run, its messages are received in turn, and each call is answered by three words
--- (specs/MachineClaims: EveryRunCountsConserved, EveryRunFifoOrder, EveryRunAnswered); counts add up over lists that are run one
--- after another.
+-- The counts of an endpoint are conserved by a run, its messages are received in FIFO order, and each call is answered by
+-- three words (specs/MachineClaims: EveryRunCountsConserved, EveryRunFifoOrder, EveryRunAnswered). Counts add up over lists
+-- that are run one after another.
 -- Assumes nothing.
 use mathlib.Core.Path.{_≡_, refl, sym, ap, subst, _∙_}
 use mathlib.Core.Logic.{_≢_, ⊎-elim}
@@ -114,12 +114,12 @@ module _ (t : List ℕ) (e : ℕ) (c : Call) where
       done-by (refused n) _ _ false refl refl (omega arith) (ne-eqb n 0 (omega arith)) is
       ∙ and-false (is (callKind c) && eqb (fieldB (first c)) e)
 
-  -- a call's kind, by its number
+  -- a call's kind, by the kind of its first word
   by-number : {i : ℕ} → kind (first c) ≡ i → callKind c ≡ kindOf i
   unfolding callKind
   by-number k = ap kindOf k
 
-  -- what the call does to e's queue where it comes to d
+  -- what the call does to e's queue where the decision on it is d
   abbrev ServedBy : Decision → List ℕ → Type 0
   ServedBy d q′ =
       Served (doneOn isSend e c (answerTo t c d)) (doneOn isReceive e c (answerTo t c d)) (secondPayload c) (firstData t d) (endpoint t e) q′

@@ -1,4 +1,4 @@
--- What a call comes to, by cases: a refusal by a number from 10 to 23, or a row of the call table under all that its places
+-- The decision on a call, by cases: a refusal by a code from 10 to 23, or a row of the call table under all that its places
 -- have then shown (specs/Machine). Whatever is proved of every call is proved through this one law.
 -- Assumes nothing.
 use mathlib.Core.Path.{_≡_, refl}
@@ -20,7 +20,7 @@ use Rattle.machine.specs.Machine.{Decision.refused, Decision.lookedUp, D
 use Rattle.machine.specs.Influence.{influences}
 use Rattle.machine.proofs.Bools.{and-left, and-right, cond-elim}
 
--- a number is the kind of one of the eight calls, of a stray, or unknown
+-- a kind is that of one of the eight calls, of a stray, or unknown
 pub kind-elim : (k : ℕ) (P : Kind → Type 0) → (k ≡ 1 → P lookUp) → (k ≡ 2 → P send) → (k ≡ 3 → P receive) → (k ≡ 4 → P myEndpoints) → (k ≡ 5 → P myRights) → (k ≡ 6 → P grant) → (k ≡ 7 → P remove) → (k ≡ 8 → P revoke) → (k ≡ 15 → P stray) → P unknown → P (kindOf k)
 unfolding kindOf
 kind-elim k P f1 f2 f3 f4 f5 f6 f7 f8 f15 f =
@@ -34,20 +34,20 @@ kind-elim k P f1 f2 f3 f4 f5 f6 f7 f8 f15 f =
     (λ _. cond-elim P (eqb k 8) (λ e. f8 (eqb-true k 8 e))
     (λ _. cond-elim P (eqb k 15) (λ e. f15 (eqb-true k 15 e)) (λ _. f)))))))))
 
--- a place refuses, or the next is looked at
+-- a place refuses, or the next is tested
 pub place-elim : (P : Decision → Type 0) (b : Bool) (n : ℕ) {next : Decision} → P (refused n) → (b ≡ false → P next) → P (place b n next)
 unfolding place
 place-elim P true n r f = r
 place-elim P false n r f = f refl
 
--- one of the places 13 and 14 refuses, or the next is looked at
+-- one of the places 13 and 14 refuses, or the next is tested
 pub word-elim : {A : Type 0} (P : A → Type 0) (k : Kind) (c : Call) {x y z : A} → P x → P y → P z → P (wordPlaces k c x y z)
 unfolding wordPlaces
 word-elim P k c p q r =
     cond-elim P (not (allZero (unusedFields k (first c)))) (λ _. p)
     (λ _. cond-elim P (wantsSecond (kind (first c)) && not (hasSecond c)) (λ _. q) (λ _. r))
 
--- a refusal's number is one of the paper's
+-- a refusal's code is one of the paper's
 pub record Number (n : ℕ) : Type 0 where
   pub least : 10 ≤ n
   pub most : n ≤ 23

@@ -1,5 +1,5 @@
--- The striking rule (noninterference): accepted tables meet the unwinding conditions, so for every domain d the view of a
--- whole run is the view of the machine fed the kept calls alone (specs/MachineClaims: EveryRunNoninterference).
+-- Noninterference: accepted tables meet the unwinding conditions, so for every domain d the view of a whole run is the view
+-- of the machine run on the kept calls alone (specs/MachineClaims: EveryRunNoninterference).
 -- Assumes nothing.
 use mathlib.Core.Path.{_≡_, refl, sym, ap, subst, _∙_}
 use mathlib.Core.Bool.{Bool, true, false, _&&_}
@@ -91,7 +91,7 @@ policy-respect {n} {v} {s} {t} u o a =
     go true e = ap (λ (w : ℕ). hasAny (payload w)) (a .onIt u (ltb-true _ _ e))
     go false e = refl
 
--- whoever calls is the caller that is known
+-- the caller of the call is the one that is known
 same-caller : {u : ℕ} {s t : List ℕ} (c : Call) → callerOf c ≡ some u → Agree u s t → callerOf c ≡ some (caller (first c)) → SamePart (caller (first c)) s t
 same-caller {u} {s} {t} c e a k =
     subst (λ (w : ℕ). SamePart w s t) (Option·some-injective _ _ (sym e ∙ k)) (a .part)
@@ -143,7 +143,7 @@ same-view o a cs ks ws vs e =
       lost = owned-parts o a (λ x q. (x, getD q 3 0)) i;
     }
 
--- The striking rule.
+-- Noninterference (specs/RunClaims).
 pub noninterference : EveryRunNoninterference
 noninterference t cs rest a d l =
     let self : Alike (domains t) t t = record { first = a; second = a; frame = frame-refl t; count = refl } in

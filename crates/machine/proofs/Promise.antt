@@ -1,5 +1,5 @@
--- Whoever leaves what the entry leaves keeps the whole promise (specs/Promise): what is claimed of every run holds of the words
--- it left. Assumes nothing.
+-- Every function that leaves what the entry leaves keeps the whole promise (specs/Promise): what is claimed of every run
+-- holds of the words that it left. Assumes nothing.
 use mathlib.Core.Path.{_≡_, refl, sym, ap, subst, _∙_}
 use mathlib.Core.Bool.{not}
 use mathlib.Core.List.{List, _++_}
@@ -94,7 +94,7 @@ promise-kept t ws space holders =
         let r : Runs t ws (length space) (length holders) = sym (entry-code t ws space holders) ∙ z in
         subst P (sym (entry-ran t ws space holders r)) (f r)
 
--- So does whoever leaves the same.
+-- So does every function that leaves the same.
 pub promise-of : (t ws space holders : List ℕ) (o : Outcome) → o ≡ entry t ws space holders → Kept t ws space holders o
 promise-of t ws space holders o e = rw e (promise-kept t ws space holders)
 
@@ -123,7 +123,7 @@ module _ (t ws : List ℕ) (size lent : ℕ) where
       unfolding spaceCode
       code-holders h = accepted-so-far ∙ rw (le-ltb size (3 * length (split ws)) h)
 
--- one word a domain, or another number of them
+-- one word a domain, or another count of them
 pub holders-fit : (t : List ℕ) (lent : ℕ) → lent ≡ domains t → holdersCode t lent ≡ 0
 unfolding holdersCode
 holders-fit t lent e = rw (eq-eqb lent (domains t) e)
@@ -132,7 +132,7 @@ pub holders-unfit : (t : List ℕ) (lent : ℕ) → (lent ≡ domains t → ⊥)
 unfolding holdersCode
 holders-unfit t lent n = rw (ne-eqb lent (domains t) n)
 
--- Whoever refuses by the entry's code and changes nothing keeps the promise,
+-- A function that refuses by the entry's code and changes nothing keeps the promise.
 pub promise-refused : (t ws space holders : List ℕ) (code : ℕ) → code ≡ entryCode t ws (length space) (length holders) → (code ≡ 0 → ⊥)
     → RunPromise t ws space holders code 0 space t holders
 unfolding refusal
@@ -140,7 +140,7 @@ promise-refused t ws space holders code e n =
     promise-of t ws space holders (refusal code t space holders)
     (ap (λ (x : ℕ). refusal x t space holders) e ∙ sym (entry-refused t ws space holders (λ z. n (e ∙ z))))
 
--- and so does whoever runs a list that runs.
+-- So does one that runs a list that the entry doesn't refuse.
 pub promise-ran : (t ws space holders : List ℕ) (calls : ℕ) (answers end kept : List ℕ)
     → Runs t ws (length space) (length holders)
     → calls ≡ length (split ws)

@@ -1,5 +1,6 @@
 -- The machine of document 01 as an instance of the unwinding theory: its run, sources, purge and answers are those of
--- specs/Unwinding (run, sources, ipurge and outputs), so what is proved there holds of the definitions in specs/Purge. Assumes nothing.
+-- specs/Unwinding (run, sources, ipurge and outputs), so what is proved there holds of the definitions in specs/Purge.
+-- Assumes nothing.
 use Prim.Native.Nat.{ℕ, _<_}
 use mathlib.Core.Path.{_≡_, refl, sym, ap, ap₂, _∙_, subst}
 use mathlib.Core.Bool.{Bool, true, false, cond, _&&_, _||_, and-true, and-false, and-or-distrib-left}
@@ -90,8 +91,8 @@ module _ (n : ℕ) where
   purge-is t (c ∷ cs) d =
       ap₂ (λ vs ks. cond (callerIn (callerOf c) vs) (c ∷ ks) ks) (sources-is t (c ∷ cs) d) (purge-is (step t c) cs d)
 
--- What d sees of cs run from s is what it sees of ks run from t, in the terms of document 01; of the first also where
--- further words follow its answers.
+-- What d sees of cs run from s is what it sees of ks run from t, in the terms of document 01. Of the first this also holds
+-- where further words follow its answers.
 pub record Observed
     (ok : List ℕ → List ℕ → Type 0)
     (same : ℕ → List ℕ → List ℕ → Type 0)
@@ -113,7 +114,7 @@ module _ {n : ℕ} {ok : List ℕ → List ℕ → Type 0} {same : ℕ → List 
         answered = λ ws. sym (outputs-is n d s cs ws) ∙ e .answers ∙ alone;
       }
 
-  -- noninterference (document 01: the striking rule), from the unwinding conditions
+  -- noninterference, as Observed, from the unwinding conditions
   pub observes-purge :
       unwinding.Unwinding (tables n) ok same
       → (d : ℕ) (t : List ℕ) (cs : List Call)

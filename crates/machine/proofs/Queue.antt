@@ -1,5 +1,5 @@
--- Laws of an endpoint's twelve words (specs/Queue): what a send and a receive leave of the words, the counts and the messages,
--- and that sound words (specs/Check) stay sound. No law here sees the rest of the table.
+-- Laws of an endpoint's twelve words (specs/Queue): what a send and a receive leave of the words, the counts and the
+-- messages, and that sound words (specs/Check) stay sound. No law here depends on the rest of the table.
 -- Assumes nothing.
 use mathlib.Core.Path.{_≡_, refl, sym, ap, subst, _∙_}
 use mathlib.Core.Logic.{_≢_, ⊎-elim}
@@ -89,7 +89,7 @@ queue-ok q s =
     and-intro (and-intro (and-intro (eq-eqb _ _ (s .isWaiting)) (le-leb _ _ (s .fits))) (eq-eqb _ _ (s .isLost)))
     (all-of 8 _ (λ i l. slot-ok (waiting q) i (getD q (4 + i) 0) (s .slots i l)))
 
--- ---- the name, the owner and the capacity stand in the first two words
+-- ---- the name, the owner and the capacity are in the first two words
 identity-word : (p q : List ℕ) → take 2 p ≡ take 2 q → (k : ℕ) → k < 2 → getD p k 0 ≡ getD q k 0
 identity-word p q e k h = sym (getD-take 2 p k 0 h) ∙ ap (λ (l : List ℕ). getD l k 0) e ∙ getD-take 2 q k 0 h
 
@@ -230,7 +230,7 @@ module _ (q : List ℕ) (twelve : length q ≡ 12) (n : ℕ) where
         slots = λ i l. rw (withLost-waiting, withLost-other (4 + i) (omega arith)) (s .slots i l);
       }
 
-  -- no message goes in or out
+  -- no message is added or taken out
   withLost-messages : messages (withLost q n) ≡ messages q
   unfolding messages
   withLost-messages = rw withLost-waiting (ap (λ (l : List ℕ). map payload (take (waiting q) l)) (drop-set-lt 4 q 3 _ (omega arith)))
@@ -258,7 +258,8 @@ module _ (q : List ℕ) (twelve : length q ≡ 12) (some : waiting q ≢ 0) (mos
       ∙ take-append-le 2 (take 4 q) _ (omega (arith, head-length))
       ∙ take-take 2 4 q (omega arith)
 
-  -- its words: the waiting count, the others before the slots, the slots that moved up, the one that came free, and those that stay
+  -- its words: the waiting count, the others before the slots, the slots that moved up, the one that became free, and the
+  -- rest
   pub received-count : getD (received q) 2 0 ≡ word 5 (waiting q - 1)
   unfolding received
   received-count = getD-set-same (movedUp q (waiting q)) 2 _ 0 (omega (arith, movedUp-length)) ∙ omega arith
@@ -324,7 +325,7 @@ module _ (q : List ℕ) (twelve : length q ≡ 12) (some : waiting q ≢ 0) (mos
         slots = λ i l. rw received-waiting (received-slots s i l);
       }
 
-  -- the oldest message goes out
+  -- the oldest message leaves
   pub received-messages : oldest q ∷ messages (received q) ≡ messages q
   unfolding messages oldest
   received-messages =
@@ -345,7 +346,7 @@ module _ (q : List ℕ) (twelve : length q ≡ 12) (some : waiting q ≢ 0) (mos
   after-send : length (sendWithSpace (received q) m) ≡ 12
   after-send = sendWithSpace-length (received q) after-receive m
 
-  -- the oldest message goes out, and the newcomer goes last
+  -- the oldest message leaves, and the newcomer goes last
   pub sendToFull-messages : m ≤ mostPayload → oldest q ∷ messages (sendToFull q m) ≡ messages q ++ (m ∷ [])
   unfolding sendToFull
   sendToFull-messages small =

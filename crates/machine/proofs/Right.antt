@@ -1,6 +1,5 @@
--- Laws of sets of rights (specs/Right). A right is one bit, so a single right is 2 ^ k: SEND at k 0, GRANT at 1, REMOVE at 2, REVOKE
--- at 3.
--- The laws of bits hold of all numbers; the number of rights there are enters only by one computed test, `union-within`.
+-- Laws of sets of rights (specs/Right). A right is one bit, so a single right is 2 ^ k: SEND at k 0, GRANT at 1, REMOVE at 2,
+-- REVOKE at 3. The laws of bits hold of all numbers. The count of rights is used only by one computed test, `union-within`.
 -- Assumes nothing.
 use mathlib.Core.Path.{_≡_, refl, sym, ap, ap₂, _∙_}
 use mathlib.Core.Bool.{true, false, not, _&&_, _||_}

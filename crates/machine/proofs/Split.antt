@@ -1,5 +1,5 @@
--- Laws of the cutting and of the run, for a loop over the words of a list (specs/Call, specs/Run): what stands at the front
--- of the words that are left, and what remains behind it.
+-- Laws of the split and of the run, for a loop over the words of a list (specs/Call, specs/Run): what is at the front of the
+-- words that are left, and what remains after it.
 -- Assumes nothing.
 use mathlib.Core.Path.{_≡_, refl, sym, ap, ap₂, _∙_}
 use mathlib.Core.Bool.{Bool, true, false, cond}
@@ -53,8 +53,8 @@ pub three-sets : (xs : List ℕ) (at a b d : ℕ) → at + 3 ≤ length xs → s
 three-sets xs at a b d h =
     rw (add-one at, add-two at) (sets-eq (a ∷ (b ∷ (d ∷ []))) xs at h ∙ append-assoc (take at xs) _ _)
 
--- A run on its way: k calls of the list ws are done, the words left are still to be cut, t is the table now, and the space
--- holds the answers so far, its words behind them untouched.
+-- A run in progress: k calls of the list ws are done, the words left are still to be split, t is the table now, and the space
+-- holds the answers so far, its words after them untouched.
 pub record Running (t₀ ws space₀ t left : List ℕ) (k : ℕ) (space : List ℕ) : Type 0 where
   pub done : List ℕ
   pub long : length done ≡ 3 * k
@@ -67,7 +67,7 @@ pub running-start : (t ws space : List ℕ) → Running t ws space t ws 0 space
 running-start t ws space =
     record { done = []; long = refl; filled = refl; table = refl; answered = refl; count = omega arith }
 
--- one call more, whose three answer words are written behind the others
+-- one call more, whose three answer words are written after the others
 pub running-next : {t₀ ws space₀ t left : List ℕ} {k : ℕ} {space : List ℕ} (left′ : List ℕ) (c : Call) (space′ : List ℕ) → Running t₀ ws space₀ t left k space → split left ≡ c ∷ split left′ → space′ ≡ take (3 * k) space ++ (answer t c ++ drop (3 * k + 3) space) → Running t₀ ws space₀ (step t c) left′ (k + 1) space′
 unfolding run answers
 running-next {t₀} {ws} {space₀} {t} {left} {k} {space} left′ c space′ r e w =

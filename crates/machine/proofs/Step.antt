@@ -1,5 +1,5 @@
 -- What a call does to a table: it keeps it accepted and its unchanging parts, and alters only what belongs to domains that
--- its caller influences (specs/MachineClaims). Local respect and step consistency stand here.
+-- its caller influences (specs/MachineClaims). Local respect and step consistency are proved here.
 -- Assumes nothing.
 use mathlib.Core.Path.{_≡_, refl, sym, ap, ap₂, subst, _∙_}
 use mathlib.Core.Bool.{true, false, _&&_, true≢false}
@@ -34,7 +34,7 @@ use Rattle.machine.proofs.Consistency.{row-same, owned-same, decide-sam
 use Rattle.machine.proofs.Frame.{frame-refl, frame-trans, rightsOf-ext}
 use Rattle.machine.proofs.Decide.{Known, decide-elim}
 
--- what stands in a rights word is a set of rights
+-- a rights word holds a set of rights
 pub rights-held : (t : List ℕ) → Accepted t → (h g : ℕ) → h < domains t → g < domains t → rights t h g ≤ allRights
 unfolding rights
 rights-held t a h g p q = rights-within (rightsWord t h g) (accepted-rights t a h g p q)
@@ -149,7 +149,7 @@ module _ (t : List ℕ) (a : Accepted t) (v : ℕ) (lv : v < domains t) where
   pub after-agrees : (x : Effect) → InOrder t x → Spares t x v → Agree v (after t x) t
   after-agrees x o n = record { part = after-part x o n; onIt = after-column x o n }
 
--- Whoever may act on a domain influences it: as the domain itself, by a right on it, by a send to its endpoint.
+-- A domain that may act on another influences it: as the domain itself, by a right on it, by a send to its endpoint.
 module _ (t : List ℕ) (u : ℕ) where
   by-itself : influences t u u ≡ true
   unfolding influences
@@ -195,7 +195,7 @@ call-spares t c v n =
           (spared _ k m, spared _ k (by-right t u _ REVOKE (λ z. omega arith) hr));
     })
 
--- what agreeing on v comes to, word by word
+-- agreeing on v, from what is equal word by word
 agree-of : (s t : List ℕ) → Sized s → Sized t → domains s ≡ domains t → (v : ℕ) → v < domains t → ((g : ℕ) → g < domains t → rightsWord s v g ≡ rightsWord t v g) → ((u : ℕ) → u < domains t → rightsWord s u v ≡ rightsWord t u v) → ((e : ℕ) → e < endpoints t → owner (endpoint t e) ≡ v → endpoint s e ≡ endpoint t e) → Agree v s t
 agree-of s t zs zt d v lv row column owned =
     record {
@@ -414,7 +414,7 @@ step-consistent s t c accS accT f mine v lv agree =
     same : decide s c ≡ decide t c
     same = decide-same s t f accT c mine
 
--- And so does a run leave an accepted table.
+-- A run leaves an accepted table too.
 pub run-accepted : EveryRunStaysAccepted
 unfolding run
 run-accepted t [] a = record { accepted = a; frame = frame-refl t }

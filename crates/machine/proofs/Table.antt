@@ -1,5 +1,5 @@
--- Laws of reading and writing a table (specs/Table): what is written is read back, and nothing else changes.
--- What is above cites these wherever it reads or writes by domain or endpoint. Assumes nothing.
+-- Laws of reading and writing a table (specs/Table): what is written is read back, and nothing else changes. The other
+-- modules cite these wherever they read or write by domain or endpoint. Assumes nothing.
 use mathlib.Core.Path.{_≡_, sym, ap, subst, _∙_}
 use mathlib.Core.Logic.{_⊎_, _⊎_.inl, _⊎_.inr, ⊎-elim}
 use native.Mathlib.Decide.{decLt, ℕ-discrete}
@@ -13,11 +13,11 @@ use lib.Arith.{digits-lt, digits-div, digits-mod}
 use Rattle.machine.specs.Word.{word}
 use Rattle.machine.specs.Table.{domains, endpoints, lengthFor, rightsAt, endpointAt, rightsWord, endpoint, setRights, setEndpoint}
 
--- A table of the length that its first word asks for.
+-- A table of the length that its first word requires.
 abbrev pub Sized : List ℕ → Type 0
 Sized t = length t ≡ lengthFor (domains t) (endpoints t)
 
--- where words stand: the rights words lie behind word 0 and before the endpoints, each at its own place
+-- the places of words: the rights words are after word 0 and before the endpoints, each at its own place
 pub rights-below : (n h g : ℕ) → h < n → g < n → rightsAt n h g < 1 + n * n
 rights-below n h g p q = let k : h * n + g < n * n = digits-lt p q in omega arith
 
@@ -49,7 +49,7 @@ pub pair-either : (x y h g : ℕ) → ((x ≡ h) × (y ≡ g)) ⊎ (x ≡ h → 
 pair-either x y h g =
     ⊎-elim (λ p. ⊎-elim (λ q. inl (p, q)) (λ n. inr (λ _ q. n q)) (equal-either y g)) (λ n. inr (λ p _. n p)) (equal-either x h)
 
--- n and m stand in word 0
+-- n and m are in word 0
 pub domains-header : (s t : List ℕ) → getD s 0 0 ≡ getD t 0 0 → domains s ≡ domains t
 unfolding domains
 domains-header s t e = rw e
@@ -72,7 +72,7 @@ module _ (t : List ℕ) (sized : Sized t) where
   endpoint-word e k h =
       getD-take 12 (drop (endpointAt (domains t) e) t) k 0 h ∙ getD-drop (endpointAt (domains t) e) t k 0
 
--- Two sized tables with the same word 0 and the same words where an endpoint stands have the same endpoint.
+-- Two sized tables with the same n and m and the same words at an endpoint's place have the same endpoint.
 pub endpoint-ext : (s t : List ℕ) → Sized s → Sized t → domains s ≡ domains t → endpoints s ≡ endpoints t → (e : ℕ) → e < endpoints t → ((k : ℕ) → k < 12 → getD s (endpointAt (domains t) e + k) 0 ≡ getD t (endpointAt (domains t) e + k) 0) → endpoint s e ≡ endpoint t e
 endpoint-ext s t zs zt d m e h f =
     let hs : e < endpoints s = omega arith in
@@ -145,7 +145,7 @@ module _ (t : List ℕ) (sized : Sized t) (e : ℕ) (q : List ℕ) (pe : e < end
       same-len-mid (endpointAt (domains t) e) 12 t q
       (twelve ∙ sym (length-take-le 12 (drop (endpointAt (domains t) e) t) (simp length-drop (omega (arith, endpoint-fits (domains t) (endpoints t) e pe)))))
 
-  -- the words before the endpoint, of it, and behind it
+  -- the words before the endpoint, of it, and after it
   pub setEndpoint-before : (i : ℕ) → i < endpointAt (domains t) e → getD (setEndpoint t e q) i 0 ≡ getD t i 0
   unfolding setEndpoint
   setEndpoint-before i l =

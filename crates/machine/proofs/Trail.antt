@@ -1,6 +1,6 @@
--- No right from nowhere, and none gone but by its holder's remove or by a revoke (specs/MachineClaims: EveryCallEachRight), call by
--- call; the first from there along every run (EveryRunRightsProvenance). A remove is all or nothing, and of one right it is document 01's
--- (EveryRemoveAllOrNothing, EveryRemoveOfOne).
+-- Every right has a source, and none is lost except by its holder's remove or by a revoke (specs/MachineClaims:
+-- EveryCallEachRight), call by call. The first follows from there along every run (EveryRunRightsProvenance). A remove is all
+-- or nothing, and of one right it is document 01's (EveryRemoveAllOrNothing, EveryRemoveOfOne).
 -- Assumes nothing.
 use mathlib.Core.Path.{_≡_, refl, sym, ap, ap₂, subst, _∙_}
 use mathlib.Core.Bool.{true, false, not, _&&_, _||_, or-true, and-true, and-false}
@@ -40,15 +40,15 @@ unfolding rights
 written t a h g s o =
     ap payload (table.setRights-same t (accepted-sized t a) h g s (o .0) (o .1)) ∙ rights-payload s (o .2)
 
--- What h holds on g is as it was, or was added to by a grant under all that its places have shown, or was cut by h's own remove
--- or by a revoke.
+-- What h holds on g is as it was, or was added to by a grant under all that its places have shown, or was reduced by h's own
+-- remove or by a revoke.
 module _ (t : List ℕ) (c : Call) (a : Accepted t) (h g : ℕ) (ph : h < domains t) (pg : g < domains t)
     (P : ℕ → Type 0)
     (kept : P (rights t h g))
     (granted : (u r : ℕ) → callerOf c ≡ some u → u < domains t → decide t c ≡ grants g h r → holds (rights t u g) GRANT ≡ true → holds (rights t u g) r ≡ true → influences t u h ≡ true → P (adds (rights t h g) r))
     (removed : (r : ℕ) → callerOf c ≡ some h → decide t c ≡ removes g h r → holds (rights t h g) REMOVE ≡ true → P (without (rights t h g) r))
     (revoked : (u r : ℕ) → callerOf c ≡ some u → u < domains t → decide t c ≡ revokes g h r → holds (rights t u g) REVOKE ≡ true → influences t u h ≡ true → P (without (rights t h g) r)) where
-  -- of a decision that the call came to
+  -- this, by the decision on the call
   Left : Decision → Type 0
   Left d = decide t c ≡ d → InOrder t (effect t d) → P (rights (after t (effect t d)) h g)
 
@@ -242,8 +242,8 @@ rights-provenance t (c ∷ cs) a h g k ph pg held =
     (λ x. inr (later-gave t c cs h g (2 ^ k) x))
     (rights-provenance (step t c) cs (stays .accepted) h g k (omega arith) (omega arith) held)
 
--- ---- each comes about: in L the second call gives domain 0 SEND on domain 2; in P11 domain 1 gives up REMOVE on it; and where domain
--- 1 has REVOKE on it, it takes SEND back from domain 0
+-- ---- each occurs: in L the second call gives domain 0 SEND on domain 2; in P11 domain 1 gives up REMOVE on it; and where
+-- domain 1 has REVOKE on it, it takes SEND back from domain 0
 
 pub given-in-L : GivenAlong 0 2 SEND T (split L)
 unfolding everything

@@ -1,6 +1,7 @@
--- The unwinding theorem and its cases (specs/Unwinding), by induction on the choice of struck calls. Assumes nothing.
--- First what holds of sets and sources for every machine, then what the conditions give. Of the letters, m is a membership,
--- p a domain, o an ok, x a same, i an interference or its absence, a an agreement, k a closed group or a choice of struck calls.
+-- The unwinding theorem and its cases (specs/Unwinding), by induction on the choice of purged calls. Assumes nothing.
+-- First what holds of sets and sources for every machine, then what the conditions give. Of the letters, m is a membership, p
+-- a domain, o an ok, x a same, i an interference or its absence, a an agreement, k a closed group or a choice of purged
+-- calls.
 use Prim.Native.Nat.{ℕ}
 use mathlib.Core.Path.{_≡_, refl, sym, ap, ap₂, _∙_, subst}
 use mathlib.Core.Bool.{Bool, true, false, cond, _||_, true≢false, false≢true}
@@ -10,7 +11,7 @@ use lib.Dec.{eqb}
 use borrow.Author.Tests.{eqb-true, eq-eqb}
 use Rattle.machine.specs.DomainSet.{member, callerIn, calledBy, fromGroup}
 use Rattle.machine.specs.Unwinding.{StateMachine, run, outputs, reachesMember, withCaller, sources, ipurge, interferes}
-use Rattle.machine.specs.Unwinding.{Keeps, Keeps.done, Keeps.keep, Keeps.strike, Closed, groupCalls}
+use Rattle.machine.specs.Unwinding.{Keeps, Keeps.done, Keeps.keep, Keeps.purged, Closed, groupCalls}
 use Rattle.machine.specs.Unwinding.{SameFor, Unwinding, SameForSources}
 use Rattle.machine.specs.Unwinding.{UnwindingTheorem, Noninfluence, Noninterference, Nonleakage, GroupNoninfluence, SameSources}
 use Rattle.machine.proofs.Bools.{or-right}
@@ -66,7 +67,7 @@ unfolding callerIn fromGroup
 in-group group none vs ps e = absurd (false≢true e)
 in-group group (some u) vs ps e = ps u e
 
--- Sources and choices of struck calls, in any machine.
+-- Sources and choices of purged calls, in any machine.
 module _ (M : StateMachine) where
   open StateMachine M using (State, Call, step, caller, reaches)
 
@@ -172,7 +173,7 @@ module _ (M : StateMachine) where
       → Keeps M d (step s c) cs ks
       → Keeps M d s (c ∷ cs) (cond b (c ∷ ks) ks)
   choose c true h k = keep c k
-  choose c false h k = strike c (h refl) k
+  choose c false h k = purged c (h refl) k
 
   pub keeps-ipurge : (d : ℕ) (s : State) (cs : List Call) → Keeps M d s cs (ipurge M s cs d)
   unfolding ipurge
@@ -305,7 +306,7 @@ module _
           (λ i. consistent c (caller c) (sources M s (c ∷ cs) d) refl o (known a) (joined i) p i x)
           (λ i. respected c o p i x)
 
-  -- and struck.
+  -- and purged.
   agree-purged :
       {d : ℕ} {s t : State} (c : Call) (cs : List Call)
       → SameForSources M ok same d s (c ∷ cs) t
@@ -339,7 +340,7 @@ module _
   unwinding d s t cs ks a (keep c {cs = cs′} {ks = ks′} k) =
       let next = unwinding d (step s c) (step t c) cs′ ks′ (agree-both c cs′ a) k in
       record { proper = next .proper; state = next .state; answers = same-answers c a (next .answers) }
-  unwinding d s t cs ks a (strike c {cs = cs′} h k) =
+  unwinding d s t cs ks a (purged c {cs = cs′} h k) =
       let next = unwinding d (step s c) t cs′ ks (agree-purged c cs′ a h) k in
       let other = contra _ _ (called-in d (caller c) _ (in-sources M s (c ∷ cs′) d)) h in
       record { proper = next .proper; state = next .state; answers = rw other (next .answers) }

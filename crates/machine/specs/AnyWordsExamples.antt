@@ -16,7 +16,7 @@ filled w l =
     0x3000_0001 ∷ 0x4000_0008 ∷ w ∷ l
     ∷ 0xF000_0001 ∷ 0xF000_0002 ∷ 0xF000_0003 ∷ 0xF000_0004 ∷ 0xF000_0005 ∷ 0xF000_0006 ∷ 0xF000_0007 ∷ 0xF000_0008 ∷ []
 
--- calls on a first word alone, of four domains and one endpoint, which reads as named 0, of domain 0, of capacity 0 and empty
+-- calls on a table of one word, of four domains and one endpoint, which reads as name 0, owner 0, capacity 0 and empty
 abbrev pub onOneWord : List Answered
 onOneWord =
     answered (0x10C0_0000 ∷ 0xF000_0000 ∷ []) (0x10C0_0000 ∷ 0 ∷ 0 ∷ [])
@@ -31,14 +31,14 @@ onOneWord =
     ∷ answered (0x8000_0001 ∷ []) (0x8000_0016 ∷ 0 ∷ 0 ∷ [])
     ∷ []
 
--- what the rows speak of
+-- what the rows are about
 pub record OfAnyWords : Type 0 where
-  -- a receive where two wait: the second slot comes free, and those behind it stay
+  -- a receive where two wait: the second slot becomes free, and those after it stay
   pub twoWait : List ℕ
   -- a receive and a send where 258 wait, by the waiting word, and the capacity is 8: the newcomer finds no slot
   pub manyWait : List ℕ
   pub manyWaitAndOne : List ℕ
-  -- a send where five wait and the capacity is 3: the oldest is pushed out, five wait again, and the slots behind them stay
+  -- a send where five wait and the capacity is 3: the oldest is pushed out, five wait again, and the slots after them stay
   pub fiveOfThree : List ℕ
   -- the rights that a word holds with bits set above the rights
   pub wideRights : ℕ
@@ -47,7 +47,7 @@ pub record OfAnyWords : Type 0 where
   pub left : List ℕ
   pub noWord : List ℕ
 
--- what the definitions make of them
+-- their values by the definitions
 unfoldable pub ofAnyWords : OfAnyWords
 ofAnyWords =
     record {
@@ -61,7 +61,7 @@ ofAnyWords =
       noWord = answers [] (split (0x4000_0000 ∷ []));
     }
 
--- what they must
+-- the values that they must have
 abbrev pub AnyWordsHold : Type 0
 AnyWordsHold =
     ofAnyWords

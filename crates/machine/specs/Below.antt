@@ -1,4 +1,4 @@
--- For each number below k: a test of all of them, those that pass one, the first that does, a sum, a list and a set of bits over them.
+-- Over the numbers below k: a test of all of them, those that pass a test, the first that does, a sum, a list, a set of bits.
 use Prim.Native.Nat.{ℕ, zero, suc, _+_, _/_, _%_, _^_}
 use mathlib.Core.Bool.{Bool, true, cond, _&&_}
 use mathlib.Core.List.{List, [], _∷_, _++_}

@@ -1,4 +1,4 @@
--- A call is its one or two words and nothing else. The cutting of a list into calls, the kinds of call, and what the
+-- A call is its one or two words and nothing else. Here are the split of a list into calls, the kinds of call, and what the
 -- places 10, 11, 13 and 14 test, which need no table (document 01, 'The calls' and 'Where each number is checked').
 use Prim.Native.Nat.{ℕ}
 use mathlib.Core.Bool.{Bool, true, false, cond, not, _&&_, _||_}
@@ -17,7 +17,7 @@ unfoldable pub first : Call → ℕ
 first (one w) = w
 first (two w v) = w
 
--- kinds 1 and 2, look up and send, want a second word
+-- kinds 1 and 2, look up and send, need a second word
 unfoldable pub wantsSecond : ℕ → Bool
 wantsSecond k = eqb k 1 || eqb k 2
 
@@ -25,8 +25,8 @@ wantsSecond k = eqb k 1 || eqb k 2
 unfoldable pub pairs : ℕ → ℕ → Bool
 pairs w v = wantsSecond (kind w) && eqb (kind v) 15
 
--- The cutting: a word of kind 1 or 2 directly followed by a word of kind 15 makes one call of both; every other word is a
--- call of one word.
+-- The split: a word of kind 1 or 2 directly followed by a word of kind 15 makes one call of both. Every other word is a call
+-- of one word.
 unfoldable pub split : List ℕ → List Call
 split [] = []
 split (w ∷ []) = one w ∷ []
@@ -50,7 +50,7 @@ kindOf k =
 unfoldable pub callKind : Call → Kind
 callKind c = kindOf (kind (first c))
 
--- a call's caller is the number in bits 27–22 of its first word; a stray has none
+-- a call's caller is the index in bits 27–22 of its first word; a stray has none
 unfoldable pub callerOf : Call → Option ℕ
 callerOf c = cond (eqb (kind (first c)) 15) none (some (caller (first c)))
 
@@ -77,8 +77,8 @@ unfoldable pub hasSecond : Call → Bool
 hasSecond (one w) = false
 hasSecond (two w v) = true
 
--- The places 13 and 14, which look at a call's own words alone, in their order: what the call comes to where a field that its
--- kind doesn't use isn't zero, where it wants a second word and has none, and where neither is so.
+-- The places 13 and 14, which test a call's own words alone, in their order: the result where a field that its kind doesn't
+-- use isn't zero, where it needs a second word and has none, and where neither is so.
 unfoldable pub wordPlaces : {A : Type 0} → Kind → Call → A → A → A → A
 wordPlaces k c unusedField noSecondWord next =
     cond (not (allZero (unusedFields k (first c)))) unusedField

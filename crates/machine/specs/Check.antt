@@ -1,5 +1,6 @@
--- When a table is accepted, and the code of one that is not: 2 to 5 (document 01, 'The table' and 'Where each number is checked').
--- One test for each kind of word; an endpoint's words are its identity (name, info) and its queue (waiting, lost, slots).
+-- When a table is accepted, and the code of one that is not: 2 to 5 (document 01, 'The table' and 'Where each number is
+-- checked'). There is one test for each kind of word. An endpoint's words are its identity (name, info) and its queue
+-- (waiting, lost, slots).
 use Prim.Native.Nat.{ℕ, _+_, _*_}
 use mathlib.Core.Path.{_≡_}
 use mathlib.Core.Bool.{Bool, cond, not, _&&_, _||_}
@@ -59,7 +60,7 @@ endpointOk n q = identityOk n q && queueOk q
 unfoldable pub nameNew : List ℕ → ℕ → Bool
 nameNew t e = allBelow e (λ f. not (eqb (name (endpoint t f)) (name (endpoint t e))))
 
--- what each of the places 2 to 5 asks of a table
+-- what each of the places 2 to 5 requires of a table
 unfoldable pub headerOk : List ℕ → Bool
 headerOk t = not (eqb (length t) 0) && headerWordOk (getD t 0 0)
 
@@ -78,6 +79,6 @@ tableCode t =
     cond (not (headerOk t)) 2
     (cond (not (lengthOk t)) 3 (cond (not (rightsOk t)) 4 (cond (not (endpointsOk t)) 5 0)))
 
--- a table is accepted when 2 to 5 don't refuse it
+-- a table is accepted when none of the places 2 to 5 refuses it
 abbrev pub Accepted : List ℕ → Type 0
 Accepted t = tableCode t ≡ 0

@@ -18,8 +18,9 @@ abbrev pub callAnswers : List Answered → List ℕ
 callAnswers [] = []
 callAnswers (answered _ a ∷ rest) = a ++ callAnswers rest
 
--- four domains: 0 has SEND and GRANT on 1 and SEND on 2, 1 has GRANT on 0 and SEND on itself, 2 has SEND and REMOVE on 1 and REMOVE on
--- itself; endpoint 0 is 1's, holds one message of two and has lost as many as it can count; endpoints 1 and 2 are 0's
+-- four domains: 0 has SEND and GRANT on 1 and SEND on 2, 1 has GRANT on 0 and SEND on itself, 2 has SEND and REMOVE on 1 and
+-- REMOVE on itself; endpoint 0 is 1's, holds one message of two and has lost as many as it can count; endpoints 1 and 2 are
+-- 0's
 abbrev pub fourDomains : List ℕ
 fourDomains =
     (0x1000_0403
@@ -133,7 +134,7 @@ codeRows =
     ∷ leaves T (replicate 4096 0x4080_0000) [] (spaceOf 3) (unchanged 6 T [] (spaceOf 3))
     ∷ leaves [] (replicate 4097 0x4080_0000) [] [] (unchanged 1 [] [] [])
     ∷ leaves [] (replicate 4096 0x4080_0000) [] [] (unchanged 2 [] [] [])
-    -- 6: for the holders one word fewer than there are domains, one more, or none; the table's 5 comes before it
+    -- 6: for the holders one word fewer than there are domains, one more, or none; the table's 5 is tested before it
     ∷ leaves T (0x4080_0000 ∷ []) (spaceOf 3) (spaceOf 2) (unchanged 6 T (spaceOf 3) (spaceOf 2))
     ∷ leaves T (0x4080_0000 ∷ []) (spaceOf 3) (spaceOf 4) (unchanged 6 T (spaceOf 3) (spaceOf 4))
     ∷ leaves T [] [] [] (unchanged 6 T [] [])

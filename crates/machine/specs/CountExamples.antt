@@ -1,5 +1,5 @@
--- A row that pins the counts and the messages in turn, of one list on table T: a refused send and a grant; sends to endpoint 1,
--- which holds one message, and to endpoint 0, which holds two, some of which find the queue full; and a receive from each.
+-- A row that pins the counts and the FIFO order of messages, of one list on table T: a refused send and a grant; sends to
+-- endpoint 1, of capacity 1, and to endpoint 0, of capacity 2, some of which find the queue full; and a receive from each.
 -- Worked out by hand.
 use Prim.Native.Nat.{ℕ}
 use mathlib.Core.Path.{_≡_}

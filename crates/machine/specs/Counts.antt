@@ -1,6 +1,6 @@
 -- What the fourth line of the checklist counts, and the messages of a queue in their order.
--- Sent and received are told by calls and their answers alone, three words for each call and perhaps others behind them; which
--- sends found the queue full, and what left it by its front, by the run's tables.
+-- Sent and received are determined by calls and their answers alone, three words for each call and perhaps others after them.
+-- Which sends found the queue full, and what left it by its front, is determined by the run's tables.
 use Prim.Native.Nat.{ℕ, _+_}
 use mathlib.Core.Bool.{Bool, true, false, cond, not, _&&_}
 use mathlib.Core.List.{List, [], _∷_, map}
@@ -87,7 +87,7 @@ unfoldable pub fullSends : ℕ → List ℕ → List Call → ℕ
 fullSends e t [] = 0
 fullSends e t (c ∷ cs) = cond (pushesOut e t c) 1 0 + fullSends e (step t c) cs
 
--- A message that left a queue by its front: a receive told it, or a send to the full queue pushed it out.
+-- A message that left a queue by its front: a receive returned it, or a send to the full queue pushed it out.
 pub data Gone : Type 0 where
   told : (message : ℕ) → Gone
   pushed : (message : ℕ) → Gone
@@ -97,7 +97,7 @@ unfoldable pub messageOf : Gone → ℕ
 messageOf (told m) = m
 messageOf (pushed m) = m
 
--- those that were told, in order
+-- those that receives returned, in order
 unfoldable pub takenOf : List Gone → List ℕ
 takenOf [] = []
 takenOf (told m ∷ out) = m ∷ takenOf out

@@ -1,5 +1,5 @@
--- Sets of domains, and whether a call's caller is in one. Nothing here knows a table or a machine: a domain is a number, and a
--- call has a caller or none.
+-- Sets of domains, and whether a call's caller is in one. Nothing here depends on a table or a machine: a domain is an index,
+-- and a call has a caller or none.
 use Prim.Native.Nat.{ℕ}
 use mathlib.Core.Bool.{Bool, false, _||_}
 use mathlib.Core.List.{List, [], _∷_}
@@ -21,7 +21,7 @@ unfoldable pub calledBy : ℕ → Option ℕ → Bool
 calledBy d none = false
 calledBy d (some u) = eqb u d
 
--- a call's caller is in a group, which is a set given by its test
+-- a call's caller is in a group, which is any set of domains given by its test
 unfoldable pub fromGroup : (ℕ → Bool) → Option ℕ → Bool
 fromGroup group none = false
 fromGroup group (some u) = group u

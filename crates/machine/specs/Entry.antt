@@ -1,5 +1,5 @@
--- The entry: from any words as table, list, answer space and holders to the code, the number of calls, and every word at the end
--- (document 01, 'Where each number is checked'; the holders are document 02 (h)).
+-- The entry, which is total: from arbitrary words as table, list, answer space and holders to the code, the count of calls,
+-- and every word at the end (document 01, 'Where each number is checked'; the holders are document 02 (h)).
 use Prim.Native.Nat.{ℕ, _*_}
 use mathlib.Core.Path.{_≡_}
 use mathlib.Core.Bool.{cond}
@@ -20,7 +20,7 @@ longestList = 4096
 unfoldable pub holdersCode : List ℕ → ℕ → ℕ
 holdersCode t lent = cond (eqb lent (domains t)) 0 6
 
--- 6 where the answer space has under three words a call, or the holders are other than one word a domain
+-- 6 where the answer space has fewer than three words a call, or the holders are other than one word a domain
 unfoldable pub spaceCode : List ℕ → List ℕ → ℕ → ℕ → ℕ
 spaceCode t ws size lent = cond (ltb size (3 * length (split ws))) 6 (holdersCode t lent)
 
@@ -30,11 +30,11 @@ unfoldable pub entryCode : List ℕ → List ℕ → ℕ → ℕ → ℕ
 entryCode t ws size lent =
     cond (ltb longestList (length ws)) 1 (cond (eqb (tableCode t) 0) (spaceCode t ws size lent) (tableCode t))
 
--- a list runs when no entry refuses
+-- a list runs when no place of the entry refuses it
 abbrev pub Runs : List ℕ → List ℕ → ℕ → ℕ → Type 0
 Runs t ws size lent = entryCode t ws size lent ≡ 0
 
--- what the entry answers and leaves: the code, the number of calls, the table, the answer space and the holders
+-- what the entry returns and leaves: the code, the count of calls, the table, the answer space and the holders
 pub record Outcome : Type 0 where
   pub code : ℕ
   pub calls : ℕ

@@ -132,7 +132,7 @@ rows =
     ∷ leaves T6 L (spaceOf 27) (spaceOf 3) (unchanged 4 T6 (spaceOf 27) (spaceOf 3))
     -- P7
     ∷ leaves T7 L (spaceOf 27) (spaceOf 3) (unchanged 5 T7 (spaceOf 27) (spaceOf 3))
-    -- P8: by itself, and behind another call
+    -- P8: by itself, and after another call
     ∷ leaves T (0x2000_0100 ∷ []) (spaceOf 3) (spaceOf 3)
     (record { code = 0; calls = 1; table = T; answers = 0x2000_000E ∷ 0 ∷ 0 ∷ []; holders = holdersT })
     ∷ leaves T (0x4080_0000 ∷ 0x2000_0100 ∷ []) (spaceOf 6) (spaceOf 3)
@@ -164,7 +164,7 @@ rows =
       answers = 0x7040_0000 ∷ 0 ∷ 0 ∷ 0x7040_0016 ∷ 0 ∷ 0 ∷ [];
       holders = holdersT;
     })
-    -- P12: for domain 1 the calls 4, 5, 6 and 8 are struck
+    -- P12: for domain 1 the calls 4, 5, 6 and 8 are purged
     ∷ keeps T L 1
     (two 0x2000_0100 0xF000_0005
     ∷ one 0x6042_0001

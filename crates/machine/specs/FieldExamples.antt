@@ -1,7 +1,7 @@
--- Rows that pin the fields of a call and what each call reads and writes by them: every bit of a spare field and of the caller,
--- every unknown kind, which words make one call, which right each call asks for, the sets that a grant, a remove and a revoke
--- take, and a queue through all its slots. Both ends of the largest table are in crate bounds. Worked out by hand from documents 01
--- and 02.
+-- Rows that pin the fields of a call and what each call reads and writes by them: every bit of a spare field and of the
+-- caller, every unknown kind, which words make one call, which right each call requires, the sets that a grant, a remove and
+-- a revoke take, and a queue through all its slots. Both ends of the largest table are in crate machine_limits. Worked out by
+-- hand from documents 01 and 02.
 use Prim.Native.Nat.{ℕ, _+_, _*_}
 use mathlib.Core.List.{List, [], _∷_, _++_}
 use lib.ListN.{set}
@@ -13,7 +13,7 @@ unfoldable pub each : List ℕ → ℕ → List Answered
 each [] a = []
 each (w ∷ ws) a = answered (w ∷ []) (a ∷ 0 ∷ 0 ∷ []) ∷ each ws a
 
--- 13: each bit of each spare field of a look up; the lowest and the highest bit of each of the other calls'
+-- 13: each bit of each spare field of a look up; the lowest and the highest bit of the other calls' spare fields
 abbrev pub spareFields : List Answered
 spareFields =
     each
@@ -27,7 +27,7 @@ spareFields =
     ++ each (0x5001_0000 ∷ 0x5020_0000 ∷ 0x5000_0100 ∷ 0x5000_8000 ∷ 0x5000_0001 ∷ 0x5000_0080 ∷ []) 0x5000_000D
     ++ each (0x7001_0101 ∷ 0x7001_8001 ∷ []) 0x7000_000D
 
--- 11, for every unknown kind, with a stray behind it; and 12, for callers that differ in one bit from domain 0
+-- 11, for every unknown kind, with a stray after it; and 12, for callers that differ in one bit from domain 0
 abbrev pub unknowns : List Answered
 unknowns =
     answered (0x0000_0000 ∷ 0xF000_0001 ∷ []) (0x0000_000B ∷ 0 ∷ 0 ∷ 0xF000_000A ∷ 0 ∷ 0 ∷ [])
@@ -43,10 +43,10 @@ unknowns =
     ∷ answered (0x4800_0000 ∷ []) (0x4800_000C ∷ 0 ∷ 0 ∷ [])
     ∷ []
 
--- the cutting: a stray behind each known kind that takes no second word, and behind another stray; a look up and a send
--- with another word than kind 15 behind them have no second word
-abbrev pub cutting : List Answered
-cutting =
+-- the split: a stray after each known kind that takes no second word, and after another stray. A look up and a send that are
+-- followed by a word of a kind other than 15 have no second word
+abbrev pub splitting : List Answered
+splitting =
     answered (0x3080_0000 ∷ 0xF000_0001 ∷ []) (0x3080_0012 ∷ 0 ∷ 0 ∷ 0xF000_000A ∷ 0 ∷ 0 ∷ [])
     ∷ answered (0x40C0_0000 ∷ 0xF000_0001 ∷ []) (0x40C0_0000 ∷ 0 ∷ 0 ∷ 0xF000_000A ∷ 0 ∷ 0 ∷ [])
     ∷ answered (0x50C0_0000 ∷ 0xF000_0001 ∷ []) (0x50C0_0000 ∷ 0xF040 ∷ 0 ∷ 0xF000_000A ∷ 0 ∷ 0 ∷ [])
@@ -64,7 +64,7 @@ cutting =
 abbrev pub oneRight : List ℕ
 oneRight = set (set (set (set fourDomains 4 0x2000_0001) 6 0x2000_0000) 14 0x2000_0004) 16 0x2000_000F
 
--- which right a call asks for: calls on that table
+-- which right a call requires: calls on that table
 abbrev pub rightAsked : List Answered
 rightAsked =
     -- 17: GRANT on the owner, or REMOVE on it, is not SEND
@@ -134,7 +134,7 @@ removes =
     ++ removedOfAll 13 2
     ++ removedOfAll 14 1
     ++ removedOfAll 15 0
-    -- 22: REMOVE went with the others; then GRANT goes alone, and of a set with it nothing is cleared
+    -- 22: REMOVE was cleared with the others; then GRANT is cleared alone, and of a set with it nothing is cleared
     ++ (answered (0x70C3_0004 ∷ []) (0x70C0_0016 ∷ 0 ∷ 0 ∷ []) ∷ [])
     ++ removedOfAll 2 13
     ++ each (0x70C3_0003 ∷ 0x70C3_0006 ∷ 0x70C3_000F ∷ []) 0x70C0_0016
@@ -197,8 +197,8 @@ revokes =
 abbrev pub selfSender : List ℕ
 selfSender = set fourDomains 1 0x2000_0001
 
--- an endpoint of capacity 8 in which two wait: six more fill it, the next two push out those two and the lost count stays at
--- its largest, then four go out in turn, and one comes in behind the first of them
+-- an endpoint of capacity 8 in which two wait: six more fill it, the next two push out those two and the lost count reaches
+-- its largest and stays there, then four are received in FIFO order, and one is sent after the first of them
 abbrev pub wholeQueue : List Answered
 wholeQueue =
     answered (0x2000_0200 ∷ 0xFFFF_FFFF ∷ []) (0x2000_0000 ∷ 0 ∷ 0 ∷ [])
@@ -220,12 +220,12 @@ abbrev pub fieldRows : List Row
 fieldRows =
     leaves fourDomains (callWords spareFields) (spaceOf 132) (spaceOf 4)
     (record { code = 0; calls = 44; table = fourDomains; answers = callAnswers spareFields; holders = 2 ∷ 7 ∷ 5 ∷ 0 ∷ [] })
-    ∷ leaves oneRight (callWords (unknowns ++ cutting)) (spaceOf 114) (spaceOf 4)
+    ∷ leaves oneRight (callWords (unknowns ++ splitting)) (spaceOf 114) (spaceOf 4)
     (record {
       code = 0;
       calls = 38;
       table = oneRight;
-      answers = callAnswers (unknowns ++ cutting);
+      answers = callAnswers (unknowns ++ splitting);
       holders = 2 ∷ 13 ∷ 5 ∷ 9 ∷ [];
     })
     -- what was given: GRANT on 0 to 0, and every right on 3 to 1
@@ -245,7 +245,7 @@ fieldRows =
       answers = callAnswers removes;
       holders = 2 ∷ 13 ∷ 5 ∷ 11 ∷ [];
     })
-    -- the queue has five left, from 0 on, and three free slots
+    -- the queue has five left, from message 0 on, and three free slots
     ∷ leaves (set selfSender 44 0x6FFF_FFFE) (callWords wholeQueue) (spaceOf 39) (spaceOf 4)
     (record {
       code = 0;
@@ -261,7 +261,7 @@ fieldRows =
       answers = callAnswers wholeQueue;
       holders = 3 ∷ 7 ∷ 5 ∷ 0 ∷ [];
     })
-    -- what was taken back: SEND of 1 on itself, all of 2 on 1, REVOKE of 3 on itself
+    -- what was revoked: SEND of 1 on itself, all of 2 on 1, REVOKE of 3 on itself
     ∷ leaves revokers (callWords revokes) (spaceOf 87) (spaceOf 4)
     (record {
       code = 0;

@@ -1,4 +1,4 @@
--- Influence: who can alter what is a domain's (document 01, 'Influence').
+-- Influence: who can alter what belongs to a domain (document 01, 'Influence').
 use Prim.Native.Nat.{ℕ}
 use mathlib.Core.Bool.{Bool, _||_}
 use mathlib.Core.List.{List}

@@ -1,4 +1,4 @@
--- What a reader must believe: document 01 as definitions, in the paper's order; a module that states a section names it.
+-- What a reader must believe: document 01 as definitions, in the paper's order. A module that states a section names it.
 pub mod Below
 pub mod Word
 pub mod Right

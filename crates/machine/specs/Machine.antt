@@ -1,6 +1,6 @@
--- One call on a table: what it comes to, what that does to the table, and its three answer words
--- (document 01, 'The calls', 'Where each number is checked' and 'The striking rule').
--- To decide reads only; only an effect writes.
+-- One call on a table: the decision on it, what that does to the table, and its three answer words (document 01, 'The calls',
+-- 'Where each number is checked' and 'The striking rule').
+-- Deciding only reads. Only an effect writes.
 use Prim.Native.Nat.{ℕ, _+_, _*_, _^_}
 use mathlib.Core.Bool.{Bool, true, false, cond, not, _&&_}
 use mathlib.Core.List.{List, [], _∷_}
@@ -15,7 +15,7 @@ use Rattle.machine.specs.Queue.{name, owner, waiting, lost, oldest, sent
 use Rattle.machine.specs.Call.{Call, Kind, first, callKind, wordPlaces, secondPayload}
 use Rattle.machine.specs.Call.{Kind.lookUp, Kind.send, Kind.receive, Kind.myEndpoints, Kind.myRights, Kind.grant, Kind.remove, Kind.revoke, Kind.stray, Kind.unknown}
 
--- What a call comes to: a refusal by its number, or the call's row with what it needs.
+-- The decision on a call: a refusal by its code, or the call's row with what it needs.
 pub data Decision : Type 0 where
   refused : (code : ℕ) → Decision
   lookedUp : (e : ℕ) → Decision
@@ -27,7 +27,7 @@ pub data Decision : Type 0 where
   removes : (target u r : ℕ) → Decision
   revokes : (target holder r : ℕ) → Decision
 
--- a place of the paper's table: where its condition holds the call is refused by its number, else the next place is looked at
+-- a place of the paper's table: where its condition holds the call is refused by its code, else the next place is tested
 unfoldable pub place : Bool → ℕ → Decision → Decision
 place true code next = refused code
 place false code next = next
@@ -56,8 +56,8 @@ receivePlaces t u e =
     place (not (ltb e (endpoints t))) 16
     (place (not (eqb (owner (endpoint t e)) u)) 18 (place (eqb (waiting (endpoint t e)) 0) 19 (receives e)))
 
--- the places 20 to 23, and then the row, of a call by which u alters h's rights on the target g by the set r: it must influence h,
--- and 22 is whether it may
+-- the places 20 to 23, and then the row, of a call by which u alters h's rights on the target g by the set r: place 22 tests
+-- `may`, and place 23 whether u influences h
 unfoldable pub rightsPlaces : List ℕ → ℕ → ℕ → ℕ → ℕ → Bool → Decision → Decision
 rightsPlaces t u g h r may row =
     place (not (ltb g (domains t) && ltb h (domains t))) 20
@@ -100,7 +100,7 @@ places t c remove = framed t c remove (removePlaces t (caller (first c)) (fieldA
 places t c revoke =
     framed t c revoke (revokePlaces t (caller (first c)) (fieldA (first c)) (fieldB (first c)) (fieldC (first c)))
 
--- what a call comes to on the table t
+-- the decision on a call on the table t
 unfoldable pub decide : List ℕ → Call → Decision
 decide t c = places t c (callKind c)
 
@@ -140,7 +140,7 @@ ownedBits t u = sumBelow (endpoints t) (λ e. cond (eqb (owner (endpoint t e)) u
 unfoldable pub rightsBits : List ℕ → ℕ → ℕ → ℕ
 rightsBits t u g = sumBelow 8 (λ i. cond (ltb (g + i) (domains t)) (rights t u (g + i)) 0 * 16 ^ i)
 
--- the code of the answer to a decision: its number, or 0 where no place fails
+-- the code of the answer to a decision: that of the refusal, or 0 where no place fails
 unfoldable pub code : Decision → ℕ
 code (refused n) = n
 code (lookedUp e) = 0
@@ -152,7 +152,7 @@ code (grants g h r) = 0
 code (removes g u r) = 0
 code (revokes g h r) = 0
 
--- the first data word of the answer to a decision on the table t, zero where nothing is named
+-- the first data word of the answer to a decision on the table t, zero where its row names none
 unfoldable pub firstData : List ℕ → Decision → ℕ
 firstData t (refused n) = 0
 firstData t (lookedUp e) = e

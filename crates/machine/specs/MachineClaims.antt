@@ -1,6 +1,6 @@
--- What is claimed of the machine itself, in closed statements about all accepted tables, or about any where a claim says so:
--- `EveryCall..` says it of each single call, `EveryRun..` of calls of any number run one after another. Each is the type of a
--- theorem in proofs/.
+-- Claims about the machine itself, in closed statements about all accepted tables, or about any where a claim says so.
+-- `EveryCall..` is about each single call, `EveryRun..` about calls of any number run one after another. Each is the type of
+-- a theorem in proofs/.
 use Prim.Native.Nat.{ℕ, _*_, _<_, _≤_, _^_}
 use mathlib.Core.Path.{_≡_}
 use mathlib.Core.Bool.{Bool, true, false, not, _&&_, _||_}
@@ -23,7 +23,7 @@ use Rattle.machine.specs.RunClaims.{Noninterference, RightsProvenance, C
 
 -- ---- one call
 
--- A table t′ that came of t is accepted, with the same unchanging parts.
+-- A table t′ that results from t is accepted, with the same unchanging parts.
 pub record StaysAccepted (t t′ : List ℕ) : Type 0 where
   pub accepted : Accepted t′
   pub frame : SameFrame t′ t
@@ -45,7 +45,8 @@ pub record AltersOnly (t : List ℕ) (c : Call) : Type 0 where
   pub stray : callerOf c ≡ none → step t c ≡ t
   pub unknown : (u : ℕ) → callerOf c ≡ some u → domains t ≤ u → step t c ≡ t
 
--- Influence (document 01, 'Influence'): on an accepted table, a call alters only what belongs to domains that its caller influences.
+-- Influence (document 01, 'Influence'): on an accepted table, a call alters only what belongs to domains that its caller
+-- influences.
 abbrev pub EveryCallAltersOnly : Type 0
 EveryCallAltersOnly = (t : List ℕ) (c : Call) → Accepted t → AltersOnly t c
 
@@ -60,8 +61,9 @@ AnswerDepends s t c =
 abbrev pub EveryCallAnswerDepends : Type 0
 EveryCallAnswerDepends = (s t : List ℕ) (c : Call) → Accepted t → AnswerDepends s t c
 
--- What one call does to the single right 2 ^ k of h on g: one that h has after it, h had before it or the call gave; one that
--- h had before it, h has after it, or h's own remove or a revoke cleared; and a grant, a remove and a revoke do what they say.
+-- What one call does to the single right 2 ^ k of h on g. If h has it after the call, h had it before or the call gave it. If
+-- h had it before the call, h has it after, or h's own remove or a revoke cleared it. A grant, a remove and a revoke do what
+-- they say.
 pub record EachRight (h g k : ℕ) (t : List ℕ) (c : Call) : Type 0 where
   pub hadOrGiven : holds (rights (step t c) h g) (2 ^ k) ≡ true → (holds (rights t h g) (2 ^ k) ≡ true) ⊎ GivenBy h g (2 ^ k) t c
   pub keptOrCleared : holds (rights t h g) (2 ^ k) ≡ true → (holds (rights (step t c) h g) (2 ^ k) ≡ true) ⊎ (RemovedBy h g (2 ^ k) t c ⊎ RevokedBy h g (2 ^ k) t c)
@@ -69,21 +71,21 @@ pub record EachRight (h g k : ℕ) (t : List ℕ) (c : Call) : Type 0 where
   pub removed : RemovedBy h g (2 ^ k) t c → holds (rights (step t c) h g) (2 ^ k) ≡ false
   pub revoked : RevokedBy h g (2 ^ k) t c → holds (rights (step t c) h g) (2 ^ k) ≡ false
 
--- No right comes from nowhere, and none goes but by its holder or by one that may revoke it, call by call: on an accepted table,
--- for any two domains and each single right.
+-- Every right has a source, and none is lost except by its holder or by one that may revoke it, call by call: on an accepted
+-- table, for any two domains and each single right.
 abbrev pub EveryCallEachRight : Type 0
 EveryCallEachRight =
     (t : List ℕ) (c : Call) → Accepted t → (h g k : ℕ) → h < domains t → g < domains t → EachRight h g k t c
 
--- The rights r of h on g went all together from the table t to t′: h held REMOVE and every one of them, holds none of them any
--- more, and every other right on g as before.
+-- The rights r of h on g were cleared all together from the table t to t′: h held REMOVE and every one of them, holds none of
+-- them any more, and holds every other right on g as before.
 pub record AllRemoved (h g r : ℕ) (t t′ : List ℕ) : Type 0 where
   pub mayRemove : holds (rights t h g) REMOVE ≡ true
   pub held : holds (rights t h g) r ≡ true
   pub cleared : (k : ℕ) → holds r (2 ^ k) ≡ true → holds (rights t′ h g) (2 ^ k) ≡ false
   pub others : (k : ℕ) → holds r (2 ^ k) ≡ false → holds (rights t′ h g) (2 ^ k) ≡ holds (rights t h g) (2 ^ k)
 
--- From the table t to t′ the rights that the word of the remove c names went all together, or nothing was altered.
+-- From the table t to t′ the rights that the word of the remove c names were cleared all together, or nothing was altered.
 abbrev pub AllOrNothing : List ℕ → Call → List ℕ → Type 0
 AllOrNothing t c t′ = AllRemoved (caller (first c)) (fieldA (first c)) (fieldC (first c)) t t′ ⊎ (t′ ≡ t)
 
@@ -98,7 +100,7 @@ removeOfOne t u g r =
     (place (not (eqb r SEND || eqb r GRANT || eqb r REMOVE)) 21
     (place (not (holds (rights t u g) REMOVE && holds (rights t u g) r)) 22 (removes g u r)))
 
--- A remove of one right comes to what it does in document 01 (document 02 (b)), on any table.
+-- A remove of one right has the same decision as in document 01 (document 02 (b)), on any table.
 abbrev pub EveryRemoveOfOne : Type 0
 EveryRemoveOfOne =
     (t : List ℕ) (u g r : ℕ)
@@ -115,16 +117,16 @@ EveryRunStaysAccepted = (t : List ℕ) (cs : List Call) → Accepted t → Stays
 abbrev pub EveryRunAnswered : Type 0
 EveryRunAnswered = (t : List ℕ) (cs : List Call) → length (answers t cs) ≡ 3 * length cs
 
--- Noninterference (document 01: the striking rule).
+-- Noninterference (specs/RunClaims).
 abbrev pub EveryRunNoninterference : Type 0
 EveryRunNoninterference =
     (t : List ℕ) (cs : List Call) (rest : List ℕ) → Accepted t → Noninterference t cs (answers t cs ++ rest) (run t cs)
 
--- No right from nowhere.
+-- Every right has a source.
 abbrev pub EveryRunRightsProvenance : Type 0
 EveryRunRightsProvenance = (t : List ℕ) (cs : List Call) → Accepted t → RightsProvenance t cs (run t cs)
 
--- The counts of every endpoint are borne out by its queue.
+-- The counts of every endpoint are conserved.
 abbrev pub EveryRunCountsConserved : Type 0
 EveryRunCountsConserved =
     (t : List ℕ) (cs : List Call) (rest : List ℕ)
@@ -133,7 +135,7 @@ EveryRunCountsConserved =
     → e < endpoints t
     → CountsConserved e t cs (answers t cs ++ rest) (run t cs)
 
--- Every queue goes in turn.
+-- Every queue is in FIFO order.
 abbrev pub EveryRunFifoOrder : Type 0
 EveryRunFifoOrder =
     (t : List ℕ) (cs : List Call) (rest : List ℕ)

@@ -1,5 +1,5 @@
--- The striking rule's terms: which domains can have reached d at each call (sources; document 01: the set), which calls are
--- kept (purge), and what d sees at the end (its view) (document 01, 'The striking rule').
+-- The terms of noninterference (document 01: the striking rule): which domains can have reached d at each call (sources;
+-- document 01: the set), which calls are kept (purge), and what d sees at the end (its view).
 use Prim.Native.Nat.{ℕ}
 use mathlib.Core.Bool.{Bool, false, cond, _&&_, _||_}
 use mathlib.Core.List.{List, [], _∷_, _++_, map}
@@ -24,12 +24,12 @@ unfoldable pub joinedBy : List ℕ → Option ℕ → List ℕ → List ℕ
 joinedBy t none vs = vs
 joinedBy t (some u) vs = cond (ltb u (domains t) && reachesAny t u vs) (u ∷ vs) vs
 
--- the set at the first of the calls cs, which are run from the table t; past the last call it is d alone
+-- the source set at the first of the calls cs, which are run from the table t; past the last call it is d alone
 unfoldable pub sources : List ℕ → List Call → ℕ → List ℕ
 sources t [] d = d ∷ []
 sources t (c ∷ cs) d = joinedBy t (callerOf c) (sources (step t c) cs d)
 
--- kept are exactly the calls whose caller is in the set at that call
+-- the calls that are kept: exactly those whose caller is in the source set at that call; the others are purged
 unfoldable pub purge : List ℕ → List Call → ℕ → List Call
 purge t [] d = []
 purge t (c ∷ cs) d =

@@ -1,6 +1,6 @@
--- Rows that pin what no code ever runs: the set at each call (sources), the kept calls (purge) and the whole view, on
--- small tables. A theorem would stay true of definitions that keep too many calls or that see too little; these would not.
--- Inputs and outcomes are literals, worked out by hand.
+-- Rows that pin what no code ever runs: the source set at each call (sources), the kept calls (purge) and the whole view, on
+-- small tables. A theorem would stay true of definitions that keep too many calls or that see too little; these rows would
+-- not. Inputs and outcomes are literals, worked out by hand.
 use Prim.Native.Nat.{ℕ, _^_}
 use mathlib.Core.Path.{_≡_}
 use mathlib.Core.Bool.{cond}
@@ -15,16 +15,16 @@ use Rattle.machine.specs.Purge.{sources, purge, View, view}
 use Rattle.machine.specs.Examples.{emptySlots}
 use Rattle.machine.specs.CodeExamples.{fourDomains}
 
--- a set of domains as a number: bit u is set for each member u
+-- a set of domains as a bitmap: bit u is set for each member u
 unfoldable pub bitsOf : ℕ → List ℕ → ℕ
 bitsOf n s = sumBelow n (λ u. cond (member u s) (2 ^ u) 0)
 
--- the set at each call, and past the last
+-- the source set at each call, and past the last
 unfoldable pub setsAt : List ℕ → List Call → ℕ → List ℕ
 setsAt t [] d = bitsOf (domains t) (sources t [] d) ∷ []
 setsAt t (c ∷ cs) d = bitsOf (domains t) (sources t (c ∷ cs) d) ∷ setsAt (step t c) cs d
 
--- what the rows speak of: the sets, the kept calls, and what d sees of the whole run
+-- what the rows are about: the sets, the kept calls, and what d sees of the whole run
 pub record Purged : Type 0 where
   pub sets : List ℕ
   pub kept : List Call
@@ -47,7 +47,7 @@ abbrev pub EveryPurgeRow : List PurgeRow → Type 0
 EveryPurgeRow [] = Unit {0}
 EveryPurgeRow (r ∷ rs) = PurgeRowHolds r × EveryPurgeRow rs
 
--- three domains, each with one endpoint; endpoint 0 holds one message at most, the others two
+-- three domains, each with one endpoint; endpoint 0 has capacity 1, the others 2
 abbrev pub threeDomains : List ℕ → List ℕ
 threeDomains r =
     0x1000_0303
@@ -56,7 +56,7 @@ threeDomains r =
     ++ (0x3000_0002 ∷ 0x4000_0102 ∷ 0x5000_0000 ∷ 0x6000_0000 ∷ emptySlots)
     ++ (0x3000_0003 ∷ 0x4000_0202 ∷ 0x5000_0000 ∷ 0x6000_0000 ∷ emptySlots)
 
--- the rights words of domains 0, 1 and 2 on 0, 1 and 2
+-- the rights words of a domain that has no right on 0, 1 or 2
 abbrev pub none3 : List ℕ
 none3 = 0x2000_0000 ∷ 0x2000_0000 ∷ 0x2000_0000 ∷ []
 
@@ -86,7 +86,7 @@ gotSeven = record { answers = []; rights = none3; queues = (0, justOne 0xF000_00
 -- the rows
 abbrev pub purgeRows : List PurgeRow
 purgeRows =
-    -- a refused call (16) joins its caller 1, and so brings in the earlier caller 2
+    -- a refused call (16) adds its caller 1 to the set, and so the earlier caller 2
     pins (chain) (0x2080_0100 ∷ 0xF000_0009 ∷ 0x3040_0900 ∷ []) 0
     (record {
       sets = 0b111 ∷ 0b011 ∷ 0b001 ∷ [];
@@ -100,7 +100,7 @@ purgeRows =
       kept = two 0x2080_0100 0xF000_0009 ∷ one 0x9040_0000 ∷ [];
       seen = quiet [];
     })
-    -- a right that is REMOVE alone counts; a known caller with no right is struck
+    -- a right that is REMOVE alone counts; the call of a known caller with no right is purged
     ∷ pins (threeDomains (none3 ++ (0x2000_0004 ∷ 0x2000_0000 ∷ 0x2000_0000 ∷ []) ++ none3)) (0x5040_0000 ∷ 0x5080_0000 ∷ []) 0
     (record {
       sets = 0b011 ∷ 0b001 ∷ 0b001 ∷ [];
@@ -121,21 +121,21 @@ purgeRows =
       kept = two 0x2040_0000 0xF000_0007 ∷ one 0x7040_0001 ∷ one 0x7040_0004 ∷ [];
       seen = gotSeven;
     })
-    -- a right revoked by another after use: 1 sends, 2 takes SEND back from it, and 1's next send is struck
+    -- a right revoked by another after use: 1 sends, 2 takes SEND back from it, and 1's next send is purged
     ∷ pins (threeDomains (none3 ++ (0x2000_0001 ∷ 0x2000_0000 ∷ 0x2000_0000 ∷ []) ++ (0x2000_0008 ∷ 0x2000_0001 ∷ 0x2000_0000 ∷ []))) (0x2040_0000 ∷ 0xF000_0007 ∷ 0x8080_0101 ∷ 0x2040_0000 ∷ 0xF000_0008 ∷ []) 0
     (record {
       sets = 0b111 ∷ 0b101 ∷ 0b001 ∷ 0b001 ∷ [];
       kept = two 0x2040_0000 0xF000_0007 ∷ one 0x8080_0101 ∷ [];
       seen = gotSeven;
     })
-    -- a revoke of a right of d joins its caller by its right on d, and d sees the right go
+    -- a revoke of a right of d adds its caller by its right on d, and d sees that the right is cleared
     ∷ pins (threeDomains ((0x2000_0000 ∷ 0x2000_0000 ∷ 0x2000_0001 ∷ []) ++ (0x2000_0001 ∷ 0x2000_0000 ∷ 0x2000_0008 ∷ []) ++ none3)) (0x8042_0001 ∷ []) 0
     (record {
       sets = 0b011 ∷ 0b001 ∷ [];
       kept = one 0x8042_0001 ∷ [];
       seen = quiet [];
     })
-    -- a call made before its caller was given the right is struck
+    -- a call made before its caller was given the right is purged
     ∷ pins (giver) (0x5080_0000 ∷ 0x6040_0201 ∷ []) 0
     (record {
       sets = 0b011 ∷ 0b011 ∷ 0b001 ∷ [];
@@ -162,7 +162,7 @@ purgeRows =
             lost = (1, 0x6000_0000) ∷ [];
           };
     })
-    -- a caller not below n is no known domain, whatever stands where its rights would
+    -- a caller not below n is no known domain, whatever words are where its rights would be
     ∷ pins (chain) (0x50C0_0000 ∷ []) 0
     (record {
       sets = 0b001 ∷ 0b001 ∷ [];
@@ -183,8 +183,8 @@ purgeRows =
             lost = (0, 0x6000_0001) ∷ [];
           };
     })
-    -- endpoints that don't bear their owner's number, two of them d's; a call refused by 13 and a kind 0 join; GRANT alone counts;
-    -- answers of d that are refused or of an unknown kind are in its view
+    -- endpoints whose index isn't their owner's, two of them d's; a call refused by 13 and a kind 0 add their callers; GRANT
+    -- alone counts; answers of d that are refused or of an unknown kind are in its view
     ∷ pins fourDomains (0x0081_0101 ∷ 0xE0C0_0000 ∷ 0x5041_0000 ∷ 0x9000_0001 ∷ 0x3000_0000 ∷ 0x3000_0200 ∷ []) 0
     (record {
       sets = 0b0111 ∷ 0b0011 ∷ 0b0011 ∷ 0b0001 ∷ 0b0001 ∷ 0b0001 ∷ 0b0001 ∷ [];

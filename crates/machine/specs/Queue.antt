@@ -1,6 +1,5 @@
--- An endpoint's twelve words, and what a send and a receive make of them (document 01, 'The table' and 'The striking rule';
--- document 02 (a), a full queue).
--- Nothing here sees the rest of the table.
+-- An endpoint's twelve words, and what a send and a receive make of them (document 01, 'The table' and
+-- 'The striking rule'; document 02 (a), a full queue). Nothing here depends on the rest of the table.
 use Prim.Native.Nat.{ℕ, _+_, _-_, min}
 use mathlib.Core.Bool.{Bool, cond}
 use mathlib.Core.List.{List, _∷_, _++_}
@@ -44,11 +43,11 @@ hasSpace q = ltb (waiting q) (capacity q)
 unfoldable pub sendWithSpace : List ℕ → ℕ → List ℕ
 sendWithSpace q message = set (set q (4 + waiting q) (word 15 message)) 2 (word 5 (waiting q + 1))
 
--- the waiting messages move up by one slot, and the slot that comes free is empty; slots from the waiting count on stay
+-- the waiting messages move up by one slot, and the slot that becomes free is empty; slots from the waiting count on stay
 unfoldable pub movedUp : List ℕ → ℕ → List ℕ
 movedUp q count = take 4 q ++ (take (count - 1) (drop 5 q) ++ (emptySlot ∷ drop (4 + count) q))
 
--- a receive: the oldest message goes out, the others move up, and waiting falls by 1
+-- a receive: the oldest message leaves, the others move up, and waiting falls by 1
 unfoldable pub received : List ℕ → List ℕ
 received q = set (movedUp q (waiting q)) 2 (word 5 (waiting q - 1))
 

@@ -1,6 +1,6 @@
--- What is claimed of the words that a run left: the calls cs were run from the table t, and left the answers, three words for each
--- call and perhaps others behind them, and the table end. Each claim is a field of the kernel's contract (specs/Promise);
--- that the machine's own runs meet it stands in specs/MachineClaims.
+-- Claims about the words that a run left. The calls cs were run from the table t, and left the answers, three words for each
+-- call and perhaps others after them, and the table end. Each claim is a field of the kernel's contract (specs/Promise). That
+-- the machine's own runs meet it is in specs/MachineClaims.
 use Prim.Native.Nat.{ℕ, _+_, _<_, _^_, min}
 use mathlib.Core.Path.{_≡_}
 use mathlib.Core.Bool.{true}
@@ -15,8 +15,8 @@ use Rattle.machine.specs.Purge.{purge, view}
 use Rattle.machine.specs.Counts.{sentTo, receivedFrom, fullSends, messagesFrom, messagesTo, messageOf, takenOf, countPushed, gone, messages}
 use Rattle.machine.specs.Trail.{GivenAlong}
 
--- Noninterference (document 01: the striking rule): for every domain d, what d sees of the run is what it sees of the machine
--- fed the kept calls alone, from the same table.
+-- Noninterference (specs/Purge): for every domain d, what d sees of the run is what it sees of the machine run on the kept
+-- calls alone, from the same table.
 abbrev pub Noninterference : List ℕ → List Call → List ℕ → List ℕ → Type 0
 Noninterference t cs answers end =
     (d : ℕ)
@@ -24,7 +24,7 @@ Noninterference t cs answers end =
     → view d cs answers end
     ≡ view d (purge t cs d) (machine.answers t (purge t cs d)) (machine.run t (purge t cs d))
 
--- No right from nowhere: a single right that h has on g at the end it had at the start, or one of the calls gave it.
+-- Every right has a source: a single right that h has on g at the end it had at the start, or one of the calls gave it.
 abbrev pub RightsProvenance : List ℕ → List Call → List ℕ → Type 0
 RightsProvenance t cs end =
     (h g k : ℕ)
@@ -33,15 +33,15 @@ RightsProvenance t cs end =
     → holds (rights end h g) (2 ^ k) ≡ true
     → (holds (rights t h g) (2 ^ k) ≡ true) ⊎ GivenAlong h g (2 ^ k) t cs
 
--- The counts of the endpoint e: sends answered 0 and what waited at the start are what was received, what found the queue
--- full and what waits at the end; and the lost count rose by those that found it full, up to its largest.
+-- The counts of the endpoint e are conserved: the sends answered 0 and what waited at the start are what was received, what
+-- found the queue full and what waits at the end. The lost count rose by those that found it full, up to its largest.
 pub record CountsConserved (e : ℕ) (t : List ℕ) (cs : List Call) (answers end : List ℕ) : Type 0 where
   pub balance : sentTo e cs answers + waiting (endpoint t e) ≡ receivedFrom e cs answers + fullSends e t cs + waiting (endpoint end e)
   pub raised : lost (endpoint end e) ≡ min (lost (endpoint t e) + fullSends e t cs) mostLost
 
--- Queues in turn: what left the queue of the endpoint e by its front, received or pushed out, followed by what waits at the
--- end, is what waited at the start, followed by everything that was sent, in order; those received are the ones that the
--- answers showed; and as many were pushed out as sends found the queue full, each the oldest at its time.
+-- FIFO order: what left the queue of the endpoint e by its front, received or pushed out, followed by what waits at the end,
+-- is what waited at the start, followed by everything that was sent, in order. Those received are the ones that the answers
+-- showed. As many were pushed out as sends found the queue full, each the oldest at its time.
 pub record FifoOrder (e : ℕ) (t : List ℕ) (cs : List Call) (answers end : List ℕ) : Type 0 where
   pub order : map messageOf (gone e t cs) ++ messages (endpoint end e) ≡ messages (endpoint t e) ++ messagesTo e cs answers
   pub received : messagesFrom e cs answers ≡ takenOf (gone e t cs)

@@ -1,22 +1,22 @@
--- The table's words: where each stands, how it is read, and the two ways to write (document 01, 'The table').
--- A call reads a table by these names alone; only the check and the views also take words by their places.
+-- The table's words: the place of each, how it is read, and the two ways to write (document 01, 'The table'). A call reads a
+-- table by these names alone. Only the check and the views also read words by their places.
 use Prim.Native.Nat.{ℕ, _+_, _*_}
 use mathlib.Core.List.{List, _++_}
 use lib.ListN.{getD, take, drop, set}
 use Rattle.machine.specs.Word.{payload, word, fieldB, fieldC}
 
--- n, the number of domains, and m, the number of endpoints: both stand in word 0
+-- n, the count of domains, and m, the count of endpoints: both are in word 0
 unfoldable pub domains : List ℕ → ℕ
 domains t = fieldB (getD t 0 0)
 
 unfoldable pub endpoints : List ℕ → ℕ
 endpoints t = fieldC (getD t 0 0)
 
--- the length that n domains and m endpoints ask for
+-- the length that n domains and m endpoints require
 abbrev pub lengthFor : ℕ → ℕ → ℕ
 lengthFor n m = 1 + n * n + 12 * m
 
--- where the rights of a holder on a target stand, and where an endpoint's twelve words begin
+-- the place of the rights word of a holder on a target, and of the first of an endpoint's twelve words
 abbrev pub rightsAt : ℕ → ℕ → ℕ → ℕ
 rightsAt n holder target = 1 + holder * n + target
 

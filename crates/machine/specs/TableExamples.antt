@@ -1,7 +1,7 @@
 -- Rows that pin the check of a table, word by word and bit by bit: a table and its code, 0 or 2 to 5. Most alter one word of
--- an accepted table of four domains and three endpoints (specs/CodeExamples); then the order of the places and the lengths. The
--- smallest and the largest table are in crate bounds. Worked out by hand from document 01, 'The table' and 'Where each number is
--- checked'.
+-- an accepted table of four domains and three endpoints (specs/CodeExamples); then the order of the places and the lengths.
+-- The smallest and the largest table are in crate machine_limits. Worked out by hand from document 01, 'The table' and 'Where
+-- each number is checked'.
 use Prim.Native.Nat.{ℕ}
 use mathlib.Core.Path.{_≡_}
 use mathlib.Core.List.{List, [], _∷_, _++_}

@@ -1,5 +1,5 @@
--- By which calls a right comes and goes (the second line of the checklist): it is given by a grant, and goes by its holder's own
--- remove or by a revoke. A single right is one bit of a set: 2 ^ k, SEND at k 0, GRANT at 1, REMOVE at 2, REVOKE at 3.
+-- The calls by which a right is gained and lost (the second line of the checklist): a grant gives it, and its holder's own
+-- remove or a revoke clears it. A single right is one bit of a set: 2 ^ k, SEND at k 0, GRANT at 1, REMOVE at 2, REVOKE at 3.
 use Prim.Native.Nat.{ℕ, _<_}
 use mathlib.Core.Path.{_≡_}
 use mathlib.Core.Bool.{true}

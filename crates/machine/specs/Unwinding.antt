@@ -1,9 +1,9 @@
--- Noninterference by unwinding, for any machine whose calls have callers; nothing here knows a table. The theory and its
+-- Noninterference by unwinding, for any machine whose calls have callers. Nothing here depends on a table. The theory and its
 -- names are CapFlow's (SM: run, interferes, sources, ipurge, the unwinding conditions), with additions: a call's answer is
--- seen by its caller; the theorem speaks of every choice of struck calls and not of the ipurge alone; a caller need be no
+-- seen by its caller; the theorem is about every choice of purged calls and not about the ipurge alone; a caller need be no
 -- domain (`Domain`); and the states are those that are `ok`, a relation of the user's, in place of those that one first state
--- leads to. The conditions are about one call each; what follows from them is about lists of any length (proofs/Unwinding).
--- The machine of document 01 is one instance (proofs/Purge): its modules cite this one by `unwinding.` alone, so that
+-- leads to. The conditions are about one call each. What follows from them is about lists of any length (proofs/Unwinding).
+-- The machine of document 01 is one instance (proofs/Purge). Its modules cite this one by `unwinding.` alone, so that
 -- document 01's run, sources and noninterference are those without a prefix.
 use Prim.Native.Nat.{ℕ}
 use mathlib.Core.Path.{_≡_}
@@ -13,18 +13,18 @@ use mathlib.Core.Option.{Option, none, some}
 use lib.Dec.{eqb}
 use Rattle.machine.specs.DomainSet.{member, callerIn, calledBy, fromGroup}
 
--- A machine. Its domains are numbers, and a set of domains is the list of its members.
+-- A machine. Its domains are indices, and a set of domains is the list of its members.
 pub record StateMachine : Type 1 where
   pub State : Type 0
   pub Call : Type 0
-  -- the numbers that are domains
+  -- the indices that are domains
   pub Domain : ℕ → Type 0
   -- the state after a call, and the words of its answer
   pub step : State → Call → State
   pub out : State → Call → List ℕ
   -- who makes a call; a call may have no caller, and a caller need be no domain
   pub caller : Call → Option ℕ
-  -- u has a right on v in a state: this moves with the state
+  -- u has a right on v in a state: this changes with the state
   pub reaches : State → ℕ → ℕ → Bool
 
 module _ (M : StateMachine) where
@@ -69,12 +69,12 @@ module _ (M : StateMachine) where
   interferes s none v = false
   interferes s (some u) v = eqb u v || reaches s u v
 
-  -- A choice of struck calls: the second list keeps of the first, run from s, at least the calls whose caller is in the set
+  -- A choice of purged calls: the second list keeps of the first, run from s, at least the calls whose caller is in the set
   -- at that call.
   pub data Keeps (d : ℕ) : State → List Call → List Call → Type 0 where
     done : {s : State} → Keeps d s [] []
     keep : {s : State} (c : Call) {cs ks : List Call} → Keeps d (step s c) cs ks → Keeps d s (c ∷ cs) (c ∷ ks)
-    strike :
+    purged :
         {s : State} (c : Call) {cs ks : List Call}
         → callerIn (caller c) (sources s (c ∷ cs) d) ≡ false
         → Keeps d (step s c) cs ks
@@ -148,26 +148,26 @@ module _ (M : StateMachine) (ok : M .State → M .State → Type 0) (same : ℕ 
     pub state : same d (run M s cs) (run M t ks)
     pub answers : outputs M d s cs ≡ outputs M d t ks
 
-  -- The theorem, of a machine that meets the conditions: of states that look the same to every source of d, d sees the same,
-  -- whatever calls are struck whose callers are no sources.
+  -- The theorem, of a machine that meets the conditions: from states that look the same to every source of d, d sees the
+  -- same, whichever calls are purged whose callers are no sources.
   abbrev pub UnwindingTheorem : Type 0
   UnwindingTheorem =
       (d : ℕ) (s t : State) (cs ks : List Call) → SameForSources d s cs t → Keeps M d s cs ks → ObservEquivalent d s cs t ks
 
-  -- Its cases, under the same conditions: the ipurge, worked out on the second state;
+  -- Its cases, under the same conditions. First, the ipurge, computed on the second state.
   abbrev pub Noninfluence : Type 0
   Noninfluence = (d : ℕ) (s t : State) (cs : List Call) → SameForSources d s cs t → ObservEquivalent d s cs t (ipurge M t cs d)
 
-  -- the ipurge, on one state;
+  -- The ipurge, on one state.
   abbrev pub Noninterference : Type 0
   Noninterference =
       (d : ℕ) (s : State) (cs : List Call) → Domain d → ok s s → ObservEquivalent d s cs s (ipurge M s cs d)
 
-  -- nothing struck;
+  -- No call is purged.
   abbrev pub Nonleakage : Type 0
   Nonleakage = (d : ℕ) (s t : State) (cs : List Call) → SameForSources d s cs t → ObservEquivalent d s cs t cs
 
-  -- every call from outside a group struck, where d is a member and no caller from outside ever reaches a member;
+  -- Every call from outside a group is purged, where d is a member and no caller from outside ever reaches a member.
   abbrev pub GroupNoninfluence : Type 0
   GroupNoninfluence =
       (group : ℕ → Bool) (d : ℕ) (s t : State) (cs : List Call)
@@ -176,6 +176,6 @@ module _ (M : StateMachine) (ok : M .State → M .State → Type 0) (same : ℕ 
       → Closed M (λ v. group v ≡ true) s cs
       → ObservEquivalent d s cs t (groupCalls M group cs)
 
-  -- and the sources worked out on the second state are the same.
+  -- The sources computed on the second state are the same.
   abbrev pub SameSources : Type 0
   SameSources = (d : ℕ) (s t : State) (cs : List Call) → SameForSources d s cs t → sources M s cs d ≡ sources M t cs d

@@ -9,7 +9,7 @@ kind w = w / 268435456
 abbrev pub payload : ℕ → ℕ
 payload w = w % 268435456
 
--- the largest number that they hold
+-- the largest payload
 abbrev pub mostPayload : ℕ
 mostPayload = 268435455
 

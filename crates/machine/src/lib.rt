@@ -1,2 +1,2 @@
-// The machine of document 01 as definitions and theorems, and no function: what a reader must believe stands in specs/, what is
-// proved of it in proofs/.
+// The machine of document 01 as definitions and theorems, and no function. What a reader must believe is in specs/, and what
+// is proved of it is in proofs/.

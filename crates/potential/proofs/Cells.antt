@@ -1,5 +1,5 @@
--- The cells of a matrix by their places, and the closure's steps as the functions make them (specs/Closure of crate potential).
--- Assumes nothing.
+-- The cells of a matrix by their places, and the closure's steps as the functions make them (specs/Closure of crate
+-- potential_theory). Assumes nothing.
 use mathlib.Core.Path.{_≡_, sym, ap, _∙_}
 use mathlib.Core.Bool.{true, false}
 use mathlib.Core.List.{List}
@@ -14,7 +14,7 @@ use Rattle.machine.specs.Below.{hasBit}
 use Rattle.machine.specs.Right.{GRANT, holds, adds, hasAny}
 use Rattle.potential_theory.specs.Closure.{cellAt, cell, stepsBelow, grantedOn, grantedTo, grantedBy}
 
--- ---- where a cell stands
+-- ---- where a cell is
 
 -- in a matrix of k words
 pub at-below : (k n h g at : ℕ) → k ≡ n * n → h < n → g < n → at ≡ cellAt n h g → at < k

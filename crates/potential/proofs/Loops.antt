@@ -1,4 +1,4 @@
--- What the loops keep. Assumes nothing.
+-- The invariants of the loops. Assumes nothing.
 use mathlib.Core.Path.{_≡_, refl, sym, ap, _∙_}
 use mathlib.Core.List.{List, [], _∷_, _++_}
 use Prim.Native.Nat.{ℕ, _+_, _<_, _≤_}
@@ -43,7 +43,7 @@ pub summing-start : (ws : List ℕ) → Summing ws 0 0
 summing-start ws = record { left = omega arith }
 
 module _ (ws : List ℕ) (sum i : ℕ) (x : Summing ws sum i) where
-  -- the next word with the rest behind it
+  -- the next word with the rest after it
   next : i < length ws → sum + getD ws i 0 + total (drop (i + 1) ws) ≡ total ws
   unfolding total
   next l = rw add-one (omega (arith, x .left, ap total (drop-cons ws i 0 l)))

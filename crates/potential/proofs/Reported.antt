@@ -1,4 +1,4 @@
--- What is told in each case (specs/Told). Assumes nothing.
+-- What is reported in each case (specs/Reported). Assumes nothing.
 use mathlib.Core.Path.{_≡_, sym, ap, ap₂, subst, _∙_}
 use mathlib.Core.Bool.{true}
 use mathlib.Core.List.{List}
@@ -31,7 +31,7 @@ module _ (t : List ℕ) (s : ℕ) (space : List ℕ) where
       same : eqb (length space) (domains t * domains t) ≡ true
       same = eq-eqb _ _ (fits ∙ ap₂ _*_ e e)
 
-      -- a set with a bit from n on
+      -- a set with a bit at or above n
       pub told-not-domains : sets ≤ s → PotentialReported t s space 32 space
       unfolding reportedCode reportedRights
       told-not-domains l =

@@ -1,4 +1,5 @@
--- Rounds until one adds nothing: what the loop keeps, and that it ends (specs/Closure of crate potential: settled). Assumes nothing.
+-- Rounds until one adds nothing: the loop's invariant, and that it ends (specs/Closure of crate potential_theory: settled).
+-- Assumes nothing.
 use mathlib.Core.Path.{_≡_, refl, sym, ap, _∙_}
 use mathlib.Core.List.{List}
 use Prim.Native.Nat.{ℕ, zero, suc, _+_, _*_, _-_, _^_, _<_, _≤_}
@@ -32,7 +33,7 @@ sum-fits n m p few =
     let cells : n * n ≤ 16 * 16 = mul-le-mul few few in
     omega (arith, proper-most n m p)
 
--- ---- one round of so many
+-- ---- the first of suc k rounds
 
 settled-still : (k n s : ℕ) (m : List ℕ) → total (round n s m) ≤ total m → settled (suc k) n s m ≡ m
 unfolding settled
@@ -60,7 +61,7 @@ module _ (n s : ℕ) (m₀ m : List ℕ) (last : ℕ) (x : Settling n s m₀ m l
   grows = rw e (omega (arith, any-step n s .grows m (within n s m (x .proper))))
 
   module _ (next : ℕ) (counts : next ≡ total m′) where
-    -- that adds nothing: it leaves the matrix as it is to be
+    -- that adds nothing: it leaves the matrix as it must be
     pub settling-end : next ≡ last → m′ ≡ settled (enough n) n s m₀
     settling-end same =
         let less : total (round n s m) ≤ total m = omega (arith, ap total e, x .counted) in

@@ -1,5 +1,5 @@
--- What is told of the potential rights in any words as a table, where the domains of the set s act: a code, and the words that are
--- left in the space that was lent for them.
+-- What is reported of the potential rights in arbitrary words as a table, where the domains of the set s act: a code, and the
+-- words left in the space that was lent for them.
 use Prim.Native.Nat.{ℕ, _*_, _^_}
 use mathlib.Core.Path.{_≡_}
 use mathlib.Core.Bool.{cond}
@@ -11,9 +11,9 @@ use Rattle.machine.specs.Check.{tableCode}
 use Rattle.potential_theory.specs.Closure.{potential}
 use Rattle.table_check.specs.Checked.{refusalCode}
 use Rattle.potential.specs.declared.Potential.{Potential}
-use Rattle.potential.specs.declared.Potential.the-variants.{Told, BadTable, OtherSpace, NotDomains}
+use Rattle.potential.specs.declared.Potential.the-variants.{Computed, BadTable, OtherSpace, NotDomains}
 
--- the code: the table's 2 to 5, then 6 where other than n × n words are lent, then 32 where s has a bit from n on, else 0
+-- the code: the table's 2 to 5, then 6 where other than n × n words are lent, then 32 where s has a bit at or above n, else 0
 unfoldable pub reportedCode : List ℕ → ℕ → ℕ → ℕ
 reportedCode t s size =
     cond (eqb (tableCode t) 0)
@@ -24,14 +24,14 @@ reportedCode t s size =
 unfoldable pub reportedRights : List ℕ → ℕ → List ℕ → List ℕ
 reportedRights t s space = cond (eqb (reportedCode t s (length space)) 0) (potential t s) space
 
--- Of the words t and the set s, with the space lent, a code was told and words were left: these.
+-- The code and the words left are what is reported of the words t and the set s, with the space lent.
 pub record PotentialReported (t : List ℕ) (s : ℕ) (space : List ℕ) (code : ℕ) (left : List ℕ) : Type 0 where
   pub sameCode : code ≡ reportedCode t s (length space)
   pub sameRights : left ≡ reportedRights t s space
 
--- the number of an answer
+-- the code of an answer
 abbrev pub potentialCode : Potential → ℕ
-potentialCode Told = 0
+potentialCode Computed = 0
 potentialCode (BadTable r) = refusalCode r
 potentialCode OtherSpace = 6
 potentialCode NotDomains = 32

@@ -1,5 +1,5 @@
-// The closure of an access matrix under grants by the domains that act: rounds in which each gives all that it can, until one adds
-// nothing.
+// The closure of an access matrix under grants by the domains that act: rounds in which each gives all that it can, until one
+// adds nothing.
 use crate::matrix::cell_at;
 use crate::matrix::sum;
 use rights::Rights;
@@ -8,7 +8,7 @@ ghost use Prim.Native.Nat.{_*_, _<_, _≤_};
 ghost use lib.ListN.{length};
 ghost use Rattle.potential_theory.specs.Closure.{Proper, stepsBelow, grantedOn, grantedTo, round, settled, enough};
 
-// A domain gives a recipient its rights on a target, if GRANT is among them.
+// Gives the recipient the giver's rights on a target, if GRANT is among them.
 fn grant_on(rights: &mut [u32], n: u32, giver: u32, recipient: u32, target: u32)
     requires { ⌜ length (now rights) ≡ n * n ⌝ }
     requires { ⌜ giver < n ⌝ }
@@ -26,7 +26,7 @@ fn grant_on(rights: &mut [u32], n: u32, giver: u32, recipient: u32, target: u32)
     }
 }
 
-// It gives the recipient all that it can, on every target.
+// Gives the recipient all that the giver can give, on every target.
 fn grant_all(rights: &mut [u32], n: u32, giver: u32, recipient: u32)
     requires { ⌜ length (now rights) ≡ n * n ⌝ }
     requires { ⌜ giver < n ⌝ }
@@ -40,7 +40,7 @@ fn grant_all(rights: &mut [u32], n: u32, giver: u32, recipient: u32)
     }
 }
 
-// It gives all that it can to every domain that it has some right on.
+// Gives all that the giver can give to every domain that it has some right on.
 fn grant_each(rights: &mut [u32], n: u32, giver: u32)
     requires { ⌜ length (now rights) ≡ n * n ⌝ }
     requires { ⌜ giver < n ⌝ }
@@ -57,7 +57,7 @@ fn grant_each(rights: &mut [u32], n: u32, giver: u32)
     }
 }
 
-// One round: each domain that acts gives all that it can.
+// Makes one round: each domain that acts gives all that it can.
 fn grant_round(rights: &mut [u32], n: u32, actors: u32)
     requires { ⌜ length (now rights) ≡ n * n ⌝ }
     ensures { λ _. ⌜ now (rights .exit) ≡ round n actors (now (rights .entry)) ⌝ }
@@ -73,7 +73,7 @@ fn grant_round(rights: &mut [u32], n: u32, actors: u32)
     }
 }
 
-// Rounds until one adds nothing.
+// Makes rounds until one adds nothing. The sum of the sets rises with every right that is added, so an equal sum ends it.
 pub fn settle(rights: &mut [u32], n: u32, actors: u32)
     requires { ⌜ Proper n (now rights) ⌝ }
     requires { ⌜ n ≤ 16 ⌝ }

@@ -1,5 +1,5 @@
-// The rights that could ever come about in a table where only some domains act: n × n sets, holder by holder, in words that are
-// lent for them. Any words will do as a table, and any number as the set of those that act.
+// The potential rights, those that could ever come about in a table where only some domains act: n × n sets, holder by holder,
+// in words lent for them. Total: accepts arbitrary words as a table, and any word as the set of those that act.
 mod grants;
 mod matrix;
 
@@ -13,25 +13,25 @@ use table_layout::domains;
 ghost use mathlib.Core.Path.{_≡_};
 ghost use Rattle.potential.specs.Reported.{PotentialReported, potentialCode};
 
-// What is told of the potential rights.
+// The answer about the potential rights.
 pub enum Potential {
-    // they stand in the lent words
-    Told,
+    // 0: the lent words have them
+    Computed,
     // 2 to 5: the table is refused
     BadTable(TableRefusal),
     // 6: other than n × n words are lent
     OtherSpace,
-    // 32: the set has a bit from n on
+    // 32: the set has a bit at or above n
     NotDomains,
 }
 
 impl Potential {
-    // The number of the answer: 0 where the rights are told.
+    // Returns the code of the answer, 0 where the lent words have the rights.
     pub fn code(self) -> u32
         ensures { λ r. ⌜ r ≡ potentialCode self ⌝ }
     {
         match self {
-            Potential::Told => 0,
+            Potential::Computed => 0,
             Potential::BadTable(refusal) => refusal.code(),
             Potential::OtherSpace => 6,
             Potential::NotDomains => 32,
@@ -39,7 +39,7 @@ impl Potential {
     }
 }
 
-// The potential rights in a table, where the domains of a set act.
+// Writes the potential rights in a table, where the domains of a set act, into the lent words. A refusal alters no word.
 pub fn potential_of(table: &[u32], actors: u32, rights: &mut [u32]) -> Potential
     ensures { λ r. ⌜ PotentialReported (now (table .entry)) actors (now (rights .entry)) (potentialCode r) (now (rights .exit)) ⌝ }
 {
@@ -56,5 +56,5 @@ pub fn potential_of(table: &[u32], actors: u32, rights: &mut [u32]) -> Potential
     }
     fill(table, rights);
     settle(rights, n, actors);
-    Potential::Told
+    Potential::Computed
 }

@@ -7,14 +7,14 @@ ghost use lib.ListN.{length};
 ghost use Rattle.machine.specs.Table.{domains};
 ghost use Rattle.potential_theory.specs.Closure.{cellAt, matrixOf, total};
 
-// Where the rights of a holder on a target stand.
+// Returns the index of the rights of a holder on a target.
 pub fn cell_at(n: u32, holder: u32, target: u32) -> usize
     ensures { λ at. ⌜ at ≡ cellAt n holder target ⌝ }
 {
     holder as usize * n as usize + target as usize
 }
 
-// The number of the sets of n domains.
+// Returns the count of the sets of n domains.
 pub fn power(n: u32) -> u32
     requires { ⌜ n ≤ 16 ⌝ }
     ensures { λ r. ⌜ r ≡ 2 ^ n ⌝ }
@@ -22,7 +22,7 @@ pub fn power(n: u32) -> u32
     1 << n
 }
 
-// The matrix of a table.
+// Writes the matrix of a table into the lent words.
 pub fn fill(table: &[u32], rights: &mut [u32])
     requires { ⌜ length (now rights) ≡ domains (now table) * domains (now table) ⌝ }
     ensures { λ _. ⌜ now (rights .exit) ≡ matrixOf (now (table .entry)) ⌝ }
@@ -35,7 +35,7 @@ pub fn fill(table: &[u32], rights: &mut [u32])
     }
 }
 
-// The sum of all sets as numbers.
+// Returns the sum of all sets as numbers.
 pub fn sum(rights: &[u32]) -> u32
     requires { ⌜ total (now rights) < 2 ^ 32 ⌝ }
     ensures { λ r. ⌜ r ≡ total (now (rights .entry)) ⌝ }

@@ -1,5 +1,5 @@
--- The closure is made of steps (proofs/Steps), a round that adds nothing leaves a closed matrix, and as many rounds as are made are
--- enough. R is whatever is so of all rights at the start and of what is granted among them. Assumes nothing.
+-- The closure is made of steps (proofs/Steps), a round that adds nothing leaves a closed matrix, and as many rounds as are made
+-- are enough. R is any relation that holds of all rights at the start and of what is granted among them. Assumes nothing.
 use mathlib.Core.Path.{_≡_, sym, ap, _∙_}
 use mathlib.Core.Bool.{Bool, true, cond}
 use mathlib.Core.Logic.{⊎-elim}
@@ -76,7 +76,7 @@ module _ (n s : ℕ) (R : ℕ → ℕ → ℕ → Type 0) (closed : ClosedUnderG
       let on = under may all in
       sym (cell-set n m (w .proper .size) h g lh lg (adds (cell n m h g) (cell n m u g))) ∙ ap (λ x. cell n x h g) on
 
-  -- each round that adds something leaves less room, so that so many are enough
+  -- each round that adds something leaves less room, so this count of rounds is enough
   pub settled-closed : (k : ℕ) (m : List ℕ) → Within n R m → n * n * allRights < k + total m → Closed n s (settled k n s m)
   unfolding settled
   settled-closed zero m w l = absurd (omega (arith, proper-most n m (w .proper)))

@@ -1,5 +1,5 @@
--- A grant of all the rights that u has on g, as a call on a table: it is done, and adds them to h's (specs/Lists: grantWord). A list
--- of grants is cut word by word. Assumes nothing.
+-- A grant of all the rights that u has on g, as a call on a table: it is done, and adds them to h's (specs/Lists: grantWord). A
+-- list of grants is split word by word. Assumes nothing.
 use mathlib.Core.Path.{_≡_, refl, ap, _∙_}
 use mathlib.Core.Bool.{true, false}
 use mathlib.Core.List.{List, [], _∷_, map}
@@ -49,7 +49,7 @@ module _ (u h g r : ℕ) (lu : u < 64) (lh : h < 256) (lg : g < 64) (lr : r < 25
   unfolding grantWord
   word-rights = omega arith
 
--- ---- what such a word comes to
+-- ---- the outcome of such a word
 
 module _ (t : List ℕ) (u h g r w : ℕ) (is : kind w ≡ 6) (by : caller w ≡ u) where
   pub grant-caller : callerOf (one w) ≡ some u
@@ -142,7 +142,7 @@ abbrev pub AllGrants : List ℕ → Type 0
 AllGrants [] = Unit {0}
 AllGrants (w ∷ ws) = (kind w ≡ 6) × AllGrants ws
 
--- no grant makes a call with the word behind it
+-- no grant makes a call with the word after it
 alone : (w v : ℕ) → kind w ≡ 6 → pairs w v ≡ false
 unfolding pairs wantsSecond
 alone w v e = rw e

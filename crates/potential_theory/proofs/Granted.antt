@@ -1,6 +1,6 @@
--- One grant of the closure is a step (proofs/Steps): u, which acts, gives h its rights on g with GRANT among them, and has some right
--- on h. Whatever is so of all rights of a matrix, and of those that can be granted among them, stays so; and the call in the list
--- of the step does on a table what the step does on the matrix. Assumes nothing.
+-- One grant of the closure is a step (proofs/Steps): u, which acts, gives h its rights on g with GRANT among them, and has some
+-- right on h. What holds of all rights of a matrix, and of those that can be granted among them, still holds after it. The call
+-- in the list of the step does on a table what the step does on the matrix. Assumes nothing.
 use mathlib.Core.Path.{_≡_, refl, sym, ap, ap₂, subst, subst₂, _∙_}
 use mathlib.Core.Bool.{Bool, true, false, cond}
 use mathlib.Core.Logic.{⊎-elim}
@@ -70,7 +70,7 @@ module _ (n s : ℕ) (R : ℕ → ℕ → ℕ → Type 0) (closed : ClosedUnderG
         (λ e. rw e had)
         (cell-either n m (proper .size) h g lh lg (adds (cell n m h g) (cell n m u g)) h′ g′ lg′)
 
-    -- what h has on g then it had, or u had it
+    -- what h then has on g, h had before or u had
     given-only : (k : ℕ) → holds (cell n (granted n u h g m) h g) (2 ^ k) ≡ true → R h g k
     given-only k has =
         let only = p .0 .0 .0 .only in

@@ -1,5 +1,5 @@
--- The computed list gives every potential right, and a list may be so long (specs/Claims). So components bound what is potential:
--- the list ends within them like any other. Assumes nothing.
+-- The computed list gives every potential right, and is no longer than a list may be (specs/Claims). So components bound what is
+-- potential: the list ends within them like any other. Assumes nothing.
 use mathlib.Core.Path.{_≡_, refl, sym, subst, _∙_}
 use mathlib.Core.Bool.{false≢true}
 use mathlib.Core.Logic.{⊎-elim}

@@ -1,5 +1,5 @@
--- No list gives more than is potential (specs/Claims). A right that a call gives its caller had, with GRANT and a right on the
--- recipient: the laws of a single right say so (EachRight, GivenBy), and no kind of call is looked at here. Assumes nothing.
+-- No list gives more than is potential (specs/Claims). The caller of a call that gives a right had it, with GRANT and a right on
+-- the recipient: the laws of a single right say so (EachRight, GivenBy), and no kind of call is looked at here. Assumes nothing.
 use mathlib.Core.Path.{_≡_, refl, sym, subst, _∙_}
 use mathlib.Core.Bool.{true}
 use mathlib.Core.Logic.{⊎-elim}
@@ -28,7 +28,7 @@ use Rattle.potential_theory.specs.Claims.{EveryRunWithinPotential, Every
 use Rattle.potential_theory.proofs.Sets.{some-right}
 use Rattle.potential_theory.proofs.Exact.{every-potential-right}
 
--- A table that came of t: accepted, with as many domains, and all its rights are potential in t.
+-- A table that results from t: accepted, with as many domains, and all its rights are potential in t.
 record Came (t : List ℕ) (s : ℕ) (x : List ℕ) : Type 0 where
   pub accepted : Accepted x
   pub count : domains x ≡ domains t
@@ -65,7 +65,7 @@ module _ (t : List ℕ) (s : ℕ) (x : List ℕ) (w : Came t s x) (c : Call)
             (each-right x c (w .accepted) h g k lh′ lg′ .hadOrGiven now);
       }
 
--- ---- calls of any number
+-- ---- any calls, however many
 
 start-came : (t : List ℕ) (s : ℕ) → Accepted t → Came t s t
 start-came t s a = record { accepted = a; count = refl; only = λ h g k lh lg has. held lh lg has }

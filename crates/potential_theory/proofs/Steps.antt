@@ -1,6 +1,7 @@
--- A step of the closure, and what is so of it: it keeps what the next one needs, takes no right away, adds more than there are calls
--- in its list, adds nothing only where it leaves the matrix as it is, and the calls of its list do on a table what it does on the
--- matrix. Whatever is made of such steps, one after the other or under a test, is such a step again. Assumes nothing.
+-- A step of the closure, and what holds of it. It keeps what the next one needs, takes no right away, adds at least as much as
+-- there are calls in its list, and adds nothing only where it leaves the matrix as it is. The calls of its list do on a table
+-- what it does on the matrix. Whatever is made of such steps, one after the other or under a test, is such a step again.
+-- Assumes nothing.
 use mathlib.Core.Path.{_≡_, refl, subst, _∙_}
 use mathlib.Core.Bool.{Bool, true, false, cond}
 use mathlib.Core.Logic.{⊎-elim}
@@ -29,8 +30,8 @@ pub record Shows (n : ℕ) (m t : List ℕ) : Type 0 where
   pub count : domains t ≡ n
   pub same : (h g : ℕ) → h < n → g < n → rights t h g ≡ cell n m h g
 
--- the words ws, each a grant, were run from the table t as calls of domains of s, none was refused, and the table left has the rights
--- of the matrix m
+-- the words ws, each a grant, were run from the table t as calls of domains of s, none was refused, and the table left has the
+-- rights of the matrix m
 pub record Ran (n s : ℕ) (m t ws : List ℕ) : Type 0 where
   pub shows : Shows n m (run t (map one ws))
   pub done : AllDoneBy s t (map one ws)

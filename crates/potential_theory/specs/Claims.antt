@@ -34,7 +34,7 @@ EveryPotentialRight =
 
 -- ---- sound: no list gives more
 
--- Of calls among n domains: each that is of a known domain is of one of the set s. A stray and a caller from n on are of none.
+-- Of calls among n domains: each that is of a known domain is of one of the set s. A stray and a caller at or above n are of none.
 abbrev pub KnownCallersIn : ℕ → ℕ → List Call → Type 0
 KnownCallersIn n s [] = Unit {0}
 KnownCallersIn n s (c ∷ cs) = ((u : ℕ) → callerOf c ≡ some u → u < n → hasBit s u ≡ true) × KnownCallersIn n s cs
@@ -48,7 +48,7 @@ WithinPotential t s end =
     → holds (rights end h g) (2 ^ k) ≡ true
     → holds (potentialRights t s h g) (2 ^ k) ≡ true
 
--- Whatever calls are run, of any number, refused or not: if their known callers are in s, they give only what is potential.
+-- Whatever calls are run, however many, refused or not: if their known callers are in s, they give only what is potential.
 abbrev pub EveryRunWithinPotential : Type 0
 EveryRunWithinPotential =
     (t : List ℕ) (s : ℕ) (cs : List Call)
@@ -91,7 +91,7 @@ pub record DoneBy (s : ℕ) (t : List ℕ) (c : Call) : Type 0 where
   pub acts : hasBit s caller ≡ true
   pub done : code (decide t c) ≡ 0
 
--- Each of the calls cs is, on the table that the one before left.
+-- Each of the calls cs is such a call, on the table that the one before left.
 abbrev pub AllDoneBy : ℕ → List ℕ → List Call → Type 0
 AllDoneBy s t [] = Unit {0}
 AllDoneBy s t (c ∷ cs) = DoneBy s t c × AllDoneBy s (step t c) cs
@@ -100,17 +100,17 @@ AllDoneBy s t (c ∷ cs) = DoneBy s t c × AllDoneBy s (step t c) cs
 abbrev pub HasPotential : List ℕ → ℕ → List ℕ → Type 0
 HasPotential t s end = (h g : ℕ) → h < domains t → g < domains t → rights end h g ≡ potentialRights t s h g
 
--- The list ws gives every potential right of t, and a list may have so many words.
+-- The list ws gives every potential right of t, and is no longer than a list may be.
 pub record GivesAll (t : List ℕ) (s : ℕ) (ws : List ℕ) : Type 0 where
   pub few : length ws ≤ longestList
   pub calls : AllDoneBy s t (split ws)
   pub gives : HasPotential t s (machine.run t (split ws))
 
--- There is one list for all of them, and it is computed.
+-- There is one list that gives all of them, and it is computed.
 abbrev pub EveryPotentialListGivesAll : Type 0
 EveryPotentialListGivesAll = (t : List ℕ) (s : ℕ) → Accepted t → GivesAll t s (potentialList t s)
 
--- The kernel that runs it leaves them.
+-- A run of that list by the kernel leaves them.
 abbrev pub EveryPromisedRunGivesAll : Type 0
 EveryPromisedRunGivesAll = (t : List ℕ) (s : ℕ) (p : PromisedRun t (potentialList t s)) → HasPotential t s (p .end)
 

@@ -16,7 +16,7 @@ pub record Proper (n : ℕ) (m : List ℕ) : Type 0 where
   pub size : length m ≡ n * n
   pub within : (i : ℕ) → getD m i 0 ≤ allRights
 
--- where the rights of h on g stand in a matrix of n domains, and the set that stands there
+-- where the rights of h on g are in a matrix of n domains, and the set that is there
 abbrev pub cellAt : ℕ → ℕ → ℕ → ℕ
 cellAt n h g = h * n + g
 
@@ -61,7 +61,7 @@ settled (suc k) n s m =
     let rest = settled k n s next in
     cond (ltb (total m) (total next)) rest m
 
--- so many rounds are enough for n domains: the sum is at most allRights for each cell
+-- a count of rounds that is enough for n domains: the sum is at most allRights for each cell
 abbrev pub enough : ℕ → ℕ
 enough n = suc (n * n * allRights)
 

@@ -9,8 +9,8 @@ use Rattle.machine.specs.Run.{run}
 use Rattle.potential_theory.specs.Closure.{potential}
 use Rattle.potential_theory.specs.Lists.{potentialList}
 
--- A row: from a table and those that act to the matrix of potential rights; to the list that gives them; or, once a list was run
--- from the table, to the matrix.
+-- A row is one of three: from a table and those that act to the matrix of potential rights, or to the list that gives them, or,
+-- once a list was run from the table, to the matrix.
 pub data PotentialRow : Type 0 where
   could : (table : List ℕ) (actors : ℕ) (matrix : List ℕ) → PotentialRow
   lists : (table : List ℕ) (actors : ℕ) (words : List ℕ) → PotentialRow
@@ -114,7 +114,7 @@ potentialRows =
     ∷ 11 ∷ 0 ∷ 10
     ∷ 11 ∷ 1 ∷ 10 ∷ [])
     ∷ lists threeInOrder 0b111 (0x6082_010A ∷ 0x6042_000A ∷ 0x6000_020A ∷ 0x6080_010A ∷ 0x6040_000B ∷ 0x6040_020B ∷ [])
-    -- 0 can't help itself to a right on 2, 1 can give it; those that don't act don't
+    -- 0 can't give itself a right on 2, but 1 can give it one. Those that don't act give nothing
     ∷ could byAThird 0b101
     (0 ∷ 0 ∷ 0
     ∷ 1 ∷ 0 ∷ 3
@@ -127,11 +127,11 @@ potentialRows =
     ∷ lists byAThird 0b010 (0x6042_0003 ∷ 0x6042_0203 ∷ [])
     -- nothing is given without GRANT, whatever else is held
     ∷ could withoutGrant 0b11 (13 ∷ 13 ∷ 13 ∷ 13 ∷ [])
-    -- REVOKE is handed on like any right, and is enough to reach the recipient
+    -- REVOKE is passed on like any right, and is enough to reach the recipient
     ∷ could revokeOn 0b111
     (0 ∷ 8 ∷ 10
     ∷ 0 ∷ 0 ∷ 10
     ∷ 0 ∷ 0 ∷ 10 ∷ [])
-    -- 0 gives up SEND and REMOVE on 2: SEND could come back from 1, with GRANT; REMOVE, which nobody else has, could not
+    -- 0 gives up SEND and REMOVE on 2. SEND could come back from 1, with GRANT. REMOVE, which nobody else has, could not
     ∷ after removable (0x7002_0005 ∷ []) 0b111 (0 ∷ 0 ∷ 3 ∷ 1 ∷ 0 ∷ 3 ∷ 0 ∷ 0 ∷ 3 ∷ [])
     ∷ []

@@ -1,4 +1,4 @@
--- What could ever come about, how it is computed, and what is claimed of it.
+-- The potential rights, how they are computed, what is claimed of them, and rows that pin them.
 pub mod Potential
 pub mod Closure
 pub mod Lists

@@ -19,26 +19,26 @@ unfoldable pub callsBelow : ℕ → (ℕ → List ℕ → List ℕ) → (ℕ →
 callsBelow zero f calls m = []
 callsBelow (suc k) f calls m = callsBelow k f calls m ++ calls k (stepsBelow k f m)
 
--- of grantedOn: one call, if h lacks some of the rights
+-- the calls of grantedOn: one, if h lacks some of the rights
 unfoldable pub callsOn : ℕ → ℕ → ℕ → ℕ → List ℕ → List ℕ
 callsOn n u h g m =
     cond (holds (cell n m u g) GRANT)
     (cond (holds (cell n m h g) (cell n m u g)) [] (grantWord u h g (cell n m u g) ∷ []))
     []
 
--- of grantedTo
+-- the calls of grantedTo
 unfoldable pub callsTo : ℕ → ℕ → ℕ → List ℕ → List ℕ
 callsTo n u h m = cond (hasAny (cell n m u h)) (callsBelow n (grantedOn n u h) (callsOn n u h) m) []
 
--- of grantedBy
+-- the calls of grantedBy
 unfoldable pub callsBy : ℕ → ℕ → ℕ → List ℕ → List ℕ
 callsBy n s u m = cond (hasBit s u) (callsBelow n (grantedTo n u) (callsTo n u) m) []
 
--- of a round
+-- the calls of a round
 unfoldable pub roundCalls : ℕ → ℕ → List ℕ → List ℕ
 roundCalls n s m = callsBelow n (grantedBy n s) (callsBy n s) m
 
--- of all rounds
+-- the calls of all rounds
 unfoldable pub settledCalls : ℕ → ℕ → ℕ → List ℕ → List ℕ
 settledCalls zero n s m = []
 settledCalls (suc k) n s m =
@@ -46,6 +46,6 @@ settledCalls (suc k) n s m =
     let rest = roundCalls n s m ++ settledCalls k n s next in
     cond (ltb (total m) (total next)) rest []
 
--- the list
+-- the list that gives every potential right
 unfoldable pub potentialList : List ℕ → ℕ → List ℕ
 potentialList t s = settledCalls (enough (domains t)) (domains t) s (matrixOf t)

@@ -1,4 +1,4 @@
--- The tests of a send and of a receive, put together and taken apart, and a send to a full queue in its parts.
+-- The tests of a send and of a receive, built from their parts and split into them, and a send to a full queue in its parts.
 -- Assumes nothing.
 use Prim.Native.Nat.{ℕ, _+_, _≤_, _<_, min}
 use native.Mathlib.Omega.{arith}
@@ -64,7 +64,7 @@ module _ (q : List ℕ) (m : ℕ) (passed : sendable q m ≡ true) where
   unfolding leftBySend sent hasSpace
   sent-to-full full = rw (passed, le-ltb _ _ full)
 
--- ---- a send to a full queue: once the oldest message is out there is room for the newcomer,
+-- ---- a send to a full queue: once the oldest message is out there is space for the new one,
 pub room-made : (q : List ℕ) (m : ℕ) → MayPushOut q m → QueueRoom (received q) m
 room-made q m may =
     let some : waiting q ≢ 0 = omega (arith, may .oldest .some) in

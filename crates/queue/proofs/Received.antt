@@ -9,7 +9,7 @@ use lib.Seq.{getD-drop, drop-cons, set-at, paste, paste-suc, drop-paste, length-
 use Rattle.machine.specs.Word.{word}
 use Rattle.machine.specs.Queue.{waiting, emptySlot, movedUp, received}
 
--- the first j of the waiting messages behind the oldest have moved up
+-- the first j of the waiting messages after the oldest have moved up
 abbrev pub moved : List ℕ → ℕ → List ℕ
 moved q j = paste q 4 (drop 5 q) j
 
@@ -27,7 +27,7 @@ module _ (q : List ℕ) (j : ℕ) (within : 5 + j < length q) where
       ∙ ap (λ (i : ℕ). getD q i 0) (sym next)
       ∙ sym (getD-drop 5 q j 0)
 
-  -- a turn of the loop
+  -- an iteration of the loop
   pub moved-more : set (moved q j) (4 + j) (getD (moved q j) (5 + j) 0) ≡ moved q (j + 1)
   moved-more =
       ap (λ (w : ℕ). set (moved q j) (4 + j) w) moved-read

@@ -1,4 +1,4 @@
--- Rows that pin which words a send is done with, at both sides of each test. Worked out by hand.
+-- Rows that pin down which words a send is done with, on both sides of each test. Worked out by hand.
 use Prim.Native.Nat.{ℕ}
 use mathlib.Core.Path.{_≡_}
 use mathlib.Core.Bool.{Bool, true, false}

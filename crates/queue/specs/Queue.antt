@@ -1,4 +1,5 @@
--- A send and a receive, of any words at all: which words they are done with, and what they leave of them.
+-- A send and a receive, of arbitrary words: which words they are done with, and what they leave of them
+-- (document 01, 'The calls'; document 02, (a) and (d)).
 use Prim.Native.Nat.{ℕ, _<_, _≤_}
 use mathlib.Core.Path.{_≡_}
 use mathlib.Core.Bool.{Bool, cond, _&&_}
@@ -25,19 +26,19 @@ receivable q = eqb (length q) 12 && leb 1 (waiting q) && leb (waiting q) 8
 unfoldable pub leftByReceive : List ℕ → List ℕ
 leftByReceive q = cond (receivable q) (received q) q
 
--- what `send_with_space` asks: a slot is left for the message
+-- the precondition of `send_with_space`: a slot is left for the message
 pub record QueueRoom (q : List ℕ) (message : ℕ) : Type 0 where
   pub twelve : length q ≡ 12
   pub room : waiting q < 8
   pub small : message ≤ mostPayload
 
--- what `take_oldest` asks: one waits, and all that wait stand in slots
+-- the precondition of `take_oldest`: one waits, and all that wait are in slots
 pub record MayReceive (q : List ℕ) : Type 0 where
   pub twelve : length q ≡ 12
   pub some : 1 ≤ waiting q
   pub slots : waiting q ≤ 8
 
--- what `send_to_full` asks: an oldest message that can go out, and a newcomer of 28 bits
+-- the precondition of `send_to_full`: an oldest message that can be pushed out, and a new one of 28 bits
 pub record MayPushOut (q : List ℕ) (message : ℕ) : Type 0 where
   pub oldest : MayReceive q
   pub small : message ≤ mostPayload

@@ -1,6 +1,7 @@
-// An endpoint's twelve words, lent as a part of the table: what a send and a receive make of them. Nothing here sees the
-// rest of the table. Each tests the words first: other words stay as they are, and the answer is false.
-// A word of kind k that holds p is k × KIND + p.
+// An endpoint's twelve words, lent as a part of the table: what a send and a receive leave of them (document 01, 'The calls';
+// document 02, (a) and (d)). Nothing here sees the rest of the table. Both test the words first: other words stay as they are, and
+// the answer is false.
+// A word of kind k that holds p is k × KIND_UNIT + p.
 use format::KIND_UNIT;
 use format::tables::EMPTY_SLOT;
 use format::tables::ENDPOINT_WORDS;
@@ -13,8 +14,8 @@ ghost use Prim.Native.Nat.{_+_, min};
 ghost use Rattle.machine.specs.Queue.{mostLost, sendWithSpace, sendToFull, received};
 ghost use Rattle.queue.specs.Queue.{sendable, leftBySend, receivable, leftByReceive, QueueRoom, MayPushOut, MayReceive};
 
-// Twelve words with a capacity of 1 to 8 and at most 8 messages waiting, and a message of 28 bits. So a full queue has a
-// message to push out, and its messages stand in slots.
+// Returns whether a send can be done: twelve words with a capacity of 1 to 8 and at most 8 messages waiting, and a message of 28
+// bits. So a full queue has a message to push out, and its messages are in slots.
 fn sendable(q: &[u32], message: u32) -> bool
     ensures { λ b. ⌜ b ≡ sendable (now (q .entry)) message ⌝ }
 {
@@ -26,7 +27,7 @@ fn sendable(q: &[u32], message: u32) -> bool
     (1 <= most) & (most <= SLOTS) & (count <= SLOTS) & (message <= MOST_LOST)
 }
 
-// The message fills the slot at the waiting count, and waiting rises by 1.
+// Stores the message in the slot at the waiting count, and raises waiting by 1.
 fn send_with_space(q: &mut [u32], message: u32)
     requires { ⌜ QueueRoom (now q) message ⌝ }
     ensures { λ _. ⌜ now (q .exit) ≡ sendWithSpace (now (q .entry)) message ⌝ }
@@ -37,7 +38,7 @@ fn send_with_space(q: &mut [u32], message: u32)
     q[2] = NONE_WAITING + (count + 1);
 }
 
-// What a lost count rises to: one more, staying at its largest.
+// Returns the lost count after one more loss: it rises by 1, or stays at its largest.
 pub fn lost_after(count: u32) -> u32
     ensures { λ r. ⌜ r ≡ min (count + 1) mostLost ⌝ }
 {
@@ -47,7 +48,7 @@ pub fn lost_after(count: u32) -> u32
     MOST_LOST
 }
 
-// The oldest message is pushed out, the newcomer goes last, and lost rises by 1.
+// Pushes out the oldest message, puts the new one last, and raises lost by 1, or leaves it at its largest.
 fn send_to_full(q: &mut [u32], message: u32)
     requires { ⌜ MayPushOut (now q) message ⌝ }
     ensures { λ _. ⌜ now (q .exit) ≡ sendToFull (now (q .entry)) message ⌝ }
@@ -59,7 +60,8 @@ fn send_to_full(q: &mut [u32], message: u32)
     q[3] = NONE_LOST + lost;
 }
 
-// A send: the waiting count and the capacity say whether there is space. The answer is the same either way.
+// Sends a message where `sendable` allows it, and returns whether it does. The waiting count and the capacity say whether there is
+// space. The answer is the same either way.
 pub fn send(q: &mut [u32], message: u32) -> bool
     ensures { λ done. ⌜ done ≡ sendable (now (q .entry)) message ⌝ }
     ensures { λ _. ⌜ now (q .exit) ≡ leftBySend (now (q .entry)) message ⌝ }
@@ -77,7 +79,8 @@ pub fn send(q: &mut [u32], message: u32) -> bool
     true
 }
 
-// Twelve words with 1 to 8 messages waiting, whatever the slots from the waiting count on hold.
+// Returns whether a receive can be done: twelve words with 1 to 8 messages waiting, whatever the slots from the waiting count on
+// hold.
 fn receivable(q: &[u32]) -> bool
     ensures { λ b. ⌜ b ≡ receivable (now (q .entry)) ⌝ }
 {
@@ -88,7 +91,7 @@ fn receivable(q: &[u32]) -> bool
     (1 <= count) & (count <= SLOTS)
 }
 
-// The oldest message goes out: the others move up, the slot that comes free is cleared, and waiting falls by 1. Slots from
+// Takes out the oldest message: the others move up, the slot that comes free is cleared, and waiting falls by 1. Slots from
 // the waiting count on aren't touched, whatever they hold.
 fn take_oldest(q: &mut [u32])
     requires { ⌜ MayReceive (now q) ⌝ }
@@ -105,7 +108,7 @@ fn take_oldest(q: &mut [u32])
     q[2] = NONE_WAITING + left;
 }
 
-// A receive: done where a message waits.
+// Takes out the oldest message where `receivable` allows it, and returns whether it does.
 pub fn receive(q: &mut [u32]) -> bool
     ensures { λ done. ⌜ done ≡ receivable (now (q .entry)) ⌝ }
     ensures { λ _. ⌜ now (q .exit) ≡ leftByReceive (now (q .entry)) ⌝ }

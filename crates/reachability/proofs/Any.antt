@@ -1,4 +1,4 @@
--- A test of some number below k, by which the proof of the closure tells whether a round adds anybody. Assumes nothing.
+-- A test of some number below k, by which the proof of the closure decides whether a round adds anybody. Assumes nothing.
 use mathlib.Core.Path.{_≡_, ap, _∙_}
 use mathlib.Core.Bool.{Bool, true, false, _||_, false≢true}
 use mathlib.Core.Logic.{⊎-elim}

@@ -33,7 +33,7 @@ pub bit-half : (w u : ℕ) → hasBit (w / 2) u ≡ hasBit w (suc u)
 unfolding hasBit
 bit-half w u = ap (λ x. eqb (x % 2) 1) (shr-shr w 1 u ∙ ap (λ k. w / 2 ^ k) (omega arith))
 
--- the set of one as `bit` makes it, of a number below 32
+-- the set of one as `bit` makes it, for an index below 32
 pub bit-is : {r i : ℕ} → i < 32 → r ≡ 2 ^ (i % 32) → r ≡ 2 ^ i
 bit-is l e = e ∙ ap (λ k. 2 ^ k) (mod-eq-of-lt l)
 

@@ -1,6 +1,6 @@
--- The closure holds exactly those that have a chain (specs/Chain). A round adds only those with a step to a member; and since
--- each round that adds nobody below the number of words is followed by none that adds anybody, as many rounds as there are
--- words close the set. Assumes nothing.
+-- The closure holds exactly those that have a chain (specs/Chain). A round adds only those with a step to a member. A round that
+-- adds nobody below the count of words is followed by none that adds anybody, so as many rounds as there are words close the
+-- set. Assumes nothing.
 use mathlib.Core.Path.{_≡_, refl, sym, ap, subst, _∙_}
 use mathlib.Core.Bool.{Bool, true, false, cond, not, _&&_, and-true, and-false, false≢true}
 use mathlib.Core.Logic.{_⊎_, _⊎_.inl, _⊎_.inr, ⊎-elim}
@@ -119,7 +119,7 @@ module _ (ws : List ℕ) where
   Closed : ℕ → Type 0
   Closed s = (u v : ℕ) → hasBit s v ≡ true → linked ws u v ≡ true → hasBit s u ≡ true
 
-  -- a step leads to a number below the number of words
+  -- a step leads to a number below the count of words
   linked-below : (u v : ℕ) → linked ws u v ≡ true → v < length ws
   unfolding linked
   linked-below u v l = go (decLt v (length ws))
@@ -129,7 +129,7 @@ module _ (ws : List ℕ) where
       go (no n) =
           absurd (false≢true (sym (ap (λ w. hasBit w u) (List·getD-eq-default ws 0 (omega arith)) ∙ bit-none u) ∙ l))
 
-  -- a round that adds nobody below the number of words closes the set, and a closed set stays so
+  -- a round that adds nobody below the count of words closes the set, and a closed set stays so
   settled :
       (s : ℕ)
       → ((v : ℕ) → v < length ws → hasBit (widened ws s) v ≡ true → hasBit s v ≡ true)
@@ -144,7 +144,7 @@ module _ (ws : List ℕ) where
       closed-stays k (widened ws s)
       (settled s (λ v _ h. ⊎-elim (λ m. m) (λ x. c v (x .0) (x .1) (x .2)) (only s v h)))
 
-  -- how many numbers below the number of words are not in a set
+  -- how many numbers below the count of words are not in a set
   absent : ℕ → ℕ → ℕ
   absent s v = cond (hasBit s v) 0 1
 
@@ -177,7 +177,7 @@ module _ (ws : List ℕ) where
   unfolding absent
   is-member s v h = rw h
 
-  -- somebody below the number of words is new in the next round
+  -- somebody below the count of words is new in the next round
   fresh : ℕ → ℕ → Bool
   fresh s v = hasBit (widened ws s) v && not (hasBit s v)
 
@@ -205,7 +205,7 @@ module _ (ws : List ℕ) where
       (λ none. closed-stays k (widened ws s) (settled s (λ v b h. not-fresh s v h (none-at (length ws) (fresh s) none v b))))
       (either (anyBelow (length ws) (fresh s)))
 
-  -- with a member below the number of words fewer are missing than there are words
+  -- with a member below the count of words fewer are missing than there are words
   few : (s v : ℕ) → v < length ws → hasBit s v ≡ true → missing s < length ws
   unfolding missing
   few s v b m =

@@ -1,4 +1,4 @@
--- What the two loops keep: what remains to be done makes the whole. Assumes nothing.
+-- The invariants of the two loops: what is left to do completes the result. Assumes nothing.
 use mathlib.Core.Path.{_≡_, refl, sym, ap, _∙_}
 use mathlib.Core.Bool.{cond}
 use mathlib.Core.List.{List}
@@ -12,7 +12,7 @@ use lib.ListN.{length, getD, drop, drop-of-length-le}
 use lib.Seq.{drop-cons}
 use Rattle.reachability.specs.Closure.{withWords, widened, rounds, closed}
 
--- ---- one round: v words have been looked at, and members is what is left of the set
+-- ---- one round: v words have been passed, and members is what is left of the set
 pub record Widening (ws : List ℕ) (s wide members v : ℕ) : Type 0 where
   pub left : withWords (drop v ws) members wide ≡ widened ws s
 
@@ -38,7 +38,7 @@ module _ (ws : List ℕ) (s wide members v : ℕ) (w : Widening ws s wide member
   unfolding withWords
   widening-end l = sym (ap (λ us. withWords us members wide) (drop-of-length-le ws l)) ∙ w .left
 
--- ---- all rounds: so many have been made
+-- ---- all rounds: this many have been made
 pub record Closing (ws : List ℕ) (s reached round : ℕ) : Type 0 where
   pub left : rounds (length ws - round) ws reached ≡ closed ws s
 

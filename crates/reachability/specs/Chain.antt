@@ -9,7 +9,7 @@ use lib.ListN.{getD}
 use Rattle.machine.specs.Below.{hasBit, wordsBelow, bitsBelow}
 use Rattle.reachability.specs.Closure.{closed}
 
--- A chain of steps of the relation r to d, of any length: d itself has one, and so has whoever has a step to one that has.
+-- A chain of steps of the relation r to d, of any length: d itself has one, and so has each that has a step to one that has one.
 pub data Chain (r : ℕ → ℕ → Bool) (d : ℕ) : ℕ → Type 0 where
   end : Chain r d d
   link : {u v : ℕ} → r u v ≡ true → Chain r d v → Chain r d u
@@ -32,7 +32,7 @@ linkWords n r = wordsBelow n (λ v. bitsBelow n (λ u. r u v))
 unfoldable pub among : ℕ → (ℕ → ℕ → Bool) → ℕ → ℕ → Bool
 among n r u v = ltb u n && ltb v n && r u v
 
--- Of any relation below n: the closure of d alone holds exactly those that have a chain to d.
+-- For any relation below n, the closure of d alone holds exactly those that have a chain to d.
 abbrev pub RelationClosedExactly : Type 0
 RelationClosedExactly =
     (n : ℕ) (r : ℕ → ℕ → Bool) (d u : ℕ) → (hasBit (closed (linkWords n r) (2 ^ d)) u ≡ true) ↔ Chain (among n r) d u

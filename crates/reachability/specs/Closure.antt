@@ -1,5 +1,5 @@
--- The closure of a set over words, as it is computed. A set is a number with a bit for each member; bit u of word v says that u
--- has a step to v. Nothing here knows a table, and any words and any set will do.
+-- The closure of a set over words, as it is computed. A set is a number with a bit for each member, and bit u of word v says
+-- that u has a step to v. Nothing here depends on a table. Total: accepts arbitrary words and sets.
 use Prim.Native.Nat.{ℕ, zero, suc, _/_, _%_}
 use mathlib.Core.Bool.{cond}
 use mathlib.Core.List.{List, [], _∷_}

@@ -18,8 +18,8 @@ EveryClosureRow [] = Unit {0}
 EveryClosureRow (r ∷ rs) = ClosureRowHolds r × EveryClosureRow rs
 
 -- steps from 0 to 1, from 1 to 2 and from 2 to 3
-abbrev pub road : List ℕ
-road = 0b0000 ∷ 0b0001 ∷ 0b0010 ∷ 0b0100 ∷ []
+abbrev pub chain : List ℕ
+chain = 0b0000 ∷ 0b0001 ∷ 0b0010 ∷ 0b0100 ∷ []
 
 -- sixteen in a ring: each has a step to the next, and the last to the first
 abbrev pub ring : List ℕ
@@ -46,16 +46,16 @@ ring =
 abbrev pub closureRows : List ClosureRow
 closureRows =
     -- steps count towards the set and not away from it
-    closes road 0b1000 0b1111
-    ∷ closes road 0b0100 0b0111
-    ∷ closes road 0b0001 0b0001
+    closes chain 0b1000 0b1111
+    ∷ closes chain 0b0100 0b0111
+    ∷ closes chain 0b0001 0b0001
     -- of several members, and of none
     ∷ closes (0b0010 ∷ 0b0000 ∷ 0b1000 ∷ 0b0000 ∷ []) 0b0101 0b1111
-    ∷ closes road 0b0000 0b0000
+    ∷ closes chain 0b0000 0b0000
     -- a ring is closed from each of its members
     ∷ closes ring 0x0001 0xFFFF
     ∷ closes ring 0x0100 0xFFFF
-    -- bits from the number of words on are joined and stay, but have no word that leads on
+    -- bits at or above the count of words are joined and stay, but have no word of their own
     ∷ closes (0b100 ∷ []) 0b001 0b101
     ∷ closes (0b100 ∷ []) 0b010 0b010
     ∷ closes [] 0b011 0b011

@@ -1,17 +1,17 @@
-// The closure of a set of domains over lent words: bit u of word v says that u has a step to v. A set is a word too, with a bit
-// for each member. Any words and any set will do.
+// The closure of a set of domains over lent words, for document 02 (h) and (j): bit u of word v says that u has a step to v. A set
+// is a word too, with a bit for each member. Total: accepts arbitrary words and sets.
 ghost use mathlib.Core.Path.{_≡_};
 ghost use Prim.Native.Nat.{_%_, _^_};
 ghost use Rattle.reachability.specs.Closure.{widened, closed};
 
-// Returns the set of one: bit i of a word, i taken modulo 32.
+// Returns the set of one domain: bit i of a word, i taken modulo 32.
 pub fn bit(i: u32) -> u32
     ensures { λ r. ⌜ r ≡ 2 ^ (i % 32) ⌝ }
 {
     1 << (i % 32)
 }
 
-// One round: the set with all that have a step to a member.
+// Returns the set with all that have a step to a member: one round.
 fn widen(words: &[u32], set: u32) -> u32
     ensures { λ r. ⌜ r ≡ widened (now (words .entry)) set ⌝ }
 {
@@ -28,7 +28,7 @@ fn widen(words: &[u32], set: u32) -> u32
     wide
 }
 
-// The set with all that have a chain of steps to a member, of any length. It stops at the first round that adds nobody.
+// Returns the set with all that have a chain of steps to a member, of any length. Stops at the first round that adds nobody.
 pub fn closure(words: &[u32], set: u32) -> u32
     ensures { λ r. ⌜ r ≡ closed (now (words .entry)) set ⌝ }
 {

@@ -1,4 +1,4 @@
--- The two passes over a table's words, turn by turn, and that both together mend it (specs/Passes). Assumes nothing.
+-- The two passes over a table's words, iteration by iteration, and that both together mend it (specs/Passes). Assumes nothing.
 use Prim.Native.Nat.{ℕ, _+_, _*_, _-_, _<_, _≤_}
 use mathlib.Core.Path.{_≡_, refl, sym, ap, ap₂, subst, _∙_}
 use mathlib.Core.Bool.{Bool, true, false, cond, not}
@@ -62,7 +62,7 @@ slots-next {p} {q} {j} s l =
           ∙ ap (paste p 4 (replicate 8 emptySlot)) (sym (add-one j));
     }
 
--- once all are, behind the waiting and the lost word, the queue is emptied
+-- once all are, after the waiting and the lost word, the queue is emptied
 pub slots-end : (q : List ℕ) {q′ : List ℕ} {j : ℕ} → SlotsCleared (set (set q 2 (word 5 0)) 3 (word 6 0)) q′ j → 8 ≤ j → length q ≡ 12 → queueOk q ≡ false → q′ ≡ mendedEndpoint q
 slots-end q s l twelve broken =
     let p = set q 2 (word 5 0) in
@@ -134,7 +134,7 @@ module _ {t t′ : List ℕ} {e : ℕ} (m : EndpointsMended t t′ e) (sized : S
 
 -- ---- both passes
 
--- the rights words are passed: where words stand is as right as before
+-- after the pass over the rights words, word 0 and the length are as right as before
 pub still-headed : (t t′ : List ℕ) (i : ℕ) → Headed t → RightsMended t t′ i → Headed t′
 unfolding headerOk lengthOk
 still-headed t t′ i h m =
@@ -161,7 +161,7 @@ both-passes t t₁ t₂ h r e =
 
 -- ---- which tables are mended
 
--- refused by 4 or 5: where words stand is right
+-- refused by 4 or 5: word 0 and the length are right
 pub from-four : (t : List ℕ) → 4 ≤ tableCode t → Headed t
 unfolding tableCode
 from-four t = go (headerOk t) refl (lengthOk t) refl
@@ -171,7 +171,7 @@ from-four t = go (headerOk t) refl (lengthOk t) refl
     go true header false size l = absurd (omega arith)
     go false header b size l = absurd (omega arith)
 
--- accepted, where it is refused by less than 4 and where words stand is right
+-- accepted, where word 0 and the length are right and the code is below 4
 accepted-below : (t : List ℕ) → Headed t → tableCode t < 4 → Accepted t
 unfolding tableCode
 accepted-below t h l = rw (h .header, h .size) (go (rightsOk t) (endpointsOk t) (rw (h .header, h .size) at l))

@@ -1,5 +1,5 @@
--- What a repair comes to, by what the code finds: each of its answers is the one that is due (repaired: specs/Repair), and small.
--- Assumes nothing.
+-- The outcome of a repair, by what the code finds: each of its answers is the required one (repair_theory: specs/Repair), and
+-- its code is small. Assumes nothing.
 use Prim.Native.Nat.{ℕ, _+_, _*_, _<_, _≤_}
 use mathlib.Core.Path.{_≡_, ap, _∙_}
 use mathlib.Core.Bool.{true, false}

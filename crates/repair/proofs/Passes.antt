@@ -1,4 +1,4 @@
--- The passes over a table and its mended copy: what each keeps, turn by turn. Assumes nothing.
+-- The passes over a table and its mended copy: the invariant of each, iteration by iteration. Assumes nothing.
 use Prim.Native.Nat.{ℕ, zero, suc, _+_, _*_, _-_, _<_, _≤_}
 use mathlib.Core.Path.{_≡_, refl, sym, ap, ap₂, subst, _∙_}
 use mathlib.Core.Bool.{Bool}
@@ -13,7 +13,7 @@ use Rattle.machine.specs.Below.{numbersBelow}
 use Rattle.repair_theory.specs.Changes.{differing, changePairs, changes}
 use Rattle.repair_theory.proofs.Changes.{differsAt, lists-numbers, pairs-length, pairs-append}
 
--- ---- a word more is looked at
+-- ---- one word more is passed
 
 module _ (old new : List ℕ) (i : ℕ) where
   one-more : (getD old i 0 ≡ getD new i 0 → ⊥) → numbersBelow (i + 1) (differsAt old new) ≡ numbersBelow i (differsAt old new) ++ (i ∷ [])
@@ -24,7 +24,7 @@ module _ (old new : List ℕ) (i : ℕ) where
   unfolding numbersBelow
   no-more same = rw (add-one i, eq-eqb _ _ same) (append-nil _)
 
--- ---- the first pass: so many of the first i words differ
+-- ---- the first pass: this count of the first i words differs
 pub record Counted (old new : List ℕ) (count i : ℕ) : Type 0 where
   pub within : i ≤ length old
   pub few : count ≤ i
@@ -99,7 +99,7 @@ module _ {d s copy : List ℕ} {i : ℕ} (c : Copied d s copy i) (same : length 
       ∙ ap₂ (λ (x y : List ℕ). x ++ y) (take-length s) (drop-length d)
       ∙ append-nil s
 
--- ---- the second pass: the first i words are the new ones, and the changePairs of those that differ stand in front of the list
+-- ---- the second pass: the first i words are the new ones, and the pairs of those that differ are at the front of the list
 pub record Replacing (t new list₀ table list : List ℕ) (at i : ℕ) : Type 0 where
   pub copied : Copied t new table i
   pub size : length list ≡ length list₀
@@ -110,7 +110,7 @@ pub replacing-start : (t new list : List ℕ) → Replacing t new list t list 0 
 unfolding numbersBelow changePairs
 replacing-start t new list = record { copied = copied-start t new; size = refl; place = refl; told = refl }
 
--- the changePairs so far are no more than the words
+-- there are no more pairs so far than words
 pub replacing-few : {t new list₀ table list : List ℕ} {at i : ℕ} → Replacing t new list₀ table list at i → at ≤ 2 * i
 replacing-few {t} {new} {i = i} r = omega (arith, r .place, lists-numbers i (differsAt t new) .few)
 

@@ -1,4 +1,4 @@
--- The answers of the code as document 02's numbers.
+-- The answers of the code as the codes of document 02 (k).
 use Prim.Native.Nat.{ℕ}
 use Rattle.repair.specs.declared.Repaired.{Repaired}
 use Rattle.repair.specs.declared.Repaired.the-variants.{Done, BadFrame, ListTooShort}
@@ -9,7 +9,7 @@ repairedCode (Done count) = 0
 repairedCode BadFrame = 33
 repairedCode ListTooShort = 34
 
--- the number of words altered
+-- the count of words altered
 abbrev pub repairedCount : Repaired → ℕ
 repairedCount (Done count) = count
 repairedCount BadFrame = 0

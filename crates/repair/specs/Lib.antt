@@ -1,4 +1,4 @@
--- The answers of the code, and for callers what is promised of them.
+-- The answers of the code, for callers what is promised of them, and what the passes over a table leave.
 pub mod Repair
 pub mod Answer
 pub mod Passes

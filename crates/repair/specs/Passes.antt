@@ -1,4 +1,4 @@
--- What the two passes over a table's words leave: t as it came, t′ as it stands. Each record is a loop's invariant too.
+-- What the two passes over a table's words leave: t as it was lent, t′ as it is then. Each record is a loop's invariant too.
 use Prim.Native.Nat.{ℕ, _+_, _<_, _≤_}
 use mathlib.Core.Path.{_≡_}
 use mathlib.Core.List.{List}

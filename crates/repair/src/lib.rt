@@ -1,6 +1,6 @@
-// The repair of a table from a worn card (document 02 (k)). The table is mended in a copy; where the check accepts that and the lent
-// list has room for what is altered, the words that differ go into the table, and two words for each into the list: its place and its
-// old content, from which the old table can be had back. A refusal alters nothing.
+// The repair of a table from a worn card (document 02 (k)). The table is mended in a copy. Where the check accepts the copy and
+// the lent list has room for what is altered, the words that differ are written into the table, and two words for each into the
+// list: its place and its old content, from which the old table can be restored. A refusal alters nothing.
 pub mod mend;
 
 use crate::mend::mend;
@@ -15,9 +15,9 @@ ghost use Rattle.repair_theory.specs.Changes.{differing, changes};
 ghost use Rattle.repair_theory.specs.Repair.{RepairPromise};
 ghost use Rattle.repair.specs.Answer.{repairedCode, repairedCount};
 
-// What a repair came to.
+// The outcome of a repair.
 pub enum Repaired {
-    // 0: so many words are altered
+    // 0: this count of words is altered
     Done(usize),
     // 33: the header, the length, a name or an info is wrong, or a name repeats
     BadFrame,
@@ -26,7 +26,7 @@ pub enum Repaired {
 }
 
 impl Repaired {
-    // Document 02's number for it.
+    // Returns document 02's code for it.
     pub fn code(self) -> u32
         ensures { λ r. ⌜ r ≡ repairedCode self ⌝ }
     {
@@ -37,7 +37,7 @@ impl Repaired {
         }
     }
 
-    // How many words were altered.
+    // Returns how many words were altered.
     pub fn count(self) -> usize
         ensures { λ r. ⌜ r ≡ repairedCount self ⌝ }
     {
@@ -49,7 +49,7 @@ impl Repaired {
     }
 }
 
-// The table mended in a copy, and whether the check accepts it.
+// Mends the table in a copy, and returns whether the check accepts the copy.
 fn mend_copy(table: &[u32], copy: &mut [u32]) -> bool
     requires { ⌜ length (now copy) ≡ length (now table) ⌝ }
     ensures { λ r. ⌜ r ≡ mendable (now (table .entry)) ⌝ }
@@ -65,7 +65,7 @@ fn mend_copy(table: &[u32], copy: &mut [u32]) -> bool
     checked.code() == 0
 }
 
-// The first pass: how many words differ. Nothing is written.
+// Returns how many words differ: the first pass, which writes nothing.
 fn count_differing(old: &[u32], new: &[u32]) -> usize
     requires { ⌜ length (now new) ≡ length (now old) ⌝ }
     ensures { λ r. ⌜ r ≡ length (differing (now (old .entry)) (now (new .entry))) ⌝ }
@@ -81,7 +81,7 @@ fn count_differing(old: &[u32], new: &[u32]) -> usize
     count
 }
 
-// The second pass, lowest place first: where a word differs, the pair goes into the list and the new word into the table.
+// Makes the second pass, lowest place first: where a word differs, writes the pair into the list and the new word into the table.
 fn replace(table: &mut [u32], new: &[u32], list: &mut [u32])
     requires { ⌜ length (now new) ≡ length (now table) ⌝ }
     requires { ⌜ length (now table) ≤ 641 ⌝ }
@@ -104,7 +104,7 @@ fn replace(table: &mut [u32], new: &[u32], list: &mut [u32])
     }
 }
 
-// The repair, with as many words lent for the copy as the table has.
+// Repairs the table, with as many words lent for the copy as the table has.
 fn repair_by_copy(table: &mut [u32], copy: &mut [u32], list: &mut [u32]) -> Repaired
     requires { ⌜ length (now copy) ≡ length (now table) ⌝ }
     requires { ⌜ length (now table) ≤ 641 ⌝ }
@@ -121,7 +121,7 @@ fn repair_by_copy(table: &mut [u32], copy: &mut [u32], list: &mut [u32]) -> Repa
     Repaired::Done(count)
 }
 
-// The table made fit again, with the list of what was altered. A table of more words than the largest has is no table.
+// Repairs the table and lists what was altered. More words than the largest table has are no table, and are refused.
 pub fn repair(table: &mut [u32], list: &mut [u32]) -> Repaired
     ensures { λ r. ⌜ RepairPromise (now (table .entry)) (now (list .entry)) (repairedCode r) (repairedCount r) (now (table .exit)) (now (list .exit)) ⌝ }
 {

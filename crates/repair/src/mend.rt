@@ -1,5 +1,5 @@
-// A table's broken words put right in place, without ever adding a right (document 02 (k)): a broken rights word becomes one with no
-// right, and the queue of an endpoint with a broken waiting, lost or slot word is emptied. Any words will do as a table.
+// A table's broken words mended in place, without adding a right (document 02 (k)): a broken rights word becomes one with no
+// right, and the queue of an endpoint with a broken waiting, lost or slot word is emptied. Total: accepts arbitrary words.
 use format::tables::EMPTY_SLOT;
 use format::tables::ENDPOINT_WORDS;
 use format::tables::NO_RIGHT;
@@ -17,14 +17,14 @@ ghost use Rattle.table_check.specs.Checked.{Headed};
 ghost use Rattle.repair_theory.specs.Mend.{mendedRights, mendedEndpoint, mended};
 ghost use Rattle.repair.specs.Passes.{RightsMended, EndpointsMended};
 
-// What becomes of a rights word.
+// Returns the rights word, or one with no right where it is broken.
 fn mended_rights(word: u32) -> u32
     ensures { λ r. ⌜ r ≡ mendedRights word ⌝ }
 {
     if rights_word_ok(word) { word } else { NO_RIGHT }
 }
 
-// Every rights word.
+// Mends every rights word.
 fn mend_rights(table: &mut [u32])
     requires { ⌜ Headed (now table) ⌝ }
     ensures { λ _. ⌜ RightsMended (now (table .entry)) (now (table .exit)) (domains (now (table .entry)) * domains (now (table .entry))) ⌝ }
@@ -39,7 +39,7 @@ fn mend_rights(table: &mut [u32])
     }
 }
 
-// An endpoint's twelve words: one broken word of the queue, and the whole queue is emptied.
+// Mends an endpoint's twelve words: one broken word of the queue, and the whole queue is emptied.
 fn mend_endpoint(q: &mut [u32])
     requires { ⌜ length (now q) ≡ 12 ⌝ }
     ensures { λ _. ⌜ now (q .exit) ≡ mendedEndpoint (now (q .entry)) ⌝ }
@@ -56,7 +56,7 @@ fn mend_endpoint(q: &mut [u32])
     }
 }
 
-// Every endpoint, lent as a part of the table.
+// Mends every endpoint, each lent as a part of the table.
 fn mend_endpoints(table: &mut [u32])
     requires { ⌜ Headed (now table) ⌝ }
     ensures { λ _. ⌜ EndpointsMended (now (table .entry)) (now (table .exit)) (endpoints (now (table .entry))) ⌝ }
@@ -74,7 +74,7 @@ fn mend_endpoints(table: &mut [u32])
     }
 }
 
-// The table mended. One that is sound stays, and so does one whose word 0 or length is wrong.
+// Mends the table. Leaves one that is sound as it is, and one whose word 0 or length is wrong.
 pub fn mend(table: &mut [u32])
     ensures { λ _. ⌜ now (table .exit) ≡ mended (now (table .entry)) ⌝ }
 {

@@ -1,5 +1,5 @@
--- Laws of the changes between two tables (specs/Changes): they are just the places at which the tables differ, in order, and putting
--- them back gives the old table. Assumes nothing.
+-- Laws of the changes between two tables (specs/Changes): they are exactly the places at which the tables differ, in order, and
+-- putting them back gives the old table. Assumes nothing.
 use Prim.Native.Nat.{ℕ, zero, suc, _+_, _*_, _<_, _≤_}
 use mathlib.Core.Path.{_≡_, refl, sym, ap, subst, _∙_}
 use mathlib.Core.Bool.{Bool, true, false, cond, not, false≢true}

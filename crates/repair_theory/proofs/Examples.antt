@@ -1,4 +1,4 @@
--- The rows hold, each by computation. Assumes nothing.
+-- The rows of the repair hold, each by computation (specs/Examples). Assumes nothing.
 use mathlib.Core.Path.{refl}
 use Rattle.machine.specs.Below.{wordsBelow}
 use Rattle.machine.proofs.Everything.{everything}

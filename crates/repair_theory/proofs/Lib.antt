@@ -1,4 +1,4 @@
--- The claims about mending hold, and laws of it that the proofs of functions cite.
+-- The claims about mending and about a repair hold, and laws of them that the proofs of functions cite.
 pub mod Places
 pub mod Mended
 pub mod Claims

@@ -1,4 +1,4 @@
--- Laws of mending: what stands at each place of a mended table, and that a table with these words is it (specs/Mend).
+-- Laws of mending: the word at each place of a mended table, and that a table with these words is the mended one (specs/Mend).
 -- Assumes nothing.
 use Prim.Native.Nat.{ℕ, zero, suc, _+_, _*_, _-_, _%_, _<_}
 use mathlib.Core.Path.{_≡_, refl, sym, ap, subst, _∙_}
@@ -79,14 +79,14 @@ module _ (q : List ℕ) (twelve : length q ≡ 12) where
   unfolding name
   mended-name = rw (mended-identity 0 (omega arith))
 
-  -- so once mended, an endpoint is right where its name and info are
+  -- so once mended, an endpoint is sound where its name and info are
   pub mended-endpoint-ok : (n : ℕ) → endpointOk n (mendedEndpoint q) ≡ identityOk n q
   unfolding endpointOk identityOk
   mended-endpoint-ok n =
       let sound : queueOk (mendedEndpoint q) ≡ true = mended-elim (λ x. queueOk x ≡ true) (λ ok. ok) (emptied-ok _ _) in
       rw (mended-identity 0 (omega arith), mended-identity 1 (omega arith), sound) (and-true _)
 
--- ---- what stands at each place
+-- ---- the word at each place
 
 module _ (t : List ℕ) where
   at-header : mendedAt t 0 ≡ getD t 0 0

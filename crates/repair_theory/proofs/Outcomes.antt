@@ -1,5 +1,4 @@
--- What a repair comes to: a refusal or a repaired table (specs/Repair), and its numbers are small.
--- Assumes nothing.
+-- The outcome of a repair: a refusal or a repaired table (specs/Repair), and its count is small. Assumes nothing.
 use Prim.Native.Nat.{ℕ, _*_, _≤_}
 use mathlib.Core.Path.{_≡_, refl}
 use mathlib.Core.Bool.{Bool, true, false, cond, not}
@@ -45,7 +44,7 @@ not-refused t size = go (mendable t) refl (ltb size (length (altered t))) refl
     go true can false room z = (can, ltb-false _ _ room)
     go false can b _ z = absurd (omega arith)
 
--- what is so of a refusal and of a repaired table is so of a repair
+-- what holds of a refusal and of a repaired table holds of a repair
 pub repair-elim : (t list : List ℕ) (P : RepairOutcome → Type 0)
     → (mendable t ≡ true → length (altered t) ≤ length list → P (repaired t list))
     → ((n : ℕ) → (n ≡ 0 → ⊥) → n ≡ repairCode t (length list) → P (refusal n t list))
@@ -56,7 +55,7 @@ repair-elim t list P done refused =
     (λ none. let (can, room) = not-refused t (length list) (eqb-true _ _ none) in done can room)
     (λ some. refused (repairCode t (length list)) (eqb-false _ _ some) refl)
 
--- the number of words altered fits the high half of an answer
+-- the count of words altered fits the high half of an answer
 pub count-small : (t list : List ℕ) → repair t list .count ≤ 641
 unfolding repaired refusal
 count-small t list =

@@ -1,4 +1,4 @@
--- The claims about a repair hold of whoever keeps the promise (specs/Claims). Assumes nothing.
+-- The claims about a repair hold of whoever keeps the promise (specs/RepairClaims). Assumes nothing.
 use Prim.Native.Nat.{ℕ, _+_, _*_, _<_, _≤_}
 use mathlib.Core.Path.{_≡_, refl, sym, ap, subst, _∙_}
 use mathlib.Core.Bool.{true, not}
@@ -25,7 +25,7 @@ use Rattle.repair_theory.proofs.Outcomes.{altered-length, repair-elim}
 abbrev outcomeOf : {t list : List ℕ} → PromisedRepair t list → RepairOutcome
 outcomeOf r = record { code = r .code; count = r .count; table = r .end; list = r .told }
 
--- what is so of a repaired table and of a refusal is so of what was promised
+-- what holds of a repaired table and of a refusal holds of what was promised
 promised : (t list : List ℕ) (P : RepairOutcome → Type 0)
     → (mendable t ≡ true → length (altered t) ≤ length list → P (repaired t list))
     → ((n : ℕ) → (n ≡ 0 → ⊥) → n ≡ repairCode t (length list) → P (refusal n t list))
@@ -65,7 +65,7 @@ every-repair-alters-only-broken t list =
 
 -- ---- the list
 
--- a list that begins with the changes tells them
+-- a list that begins with the changes reports them
 module _ (old new rest : List ℕ) (size : length new ≡ length old) where
   lists : Lists (length old) (differsAt old new) (differing old new)
   unfolding differing

@@ -1,4 +1,4 @@
--- The words in which two tables of one length differ, told as a list of pairs that the older one can be had back from
+-- The words in which two tables of one length differ, reported as a list of pairs from which the older one can be restored
 -- (document 02 (k)).
 use Prim.Native.Nat.{ℕ}
 use mathlib.Core.Bool.{not}

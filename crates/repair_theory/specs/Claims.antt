@@ -1,4 +1,5 @@
--- What is claimed of mending, in closed statements about any words as a table. Each is the type of a theorem in proofs/.
+-- What is claimed of mending (document 02 (k)), in closed statements about arbitrary words as a table. Each is the type of a
+-- theorem in proofs/.
 use Prim.Native.Nat.{ℕ, _+_, _<_, _≤_, _^_}
 use mathlib.Core.Path.{_≡_}
 use mathlib.Core.Bool.{Bool, true, false}
@@ -21,7 +22,7 @@ pub record Mended (t t′ : List ℕ) : Type 0 where
 abbrev pub EachPartMended : Type 0
 EachPartMended = (t : List ℕ) → headerOk t ≡ true → lengthOk t ≡ true → Mended t (mended t)
 
--- A table that can be mended is accepted then,
+-- A table that can be mended is accepted once it is mended,
 abbrev pub MendedAccepted : Type 0
 MendedAccepted = (t : List ℕ) → mendable t ≡ true → Accepted (mended t)
 
@@ -33,8 +34,8 @@ UnmendableRefused = (t : List ℕ) → mendable t ≡ false → Accepted (mended
 abbrev pub SoundStays : Type 0
 SoundStays = (t : List ℕ) → Accepted t → mended t ≡ t
 
--- From the table t to t′ no holder got a right that its word didn't show. A word is read by its bits 27–0, a broken one too, whatever
--- its kind and whichever of them are set: so a broken word is taken to have shown all that they could mean.
+-- From the table t to t′ no holder got a right that its word didn't show. A word is read by its bits 27–0, a broken one too,
+-- whatever its kind and whichever of them are set, so a broken word counts as one that showed all that they could mean.
 abbrev pub AddsNoRight : List ℕ → List ℕ → Type 0
 AddsNoRight t t′ =
     (h g k : ℕ)

@@ -1,4 +1,4 @@
--- Rows that pin the repair: a table, the lent list, and everything that comes of them. Most damage words of T or of the table of four
+-- Rows that pin the repair: a table, the lent list, and everything that results. Most damage words of T or of the table of four
 -- domains and three endpoints. Worked out by hand from document 01, 'The table', and document 02, (k).
 use Prim.Native.Nat.{ℕ}
 use mathlib.Core.Path.{_≡_}
@@ -9,7 +9,7 @@ use Rattle.machine.specs.CodeExamples.{fourDomains}
 use Rattle.repair_theory.specs.Changes.{putBack}
 use Rattle.repair_theory.specs.Repair.{RepairOutcome, repair}
 
--- a row: what the repair of a table with a lent list comes to
+-- a row: the outcome of the repair of a table with a lent list
 pub record Row : Type 0 where
   pub table : List ℕ
   pub list : List ℕ
@@ -20,7 +20,7 @@ abbrev pub EveryRow : List Row → Type 0
 EveryRow [] = Unit {0}
 EveryRow (r ∷ rs) = (repair (r .table) (r .list) ≡ r .leaves) × EveryRow rs
 
--- the table t with n words altered becomes end, and the pairs told stand in front of a list of twenty sevens
+-- the table t with n words altered becomes end, and the pairs reported are at the front of a list of twenty sevens
 abbrev pub mends : List ℕ → ℕ → List ℕ → List ℕ → List ℕ → Row
 mends t n end told rest =
     record { table = t; list = replicate 20 7; leaves = record { code = 0; count = n; table = end; list = told ++ rest } }
@@ -51,9 +51,9 @@ rightsRows =
     ∷ mends (set T 9 0) 1 T (9 ∷ 0 ∷ []) (sevens 18)
     ∷ []
 
--- a broken queue word: a waiting word by its kind and above the capacity, a lost word, slots by their kind and by a message from the
--- waiting count on, the last of all. The queue is emptied: its words that were right already aren't told, a right lost count that
--- isn't 0 is.
+-- a broken queue word: a waiting word by its kind and above the capacity, a lost word, slots by their kind and by a message from
+-- the waiting count on, the last of all. The queue is emptied. Its words that already are those of an empty queue aren't
+-- reported, and a sound lost count that isn't 0 is.
 abbrev pub queueRows : List Row
 queueRows =
     mends (set T 12 0x4000_0000) 1 T (12 ∷ 0x4000_0000 ∷ []) (sevens 18)
@@ -97,7 +97,7 @@ damagedReported =
     ∷ 46 ∷ 0xF000_0002
     ∷ []
 
--- the list: longer, of exactly two words for each word altered, and one word less; for one word altered, of one word and of none
+-- the list: longer, of exactly two words for each word altered, and one word less. For one word altered, of one word and of none
 abbrev pub listRows : List Row
 listRows =
     mends worn 8 damagedMended damagedReported (sevens 4)
@@ -107,7 +107,7 @@ listRows =
     ∷ refuses 34 (set T 2 0x3000_0001) []
     ∷ []
 
--- 33: word 0, the length, a name, an info; and a name that repeats
+-- 33: word 0, the length, a name, an info, and a name that repeats
 abbrev pub frameRows : List Row
 frameRows =
     refuses 33 [] (sevens 20)
@@ -130,7 +130,7 @@ frameRows =
     ∷ refuses 33 (take 33 (set T 2 0x3000_0001)) []
     ∷ []
 
--- putting back: the pairs in their order, a word that is left over passed by
+-- putting back: the pairs in their order, and a word that is left over is ignored
 abbrev pub PutBackHolds : Type 0
 PutBackHolds =
     (putBack damagedMended damagedReported ≡ worn)

@@ -1,4 +1,4 @@
--- What becomes of a table's words when it is mended, and what is claimed of it.
+-- What becomes of a table's words when it is mended, what a repair reports of it, what is claimed of both, and rows that pin them.
 pub mod Mend
 pub mod Claims
 pub mod Changes

@@ -1,5 +1,5 @@
--- A table's broken words put right, without ever adding a right (document 02 (k)): what becomes of each word, the table that comes of
--- it, and for which tables that is enough.
+-- The mending of a table's broken words, without ever adding a right (document 02 (k)): what becomes of each word, the table
+-- that results, and for which tables that is enough.
 use Prim.Native.Nat.{ℕ, _+_, _*_, _-_, _/_, _%_}
 use mathlib.Core.Bool.{Bool, cond, _&&_}
 use mathlib.Core.List.{List, _∷_, _++_}
@@ -19,15 +19,15 @@ mendedRights w = cond (rightsWordOk w) w (word 2 0)
 abbrev pub emptyQueue : List ℕ
 emptyQueue = word 5 0 ∷ word 6 0 ∷ replicate 8 emptySlot
 
--- an endpoint's words: with a broken waiting, lost or slot word its queue is emptied; its name and its info stay
+-- an endpoint's words: with a broken waiting, lost or slot word its queue is emptied, and its name and its info stay
 unfoldable pub mendedEndpoint : List ℕ → List ℕ
 mendedEndpoint q = cond (queueOk q) q (take 2 q ++ emptyQueue)
 
--- where the endpoints' words begin, behind word 0 and the rights words of n domains
+-- where the endpoints' words begin, after word 0 and the rights words of n domains
 abbrev pub endpointsFrom : ℕ → ℕ
 endpointsFrom n = 1 + n * n
 
--- what stands at place i once the table is mended: word 0 stays, then come the rights words, then twelve words an endpoint
+-- the word at place i once the table is mended: word 0 stays, then follow the rights words, then twelve words an endpoint
 unfoldable pub mendedAt : List ℕ → ℕ → ℕ
 mendedAt t i =
     let behind = i - endpointsFrom (domains t) in
@@ -35,7 +35,7 @@ mendedAt t i =
     (cond (ltb i (endpointsFrom (domains t))) (mendedRights (getD t i 0))
     (getD (mendedEndpoint (endpoint t (behind / 12))) (behind % 12) 0))
 
--- the table mended, word by word; with a wrong word 0 or length nothing says where words stand, and it stays as it is
+-- the table mended, word by word. With a wrong word 0 or length nothing says where words are, and it stays as it is
 unfoldable pub mended : List ℕ → List ℕ
 mended t = cond (headerOk t && lengthOk t) (wordsBelow (length t) (mendedAt t)) t
 

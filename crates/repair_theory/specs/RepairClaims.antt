@@ -1,5 +1,5 @@
--- What is claimed of a repair: of whoever keeps the promise, for any words as a table and any lent list. Each claim that begins with
--- `Every` is closed and the type of a theorem in proofs/Claims.
+-- What is claimed of a repair (document 02 (k)): of whoever keeps the promise, for arbitrary words as a table and any lent list.
+-- Each claim that begins with `Every` is closed and the type of a theorem in proofs/RepairClaims.
 use Prim.Native.Nat.{ℕ, _+_, _*_, _<_}
 use mathlib.Core.Path.{_≡_}
 use mathlib.Core.List.{List}
@@ -44,15 +44,15 @@ EveryRepairAddsNoRight =
 abbrev pub EveryRepairAltersOnlyBroken : Type 0
 EveryRepairAltersOnlyBroken = (t list : List ℕ) (r : PromisedRepair t list) → AltersOnlyBroken t (r .end)
 
--- The first words of a list are count pairs that tell just the words in which a new table differs from the old one, lowest place
--- first, each by its place and its old content.
+-- The first words of a list are count pairs that report exactly the words in which a new table differs from the old one, lowest
+-- place first, each by its place and its old content.
 pub record ReportsChanges (old new list : List ℕ) (count : ℕ) : Type 0 where
   pub differs : (j : ℕ) → j < count → getD new (getD list (2 * j) 0) 0 ≡ getD old (getD list (2 * j) 0) 0 → ⊥
   pub content : (j : ℕ) → j < count → getD list (2 * j + 1) 0 ≡ getD old (getD list (2 * j) 0) 0
   pub ascending : (j : ℕ) → j + 1 < count → getD list (2 * j) 0 < getD list (2 * (j + 1)) 0
   pub every : (i : ℕ) → (getD new i 0 ≡ getD old i 0 → ⊥) → (j : ℕ) × (j < count) × (getD list (2 * j) 0 ≡ i)
 
--- The pairs in front of the list tell just the words that were altered, and the words past them stay.
+-- The pairs at the front of the list report exactly the words that were altered, and the words after them stay.
 pub record ReportedExactly (t end list told : List ℕ) (count : ℕ) : Type 0 where
   pub pairs : ReportsChanges t end told count
   pub past : drop (2 * count) told ≡ drop (2 * count) list
@@ -62,6 +62,6 @@ abbrev pub EveryRepairReportedExactly : Type 0
 EveryRepairReportedExactly =
     (t list : List ℕ) (r : PromisedRepair t list) → ReportedExactly t (r .end) list (r .told) (r .count)
 
--- The old table can be had back: the pairs put back into the table that was left give the table that came.
+-- The old table can be restored: the pairs put back into the table that was left give the table as it was.
 abbrev pub EveryRepairPutBack : Type 0
 EveryRepairPutBack = (t list : List ℕ) (r : PromisedRepair t list) → putBack (r .end) (take (2 * r .count) (r .told)) ≡ t

@@ -1,3 +1,3 @@
-// A table's broken words put right (document 02 (k)), as definitions and theorems about the machine: what becomes of each word, for
-// which tables that is enough, and that no right is ever added. It has no code: what a reader must believe stands in specs/, what
-// is proved of it in proofs/.
+// The repair of a table's broken words (document 02 (k)), as definitions and theorems about the machine: what becomes of each
+// word, for which tables that is enough, what is reported, and that no right is ever added. It has no code: specs/ has what a
+// reader must believe, proofs/ what is proved of it.

@@ -16,17 +16,17 @@ impl Rights {
 
     pub const REVOKE: Rights = Rights { bits: 8 };
 
-    // the largest set: every right there is
+    // The largest set: every right there is.
     pub const ALL: Rights = Rights { bits: 15 };
 
-    // Whether every right of r is in the set.
+    // Returns whether every right of r is in the set.
     pub fn holds(self, r: Rights) -> bool
         ensures { λ b. ⌜ b ≡ holds (self .bits) (r .bits) ⌝ }
     {
         (self.bits & r.bits) == r.bits
     }
 
-    // The set with the rights of r added.
+    // Returns the set with the rights of r added.
     pub fn adds(self, r: Rights) -> Rights
         ensures { λ s. ⌜ s .bits ≡ adds (self .bits) (r .bits) ⌝ }
     {
@@ -35,7 +35,7 @@ impl Rights {
         }
     }
 
-    // The set without the rights of r.
+    // Returns the set without the rights of r.
     pub fn without(self, r: Rights) -> Rights
         ensures { λ s. ⌜ s .bits ≡ without (self .bits) (r .bits) ⌝ }
     {
@@ -43,7 +43,7 @@ impl Rights {
         Rights { bits: rest }
     }
 
-    // Whether some right is in the set.
+    // Returns whether some right is in the set.
     pub fn has_any(self) -> bool
         ensures { λ b. ⌜ b ≡ hasAny (self .bits) ⌝ }
     {

@@ -1,4 +1,4 @@
--- A list that is filled from the front: those at the first i places are f 0, f 1 and so on, the others as they were.
+-- A list that is filled from the front: the elements at the first i places are f 0, f 1 and so on, the others are as they were.
 -- Assumes nothing.
 use mathlib.Core.Path.{_≡_, refl, sym, _∙_}
 use mathlib.Core.Logic.{⊎-elim}

@@ -1,4 +1,4 @@
--- The rows of a table as they are taken in, one after the other. Assumes nothing.
+-- The rows of a table as they are loaded, one after the other. Assumes nothing.
 use mathlib.Core.Path.{_≡_, refl, sym, ap₂, _∙_}
 use mathlib.Core.Bool.{true, false, cond}
 use mathlib.Core.List.{List, []}
@@ -17,7 +17,7 @@ use Rattle.rights_matrix_theory.specs.Rows.{rowsBelow, rowOf, rowsOf, hasRights
 use Rattle.rights_matrix_theory.proofs.Rights.{rows-length, rows-at}
 use Rattle.rights_matrix.proofs.Filling.{Filling}
 
--- ---- what the test of the table says
+-- ---- what follows from the test of the table
 pub record HasRights (n size : ℕ) : Type 0 where
   pub few : n ≤ 16
   pub there : n * n < size
@@ -69,7 +69,7 @@ rows-filled n t rows i few s all =
     go j l (yes less) = s .done j (omega arith) ∙ rw (lt-ltb j n less)
     go j l (no past) = s .rest j (omega arith) ∙ getD-replicate 16 j (replicate 16 0) [] l ∙ no-row ∙ rw (le-ltb j n (omega arith))
 
--- what is taken in, on either side of the test
+-- the loaded rows, on either side of the test
 pub taken-none : (n : ℕ) (t : List ℕ) → hasRights n (length t) ≡ false → noRows ≡ rowsOf (cond (hasRights n (length t)) n 0) t
 taken-none n t h = rw h (nothing-in t)
 

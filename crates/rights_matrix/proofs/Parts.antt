@@ -1,4 +1,4 @@
--- A part of a list that is lent and put back: what stands before it, in it and behind it. Assumes nothing.
+-- A part of a list that is lent and put back: what is before it, in it and after it. Assumes nothing.
 use mathlib.Core.Path.{_≡_, sym, ap, _∙_}
 use mathlib.Core.List.{List, _++_}
 use Prim.Native.Nat.{ℕ, _+_, _-_, _<_, _≤_}

@@ -1,4 +1,4 @@
--- Rows as they are taken in and put out, place by place. Assumes nothing.
+-- Rows as they are loaded and stored, place by place. Assumes nothing.
 use mathlib.Core.Path.{_≡_, sym, ap, _∙_}
 use mathlib.Core.Bool.{false}
 use mathlib.Core.List.{List, []}

@@ -1,4 +1,4 @@
--- The rows put out to a table's rights words, one row after the other. Assumes nothing.
+-- The rows stored to a table's rights words, one row after the other. Assumes nothing.
 use mathlib.Core.Path.{_≡_, refl, sym, ap, ap₂, subst, _∙_}
 use mathlib.Core.Bool.{true, false, cond, _&&_}
 use mathlib.Core.List.{List, _++_}
@@ -19,11 +19,11 @@ use Rattle.rights_matrix_theory.specs.Rows.{heldIn, isRights, storedRows, hasRi
 use Rattle.rights_matrix.proofs.Parts.{part-length, putPart, put-length, put-before, put-in, put-behind}
 use Rattle.rights_matrix.proofs.LoadLoop.{HasRights, row-within, row-part}
 
--- the rights word behind word 0 and j others
+-- the rights word after word 0 and j others
 abbrev wordOut : ℕ → List (List ℕ) → ℕ → ℕ
 wordOut n rows j = word 2 (heldIn rows (j / n) (j % n))
 
--- the rows of the first h holders are put out
+-- the rows of the first h holders are stored
 pub record Out (n : ℕ) (rows : List (List ℕ)) (t₀ t : List ℕ) (h : ℕ) : Type 0 where
   pub size : length t ≡ length t₀
   pub header : getD t 0 0 ≡ getD t₀ 0 0
@@ -86,7 +86,7 @@ module _ (n : ℕ) (rows : List (List ℕ)) (t₀ : List ℕ) where
         ∙ ap (λ (k : ℕ). wordsBelow k (λ g. word 2 (heldIn rows h g)))
         (ap length (row-part t n h at is) ∙ part-length t (rightsAt n h 0) n there)))
 
-  -- every row is put out
+  -- every row is stored
   pub out-end : (t : List ℕ) (h : ℕ) → Out n rows t₀ t h → h ≡ n → t ≡ storedRows n rows t₀
   unfolding storedRows isRights
   out-end t h s all =
@@ -109,7 +109,7 @@ module _ (n : ℕ) (rows : List (List ℕ)) (t₀ : List ℕ) where
           let is : suc j ≡ 1 + j = omega arith in
           ap (λ (i : ℕ). getD t i 0) is ∙ behind j (decLt j (n * n)) ∙ ap f (sym is)
 
--- what is put out, on either side of the test
+-- the table with the rows stored, on either side of the test
 pub out-none : (n : ℕ) (rows : List (List ℕ)) (t : List ℕ) → hasRights n (length t) ≡ false → t ≡ cond (hasRights n (length t)) (storedRows n rows t) t
 out-none n rows t h = rw h
 

@@ -1,2 +1,2 @@
--- For callers: when rows stand for a table's rights, and are put out to it.
+-- For callers: when rows represent a table's rights, are altered, and are stored to it (document 02 (l)).
 pub use Rattle.rights_matrix_theory.specs.Claims.{SameRights, Altered, StoredTo}

@@ -1,3 +1,3 @@
--- For callers: the rows, and what they stand for.
+-- For callers: the rows, and what they represent.
 pub mod Rows
 pub mod Claims

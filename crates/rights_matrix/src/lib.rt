@@ -1,5 +1,5 @@
-// The rights of up to sixteen domains as sixteen rows of sixteen small numbers, by value: row h has what the domain h holds, and
-// place g of it the rights on g. Any words will do as a table.
+// The rights of up to sixteen domains as sixteen rows of sixteen bytes, by value (document 02 (l)): row h has what the domain h
+// holds, and place g of it the rights on g. The public functions are total: they accept arbitrary words as a table.
 use format::tables::MOST_DOMAINS;
 use format::tables::NO_RIGHT;
 use rights::Rights;
@@ -12,6 +12,7 @@ ghost use Rattle.machine.specs.Below.{wordsBelow};
 ghost use Rattle.machine.specs.Word.{word};
 ghost use Rattle.rights_matrix_theory.specs.Rows.{heldIn, withHeld, rowOf, rowsOf, storedRows, hasRights};
 
+// Returns a byte as a word.
 fn wide(small: u8) -> u32
     ensures { λ r. ⌜ r ≡ small ⌝ }
     ensures { λ r. ⌜ r < 256 ⌝ }
@@ -19,7 +20,7 @@ fn wide(small: u8) -> u32
     small as u32
 }
 
-// The rights of a holder on a target.
+// Returns the rights of a holder on a target.
 pub fn held(rows: &[[u8; 16]; 16], holder: u32, target: u32) -> Rights
     ensures { λ r. ⌜ r .bits ≡ heldIn (now (rows .entry)) holder target ⌝ }
 {
@@ -29,7 +30,7 @@ pub fn held(rows: &[[u8; 16]; 16], holder: u32, target: u32) -> Rights
     Rights { bits }
 }
 
-// The rights of a holder on a target have become these.
+// Sets the rights of a holder on a target.
 pub fn put(rows: &mut [[u8; 16]; 16], holder: u32, target: u32, rights: u32)
     ensures { λ _. ⌜ now (rows .exit) ≡ withHeld (now (rows .entry)) holder target (rights % 256) ⌝ }
 {
@@ -38,7 +39,7 @@ pub fn put(rows: &mut [[u8; 16]; 16], holder: u32, target: u32, rights: u32)
     rows[h][g] = (rights % 256) as u8;
 }
 
-// At most sixteen domains, and words enough for their rights.
+// Returns whether there are at most sixteen domains and words enough for their rights.
 fn has_rights(n: u32, size: usize) -> bool
     ensures { λ b. ⌜ b ≡ hasRights n size ⌝ }
 {
@@ -49,7 +50,7 @@ fn has_rights(n: u32, size: usize) -> bool
     count * count < size
 }
 
-// One holder's rights words as a row.
+// Returns the row of one holder's rights words.
 fn load_row(words: &[u32]) -> [u8; 16]
     requires { ⌜ length (now words) ≤ 16 ⌝ }
     ensures { λ r. ⌜ r ≡ rowOf (now (words .entry)) ⌝ }
@@ -63,7 +64,7 @@ fn load_row(words: &[u32]) -> [u8; 16]
     row
 }
 
-// The rows of a table of n domains. There is nothing in them where the table hasn't its rights words.
+// Returns the rows of a table of n domains. They hold no right where n is over sixteen or the table lacks rights words.
 pub fn load(table: &[u32], n: u32) -> [[u8; 16]; 16]
     ensures { λ r. ⌜ r ≡ rowsOf (cond (hasRights n (length (now (table .entry)))) n 0) (now (table .entry)) ⌝ }
 {
@@ -82,7 +83,7 @@ pub fn load(table: &[u32], n: u32) -> [[u8; 16]; 16]
     rows
 }
 
-// A row as its holder's rights words.
+// Stores a row to its holder's rights words.
 fn store_row(rows: &[[u8; 16]; 16], holder: u32, words: &mut [u32])
     requires { ⌜ length (now words) ≤ 16 ⌝ }
     ensures { λ _. ⌜ now (words .exit) ≡ wordsBelow (length (now (words .entry))) (λ g. word 2 (heldIn (now (rows .entry)) holder g)) ⌝ }
@@ -96,7 +97,7 @@ fn store_row(rows: &[[u8; 16]; 16], holder: u32, words: &mut [u32])
     }
 }
 
-// The rows put out to a table of n domains. A table that hasn't its rights words stays as it is.
+// Stores the rows to a table of n domains. The table stays as it is where n is over sixteen or it lacks rights words.
 pub fn store(rows: &[[u8; 16]; 16], n: u32, table: &mut [u32])
     ensures { λ _. ⌜ now (table .exit) ≡ cond (hasRights n (length (now (table .entry)))) (storedRows n (now (rows .entry)) (now (table .entry))) (now (table .entry)) ⌝ }
 {

@@ -1,3 +1,3 @@
--- The claims about rows and their literals hold.
+-- The claims about rows and about their literals hold.
 pub mod Rights
 pub mod Examples

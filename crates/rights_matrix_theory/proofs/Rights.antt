@@ -21,7 +21,7 @@ use Rattle.machine.proofs.Step.{rights-held}
 use Rattle.rights_matrix_theory.specs.Rows.{heldIn, withHeld, rowsBelow, rowOf, rowsOf, isRights, storedRows}
 use Rattle.rights_matrix_theory.specs.Claims.{Sixteen, LoadedRights, PutIsHeld, StoredRights}
 
--- ---- the list of f below k
+-- ---- the rows f 0, f 1, .., f (k - 1)
 pub rows-length : (k : ℕ) (f : ℕ → List ℕ) → length (rowsBelow k f) ≡ k
 unfolding rowsBelow
 rows-length zero f = refl
@@ -38,12 +38,12 @@ rows-at (suc k) f i l =
 
 -- ---- one place
 
--- below sixteen all four bits count
+-- an index below sixteen has no more than four bits
 held-plain : (rows : List (List ℕ)) (h g : ℕ) → h < 16 → g < 16 → heldIn rows h g ≡ getD (getD rows h []) g 0
 unfolding heldIn
 held-plain rows h g lh lg = rw (mod-eq-of-lt lh, mod-eq-of-lt lg)
 
--- ---- taken in
+-- ---- loaded rows
 module _ (n : ℕ) (t : List ℕ) where
   rowFrom : ℕ → List ℕ
   rowFrom h = rowOf (cond (ltb h n) (take n (drop (rightsAt n h 0) t)) [])
@@ -66,7 +66,7 @@ module _ (n : ℕ) (t : List ℕ) where
       ∙ ap (λ (b : _). getD (rowOf (cond b (take n (drop (rightsAt n h 0) t)) [])) g 0) (lt-ltb h n l)
       ∙ words-at 16 (λ k. getD (take n (drop (rightsAt n h 0) t)) k 0 % 256) g 0 lg
 
--- of a small payload, eight bits are all
+-- a small payload has no more than eight bits
 small-payload : (w : ℕ) → payload w ≤ 15 → w % 256 ≡ payload w
 small-payload w few = omega arith
 
@@ -145,7 +145,7 @@ put-is-held rows h g s x lh lg =
       others = λ i j li lj ne. others-still rows h g s x lh lg i j li lj ne (ℕ-discrete i h);
     }
 
--- ---- put out
+-- ---- stored rows
 pub stored-rights : StoredRights
 unfolding storedRows isRights
 stored-rights n rows t there =

@@ -1,5 +1,5 @@
--- What is claimed of the rows: taken in they are a table's rights, what is put into them is held and nothing else altered, and put
--- out they are the table's rights words.
+-- What is claimed of the rows (document 02 (l)): loaded rows are a table's rights, what is put into rows is held and nothing else
+-- is altered, and stored rows are the table's rights words.
 use Prim.Native.Nat.{ℕ, _*_, _<_, _≤_}
 use mathlib.Core.Path.{_≡_}
 use mathlib.Core.List.{List, []}
@@ -14,13 +14,13 @@ pub record Sixteen (rows : List (List ℕ)) : Type 0 where
   pub many : length rows ≡ 16
   pub long : (h : ℕ) → h < 16 → length (getD rows h []) ≡ 16
 
--- Rows that stand for the rights of a table t of n domains: what each of them holds on each, and nothing on others.
+-- Rows that represent the rights of a table t of n domains: what each of them holds on each, and nothing on others.
 pub record SameRights (n : ℕ) (rows : List (List ℕ)) (t : List ℕ) : Type 0 where
   pub sixteen : Sixteen rows
   pub same : (h g : ℕ) → h < n → g < n → heldIn rows h g ≡ rights t h g
   pub nothing : (h g : ℕ) → h < n → n ≤ g → g < 16 → heldIn rows h g ≡ 0
 
--- what is taken in stands for the table's rights
+-- loaded rows represent the table's rights
 abbrev pub LoadedRights : Type 0
 LoadedRights = (t : List ℕ) → Accepted t → SameRights (domains t) (rowsOf (domains t) t) t
 
@@ -41,6 +41,6 @@ pub record StoredTo (n : ℕ) (rows : List (List ℕ)) (t t′ : List ℕ) : Typ
   pub header : getD t′ 0 0 ≡ getD t 0 0
   pub behind : (i : ℕ) → n * n < i → getD t′ i 0 ≡ getD t i 0
 
--- what is put out are the table's rights words
+-- stored rows are the table's rights words
 abbrev pub StoredRights : Type 0
 StoredRights = (n : ℕ) (rows : List (List ℕ)) (t : List ℕ) → n * n < length t → StoredTo n rows t (storedRows n rows t)

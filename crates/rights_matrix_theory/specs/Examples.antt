@@ -1,16 +1,16 @@
--- Rows of literals that pin taking in, altering and putting out, on tables of two domains. Worked out by hand.
+-- Literals that pin loading, altering and storing rows (document 02 (l)), on a table of two domains. Worked out by hand.
 use Prim.Native.Nat.{ℕ}
 use mathlib.Core.Path.{_≡_}
 use mathlib.Core.List.{List, [], _∷_}
 use Rattle.rights_matrix_theory.specs.Rows.{heldIn, withHeld, rowsOf, storedRows}
 
--- a table's header and its rights words, and a word behind them
+-- a table's header and its rights words, and a word after them
 abbrev pub two : List ℕ
 two = 0x1000_0200 ∷ 0x2000_0001 ∷ 0x2000_0002 ∷ 0x2000_0004 ∷ 0x2000_0008 ∷ 0x3000_0011 ∷ []
 
--- what each holds on each, and on one that isn't there
-abbrev pub TakenIn : Type 0
-TakenIn =
+-- what each domain holds on each, and what is held on and by a domain that isn't there
+abbrev pub RowLoaded : Type 0
+RowLoaded =
     (heldIn (rowsOf 2 two) 0 0 ≡ 1)
     × (heldIn (rowsOf 2 two) 0 1 ≡ 2)
     × (heldIn (rowsOf 2 two) 1 0 ≡ 4)
@@ -18,8 +18,8 @@ TakenIn =
     × (heldIn (rowsOf 2 two) 1 2 ≡ 0)
     × (heldIn (rowsOf 2 two) 2 0 ≡ 0)
 
--- domain 0's rights on 1 become 15, and are put out: the header and the word behind stay
-abbrev pub PutOut : Type 0
-PutOut =
+-- domain 0's rights on 1 become 15, and are stored: the header and the word after the rights words stay
+abbrev pub RowStored : Type 0
+RowStored =
     storedRows 2 (withHeld (rowsOf 2 two) 0 1 15) two
     ≡ 0x1000_0200 ∷ 0x2000_0001 ∷ 0x2000_000F ∷ 0x2000_0004 ∷ 0x2000_0008 ∷ 0x3000_0011 ∷ []

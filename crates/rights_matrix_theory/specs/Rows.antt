@@ -1,5 +1,6 @@
--- The rights of up to sixteen domains as sixteen rows of sixteen small numbers (document 02 (l)): row h has what the domain h holds,
--- and place g of it the rights on g. How they are read and altered, taken in from a table and put out to it. Any words will do.
+-- The rights of up to sixteen domains as sixteen rows of sixteen small numbers (document 02 (l)): row h has what the domain h
+-- holds, and place g of it the rights on g. The file has how they are read and altered, loaded from a table and stored to it. The
+-- definitions are total: they accept arbitrary words.
 use Prim.Native.Nat.{ℕ, zero, suc, _-_, _*_, _/_, _%_}
 use mathlib.Core.Bool.{Bool, cond, _&&_}
 use mathlib.Core.List.{List, [], _∷_, _++_}
@@ -9,7 +10,7 @@ use Rattle.machine.specs.Below.{wordsBelow}
 use Rattle.machine.specs.Word.{word}
 use Rattle.machine.specs.Table.{rightsAt}
 
--- the rights of h on g: of both count four bits
+-- the rights of h on g; only the low four bits of each index count
 unfoldable pub heldIn : List (List ℕ) → ℕ → ℕ → ℕ
 heldIn rows h g = getD (getD rows (h % 16) []) (g % 16) 0
 
@@ -22,7 +23,7 @@ unfoldable pub rowsBelow : ℕ → (ℕ → List ℕ) → List (List ℕ)
 rowsBelow zero f = []
 rowsBelow (suc k) f = rowsBelow k f ++ (f k ∷ [])
 
--- the row of one holder's rights words, of which eight bits count; nothing is held on a target that isn't a domain
+-- the row of one holder's rights words, of which the low eight bits count; nothing is held on a target without a word
 unfoldable pub rowOf : List ℕ → List ℕ
 rowOf ws = wordsBelow 16 (λ g. getD ws g 0 % 256)
 
@@ -34,7 +35,7 @@ rowsOf n t = rowsBelow 16 (λ h. rowOf (cond (ltb h n) (take n (drop (rightsAt n
 unfoldable pub isRights : ℕ → ℕ → Bool
 isRights n i = leb 1 i && leb i (n * n)
 
--- the rows put out to a table of n domains: its other words stay
+-- a table of n domains with the rows stored to it: its other words stay
 unfoldable pub storedRows : ℕ → List (List ℕ) → List ℕ → List ℕ
 storedRows n rows t =
     wordsBelow (length t) (λ i. cond (isRights n i) (word 2 (heldIn rows ((i - 1) / n) ((i - 1) % n))) (getD t i 0))

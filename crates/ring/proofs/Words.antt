@@ -9,7 +9,7 @@ use Rattle.machine.specs.Word.{payload, word}
 use Rattle.machine.specs.Queue.{emptySlot}
 use Rattle.ring_theory.specs.Ring.{firstPlace, count, lostCount, ringCapacity, placeFrom, messageAt, putLast, ringSent, ringTake, storedSlot, ofTwelve}
 
--- other than twelve words are left, and twelve are not
+-- words that aren't twelve are left, and twelve are not
 pub not-twelve : {A : Type 0} (ws : List ℕ) (done left : A) → (length ws ≡ 12 → ⊥) → left ≡ ofTwelve ws done left
 unfolding ofTwelve
 not-twelve ws done left h = rw (ne-eqb (length ws) 12 h)
@@ -36,7 +36,7 @@ pub taken : (r : List ℕ) (f n : ℕ) → f ≡ (firstPlace r + 1) % 8 → n �
 unfolding ringTake
 taken r f n moved fewer = rw (moved, fewer)
 
--- a slot that is put out: message i, or empty
+-- a stored slot: message i, or empty
 pub slot-filled :
     (r : List ℕ) (f n i at : ℕ)
     → at ≡ placeFrom f i

@@ -1,5 +1,5 @@
-// A queue as a ring, in twelve lent words: eight places with a first place and a count, going round, so that a send and a receive
-// move no other message. Nothing here sees a table. Other than twelve words are left as they are.
+// A queue as a ring in twelve lent words (document 02 (l)): eight places with a first place and a count, wrapping round, so that a
+// send and a receive move no other message. No function here is passed a table. Words that aren't twelve are left as they are.
 use format::KIND_UNIT;
 use format::tables::EMPTY_SLOT;
 use format::tables::ENDPOINT_WORDS;
@@ -14,21 +14,21 @@ ghost use lib.ListN.{length};
 ghost use Rattle.ring_theory.specs.Ring.{firstPlace, count, placeFrom, ringSent, ringOf, storedSlot, storedQueue, ofTwelve};
 ghost use Rattle.ring.specs.Received.{Taken};
 
-// The word of the i-th place from a first place on, going round.
+// Returns the index of the word of the i-th place from a first place on, wrapping round.
 fn place_from(first: u32, i: u32) -> usize
     ensures { λ at. ⌜ at ≡ placeFrom first i ⌝ }
 {
     4 + ((first % SLOTS + i % SLOTS) % SLOTS) as usize
 }
 
-// The place behind a first one, going round.
+// Returns the place after a first place, wrapping round.
 fn next_place(first: u32) -> u32
     ensures { λ r. ⌜ r ≡ (first + 1) % 8 ⌝ }
 {
     (first % SLOTS + 1) % SLOTS
 }
 
-// The message goes behind the last; a full ring's oldest message is pushed out.
+// Puts the message after the last one. A full ring's oldest message is pushed out.
 pub fn send(ring: &mut [u32], message: u32)
     ensures { λ _. ⌜ now (ring .exit) ≡ ofTwelve (now (ring .entry)) (ringSent (now (ring .entry)) message) (now (ring .entry)) ⌝ }
 {
@@ -49,12 +49,13 @@ pub fn send(ring: &mut [u32], message: u32)
     ring[2] = lost_after(lost);
 }
 
-// What a receive shows: the oldest message and the lost count.
+// What a receive returns: the oldest message and the lost count.
 pub struct Received {
     pub message: u32,
     pub lost: u32,
 }
 
+// Returns the count less 1, and 0 for 0.
 fn one_less(count: u32) -> u32
     ensures { λ r. ⌜ r ≡ count - 1 ⌝ }
 {
@@ -64,7 +65,8 @@ fn one_less(count: u32) -> u32
     count - 1
 }
 
-// The oldest message goes out. From an empty ring comes what stands at its first place, and its count stays 0.
+// Removes the oldest message and returns it with the lost count. An empty ring yields the word at its first place, and its count
+// stays 0.
 pub fn receive(ring: &mut [u32]) -> Received
     ensures { λ r. ⌜ Taken (now (ring .entry)) r (now (ring .exit)) ⌝ }
 {
@@ -84,7 +86,7 @@ pub fn receive(ring: &mut [u32]) -> Received
     Received { message, lost }
 }
 
-// A ring is made of an endpoint's words.
+// Loads a ring from an endpoint's words.
 pub fn load(q: &[u32], ring: &mut [u32])
     ensures { λ _. ⌜ now (ring .exit) ≡ ofTwelve (now (q .entry)) (ofTwelve (now (ring .entry)) (ringOf (now (q .entry))) (now (ring .entry))) (now (ring .entry)) ⌝ }
 {
@@ -105,7 +107,7 @@ pub fn load(q: &[u32], ring: &mut [u32])
     }
 }
 
-// Slot i of the endpoint that a ring is put out to.
+// Returns slot i of the endpoint that a ring is stored to.
 fn store_slot(ring: &[u32], first: u32, waits: u32, i: u32) -> u32
     requires { ⌜ length (now ring) ≡ 12 ⌝ }
     requires { ⌜ first ≡ firstPlace (now ring) ⌝ }
@@ -119,7 +121,7 @@ fn store_slot(ring: &[u32], first: u32, waits: u32, i: u32) -> u32
     EMPTY_SLOT
 }
 
-// A ring is put out to an endpoint's words: the name and the info are left.
+// Stores a ring to an endpoint's words. The name and the info stay as they are.
 pub fn store(ring: &[u32], q: &mut [u32])
     ensures { λ _. ⌜ now (q .exit) ≡ ofTwelve (now (ring .entry)) (ofTwelve (now (q .entry)) (storedQueue (now (ring .entry)) (now (q .entry))) (now (q .entry))) (now (q .entry)) ⌝ }
 {

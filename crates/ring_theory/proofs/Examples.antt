@@ -1,4 +1,4 @@
--- The rows of the rings hold: each is computed. Assumes nothing.
+-- The rows of literals about rings hold, each by computation. Assumes nothing.
 use mathlib.Core.Path.{refl}
 use Rattle.ring_theory.specs.Ring.{firstPlace, count, lostCount, info, ringCapacity, messageAt, putLast, ringSent, ringTake, ringOf, storedSlot, storedQueue}
 use Rattle.machine.specs.Below.{wordsBelow}

@@ -1,4 +1,4 @@
--- Twelve words whose last eight are filled from the front, as taking in and putting out do. Assumes nothing.
+-- Twelve words whose last eight are filled one after the other, as loading and storing do. Assumes nothing.
 use mathlib.Core.Path.{_≡_, refl, sym, ap, ap₂, _∙_}
 use mathlib.Core.List.{List, [], _∷_, _++_, append-assoc}
 use Prim.Native.Nat.{ℕ, _+_, _<_, _≤_}
@@ -9,7 +9,7 @@ use lib.Seq.{getD-set-same, getD-set-other, getD-drop, take-set-le, take-at, set
 use Rattle.machine.specs.Below.{wordsBelow}
 use Rattle.machine.proofs.Below.{words-length, words-at}
 
--- behind the front of four, i words are f 0, f 1 and so on
+-- after the front of four, i words are f 0, f 1 and so on
 pub record Filled (f : ℕ → ℕ) (front ws : List ℕ) (i : ℕ) : Type 0 where
   pub twelve : length ws ≡ 12
   pub head : take 4 ws ≡ front
@@ -37,7 +37,7 @@ module _ (f : ℕ → ℕ) (front ws : List ℕ) where
       (ext-getD 0 (drop 4 ws) (wordsBelow 8 f) (eight ∙ sym (words-length 8 f))
       (λ j b. getD-drop 4 ws j 0 ∙ s .each j (omega (arith, eight)) ∙ sym (words-at 8 f j 0 (omega (arith, eight)))))
 
--- ---- filled behind a front that was written just before: four words, or two behind two that stay
+-- ---- filled after a front that was written just before: four words, or two after two that stay
 module _ (f : ℕ → ℕ) (ws₀ ws : List ℕ) (i : ℕ) (long : length ws₀ ≡ 12) (all : 8 ≤ i) where
   pub behind-four :
       (a b c d : ℕ)

@@ -1,5 +1,5 @@
--- A ring that stands for a queue (specs/Claims): it is taken in as one, sends and receives go along, and put out it is the queue.
--- Assumes nothing.
+-- A ring that represents a queue (specs/Claims): a loaded ring is one, sends and receives on it simulate those on the queue, and
+-- stored it is the queue. Assumes nothing.
 use mathlib.Core.Path.{_≡_, refl, sym, ap, ap₂, subst, _∙_}
 use mathlib.Core.Logic.{_≢_, ⊎-elim}
 use mathlib.Core.Bool.{Bool, true, false, cond}
@@ -35,7 +35,7 @@ module _ (xs : List ℕ) (i j x y : ℕ) where
   both-last : j < length xs → getD (set (set xs i x) j y) j 0 ≡ y
   both-last l = getD-set-same (set xs i x) j y 0 (lt-length-set xs i x l)
 
--- ---- what is taken in
+-- ---- a loaded ring
 pub loaded-ring-represents : LoadedRingRepresents
 unfolding ringOf firstPlace count lostCount info messageAt
 loaded-ring-represents q most =
@@ -60,7 +60,7 @@ module _ (q r : List ℕ) (twelve : length q ≡ 12) (s : RepresentsQueue r q) w
   unfolding ringCapacity capacity
   same-capacity = ap fieldC (s .sameInfo)
 
-  -- the place behind the last message
+  -- the place after the last message
   at : ℕ
   at = placeFrom (firstPlace r) (count r)
 
@@ -77,7 +77,7 @@ module _ (q r : List ℕ) (twelve : length q ≡ 12) (s : RepresentsQueue r q) w
     unfolding putLast
     put-length = length-set r _ m ∙ s .twelve
 
-    -- the counts and the info are no places
+    -- the counts and the info aren't among the places
     put-count : (k : ℕ) → k < 4 → getD (putLast r m) k 0 ≡ getD r k 0
     unfolding at
     put-count k l = put-other k (λ e. omega arith)
@@ -95,7 +95,7 @@ module _ (q r : List ℕ) (twelve : length q ≡ 12) (s : RepresentsQueue r q) w
       unfolding firstPlace
       spaced-first = spaced-other 0 (omega arith) ∙ put-count 0 (omega arith)
 
-      -- the old messages stay where they are, and the newcomer is the last
+      -- the old messages stay where they are, and the new message is the last
       spaced-message : waiting q < 8 → (i : ℕ) → i < count r + 1 → messageAt spaced i ≡ payload (getD (sendWithSpace q m) (4 + i) 0)
       unfolding at
       spaced-message room i l =
@@ -148,7 +148,7 @@ module _ (q r : List ℕ) (twelve : length q ≡ 12) (s : RepresentsQueue r q) w
         unfolding full firstPlace
         full-first = both-first (putLast r m) 0 2 _ _ (omega arith) (omega (arith, put-length))
 
-        -- the queue's words: the slots moved up, and the newcomer in the last
+        -- the queue's words: the slots moved up, and the new message in the last
         up : waiting q ≤ 8
         up = omega (arith, s .most, s .sameCount)
 
@@ -283,7 +283,7 @@ pub queues-simulate : QueuesSimulate
 queues-simulate q r twelve one slots s =
     (send-along q r twelve s one slots, λ some. receive-along q r twelve s (omega arith))
 
--- ---- what is put out
+-- ---- a stored ring
 
 -- a word is its kind and its payload
 whole-word : (k w : ℕ) → kind w ≡ k → w ≡ word k (payload w)

@@ -1,5 +1,5 @@
--- When a ring stands for an endpoint's queue, and what is claimed of it: a ring that is taken in stands for the queue, sends and
--- receives go along, and what is put out is the queue.
+-- When a ring represents an endpoint's queue (document 02 (l)), and what is claimed of it: a loaded ring represents the queue,
+-- sends and receives on a ring simulate those on the queue, and a stored ring is the queue.
 use Prim.Native.Nat.{ℕ, _+_, _<_, _≤_}
 use mathlib.Core.Path.{_≡_}
 use mathlib.Core.Bool.{true}
@@ -11,8 +11,8 @@ use Rattle.machine.specs.Check.{queueOk}
 use Rattle.ring_theory.specs.Ring as ring
 use Rattle.ring_theory.specs.Ring.{firstPlace, count, lostCount, messageAt, ringSent, ringTake, ringOf, storedQueue}
 
--- The ring r stands for the queue of the endpoint's words q: the same counts, the same info, the same messages in their order.
--- Which place is the first is free, and so is what stands in places behind the count.
+-- The ring r represents the queue of the endpoint's words q: the same counts, the same info, the same messages in their order.
+-- Any place may be the first, and the places after the count may have any word.
 pub record RepresentsQueue (r q : List ℕ) : Type 0 where
   pub twelve : length r ≡ 12
   pub place : firstPlace r < 8
@@ -22,11 +22,11 @@ pub record RepresentsQueue (r q : List ℕ) : Type 0 where
   pub sameInfo : ring.info r ≡ getD q 1 0
   pub messages : (i : ℕ) → i < count r → messageAt r i ≡ payload (getD q (4 + i) 0)
 
--- what is taken in stands for the queue
+-- a loaded ring represents the queue
 abbrev pub LoadedRingRepresents : Type 0
 LoadedRingRepresents = (q : List ℕ) → waiting q ≤ 8 → RepresentsQueue (ringOf q) q
 
--- A send, to a full queue too, and a receive leave a ring that stands for what they leave of the queue.
+-- A send, to a full queue too, and a receive leave a ring that represents what they leave of the queue.
 abbrev pub QueuesSimulate : Type 0
 QueuesSimulate =
     (q r : List ℕ)
@@ -37,7 +37,7 @@ QueuesSimulate =
     → ((message : ℕ) → message ≤ mostPayload → RepresentsQueue (ringSent r message) (sent q message))
     × (1 ≤ waiting q → RepresentsQueue (ringTake r) (received q))
 
--- what is put out, to words with the same name and info, is the queue
+-- a ring stored to words with the same name and info is the queue
 abbrev pub StoreIsQueue : Type 0
 StoreIsQueue =
     (q₀ q r : List ℕ)

@@ -1,10 +1,11 @@
--- Rows of literals that pin the rings: places that go round, full rings, and what is taken in and put out. Worked out by hand.
+-- Rows of literals that pin the rings (document 02 (l)): places that wrap round, full rings, and what is loaded and stored. They
+-- are worked out by hand.
 use Prim.Native.Nat.{ℕ}
 use mathlib.Core.Path.{_≡_}
 use mathlib.Core.List.{List, [], _∷_}
 use Rattle.ring_theory.specs.Ring.{ringSent, ringTake, ringOf, storedQueue}
 
--- A row: what a send and a receive leave of a ring, the ring that is taken in, and the words that one is put out to.
+-- A row: what a send and a receive leave of a ring, the ring that is loaded, and what a stored ring makes of an endpoint's words.
 pub data RingRow : Type 0 where
   sends : (ring : List ℕ) (message : ℕ) (left : List ℕ) → RingRow
   takes : (ring left : List ℕ) → RingRow
@@ -31,20 +32,20 @@ filled waiting =
 
 abbrev pub ringRows : List RingRow
 ringRows =
-    -- with space: the newcomer stands behind the last, round the end too
+    -- with space: the new message is after the last, also where that wraps round
     sends (numbered 0 2 4 0x4000_0103) 9 (0 ∷ 3 ∷ 4 ∷ 0x4000_0103 ∷ 1 ∷ 2 ∷ 9 ∷ 4 ∷ 5 ∷ 6 ∷ 7 ∷ 8 ∷ [])
     ∷ sends (numbered 6 2 4 0x4000_0103) 9 (6 ∷ 3 ∷ 4 ∷ 0x4000_0103 ∷ 9 ∷ 2 ∷ 3 ∷ 4 ∷ 5 ∷ 6 ∷ 7 ∷ 8 ∷ [])
-    -- full: the first place moves on and lost rises, to its largest
+    -- full: the first place moves by one and lost rises, up to its largest
     ∷ sends (numbered 6 3 4 0x4000_0103) 9 (7 ∷ 3 ∷ 5 ∷ 0x4000_0103 ∷ 1 ∷ 9 ∷ 3 ∷ 4 ∷ 5 ∷ 6 ∷ 7 ∷ 8 ∷ [])
     ∷ sends (numbered 7 1 0x0FFF_FFFF 0x4000_0001) 9 (0 ∷ 1 ∷ 0x0FFF_FFFF ∷ 0x4000_0001 ∷ 9 ∷ 2 ∷ 3 ∷ 4 ∷ 5 ∷ 6 ∷ 7 ∷ 8 ∷ [])
-    -- full to the last place: the newcomer stands where the oldest did
+    -- full to the last place: the new message is where the oldest was
     ∷ sends (numbered 2 8 0 0x4000_0008) 9 (3 ∷ 8 ∷ 1 ∷ 0x4000_0008 ∷ 1 ∷ 2 ∷ 9 ∷ 4 ∷ 5 ∷ 6 ∷ 7 ∷ 8 ∷ [])
-    -- a receive moves the first place, round the end too
+    -- a receive moves the first place, also where that wraps round
     ∷ takes (numbered 2 3 4 0x4000_0103) (numbered 3 2 4 0x4000_0103)
     ∷ takes (numbered 7 1 4 0x4000_0103) (numbered 0 0 4 0x4000_0103)
-    -- what is taken in begins at place 0
+    -- a loaded ring begins at place 0
     ∷ takesIn (filled 0x5000_0002) (0 ∷ 2 ∷ 4 ∷ 0x4000_0103 ∷ 10 ∷ 11 ∷ 12 ∷ 13 ∷ 14 ∷ 15 ∷ 16 ∷ 17 ∷ [])
-    -- what is put out begins with the oldest, and is empty from the count on
+    -- the stored slots begin with the oldest message, and are empty from the count on
     ∷ putsOut (numbered 6 3 5 0x4000_0103) (filled 0x5000_0002)
     (0x3000_0011 ∷ 0x4000_0103 ∷ 0x5000_0003 ∷ 0x6000_0005
     ∷ 0xF000_0007 ∷ 0xF000_0008 ∷ 0xF000_0001 ∷ 0xF000_0000 ∷ 0xF000_0000 ∷ 0xF000_0000 ∷ 0xF000_0000 ∷ 0xF000_0000 ∷ [])

@@ -1,4 +1,4 @@
--- A ring and what is done with it, what is claimed of it, and rows that pin it.
+-- A ring and what is done with it, what is claimed of it, and rows of literals that pin it.
 pub mod Ring
 pub mod Claims
 pub mod Examples

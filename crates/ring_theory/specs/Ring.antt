@@ -1,5 +1,6 @@
--- A queue as a ring (document 02 (l)): eight places with a first place and a count, going round, in twelve words. What a send and
--- a receive make of them, and how a ring is taken in from an endpoint's twelve words and put out to them. Any words will do.
+-- A queue as a ring (document 02 (l)): eight places with a first place and a count, wrapping round, in twelve words. The file has
+-- what a send and a receive make of them, and how a ring is loaded from an endpoint's twelve words and stored to them. The
+-- definitions are total: they accept arbitrary words.
 use Prim.Native.Nat.{ℕ, _+_, _-_, _%_, min}
 use mathlib.Core.Bool.{cond}
 use mathlib.Core.List.{List, _∷_, _++_}
@@ -29,7 +30,7 @@ ringOwner r = fieldB (info r)
 unfoldable pub ringCapacity : List ℕ → ℕ
 ringCapacity r = fieldC (info r)
 
--- the word of the i-th place from the first place f on, going round
+-- the index of the word of the i-th place from the first place f on, wrapping round
 abbrev pub placeFrom : ℕ → ℕ → ℕ
 placeFrom f i = 4 + (f + i) % 8
 
@@ -37,12 +38,12 @@ placeFrom f i = 4 + (f + i) % 8
 unfoldable pub messageAt : List ℕ → ℕ → ℕ
 messageAt r i = getD r (placeFrom (firstPlace r) i) 0
 
--- a message is put behind the last
+-- the ring with a message put after the last
 unfoldable pub putLast : List ℕ → ℕ → List ℕ
 putLast r message = set r (placeFrom (firstPlace r) (count r)) message
 
--- a send: with space the count rises by 1; else the first place moves by one, over the oldest message, and lost rises by 1,
--- staying at its largest
+-- A send: with space the count rises by 1. Else the first place moves by one, over the oldest message, and lost rises by 1,
+-- staying at its largest.
 unfoldable pub ringSent : List ℕ → ℕ → List ℕ
 ringSent r message =
     cond (ltb (count r) (ringCapacity r)) (set (putLast r message) 1 (count r + 1))
@@ -56,15 +57,15 @@ ringTake r = set (set r 0 ((firstPlace r + 1) % 8)) 1 (count r - 1)
 unfoldable pub ringOf : List ℕ → List ℕ
 ringOf q = 0 ∷ waiting q ∷ lost q ∷ getD q 1 0 ∷ wordsBelow 8 (λ i. payload (getD q (4 + i) 0))
 
--- slot i of the endpoint that a ring is put out to: message i, and empty from the count on
+-- slot i of the endpoint that a ring is stored to: message i, and empty from the count on
 unfoldable pub storedSlot : List ℕ → ℕ → ℕ
 storedSlot r i = cond (ltb i (count r)) (word 15 (payload (messageAt r i))) emptySlot
 
--- a ring put out to an endpoint's words: the name and the info stay
+-- an endpoint's words with a ring stored to them: the name and the info stay
 unfoldable pub storedQueue : List ℕ → List ℕ → List ℕ
 storedQueue r q =
     take 2 q ++ (word 5 (payload (count r)) ∷ word 6 (payload (lostCount r)) ∷ wordsBelow 8 (storedSlot r))
 
--- ---- of words of any number: what is done with twelve of them, and what comes where there are more or fewer
+-- ---- by the count of the words: `done` for twelve of them, `left` for more or fewer
 unfoldable pub ofTwelve : {A : Type 0} → List ℕ → A → A → A
 ofTwelve ws done left = cond (eqb (length ws) 12) done left

@@ -1,5 +1,5 @@
--- The places of a call one after the other, as the code takes them: what it returns at a place that refuses, and how it gets
--- past one that doesn't. Assumes nothing.
+-- The places of a call one after the other, as the code tests them: what it returns at a place that refuses, and how it passes
+-- one that doesn't. Assumes nothing.
 use mathlib.Core.Path.{_≡_, sym, ap, _∙_}
 use mathlib.Core.Bool.{Bool, true, false}
 use Prim.Native.Nat.{ℕ}
@@ -18,7 +18,7 @@ pub pass : (b : Bool) (k : ℕ) (d next : Decision) → b ≡ false → d ≡ ne
 unfolding place
 pass b k d next h e = rw h e
 
--- the tests of numbers in front of what comes next
+-- the range tests, followed by what comes next
 pub outside : {r : Range} {k : Refusal} {d : Decision} (next : Decision) → r ≡ Outside k → followed r next ≡ d → refused (numberOf k) ≡ d
 unfolding followed
 outside {r} {k} {d} next is same = ap (λ (x : Range). followed x next) (sym is) ∙ same

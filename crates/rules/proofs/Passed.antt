@@ -1,4 +1,4 @@
--- A decision of the code that is no refusal has passed its places. Assumes nothing.
+-- A decision of the code that isn't a refusal has passed its places. Assumes nothing.
 use mathlib.Core.Path.{_≡_, refl}
 use mathlib.Core.Bool.{Bool, true, false}
 use mathlib.Core.List.{[], _∷_}
@@ -13,7 +13,7 @@ use Rattle.rules.specs.declared.Decision.{Decision}
 use Rattle.rules.specs.declared.Decision.the-variants.{Refused, Sends, Receives, Grants, Removes, Revokes}
 use Rattle.rules.proofs.Decision.{the-type}
 
--- the code's test: one of the variants behind the refusal
+-- the code's test: one of the variants after the refusal
 abbrev pub IsDone : Decision → Type 0
 IsDone x = OneOf (1 ∷ 2 ∷ 3 ∷ 4 ∷ 5 ∷ []) (tagOf the-type x)
 

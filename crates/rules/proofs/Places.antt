@@ -1,4 +1,4 @@
--- The machine's places of a call are the tests of its numbers, followed by the tests of what the table holds, kind by kind.
+-- The machine's places of a call are its range tests, followed by the tests of what the table holds, kind by kind.
 -- Assumes nothing.
 use mathlib.Core.Path.{_≡_, refl, ap₂, _∙_}
 use mathlib.Core.List.{List}
@@ -15,7 +15,7 @@ use Rattle.rules.specs.declared.range.Range.{Range}
 use Rattle.rules.specs.Range.{followed, callerNumber, refusedNumbers, endpointNumbers, grantNumbers, removeNumbers, callNumbers}
 use Rattle.rules.specs.Access.{sendAccess, receiveAccess, grantAccess, revokeAccess, removeAccess, Reading, accessBy, decidedBy}
 
--- what a table's words hold
+-- what is read from a table's words
 abbrev pub readingOf : List ℕ → Reading
 readingOf t =
     record {
@@ -37,7 +37,7 @@ decide-places t (Grant u g h r) = refl
 decide-places t (Remove u g r) = refl
 decide-places t (Revoke u g h r) = refl
 
--- so whatever tested the numbers by n and m of the table goes on with what the table holds
+-- so the range tests by the table's n and m, followed by the tests of what the table holds, give the machine's decision
 pub decided : (t : List ℕ) (n m : ℕ) (call : Call) (r : Range)
     → n ≡ domains t
     → m ≡ endpoints t

@@ -1,4 +1,4 @@
--- Readings that agree come to the same (specs/Readings): what lies outside n and m is refused before it is read.
+-- Readings that agree give the same decision (specs/Readings): what is outside n and m is refused before it is read.
 -- Assumes nothing.
 use mathlib.Core.Path.{_≡_, refl, ap, ap₂, _∙_}
 use mathlib.Core.Bool.{Bool, true, false, not}
@@ -13,13 +13,13 @@ use Rattle.rules.specs.Range.{callerNumber, endpointNumbers, grantNumber
 use Rattle.rules.specs.Access.{sendAccess, receiveAccess, grantAccess, revokeAccess, removeAccess, accessBy}
 use Rattle.rules.specs.Readings.{SameDecision}
 
--- behind a place only what passes it matters
+-- after a place only what passes it matters
 pub place-same : (b : Bool) (k : ℕ) {x y : Decision} → (b ≡ false → x ≡ y) → place b k x ≡ place b k y
 unfolding place
 place-same true k same = refl
 place-same false k same = same refl
 
--- the numbers passed are below their bounds
+-- the indices that passed the tests are below their bounds
 module _ (n m u : ℕ) {x y : Decision} where
   caller-same : (u < n → x ≡ y) → callerNumber n u x ≡ callerNumber n u y
   unfolding callerNumber

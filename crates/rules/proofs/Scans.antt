@@ -1,4 +1,4 @@
--- Loops over the numbers below k: the first that passes a test. Assumes nothing.
+-- Loops over the indices below k: the first that passes a test. Assumes nothing.
 use mathlib.Core.Path.{_≡_, sym, ap, ap₂, _∙_}
 use mathlib.Core.Bool.{Bool, true, false, cond}
 use mathlib.Core.Logic.{⊎-elim}

@@ -1,5 +1,5 @@
--- The places that test what was read for a call, by plain values: 15, 17, 18, 19, 22 and 23; and what a call comes to by these and by
--- the tests of its numbers (document 01, 'Where each number is checked').
+-- The places that test what was read for a call, by plain values (15, 17, 18, 19, 22 and 23), and the decision on a call by these
+-- and by its range tests (document 01, 'Where each number is checked').
 use Prim.Native.Nat.{ℕ}
 use mathlib.Core.Bool.{not, _&&_, _||_}
 use mathlib.Core.Option.{Option, none, some}
@@ -14,7 +14,7 @@ use Rattle.rules.specs.Range.{callNumbers}
 use Rattle.rules.specs.declared.access.Found.{Found}
 use Rattle.rules.specs.declared.access.Found.the-variants.{At, Nothing}
 
--- what was found of a name
+-- the endpoint that was found for a name
 unfoldable pub foundOf : Found → Option ℕ
 foundOf (At e) = some e
 foundOf Nothing = none
@@ -49,7 +49,7 @@ pub record Reading : Type 0 where
   pub waiting : ℕ → ℕ
   pub named : ℕ → Option ℕ
 
--- the places of a call behind the tests of its numbers, by what is read for it
+-- the places of a call after its range tests, by what is read for it
 unfoldable pub accessBy : Reading → Call → Decision
 accessBy r (Refused u k) = refused (numberOf k)
 accessBy r (LookUp u x) = lookUpPlaces (r .named x)
@@ -61,6 +61,6 @@ accessBy r (Grant u g h s) = grantAccess u g h s (r .rights u g) (r .rights u h)
 accessBy r (Remove u g s) = removeAccess u g s (r .rights u g)
 accessBy r (Revoke u g h s) = revokeAccess u g h s (r .rights u g) (r .rights u h)
 
--- what a call comes to among n domains and m endpoints: the tests of its numbers, and then of what is read
+-- the decision on a call among n domains and m endpoints: its range tests, and then the tests of what is read
 abbrev pub decidedBy : ℕ → ℕ → Reading → Call → Decision
 decidedBy n m r call = callNumbers n m call (accessBy r call)

@@ -1,4 +1,4 @@
--- What is decided, as the machine has it.
+-- The decision of the code as the machine's (document 01, 'Where each number is checked').
 use Rattle.machine.specs.Machine as machine
 use Rattle.calls.specs.Number.{numberOf}
 use Rattle.rules.specs.declared.Decision.{Decision}

@@ -1,4 +1,4 @@
--- What the contracts of this crate cite besides the machine and the calls' definitions.
+-- What the contracts of this crate cite besides the definitions of the machine and of crate calls.
 pub mod Decision
 pub mod Range
 pub mod Access

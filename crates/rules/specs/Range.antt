@@ -1,4 +1,5 @@
--- The places that test a call's numbers by n and m alone: 12, 16, 20 and 21 (document 01, 'Where each number is checked').
+-- The range tests: the places that test the indices and rights that a call names, by n and m alone: 12, 16, 20 and 21
+-- (document 01, 'Where each number is checked').
 use Prim.Native.Nat.{ℕ}
 use mathlib.Core.Bool.{cond, not, _&&_}
 use lib.Dec.{ltb}
@@ -11,7 +12,7 @@ use Rattle.calls.specs.declared.Call.the-variants.{LookUp, Send, Receive, MyEnd
 use Rattle.rules.specs.declared.range.Range.{Range}
 use Rattle.rules.specs.declared.range.Range.the-variants.{Within, Outside}
 
--- the tests' result, and where none failed what comes next
+-- the refusal by the tests, or what comes next where none failed
 unfoldable pub followed : Range → Decision → Decision
 followed Within next = next
 followed (Outside r) next = refused (numberOf r)
@@ -37,7 +38,7 @@ grantNumbers n u g h r next =
 unfoldable pub removeNumbers : ℕ → ℕ → ℕ → ℕ → Decision → Decision
 removeNumbers n u g r next = callerNumber n u (place (not (ltb g n)) 20 (place (not (isSet r)) 21 next))
 
--- all of a call's, before what comes next
+-- all range tests of a call, before what comes next
 unfoldable pub callNumbers : ℕ → ℕ → Call → Decision → Decision
 callNumbers n m (Refused u r) next = refusedNumbers n u r next
 callNumbers n m (LookUp u x) next = callerNumber n u next

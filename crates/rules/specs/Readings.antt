@@ -1,10 +1,10 @@
--- When two readings of n domains and m endpoints agree, and what is claimed of them: every call comes to the same.
+-- When two readings of n domains and m endpoints agree, and what is claimed of them: the decision on every call is the same.
 use Prim.Native.Nat.{ℕ, _<_}
 use mathlib.Core.Path.{_≡_}
 use Rattle.calls.specs.declared.Call.{Call}
 use Rattle.rules.specs.Access.{Reading, decidedBy}
 
--- the same rights among the domains, and the same endpoints, owned by domains
+-- the same rights among the domains, the same endpoints, owned by domains, and the same names
 pub record SameReading (n m : ℕ) (r s : Reading) : Type 0 where
   pub rights : (h g : ℕ) → h < n → g < n → r .rights h g ≡ s .rights h g
   pub owner : (e : ℕ) → e < m → r .owner e ≡ s .owner e

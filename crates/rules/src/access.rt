@@ -1,5 +1,6 @@
-// The tests of what was read for a call (17, 18, 19, 22 and 23), by plain values: who owns the endpoint, what the caller
-// holds, what waits. Whoever holds a table in another layout reads its own and asks the same.
+// The tests of what was read for a call (17, 18, 19, 22 and 23), by plain values: who owns the endpoint, what the caller holds,
+// how many messages wait (document 01, 'Where each number is checked'; document 02, (b), (f) and (i)). Code that holds a table in
+// another layout reads its own words and calls the same tests.
 use crate::Decision;
 use calls::Refusal;
 use rights::Rights;
@@ -10,13 +11,13 @@ ghost use Rattle.machine.specs.Right.{holds, hasAny};
 ghost use Rattle.rules.specs.Decision.{decisionOf};
 ghost use Rattle.rules.specs.Access.{sendAccess, receiveAccess, grantAccess, revokeAccess, removeAccess};
 
-// The endpoint that has a name, if one has it: place 15 is that none has.
+// The endpoint that has a name, or nothing, which place 15 refuses.
 pub enum Found {
     At(u32),
     Nothing,
 }
 
-// Place 17: held are the caller's rights on the endpoint's owner.
+// Returns the decision on a send by place 17. `held` has the caller's rights on the endpoint's owner.
 pub fn send(held: Rights, endpoint: u32, message: u32) -> Decision
     ensures { λ d. ⌜ decisionOf d ≡ sendAccess (held .bits) endpoint message ⌝ }
 {
@@ -27,7 +28,7 @@ pub fn send(held: Rights, endpoint: u32, message: u32) -> Decision
     Decision::Sends { endpoint, message }
 }
 
-// Places 18 and 19.
+// Returns the decision on a receive by places 18 and 19. `waiting` is how many messages wait.
 pub fn receive(caller: u32, owner: u32, waiting: u32, endpoint: u32) -> Decision
     ensures { λ d. ⌜ decisionOf d ≡ receiveAccess caller owner waiting endpoint ⌝ }
 {
@@ -40,7 +41,7 @@ pub fn receive(caller: u32, owner: u32, waiting: u32, endpoint: u32) -> Decision
     Decision::Receives { endpoint }
 }
 
-// The right that a call needs is held, and so are the rights that it speaks of.
+// Returns whether the right that a call needs is held, and so are all rights that the call names.
 fn holds_both(held: Rights, needed: Rights, given: u32) -> bool
     ensures { λ b. ⌜ b ≡ (holds (held .bits) (needed .bits) && holds (held .bits) given) ⌝ }
 {
@@ -49,7 +50,7 @@ fn holds_both(held: Rights, needed: Rights, given: u32) -> bool
     able & all
 }
 
-// Whether the caller influences another domain: it is that one, or has any right on it.
+// Returns whether the caller influences another domain: it is that one, or has any right on it.
 fn influences(caller: u32, other: u32, toward: Rights) -> bool
     ensures { λ b. ⌜ b ≡ (eqb caller other || hasAny (toward .bits)) ⌝ }
 {
@@ -57,7 +58,8 @@ fn influences(caller: u32, other: u32, toward: Rights) -> bool
     (caller == other) | by_right
 }
 
-// Places 22 and 23: held are the caller's rights on the target, toward those on the recipient.
+// Returns the decision on a grant by places 22 and 23. `held` has the caller's rights on the target, `toward` those on the
+// recipient.
 pub fn grant(
     caller: u32,
     target: u32,
@@ -83,7 +85,8 @@ pub fn grant(
     }
 }
 
-// Places 22 and 23: held are the caller's rights on the target, toward those on the holder. What the holder has is not read.
+// Returns the decision on a revoke by places 22 and 23. `held` has the caller's rights on the target, `toward` those on the
+// holder. The holder's own rights are not read.
 pub fn revoke(
     caller: u32,
     target: u32,
@@ -109,7 +112,7 @@ pub fn revoke(
     }
 }
 
-// Place 22: held are the caller's rights on the target.
+// Returns the decision on a remove by place 22. `held` has the caller's rights on the target.
 pub fn remove(caller: u32, target: u32, rights: u32, held: Rights) -> Decision
     ensures { λ d. ⌜ decisionOf d ≡ removeAccess caller target rights (held .bits) ⌝ }
 {

@@ -1,12 +1,12 @@
-// The conditions of the places 12 and 16 to 23 of a call, by plain values and without a table: those of the numbers that a call
-// names (range), and those of what was read for it (access). Each stands here once, for whoever holds a table in whatever
-// layout.
+// The conditions of the places 12 and 16 to 23 of a call (document 01, 'Where each number is checked'; document 02, (b), (f) and
+// (i)), by plain values and without a table: those of the indices and rights that a call names (range), and those of what was read
+// for it (access). Each is here once, for code that holds a table in any layout.
 pub mod access;
 pub mod range;
 
 use calls::Refusal;
 
-// A refusal, or the row, with what it needs, of a call that is decided by what was read for it.
+// The decision on a call by what was read for it: a refusal, or its row with the values that it needs.
 pub enum Decision {
     Refused(Refusal),
     Sends {

@@ -1,4 +1,4 @@
-// What the run of a list comes to at its entry, and document 01's numbers for it.
+// The result of running a list, with document 01's codes for it ('Where each number is checked').
 use table_check::TableRefusal;
 ghost use mathlib.Core.Path.{_≡_};
 ghost use Rattle.run_result.specs.Entry.{entryRefusalCode, ranCode, ranCalls};
@@ -12,6 +12,7 @@ pub enum EntryRefusal {
 }
 
 impl EntryRefusal {
+    // Returns document 01's code for the refusal.
     pub fn code(self) -> u32
         ensures { λ r. ⌜ r ≡ entryRefusalCode self ⌝ }
     {
@@ -24,13 +25,14 @@ impl EntryRefusal {
     }
 }
 
-// What the run of a list comes to: a refusal at the entry, or the number of calls that ran.
+// The result of running a list: a refusal at the entry, or the count of calls that ran.
 pub enum Ran {
     Refused(EntryRefusal),
     Done(usize),
 }
 
 impl Ran {
+    // Returns document 01's code for the result: 0 where the list ran.
     pub fn code(self) -> u32
         ensures { λ r. ⌜ r ≡ ranCode self ⌝ }
     {
@@ -40,6 +42,7 @@ impl Ran {
         }
     }
 
+    // Returns the count of calls that ran: 0 after a refusal.
     pub fn calls(self) -> usize
         ensures { λ r. ⌜ r ≡ ranCalls self ⌝ }
     {

@@ -1,5 +1,5 @@
--- Where the words of a table stand: below its length where the length is right, and at numbers that the code's arithmetic
--- holds. w is word 0 of the table. Assumes nothing.
+-- The places of a table's words: below its length where the length is valid, and small enough for the code's arithmetic. w is
+-- word 0 of the table. Assumes nothing.
 use mathlib.Core.Path.{_≡_}
 use Prim.Native.Nat.{ℕ, _+_, _*_, _/_, _%_, _<_, _≤_}
 use native.Mathlib.Omega.{arith}
@@ -7,7 +7,7 @@ use mir.Syntax.{w64}
 use mir.Val.{Fits}
 use Rattle.table_check.proofs.Places.{square-small}
 
--- the number of rights words, of the words before the endpoints, and of all words
+-- the count of rights words, of the words before the endpoints, and of all words
 pub count-fits : (w : ℕ) → Fits w64 ((w / 256 % 256) * (w / 256 % 256))
 count-fits w = omega (arith, square-small (w / 256))
 

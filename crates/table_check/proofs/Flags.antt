@@ -1,5 +1,5 @@
--- Names and their flags: each name that was passed has set the flag that it points to (specs/Names), so a name whose flag isn't set
--- differs from all of them. Assumes nothing.
+-- Names and their flags: each name that was passed has set its flag (specs/Names), so a name whose flag isn't set differs
+-- from all of them. Assumes nothing.
 use mathlib.Core.Path.{_≡_, sym, ap, _∙_}
 use mathlib.Core.Bool.{true, not}
 use mathlib.Core.List.{List}

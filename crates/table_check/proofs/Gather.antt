@@ -31,7 +31,7 @@ all-both zero p q = refl
 all-both (suc k) p q =
     ap (λ (b : Bool). b && (p k && q k)) (all-both k p q) ∙ and-swap (allBelow k p) (allBelow k q) (p k) (q k)
 
--- What a loop over m endpoints keeps: the words of those passed are right, and their names stand in a list of 32.
+-- What a loop over m endpoints keeps: the words of those passed are valid, and their names are in a list of 32.
 pub record Gathered (t : List ℕ) (m : ℕ) (names : List ℕ) (e : ℕ) : Type 0 where
   pub tested : Scanned (λ f. endpointOk (domains t) (endpoint t f)) m true e
   pub named : Filled (λ f. name (endpoint t f)) 32 names e

@@ -1,3 +1,3 @@
--- What the contracts of this crate cite besides the machine.
+-- The definitions that the contracts of this crate cite besides the machine's: names that differ, and the codes of the check.
 pub mod Names
 pub mod Checked

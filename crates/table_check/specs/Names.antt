@@ -1,4 +1,5 @@
--- Names that differ: the machine asks it of endpoint after endpoint (specs/Check, nameNew), here it is asked of a list of names.
+-- Names that differ. The machine tests it endpoint by endpoint (specs/Check of the machine: nameNew), here it is tested of a
+-- list.
 use Prim.Native.Nat.{ℕ, _*_, _/_, _%_, _<_}
 use mathlib.Core.Path.{_≡_}
 use mathlib.Core.Bool.{Bool, not}
@@ -15,7 +16,7 @@ newAt names e = allBelow e (λ f. not (eqb (getD names f 0) (getD names e 0)))
 unfoldable pub allDifferent : List ℕ → Bool
 allDifferent names = allBelow (length names) (newAt names)
 
--- where the flag of a name stands among 512: any function of the name would do
+-- the index of a name's flag among 512: any function of the name works
 abbrev pub flagOf : ℕ → ℕ
 flagOf name = name * 2654435761 / 8388608 % 512
 

@@ -1,4 +1,5 @@
-// The table check: it accepts or refuses a lent table, place by place.
+// The table check, which accepts or refuses a lent table place by place: document 01, 'The table' and 'Where each number is
+// checked'.
 use crate::names::all_different;
 use format::KIND_UNIT;
 use format::tables::ENDPOINT_PLACES;
@@ -18,7 +19,7 @@ ghost use Rattle.table_check.specs.Checked.{refusalCode, checkedCode, He
 pub enum TableRefusal {
     // 2: the table is empty, or word 0 breaks its layout
     BadHeader,
-    // 3: the length differs from the one that word 0 asks for
+    // 3: the length differs from the one that word 0 requires
     BadLength,
     // 4: a rights word breaks its layout
     BadRights,
@@ -27,7 +28,7 @@ pub enum TableRefusal {
 }
 
 impl TableRefusal {
-    // Document 01's number for it.
+    // Returns document 01's code for the refusal.
     pub fn code(self) -> u32
         ensures { λ r. ⌜ r ≡ refusalCode self ⌝ }
     {
@@ -40,14 +41,14 @@ impl TableRefusal {
     }
 }
 
-// What the check answers.
+// The result of the check.
 pub enum Checked {
     Sound,
     Refused(TableRefusal),
 }
 
 impl Checked {
-    // Document 01's number for it: 0 where no place refuses.
+    // Returns document 01's code for the result: 0 where no place refuses.
     pub fn code(self) -> u32
         ensures { λ r. ⌜ r ≡ checkedCode self ⌝ }
     {
@@ -58,7 +59,7 @@ impl Checked {
     }
 }
 
-// Place 2: word 0 is there and right.
+// Returns whether place 2 passes: word 0 is there and valid.
 fn header_ok(table: &[u32]) -> bool
     ensures { λ b. ⌜ b ≡ headerOk (now (table .entry)) ⌝ }
 {
@@ -68,7 +69,7 @@ fn header_ok(table: &[u32]) -> bool
     header_word_ok(table[0])
 }
 
-// Place 3: the length is the one that the n domains and m endpoints of word 0 ask for.
+// Returns whether place 3 passes: the length is the one that the n domains and m endpoints of word 0 require.
 fn length_ok(table: &[u32]) -> bool
     ensures { λ b. ⌜ b ≡ lengthOk (now (table .entry)) ⌝ }
 {
@@ -81,7 +82,8 @@ fn length_ok(table: &[u32]) -> bool
     table.len() == 1 + n * n + ENDPOINT_WORDS * m
 }
 
-// Place 4: every rights word is right. What is wrong is gathered in one pass without a way out, so that it takes several words at a time.
+// Returns whether place 4 passes: every rights word is valid. Precondition: the places 2 and 3 pass. The wrong bits are
+// gathered in one pass without an early exit, so that it processes several words at a time.
 fn rights_ok(table: &[u32]) -> bool
     requires { ⌜ Headed (now table) ⌝ }
     ensures { λ b. ⌜ b ≡ rightsOk (now (table .entry)) ⌝ }
@@ -99,7 +101,8 @@ fn rights_ok(table: &[u32]) -> bool
     wrong <= Rights::ALL.bits
 }
 
-// Place 5: every endpoint word is right and no name repeats. The names are gathered on the way, and compared at the end.
+// Returns whether place 5 passes: every endpoint word is valid and no name repeats. Precondition: the places 2 and 3 pass.
+// The loop gathers the names, which are compared at the end.
 fn endpoints_ok(table: &[u32]) -> bool
     requires { ⌜ Headed (now table) ⌝ }
     ensures { λ b. ⌜ b ≡ endpointsOk (now (table .entry)) ⌝ }
@@ -122,7 +125,7 @@ fn endpoints_ok(table: &[u32]) -> bool
     all_different(&names[0..m])
 }
 
-// The places 2 to 5 of document 01 for a table; the first that fails decides. No word is written.
+// Checks a table by the places 2 to 5 of document 01. The first that fails decides. No word is written.
 pub fn check(table: &[u32]) -> Checked
     ensures { λ r. ⌜ checkedCode r ≡ tableCode (now (table .entry)) ⌝ }
 {

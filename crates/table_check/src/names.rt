@@ -1,5 +1,6 @@
-// Whether the names of all endpoints differ. A few names are compared pair by pair. Of many, each sets a flag that its hash
-// points to: a name whose flag isn't set yet differs from all before it, and only one that finds it set is compared with them.
+// Tests whether the names of all endpoints differ (document 01, 'The table'). A few names are compared pair by pair. Of many,
+// each sets a flag that its hash selects: a name whose flag isn't set yet differs from all before it, and only one whose flag
+// is set is compared with them.
 ghost use mathlib.Core.Path.{_≡_};
 ghost use Prim.Native.Nat.{_<_};
 ghost use lib.ListN.{length};
@@ -8,7 +9,7 @@ ghost use Rattle.table_check.specs.Names.{newAt, allDifferent, flagOf, F
 // With more names than these the flags cost less than the pairs.
 const FEW: usize = 9;
 
-// No name before the one at e is the same.
+// Returns whether the name at e differs from all before it.
 fn is_new(names: &[u32], e: usize) -> bool
     requires { ⌜ e < length (now names) ⌝ }
     ensures { λ b. ⌜ b ≡ newAt (now (names .entry)) e ⌝ }
@@ -24,7 +25,7 @@ fn is_new(names: &[u32], e: usize) -> bool
     true
 }
 
-// No two names are the same, pair by pair.
+// Returns whether no two names are the same, by comparing pairs.
 fn few_different(names: &[u32]) -> bool
     ensures { λ b. ⌜ b ≡ allDifferent (now (names .entry)) ⌝ }
 {
@@ -38,15 +39,15 @@ fn few_different(names: &[u32]) -> bool
     true
 }
 
-// Where the flag of a name stands: nine bits out of its product with 2^32 over the golden ratio, which sends names that follow one
-// another far apart.
+// Returns the index of a name's flag: nine bits of the name's product with about 2^32 over the golden ratio, so that
+// consecutive names get indices far apart.
 fn flag_of(name: u32) -> usize
     ensures { λ r. ⌜ r ≡ flagOf name ⌝ }
 {
     (name as u64 * 0x9E37_79B1 / 0x80_0000 % 512) as usize
 }
 
-// No name before the one at e is the same, where the flags of all those are set.
+// Returns whether the name at e differs from all before it. Precondition: the flags of all those are set.
 fn is_new_by_flags(flags: &[u8; 512], names: &[u32], e: usize) -> bool
     requires { ⌜ Flagged (now names) (now flags) e × (e < length (now names)) ⌝ }
     ensures { λ b. ⌜ b ≡ newAt (now (names .entry)) e ⌝ }
@@ -58,7 +59,7 @@ fn is_new_by_flags(flags: &[u8; 512], names: &[u32], e: usize) -> bool
     is_new(names, e)
 }
 
-// No two names are the same, with the flags.
+// Returns whether no two names are the same, with the flags.
 fn many_different(names: &[u32]) -> bool
     ensures { λ b. ⌜ b ≡ allDifferent (now (names .entry)) ⌝ }
 {
@@ -75,7 +76,7 @@ fn many_different(names: &[u32]) -> bool
     true
 }
 
-// No two names are the same.
+// Returns whether no two names are the same.
 pub fn all_different(names: &[u32]) -> bool
     ensures { λ b. ⌜ b ≡ allDifferent (now (names .entry)) ⌝ }
 {

@@ -31,7 +31,7 @@ module _ (ws : List ℕ) (words : (i : ℕ) → getD ws i 0 < 2 ^ 32) where
   back : wordsOf (bytesOf ws) ≡ ws
   back = wordsOf-bytesOf ws words
 
-  -- the length of the bytes is right where that of the words is
+  -- the length of the bytes is valid where that of the words is
   sizes : eqb (length (bytesOf ws)) (bytesFor ws) ≡ lengthOk ws
   unfolding lengthOk bytesFor
   sizes = rw (length-bytesOf ws) (times-four (length ws) (lengthFor (domains ws) (endpoints ws)))

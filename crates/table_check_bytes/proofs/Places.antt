@@ -53,7 +53,7 @@ module _ (b : List ℕ) where
   pub first-word : 4 ≤ length b → headerOk (wordsOf b) ≡ headerWordOk (getD (wordsOf b) 0 0)
   first-word f = word-header (wordsOf b) (λ e. omega (arith, length-wordsOf b))
 
-  -- a first word that is right is there
+  -- where the first word is valid, four bytes are there
   pub header-four : headerOk (wordsOf b) ≡ true → 4 ≤ length b
   unfolding headerOk
   header-four h =
@@ -89,7 +89,7 @@ module _ (b : List ℕ) where
   unfolding bytesCode
   bytes-3 h n = rw (le-ltb (length b) 4 (header-four h), h, n)
 
-  -- of the right length: the words decide
+  -- of a valid length: the words decide
   pub bytes-words : Fitting b → tableCode (wordsOf b) ≡ bytesCode b
   unfolding bytesCode
   bytes-words f =

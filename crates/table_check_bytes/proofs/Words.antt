@@ -1,4 +1,4 @@
--- An endpoint's twelve words, tested where they stand among a table's. Assumes nothing.
+-- An endpoint's twelve words, tested at their places among a table's. Assumes nothing.
 use mathlib.Core.Path.{_≡_, refl, sym, ap, _∙_}
 use mathlib.Core.Bool.{Bool, _&&_}
 use mathlib.Core.List.{List}
@@ -17,7 +17,7 @@ part-word : (t : List ℕ) (start k i : ℕ) → k < 12 → start + k ≡ i → 
 part-word t start k i l e =
     getD-take 12 (drop start t) k 0 l ∙ getD-drop start t k 0 ∙ ap (λ (x : ℕ). getD t x 0) e
 
--- an endpoint's twelve words, tested where they stand
+-- an endpoint's twelve words, tested at their places
 pub endpoint-words : (t : List ℕ) (start n x y : ℕ) → x ≡ getD t (start + 1) 0 → y ≡ getD t (start + 2) 0 → ((nameWordOk (getD t start 0) && infoWordOk n x) && (waitingWordOk (x % 256) y && lostWordOk (getD t (start + 3) 0) && allBelow 8 (λ i. slotWordOk (y - word 5 0) i (getD t (start + 4 + i) 0)))) ≡ endpointOk n (take 12 (drop start t))
 unfolding endpointOk identityOk
 endpoint-words t start n x y e f =

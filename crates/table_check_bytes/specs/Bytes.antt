@@ -9,27 +9,27 @@ use Rattle.input_words.specs.Bytes.{wordsOf, bytesOf}
 use Rattle.machine.specs.Table.{domains, endpoints, lengthFor}
 use Rattle.machine.specs.Check.{headerOk, tableCode}
 
--- four times the length that the first word asks for
+-- four times the length that the first word requires
 unfoldable pub bytesFor : List ℕ → ℕ
 bytesFor t = 4 * lengthFor (domains t) (endpoints t)
 
--- the check's code: under four bytes is 2, as is a broken first word; a length that isn't four times the right one is 3;
--- then the words decide
+-- the check's code: 2 where there are fewer than four bytes or the first word is broken, 3 where the length isn't four times
+-- the required one; else the words decide
 unfoldable pub bytesCode : List ℕ → ℕ
 bytesCode bytes =
     let t = wordsOf bytes in
     cond (ltb (length bytes) 4 || not (headerOk t)) 2
     (cond (not (eqb (length bytes) (bytesFor t))) 3 (tableCode t))
 
--- What ties it to the check of words: bytes that are those of words of 32 bits get the code of the words,
+-- What ties it to the check of words: bytes that are those of words of 32 bits get the code of the words.
 abbrev pub SameCode : Type 0
 SameCode = (ws : List ℕ) → ((i : ℕ) → getD ws i 0 < 2 ^ 32) → bytesCode (bytesOf ws) ≡ tableCode ws
 
--- and bytes left over behind the last whole word are 3, unless the first word is broken.
+-- Bytes left over after the last whole word get 3, unless the first word is broken.
 abbrev pub LeftOver : Type 0
 LeftOver = (bytes : List ℕ) → headerOk (wordsOf bytes) ≡ true → (length bytes % 4 ≡ 0 → ⊥) → bytesCode bytes ≡ 3
 
--- what the tests behind the first two places are told: the places 2 and 3 don't refuse the bytes
+-- the precondition of the tests after the first two places: the places 2 and 3 don't refuse the bytes
 pub record Fitting (bytes : List ℕ) : Type 0 where
   pub header : headerOk (wordsOf bytes) ≡ true
   pub size : length bytes ≡ bytesFor (wordsOf bytes)

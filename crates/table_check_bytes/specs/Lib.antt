@@ -1,2 +1,2 @@
--- What the check of an image promises: document 01's definitions over bytes.
+-- The contract of the check of an image: document 01's definitions over bytes.
 pub mod Bytes

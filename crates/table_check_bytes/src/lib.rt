@@ -1,5 +1,5 @@
-// A table's check over its image, its words as little-endian bytes. The words are taken out of the bytes where they stand: only
-// the loops are here, and every test of a word is crate words'.
+// The check of a table's image, which is its words as little-endian bytes (document 01, 'Into firmware and onto the bench').
+// The words are read from the bytes in place. Only the loops are here: every test of a word is in crate table_words.
 use format::KIND_UNIT;
 use format::tables::ENDPOINT_PLACES;
 use format::tables::ENDPOINT_WORDS;
@@ -28,7 +28,7 @@ ghost use Rattle.table_check.specs.Checked.{checkedCode};
 ghost use Rattle.input_words.specs.Bytes.{wordsOf};
 ghost use Rattle.table_check_bytes.specs.Bytes.{bytesFor, bytesCode, Fitting};
 
-// Word i of the bytes.
+// Returns word i of the bytes.
 fn nth_word(bytes: &[u8], i: usize) -> u32
     requires { ⌜ 4 * i + 4 ≤ length (now bytes) ⌝ }
     ensures { λ r. ⌜ r ≡ getD (wordsOf (now (bytes .entry))) i 0 ⌝ }
@@ -37,7 +37,7 @@ fn nth_word(bytes: &[u8], i: usize) -> u32
     word(bytes[at], bytes[at + 1], bytes[at + 2], bytes[at + 3])
 }
 
-// Place 2: four bytes are there, and they make a right word 0.
+// Returns whether place 2 passes: four bytes are there, and they make a valid word 0.
 fn header_ok(bytes: &[u8]) -> bool
     ensures { λ b. ⌜ b ≡ headerOk (wordsOf (now (bytes .entry))) ⌝ }
 {
@@ -48,7 +48,8 @@ fn header_ok(bytes: &[u8]) -> bool
     }
 }
 
-// Place 3: the length is four times the one that the n domains and m endpoints of word 0 ask for.
+// Returns whether place 3 passes: the length is four times the one that the n domains and m endpoints of word 0 require.
+// Precondition: place 2 passes.
 fn length_ok(bytes: &[u8]) -> bool
     requires { ⌜ headerOk (wordsOf (now bytes)) ≡ true ⌝ }
     ensures { λ b. ⌜ b ≡ eqb (length (now (bytes .entry))) (bytesFor (wordsOf (now (bytes .entry)))) ⌝ }
@@ -59,7 +60,8 @@ fn length_ok(bytes: &[u8]) -> bool
     bytes.len() == 4 * (1 + n * n + ENDPOINT_WORDS * m)
 }
 
-// Place 4: every rights word is right. What is wrong is gathered in one pass without a way out, so that it takes several words at a time.
+// Returns whether place 4 passes: every rights word is valid. Precondition: the places 2 and 3 pass. The wrong bits are
+// gathered in one pass without an early exit, so that it processes several words at a time.
 fn rights_ok(bytes: &[u8]) -> bool
     requires { ⌜ Fitting (now bytes) ⌝ }
     ensures { λ b. ⌜ b ≡ rightsOk (wordsOf (now (bytes .entry))) ⌝ }
@@ -77,7 +79,7 @@ fn rights_ok(bytes: &[u8]) -> bool
     wrong <= Rights::ALL.bits
 }
 
-// The eight slots from word `start` on, by the waiting word.
+// Returns whether the eight slots from word `start` on are valid, by the waiting word.
 fn slots_ok(bytes: &[u8], start: usize, waiting: u32) -> bool
     requires { ⌜ 4 * start + 32 ≤ length (now bytes) ⌝ }
     ensures { λ b. ⌜ b ≡ allBelow 8 (λ i. slotWordOk (waiting - tableWord 5 0) i (getD (wordsOf (now (bytes .entry))) (start + i) 0)) ⌝ }
@@ -92,7 +94,7 @@ fn slots_ok(bytes: &[u8], start: usize, waiting: u32) -> bool
     wrong == 0
 }
 
-// The endpoint from word `start` on, among n domains.
+// Returns whether the endpoint from word `start` on is valid, among n domains.
 fn endpoint_ok(bytes: &[u8], start: usize, n: u32) -> bool
     requires { ⌜ 4 * start + 48 ≤ length (now bytes) ⌝ }
     ensures { λ b. ⌜ b ≡ endpointOk n (take 12 (drop start (wordsOf (now (bytes .entry))))) ⌝ }
@@ -107,7 +109,8 @@ fn endpoint_ok(bytes: &[u8], start: usize, n: u32) -> bool
     (name & info) & (waiting & lost & slots)
 }
 
-// Place 5: every endpoint word is right and no name repeats. The names are gathered on the way, and compared at the end.
+// Returns whether place 5 passes: every endpoint word is valid and no name repeats. Precondition: the places 2 and 3 pass.
+// The loop gathers the names, which are compared at the end.
 fn endpoints_ok(bytes: &[u8]) -> bool
     requires { ⌜ Fitting (now bytes) ⌝ }
     ensures { λ b. ⌜ b ≡ endpointsOk (wordsOf (now (bytes .entry))) ⌝ }
@@ -129,7 +132,7 @@ fn endpoints_ok(bytes: &[u8]) -> bool
     all_different(&names[0..m])
 }
 
-// The places 2 to 5 of document 01 for a table in bytes; the first that fails decides.
+// Checks a table in bytes by the places 2 to 5 of document 01. The first that fails decides.
 pub fn check(bytes: &[u8]) -> Checked
     ensures { λ r. ⌜ checkedCode r ≡ bytesCode (now (bytes .entry)) ⌝ }
 {

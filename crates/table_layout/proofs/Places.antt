@@ -1,4 +1,4 @@
--- The laws of places: they fit a machine word, and reading a table by n is reading it by its own number of domains.
+-- The laws of places: they fit a machine word, and reading a table by n is reading it by its own count of domains.
 -- Assumes nothing.
 use mathlib.Core.Path.{_≡_, ap, sym, _∙_}
 use mathlib.Core.List.{List}
@@ -11,7 +11,7 @@ use Rattle.machine.specs.Word.{payload}
 use Rattle.machine.specs.Table as table
 use Rattle.machine.specs.Table.{rightsAt, endpointAt}
 
--- a row's place, whoever the holder is, and however many domains there are
+-- a row's place, for every holder and count of domains
 pub row-fits : (h n : ℕ) → h < 2 ^ 32 → n < 2 ^ 32 → h * n ≤ 4294967295 * 4294967295
 row-fits h n ph pn =
     let qh : h ≤ 4294967295 = omega arith in

@@ -1,4 +1,4 @@
--- What crate layout reads by n is what the machine reads of a table. Assumes nothing.
+-- What crate table_layout reads by n is what the machine reads of a table. Assumes nothing.
 use mathlib.Core.Path.{_≡_, ap, _∙_}
 use mathlib.Core.List.{List}
 use Prim.Native.Nat.{ℕ, _+_, _%_}

@@ -1,6 +1,6 @@
-// Where a table's words stand, and reading them: any words will do as a table, and a word past the end reads as 0. Whoever reads
-// often reads n, the number of domains, once and hands it on. It has eight bits in a table's first word, so only eight are
-// looked at where a square of it is taken.
+// The places of a table's words, and how they are read (document 01, 'The table'). Each function is total: it accepts
+// arbitrary words as a table, and a word past the end reads as 0. A caller that reads often reads n, the count of domains,
+// once and passes it. n has eight bits in a table's first word, so only eight are used where n is squared.
 use format::KIND_UNIT;
 use format::tables::ENDPOINT_WORDS;
 use rights::Rights;
@@ -10,7 +10,7 @@ ghost use lib.ListN.{getD};
 ghost use Rattle.machine.specs.Word.{payload};
 ghost use Rattle.machine.specs.Table.{domains, endpoints, rightsAt, endpointAt};
 
-// The word at a place, 0 past the end.
+// Returns the word at a place, or 0 past the end.
 pub fn word(table: &[u32], at: usize) -> u32
     ensures { λ w. ⌜ w ≡ getD (now (table .entry)) at 0 ⌝ }
 {
@@ -20,7 +20,7 @@ pub fn word(table: &[u32], at: usize) -> u32
     0
 }
 
-// n, the number of domains.
+// Returns n, the count of domains.
 pub fn domains(table: &[u32]) -> u32
     ensures { λ n. ⌜ n ≡ domains (now (table .entry)) ⌝ }
 {
@@ -28,7 +28,7 @@ pub fn domains(table: &[u32]) -> u32
     header / 256 % 256
 }
 
-// m, the number of endpoints.
+// Returns m, the count of endpoints.
 pub fn endpoints(table: &[u32]) -> u32
     ensures { λ m. ⌜ m ≡ endpoints (now (table .entry)) ⌝ }
 {
@@ -36,14 +36,14 @@ pub fn endpoints(table: &[u32]) -> u32
     header % 256
 }
 
-// Where the rights of a holder on a target stand among n domains.
+// Returns the place of the rights word of a holder on a target, among n domains.
 pub fn rights_at(n: u32, holder: u32, target: u32) -> usize
     ensures { λ at. ⌜ at ≡ rightsAt n holder target ⌝ }
 {
     1 + holder as usize * n as usize + target as usize
 }
 
-// Where the twelve words of an endpoint begin among n domains.
+// Returns the place of the first of an endpoint's twelve words, among n domains.
 pub fn endpoint_at(n: u32, e: u32) -> usize
     ensures { λ at. ⌜ at ≡ endpointAt (n % 256) e ⌝ }
 {
@@ -51,7 +51,7 @@ pub fn endpoint_at(n: u32, e: u32) -> usize
     1 + few * few + ENDPOINT_WORDS * e as usize
 }
 
-// The rights of a holder on a target.
+// Returns the rights of a holder on a target, among n domains.
 pub fn rights(table: &[u32], n: u32, holder: u32, target: u32) -> Rights
     ensures { λ r. ⌜ r .bits ≡ payload (getD (now (table .entry)) (rightsAt n holder target) 0) ⌝ }
 {
@@ -62,7 +62,7 @@ pub fn rights(table: &[u32], n: u32, holder: u32, target: u32) -> Rights
     }
 }
 
-// Word i from an endpoint's first word on.
+// Returns word i from an endpoint's first word on, among n domains.
 pub fn endpoint_word(table: &[u32], n: u32, e: u32, i: u32) -> u32
     ensures { λ w. ⌜ w ≡ getD (now (table .entry)) (endpointAt (n % 256) e + i) 0 ⌝ }
 {

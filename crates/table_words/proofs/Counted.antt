@@ -1,5 +1,5 @@
--- The slots are tested by the waiting word where the machine tests them by the waiting count. Of a waiting word that is right the two
--- say the same, and any other is refused. Assumes nothing.
+-- The slots are tested by the waiting word where the machine tests them by the waiting count. For a valid waiting word the
+-- two agree, and any other is refused. Assumes nothing.
 use mathlib.Core.Path.{_≡_, refl, ap}
 use mathlib.Core.Bool.{Bool, true, false, _&&_}
 use mathlib.Core.List.{List}
@@ -14,12 +14,12 @@ use Rattle.machine.specs.Queue.{capacity, waiting}
 use Rattle.machine.specs.Check.{waitingWordOk, lostWordOk, slotWordOk, queueOk}
 use Rattle.machine.proofs.Bools.{and-left}
 
--- the count of a right waiting word
+-- the count of a valid waiting word
 pub right-count : (most w : ℕ) → waitingWordOk most w ≡ true → w - word 5 0 ≡ payload w
 unfolding waitingWordOk
 right-count most w h = let k = eqb-true (kind w) 5 (and-left (eqb (kind w) 5) (leb (payload w) most) h) in omega arith
 
--- behind a test that fails anything will do
+-- the last test matters only where the first one holds
 pub behind : (a l : Bool) {s t : Bool} → (a ≡ true → s ≡ t) → (a && l && s) ≡ (a && l && t)
 behind true l f = ap (λ (x : Bool). true && l && x) (f refl)
 behind false l f = refl

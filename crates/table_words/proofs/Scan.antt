@@ -1,5 +1,5 @@
--- A loop that tests each number below k: its flag is the test of those passed (specs/Below of the machine).
--- The invariant of every loop of the check, with what holds at its start, after a turn and at its end.
+-- A loop that tests each number below k: its flag is the test of those passed (specs/Below of the machine). This is the
+-- invariant of every loop of the check, with what holds at its start, after an iteration and at its end.
 -- Assumes nothing.
 use mathlib.Core.Path.{_≡_, refl, ap₂}
 use mathlib.Core.Bool.{Bool, true, _&&_}

@@ -27,13 +27,13 @@ none-differs a b =
     (λ q. omega (arith, xor-add-and a b, and-le-l a b, and-le-r a b))
     (λ e. ap (λ (x : ℕ). bitXor x b) e ∙ xor-self b)
 
--- of a word of 32 bits all are asked for
+-- all bits of a word of 32 bits are tested
 pub all-asked : (w x : ℕ) → w < 2 ^ 32 → x < 2 ^ 32 → eqb (bitAnd (bitXor w x) 4294967295) 0 ≡ eqb w x
 all-asked w x l k =
     let h = xor-lt 32 w x l k in
     rw (and-mask (bitXor w x) 32) (same-tests (bitXor w x % 4294967296) 0 (bitXor w x) 0 (λ q. omega arith) (λ q. omega arith) ∙ none-differs w x)
 
--- the kind alone is asked for
+-- the kind alone is tested
 top-zero : (k : ℕ) → k < 16 → eqb (k % 16 * 268435456) 0 ≡ eqb k 0
 top-zero k l = rw (mod-eq-of-lt l) (same-tests (k * 268435456) 0 k 0 (λ q. omega arith) (λ q. rw q))
 
@@ -42,7 +42,7 @@ kind-asked w x l k =
     rw (and-high (bitXor w x) 4 28, xor-shr w x 28)
     (top-zero (bitXor (kind w) (kind x)) (xor-lt 4 (kind w) (kind x) (omega arith) (omega arith)) ∙ none-differs (kind w) (kind x))
 
--- A slot by its endpoint's waiting word: all of it is asked for, or its kind alone.
+-- A slot by its endpoint's waiting word: all of it is tested, or its kind alone.
 slot-cases : (t : Bool) (w : ℕ) → w < 2 ^ 32 → eqb (bitAnd (bitXor w emptySlot) (cond t 4026531840 4294967295)) 0 ≡ (eqb (kind w) 15 && (t || eqb w emptySlot))
 slot-cases true w l = kind-asked w emptySlot l (omega arith) ∙ sym (and-true (eqb (kind w) 15))
 slot-cases false w l = all-asked w emptySlot l (omega arith) ∙ go (eqb w emptySlot) refl
@@ -51,7 +51,7 @@ slot-cases false w l = all-asked w emptySlot l (omega arith) ∙ go (eqb w empty
     go true e = rw (eqb-true w emptySlot e)
     go false e = sym (and-false (eqb (kind w) 15))
 
--- the waiting word is above a slot's where the count is above its number
+-- the waiting word is above a slot's where the count is above its index
 count-above : (waiting i : ℕ) → ltb (1342177280 + i) waiting ≡ ltb i (waiting - 1342177280)
 count-above waiting i = go (ltb i (waiting - 1342177280)) refl
   where
@@ -64,7 +64,7 @@ unfolding slotWordOk
 slot-right waiting i w asked l e =
     rw (e, count-above waiting i) (slot-cases (ltb i (waiting - 1342177280)) w l)
 
--- none is gathered where there was none and none comes
+-- no bit is gathered where there was none and none is added
 pub none-gathered : (a b : ℕ) → eqb (bitOr a b) 0 ≡ (eqb a 0 && eqb b 0)
 none-gathered a b = go (eqb a 0) refl
   where
@@ -92,7 +92,7 @@ rights-right w = go (eqb (kind w) 2) refl
         let k = eqb-false (bitXor (kind w) 2) 0 (none-differs (kind w) 2 ∙ e) in
         lt-leb (bitXor w 536870912) 15 (let h = pos-of-ne-zero k in omega (arith, top))
 
--- rights alone are gathered where there were rights alone and rights alone come
+-- rights alone are gathered where there were rights alone and rights alone are added
 pub rights-gathered : (a b : ℕ) → leb (bitOr a b) 15 ≡ (leb a 15 && leb b 15)
 rights-gathered a b = go (leb a 15) refl (leb b 15) refl
   where

@@ -1,5 +1,6 @@
-// An endpoint's twelve words: its identity (name, info), which never changes, and its queue (waiting, lost, slots).
-// The words are lent as a part of the table. A part that is too short reads as zeros past its end, and no such word is right.
+// Tests of an endpoint's twelve words (document 01, 'The table'): its identity (name, info), which never changes, and its
+// queue (waiting, lost, slots). The words are lent as a part of the table. A part that is too short reads as zeros past its
+// end, and zero is never a valid word.
 use crate::info_word_ok;
 use crate::lost_word_ok;
 use crate::name_word_ok;
@@ -14,7 +15,7 @@ ghost use Rattle.machine.specs.Below.{allBelow};
 ghost use Rattle.machine.specs.Word.{word};
 ghost use Rattle.machine.specs.Check.{identityOk, queueOk, endpointOk, slotWordOk};
 
-// The name and the info, among n domains.
+// Returns whether the name and the info are valid, among n domains.
 pub fn identity_ok(n: u32, q: &[u32]) -> bool
     ensures { λ b. ⌜ b ≡ identityOk n (now (q .entry)) ⌝ }
 {
@@ -26,7 +27,7 @@ pub fn identity_ok(n: u32, q: &[u32]) -> bool
     name & info
 }
 
-// The eight slots, by the waiting word.
+// Returns whether the eight slots are valid, by the waiting word. The caller must pass at least twelve words.
 fn slots_ok(waiting: u32, q: &[u32]) -> bool
     requires { ⌜ 12 ≤ length (now q) ⌝ }
     ensures { λ b. ⌜ b ≡ allBelow 8 (λ i. slotWordOk (waiting - word 5 0) i (getD (now (q .entry)) (4 + i) 0)) ⌝ }
@@ -41,8 +42,8 @@ fn slots_ok(waiting: u32, q: &[u32]) -> bool
     wrong == 0
 }
 
-// The waiting count, the lost count and the slots, where all of them are there. By itself, and without a branch, it is small enough
-// for the compiler to put it into each of the two below.
+// Returns whether the waiting count, the lost count and the slots are valid. The caller must pass at least twelve words. This
+// is a separate function without a branch, so that the compiler finds it small enough to inline into the two below.
 fn whole_queue_ok(q: &[u32]) -> bool
     requires { ⌜ 12 ≤ length (now q) ⌝ }
     ensures { λ b. ⌜ b ≡ queueOk (now (q .entry)) ⌝ }
@@ -53,7 +54,7 @@ fn whole_queue_ok(q: &[u32]) -> bool
     waiting & lost & slots
 }
 
-// The waiting count, the lost count and the slots.
+// Returns whether the waiting count, the lost count and the slots are valid.
 pub fn queue_ok(q: &[u32]) -> bool
     ensures { λ b. ⌜ b ≡ queueOk (now (q .entry)) ⌝ }
 {
@@ -63,7 +64,7 @@ pub fn queue_ok(q: &[u32]) -> bool
     whole_queue_ok(q)
 }
 
-// All twelve words, among n domains.
+// Returns whether all twelve words are valid, among n domains.
 pub fn endpoint_ok(n: u32, q: &[u32]) -> bool
     ensures { λ b. ⌜ b ≡ endpointOk n (now (q .entry)) ⌝ }
 {

@@ -1,4 +1,4 @@
--- One call on any table as the bench is handed it: a number, the table, the answer space and the holders.
+-- One call on any table as the bench receives it: a code, the table, the answer space and the holders.
 use Prim.Native.Nat.{ℕ}
 use mathlib.Core.Path.{_≡_}
 use mathlib.Core.Bool.{cond}
@@ -12,7 +12,7 @@ use Rattle.calls.specs.declared.split.Second.{Second}
 use Rattle.calls.specs.declared.split.Second.the-variants.{Nothing, Word}
 use Rattle.kernel.specs.Step.{stepEntryCode}
 
--- a second word of C: the word v where the number beside it isn't 0
+-- a second word of C: the word v, or nothing where `has` is 0
 unfoldable pub secondGiven : ℕ → ℕ → Second
 secondGiven v has = cond (eqb has 0) Nothing (Word v)
 
@@ -20,8 +20,8 @@ secondGiven v has = cond (eqb has 0) Nothing (Word v)
 unfoldable pub exportedCode : List ℕ → List ℕ → List ℕ → ℕ
 exportedCode t space holders = cond (ltb (length space) 3) 99 (stepEntryCode t (length holders))
 
--- the machine fed the call c where the code is 0, its three words in front of what was in the space, and the holders of the table
--- after it; else nothing changes
+-- the machine is fed the call c where the code is 0, with its three words before the rest of what was in the space, and the holders
+-- of the table after it; else nothing changes
 pub record Exported (t : List ℕ) (c : Call) (space holders : List ℕ) (code : ℕ) (t′ space′ kept : List ℕ) : Type 0 where
   pub sameCode : code ≡ exportedCode t space holders
   pub table : t′ ≡ cond (eqb (exportedCode t space holders) 0) (machine.step t c) t

@@ -1,4 +1,4 @@
--- The number that C is told of a send or a receive.
+-- The code that C gets of a send or a receive.
 use Prim.Native.Nat.{ℕ}
 use mathlib.Core.Bool.{Bool, cond}
 

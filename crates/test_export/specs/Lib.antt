@@ -1,3 +1,3 @@
--- What the exported step promises.
+-- What the exported step and the exported queue functions promise.
 pub mod Exported
 pub mod ExportedQueues

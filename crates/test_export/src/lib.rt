@@ -1,5 +1,5 @@
-// The public step behind a C function, for the bench alone: no header declares it and the archive for the firmware hasn't
-// got it (`rt staticlib test_export` makes an archive of its own). It is how `kernel::step` is run beside the separate machine.
+// The public step as a C function, for the bench only: no header declares it and the archive for the firmware doesn't have it
+// (`rt staticlib test_export` makes an archive of its own). With it `kernel::step` is run beside the reference implementation.
 pub mod queues;
 
 use answers::by_value::put;
@@ -9,7 +9,7 @@ ghost use mathlib.Core.Path.{_≡_};
 ghost use Rattle.calls.specs.Split.{callOf};
 ghost use Rattle.test_export.specs.Exported.{secondGiven, Exported};
 
-// A second word as C hands it over: the word counts where the number beside it isn't 0.
+// Returns a second word as C passes it: the word, or nothing where `has` is 0.
 fn given(word: u32, has: u32) -> Second
     ensures { λ r. ⌜ r ≡ secondGiven word has ⌝ }
 {
@@ -20,13 +20,11 @@ fn given(word: u32, has: u32) -> Second
     }
 }
 
-// One call on any table.
+// Runs one call on any table. Returns 0, or the table's 2 to 5, or 6 where the holders aren't one word a domain; 99, which no paper
+// uses, is for an answer space under three words. Where the result isn't 0 nothing is changed. Answer words after the third stay as
+// they were. Table, answer and holders may not overlap.
 // C: uint32_t balkwizu_test_step(uint32_t *table, size_t table_len, uint32_t first, uint32_t second, uint32_t has,
 //                                uint32_t *answer, size_t answer_len, uint32_t *holders, size_t holders_len)
-//
-// The result is 0, or the table's 2 to 5, or 6 for other than one word a domain as the holders; 99, which no paper uses, is for an
-// answer space under three words. Where it isn't 0 nothing is changed. Answer words behind the third are left as they were. Table,
-// answer and holders may not overlap.
 #[no_mangle]
 pub extern "C" fn balkwizu_test_step(
     table: &mut [u32],

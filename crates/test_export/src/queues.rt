@@ -1,18 +1,18 @@
-// A send and a receive on any words behind C functions, for the bench alone: no header declares them and the archive for the
-// firmware hasn't got them (`rt staticlib test_export` makes an archive of its own). It is how the queue's functions are run on
+// A send and a receive on arbitrary words as C functions, for the bench only: no header declares them and the archive for the
+// firmware doesn't have them (`rt staticlib test_export` makes an archive of its own). With them the queue's functions are run on
 // words that no check accepts.
 ghost use mathlib.Core.Path.{_≡_};
 ghost use Rattle.queue.specs.Queue.{sendable, leftBySend, receivable, leftByReceive};
 ghost use Rattle.test_export.specs.ExportedQueues.{doneCode};
 
-// What C is told: 1 where it was done, and 0 where the words stayed as they were.
+// Returns the code for C: 1 where it was done, and 0 where the words stayed as they were.
 fn code(done: bool) -> u32
     ensures { λ r. ⌜ r ≡ doneCode done ⌝ }
 {
     if done { 1 } else { 0 }
 }
 
-// A send of a message to an endpoint's words.
+// Sends a message to an endpoint's words and returns whether it was done.
 // C: uint32_t balkwizu_test_send(uint32_t *words, size_t words_len, uint32_t message)
 #[no_mangle]
 pub extern "C" fn balkwizu_test_send(words: &mut [u32], message: u32) -> u32
@@ -23,7 +23,7 @@ pub extern "C" fn balkwizu_test_send(words: &mut [u32], message: u32) -> u32
     code(done)
 }
 
-// A receive from an endpoint's words.
+// Receives a message from an endpoint's words and returns whether it was done.
 // C: uint32_t balkwizu_test_receive(uint32_t *words, size_t words_len)
 #[no_mangle]
 pub extern "C" fn balkwizu_test_receive(words: &mut [u32]) -> u32

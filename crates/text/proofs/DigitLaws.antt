@@ -27,7 +27,7 @@ digits-step zero h = absurd (omega arith)
 digits-step (suc n) h =
     ap (λ l. l ++ (lastDigit (suc n) ∷ [])) (same-digits n (suc n / 10) (suc n / 10) (omega arith) (omega arith))
 
--- a tenth of a number has one digit less
+-- a tenth of a number has one digit fewer
 pub tenth-lt : (n k : ℕ) → n < 10 ^ suc k → n / 10 < 10 ^ k
 tenth-lt n k h = div-lt-iff-lt-mul (lit< tt) .1 (rw (pow-suc) at h)
 

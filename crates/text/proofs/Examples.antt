@@ -13,7 +13,7 @@ pub decimal-rows : (decimal 0 ≡ ascii "0")
 unfolding ascii decimal digitsWithin
 decimal-rows = (refl, refl, refl, refl, refl, refl)
 
--- a text that fits, one that is cut, and one past the end
+-- a text that fits, one that fits in part, and one past the end
 pub overwrite-rows : (overwrite 1 (ascii "ab") (ascii "wxyz") ≡ ascii "wabz")
     × (overwrite 3 (ascii "ab") (ascii "wxyz") ≡ ascii "wxya")
     × (overwrite 5 (ascii "ab") (ascii "wxyz") ≡ ascii "wxyz")

@@ -1,5 +1,5 @@
--- The digits of a number, written from the last one back to the front of an array: the invariant of that loop, where it
--- begins, its turn and its end. Assumes nothing.
+-- The digits of a number, written from the last one back to the front of an array: the invariant of that loop, its start, its
+-- iteration and its end. Assumes nothing.
 use Prim.Native.Nat.{ℕ, zero, suc, _-_, _^_, _/_, _≤_, _<_}
 use mathlib.Core.Path.{_≡_, sym, ap, _∙_}
 use mathlib.Core.List.{List, [], _∷_, _++_, append-assoc}
@@ -11,14 +11,14 @@ use lib.Seq.{set-split, drop-at, take-all, length-take-le}
 use Rattle.text.specs.Decimal.{lastDigit, digitsWithin, digits, decimal}
 use Rattle.text.proofs.DigitLaws.{digits-step, tenth-lt}
 
--- the digits of x stand from a place on in an array of twenty bytes, but for those of what is left, which have room before it
+-- an array of twenty bytes has the digits of x from an index on, except those of what is left, which fit before it
 pub record Spelled (x rest at : ℕ) (array : List ℕ) : Type 0 where
   pub spells : digits rest ++ drop at array ≡ decimal x
   pub room : rest < 10 ^ at
   pub within : at ≤ 19
   pub long : length array ≡ 20
 
--- a byte stored at the place before those that are there
+-- a byte stored at the index before those that are there
 stored : (at b : ℕ) (array : List ℕ) → at < length array → drop at (set array at b) ≡ b ∷ drop (suc at) array
 stored at b array h =
     ap (drop at) (set-split array at b h)
@@ -55,7 +55,7 @@ next x rest (suc at) array h s e =
       long = simp length-set (s .long);
     })
 
--- while digits are left there is a place before those that are there
+-- while digits are left there is an index before those that are there
 pub place-before : (x rest at : ℕ) (array : List ℕ) → 0 < rest → Spelled x rest at array → 0 < at
 place-before x rest zero array h s = absurd (omega (arith, s .room))
 place-before x rest (suc at) array h s = omega arith
@@ -64,7 +64,7 @@ pub done : (x at : ℕ) (array : List ℕ) → Spelled x 0 at array → drop at 
 unfolding digitsWithin
 done x at array s = s .spells
 
--- what stands from a place on, taken as a part that ends where the array ends
+-- the bytes from an index on, as a part that ends where the array ends
 pub whole-part : (n at : ℕ) (array : List ℕ) → length array ≡ n → {text : List ℕ} → drop at array ≡ text
     → take (n - at) (drop at array) ≡ text
 whole-part n at array long e = take-all (n - at) (drop at array) (omega (arith, long, length-drop at array)) ∙ e

@@ -31,7 +31,7 @@ overwrite-past at text [] h = refl
 overwrite-past zero text (b ∷ buffer) h = absurd (omega arith)
 overwrite-past (suc at) text (b ∷ buffer) h = ap (λ l. b ∷ l) (overwrite-past at text buffer (omega arith))
 
--- one byte is a store, also where the place is past the end
+-- one byte is a store, also where the index is past the end
 pub overwrite-one : (at b : ℕ) (buffer : List ℕ) → overwrite at (b ∷ []) buffer ≡ set buffer at b
 unfolding overwrite
 overwrite-one at b [] = refl
@@ -49,7 +49,7 @@ overwrite-append zero (c ∷ s) t (b ∷ buffer) =
 overwrite-append (suc at) s t (b ∷ buffer) =
     rw (suc-add at (length s)) (ap (λ l. b ∷ l) (overwrite-append at s t buffer))
 
--- a turn of a loop that writes a text from its front: the store of one byte more
+-- an iteration of a loop that writes a text from its front: the store of one byte more
 pub write-next : (at i : ℕ) (text buffer : List ℕ) {left : List ℕ} {k b : ℕ}
     → left ≡ overwrite at (take i text) buffer → i < length text → k ≡ at + i → b ≡ getD text i 0
     → set left k b ≡ overwrite at (take (i + 1) text) buffer
@@ -62,7 +62,7 @@ write-next at i text buffer {left} {k} {b} e h place byte =
     ∙ ap (λ l. overwrite at l buffer)
     (ap (λ x. take i text ++ (x ∷ [])) byte ∙ sym (take-suc text i 0 h) ∙ ap (λ j. take j text) (sym (add-one i)))
 
--- as many bytes as the text has, or as there is room for, are all that is written
+-- as many bytes as the text has, or as fit, are all that is written
 pub write-all : (at n : ℕ) (text buffer : List ℕ) → min (length text) (length buffer - at) ≤ n
     → overwrite at (take n text) buffer ≡ overwrite at text buffer
 unfolding overwrite
@@ -86,7 +86,7 @@ overwrite-fits zero (c ∷ text) (b ∷ buffer) h =
 overwrite-fits (suc at) text (b ∷ buffer) h =
     rw (suc-add at (length text)) (ap (λ l. b ∷ l) (overwrite-fits at text buffer (omega arith)))
 
--- where the place after a text is capped, the next text is past the end as it is anyhow
+-- where the index after a text is capped, the next text is past the end in any case
 overwrite-capped : (at : ℕ) (text buffer : List ℕ)
     → overwrite (min at (length buffer + 1)) text buffer ≡ overwrite at text buffer
 overwrite-capped at text buffer = go (decLe at (length buffer + 1))
@@ -114,7 +114,7 @@ then {at} {s} {t} {buffer} {next} {left} {next′} {left′} w v =
           ∙ overwrite-append at s t buffer;
     }
 
--- nothing is written from a place within the buffer, or one past its length
+-- an empty text from an index within the buffer, or one past its length, leaves the buffer and the index as they are
 pub writes-nothing : (at : ℕ) (buffer : List ℕ) → at ≤ length buffer + 1 → Writes at [] buffer at buffer
 writes-nothing at buffer h = record { place = omega arith; bytes = sym (overwrite-none at buffer) }
 
@@ -127,7 +127,7 @@ fills-cut n {items} {buffer} h f =
       items-are = f .items-are ∙ sym (write-all 0 n items buffer (omega arith));
     }
 
--- items for which there is room stand at the front, as many as the count says
+-- items that fit are at the front, as many as the count says
 pub fills-front : {items buffer : List ℕ} {count : ℕ} {left : List ℕ}
     → length items ≤ length buffer → Fills items buffer count left → (count ≡ length items) × (take count left ≡ items)
 fills-front {items} {buffer} {count} {left} h f =
@@ -143,7 +143,7 @@ pub fills-part : {items buffer : List ℕ} {count : ℕ} {left : List ℕ}
     → length items ≤ length buffer → Fills items buffer count left → take (count - 0) (drop 0 left) ≡ items
 fills-part {items} {buffer} {count} {left} h f = ap (λ k. take k left) (sub-zero count) ∙ fills-front h f .1
 
--- what a text that has room leaves at the front, as a part that is lent
+-- what a text that fits leaves at the front, as a part that is lent
 pub writes-part : {text buffer : List ℕ} {next : ℕ} {left : List ℕ}
     → next ≤ length buffer → Writes 0 text buffer next left → take (next - 0) (drop 0 left) ≡ text
 writes-part {text} {buffer} {next} h w =

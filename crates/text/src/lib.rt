@@ -1,2 +1,2 @@
-// Text and numbers into a lent buffer: what the programs' printing has in common.
+// Writes text and decimal numbers into a lent buffer: the part of printing that the programs have in common.
 pub mod write;

@@ -1,12 +1,12 @@
-// Text and numbers into a lent buffer from a place on. Each writer answers the place after what it wrote; where that does not
-// fit, it writes what fits and answers one past the buffer's length, from which later writers write nothing.
+// Writers of text and numbers into a lent buffer from the index `at` on. Each returns the index after what it wrote. Where that
+// does not fit, it writes what fits and returns one past the buffer's length, from which later writers write nothing.
 ghost use Prim.Native.Nat.{_+_, _≤_, _<_};
 ghost use mathlib.Core.Path.{_≡_};
 ghost use lib.ListN.{length, take, drop};
 ghost use Rattle.text.specs.Decimal.{decimal, labelled};
 ghost use Rattle.text.specs.Write.{overwrite, Writes};
 
-// The first n bytes of a text, which fit.
+// Copies the first n bytes of a text. The caller must make sure that the text has them and that they fit.
 fn copy(text: &[u8], n: usize, out: &mut [u8], at: usize)
     requires { ⌜ n ≤ length (now text) ⌝ }
     requires { ⌜ at + n ≤ length (now out) ⌝ }
@@ -17,7 +17,7 @@ fn copy(text: &[u8], n: usize, out: &mut [u8], at: usize)
     }
 }
 
-// A text.
+// Writes a text, and returns the index after it.
 pub fn put(text: &[u8], out: &mut [u8], at: usize) -> usize
     ensures { λ r. ⌜ Writes at (now (text .entry)) (now (out .entry)) r (now (out .exit)) ⌝ }
 {
@@ -33,7 +33,7 @@ pub fn put(text: &[u8], out: &mut [u8], at: usize) -> usize
     at + text.len()
 }
 
-// The digits of a number at the end of twenty bytes, the most that it can have; answers where they begin.
+// Writes the digits of a number at the end of twenty bytes, the most that it can have, and returns the index of the first digit.
 fn spell(x: u64, digits: &mut [u8]) -> usize
     requires { ⌜ length (now digits) ≡ 20 ⌝ }
     ensures { λ r. ⌜ (r < 20) × (drop r (now (digits .exit)) ≡ decimal x) ⌝ }
@@ -49,7 +49,7 @@ fn spell(x: u64, digits: &mut [u8]) -> usize
     at
 }
 
-// A number of one digit.
+// Writes a number below 10, which has one digit, and returns the index after it.
 fn put_digit(x: u64, out: &mut [u8], at: usize) -> usize
     requires { ⌜ x < 10 ⌝ }
     ensures { λ r. ⌜ Writes at (decimal x) (now (out .entry)) r (now (out .exit)) ⌝ }
@@ -61,7 +61,7 @@ fn put_digit(x: u64, out: &mut [u8], at: usize) -> usize
     at + 1
 }
 
-// A number in decimal. Most have one digit, which needs no array.
+// Writes a number in decimal, and returns the index after it. Most have one digit, which needs no array.
 pub fn put_decimal(x: u64, out: &mut [u8], at: usize) -> usize
     ensures { λ r. ⌜ Writes at (decimal x) (now (out .entry)) r (now (out .exit)) ⌝ }
 {
@@ -73,7 +73,7 @@ pub fn put_decimal(x: u64, out: &mut [u8], at: usize) -> usize
     put(&digits[first..20], out, at)
 }
 
-// A label, and a number in decimal right after it.
+// Writes a label and right after it a number in decimal, and returns the index after both.
 pub fn put_labelled(label: &[u8], x: u64, out: &mut [u8], at: usize) -> usize
     ensures { λ r. ⌜ Writes at (labelled (now (label .entry)) x) (now (out .entry)) r (now (out .exit)) ⌝ }
 {

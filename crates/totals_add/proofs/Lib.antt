@@ -1,4 +1,4 @@
--- What is proved of counting and adding, as definitions: laws that the functions' proofs cite.
+-- What is proved of counting and adding: laws that the functions' proofs cite.
 pub mod SumLaws
 pub mod RunLaws
 pub mod TallyLaws

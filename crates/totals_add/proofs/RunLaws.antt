@@ -1,4 +1,4 @@
--- What a list that ran says of its counts: they balance at each endpoint, so that what was lost is told by what was sent,
+-- What a list that ran shows of its counts: they balance at each endpoint, so that what was lost is computed from what was sent,
 -- received and waits; and they are the list's totals. Assumes nothing.
 use Prim.Native.Nat.{ℕ, _+_, _-_, _*_, _<_, _≤_, _^_}
 use mathlib.Core.Path.{_≡_, refl, sym, ap, subst, _∙_}
@@ -36,7 +36,7 @@ pub record RunOf (t ws answers end : List ℕ) : Type 0 where
   pub answered : answers ≡ machine.answers t (split ws) ++ rest
   pub table : end ≡ machine.run t (split ws)
 
--- whoever promised a run, and didn't refuse the list, ran it
+-- whatever promised a run, and didn't refuse the list, ran it
 pub run-of : {t ws space holders : List ℕ} {code calls : ℕ} {answers end kept : List ℕ} → RunPromise t ws space holders code calls answers end kept → code ≡ 0 → RunOf t ws answers end
 unfolding ran
 run-of {t} {ws} {space} {holders} p z =
@@ -58,7 +58,7 @@ module _ {t ws answers end : List ℕ} (r : RunOf t ws answers end) where
   pub few-endpoints : endpoints t ≤ 32
   few-endpoints = accepted-counts t (r .accepted) .2
 
-  -- words behind the answers count nothing
+  -- words after the answers count nothing
   done-is : (is : Kind → Bool) (e : ℕ) → countDone is e (split ws) answers ≡ countDone is e (split ws) (machine.answers t (split ws))
   unfolding countDone
   done-is is e =
@@ -75,14 +75,14 @@ module _ {t ws answers end : List ℕ} (r : RunOf t ws answers end) where
   unfolding listTotals
   received-is e = done-is isReceive e
 
-  -- what was sent, and waited before, is what was received, lost and waits behind
+  -- what was sent, and waited before, is what was received, lost and waits after
   balance : (e : ℕ) → e < endpoints t → listTotals e t ws .sent + waiting (endpoint t e) ≡ listTotals e t ws .received + listTotals e t ws .lost + waiting (endpoint end e)
   unfolding listTotals
   balance e l =
       let counts = counts-conserved t (split ws) [] (r .accepted) e l in
       rw (r .table) (rw append-nil at (counts .balance))
 
--- What waited before it and what it counts, told by the words that it left.
+-- What waited before it and what it counts, by the words that it left.
 module _ {t ws answers end before : List ℕ} (r : RunOf t ws answers end) (before-is : before ≡ wordsBelow 32 (λ e. waiting (endpoint t e))) where
   made-up : (e : ℕ) → e < endpoints end → cameIn e ws answers before ≡ accountedFor e end ws answers + listTotals e t ws .lost
   made-up e l =

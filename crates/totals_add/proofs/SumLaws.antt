@@ -1,5 +1,5 @@
--- The laws of adding counts to totals: one endpoint after another, and what a sum depends on; and of the loop
--- that works out what was lost. Assumes nothing.
+-- The laws of adding counts to totals: one endpoint after another, and what a sum depends on. Also those of the loop that computes
+-- what was lost. Assumes nothing.
 use Prim.Native.Nat.{ℕ, _+_, _-_, _%_, _^_, _<_, _≤_, min}
 use mathlib.Core.Path.{_≡_, refl, sym, ap, ap₂, _∙_}
 use mathlib.Core.Bool.{Bool, true, false, cond}
@@ -33,7 +33,7 @@ module _ (xs : List ℕ) where
   unfolding addedBelow
   added-at m f e l = words-at (length xs) (λ e. cond (ltb e m) ((getD xs e 0 + f e) % 2 ^ 64) (getD xs e 0)) e 0 l
 
-  -- a sum depends on what is added below m alone
+  -- a sum depends only on what is added below m
   pub added-same : (m : ℕ) (f g : ℕ → ℕ) → ((e : ℕ) → e < m → f e ≡ g e) → addedBelow m xs f ≡ addedBelow m xs g
   unfolding addedBelow
   added-same m f g same =
@@ -53,7 +53,7 @@ module _ (xs : List ℕ) where
       let within : e < length xs = omega (arith, length-set (addedBelow i xs f) i v, length-added i f) in
       ⊎-elim (at e) (λ other. elsewhere e within (λ p. other (sym p))) (equal-either i e))
     where
-      -- at i the sum of what stood there
+      -- at i the sum of what was there
       at : (e : ℕ) → i ≡ e → getD (set (addedBelow i xs f) i v) e 0 ≡ getD (addedBelow (i + 1) xs f) e 0
       at e same =
           rw (← same)
@@ -72,7 +72,7 @@ module _ (xs : List ℕ) where
           go (yes h) = rw (lt-ltb e i h, lt-ltb e (i + 1) (omega arith))
           go (no h) = rw (le-ltb e i (omega arith), le-ltb e (i + 1) (omega arith))
 
-  -- there is nothing behind the end
+  -- there is nothing after the end
   pub added-all : (f : ℕ → ℕ) (i m : ℕ) → i ≡ min m (length xs) → addedBelow i xs f ≡ addedBelow m xs f
   unfolding addedBelow
   added-all f i m is =
@@ -98,7 +98,7 @@ word-at k f e l is = ap (λ (xs : List ℕ). getD xs e 0) is ∙ words-at k f e 
 pub size : (k : ℕ) (f : ℕ → ℕ) {xs : List ℕ} → xs ≡ wordsBelow k f → length xs ≡ k
 size k f is = ap length is ∙ words-length k f
 
--- What a list counts, as the words that were worked out: where no more is accounted for than came in, they balance.
+-- What a list counts, as the words that were computed: where no more is accounted for than came in, they balance.
 pub record CountsOf (t ws answers before sends receives after : List ℕ) : Type 0 where
   pub countable : Countable t ws answers before
   pub beforeSize : length before ≡ 32

@@ -1,4 +1,4 @@
--- Adding list after list gives the totals of all: they fit 64 bits, and each is the definition's. Assumes noCounts.
+-- Adding list after list gives the totals of all: they fit 64 bits, and each is the definition's. Assumes nothing.
 use Prim.Native.Nat.{ℕ, _+_, _*_, _%_, _^_, _<_, _≤_}
 use mathlib.Core.Path.{_≡_, refl, sym, ap, ap₂, _∙_}
 use mathlib.Core.Bool.{Bool, true, false, cond}
@@ -65,7 +65,7 @@ begins t =
       few = λ e. record { sent = omega arith; received = omega arith; lost = omega arith };
     }
 
--- lists, and one behind them
+-- lists, and one after them
 abbrev more : List (List ℕ) → List ℕ → List (List ℕ)
 more lists ws = lists ++ (ws ∷ [])
 

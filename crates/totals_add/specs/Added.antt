@@ -1,4 +1,4 @@
--- Totals in words of 64 bits, one for each endpoint from 0 on, and what adding a list to them leaves.
+-- Totals in words of 64 bits (document 02 (e)), one for each endpoint from 0 on, and what adding a list to them leaves.
 use Prim.Native.Nat.{ℕ, _+_, _%_, _^_}
 use mathlib.Core.Path.{_≡_}
 use mathlib.Core.Bool.{cond}
@@ -11,21 +11,21 @@ use Rattle.machine.specs.Promise.{RunPromise}
 use Rattle.totals_theory.specs.Totals.{listTotals}
 use Rattle.totals_add.specs.declared.Tally.{Tally}
 
--- noTotals is counted yet
+-- nothing is counted yet
 abbrev pub noTotals : Tally
 noTotals = record { sent = replicate 32 0; received = replicate 32 0; lost = replicate 32 0 }
 
--- the words xs with f e added to word e for each e below m, in 64 bits; the words behind stay
+-- the words xs with f e added to word e for each e below m, in 64 bits; the words after them stay
 unfoldable pub addedBelow : ℕ → List ℕ → (ℕ → ℕ) → List ℕ
 addedBelow m xs f =
     wordsBelow (length xs) (λ e. cond (ltb e m) ((getD xs e 0 + f e) % 2 ^ 64) (getD xs e 0))
 
--- the words xs after a run that came to a code: where it ran, with f e added for each endpoint e of the table t
+-- the words xs after a run with a code: where it is 0, with f e added for each endpoint e of the table t
 unfoldable pub addedIfRun : ℕ → List ℕ → List ℕ → (ℕ → ℕ) → List ℕ
 addedIfRun code t xs f = cond (eqb code 0) (addedBelow (endpoints t) xs f) xs
 
 -- What adding the list ws, run from the table t, to a tally leaves: all that a run promises, and the tally with what the list
--- counts; a refused list leaves it as it is.
+-- counts. A refused list leaves the tally as it is.
 pub record ListAdded (t ws space holders : List ℕ) (code calls : ℕ) (answers end kept : List ℕ) (tally tally′ : Tally) : Type 0 where
   pub run : RunPromise t ws space holders code calls answers end kept
   pub sentAdded : tally′ .sent ≡ addedIfRun code t (tally .sent) (λ e. listTotals e t ws .sent)

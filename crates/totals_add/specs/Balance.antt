@@ -1,5 +1,5 @@
--- The counts of one list at each endpoint below m, and what makes them balance: what was sent, and waited before it, is what was
--- received, what was lost and what waits behind it.
+-- The counts of one list at each endpoint below m, and what makes them balance (document 02 (e)): what was sent, and waited before
+-- it, is what was received, what was lost and what waits after it.
 use Prim.Native.Nat.{ℕ, _+_, _<_, _≤_, _^_}
 use mathlib.Core.Path.{_≡_}
 use mathlib.Core.List.{List}

@@ -1,5 +1,5 @@
--- What a list that ran counts at each endpoint of the table t that it left, by its answers and by what waited before it, and what
--- adding that to a tally leaves.
+-- What a list that ran counts at each endpoint of the table t that it left (document 02 (e)), by its answers and by what waited
+-- before it, and what adding that to a tally leaves.
 use Prim.Native.Nat.{ℕ, _+_, _-_, _<_, _≤_, _^_}
 use mathlib.Core.Path.{_≡_}
 use mathlib.Core.List.{List}

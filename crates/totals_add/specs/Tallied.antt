@@ -1,5 +1,5 @@
--- The tally of lists that are run one after another from one table: the totals of its endpoints, and that it can be made up by
--- adding list after list.
+-- The tally of lists that are run one after another from one table (document 02 (e)): the totals of its endpoints, and that it can
+-- be computed by adding list after list.
 use Prim.Native.Nat.{ℕ, _*_, _<_}
 use mathlib.Core.Path.{_≡_}
 use mathlib.Core.Bool.{cond}
@@ -19,7 +19,7 @@ use Rattle.totals_add.specs.Added.{noTotals, ListAdded}
 unfoldable pub ofEndpoints : ℕ → (ℕ → ℕ) → List ℕ
 ofEndpoints m f = wordsBelow 32 (λ e. cond (ltb e m) (f e) 0)
 
--- the totals of lists that are run from the table t, of each of its endpoints
+-- the totals of lists that are run from the table t, for each of its endpoints
 unfoldable pub tallyOf : List ℕ → List (List ℕ) → Tally
 tallyOf t lists =
     record {
@@ -34,11 +34,11 @@ pub record Tallied (t : List ℕ) (lists : List (List ℕ)) (tally : Tally) (tab
   pub tableIs : table ≡ tableAfterLists t lists
   pub few : (e : ℕ) → Few (totals e t lists) (longestList * length lists)
 
--- the most lists of which no total can pass 64 bits, each of the longest
+-- the most lists, each of the longest, of which no total can exceed 64 bits
 abbrev pub mostAdded : ℕ
 mostAdded = 4503599627370495
 
--- A tally begins as that of no list; a list that is added and not refused makes it that of one list more.
+-- A tally begins as that of no list. A list that is added and not refused makes it that of one list more.
 pub record AddedOneByOne (t : List ℕ) : Type 0 where
   pub begins : Tallied t [] noTotals t
   pub goesOn : (lists : List (List ℕ)) (ws space holders : List ℕ) (code calls : ℕ) (answers table end kept : List ℕ) (tally tally′ : Tally)

@@ -1,4 +1,4 @@
-// What a list that ran counts, added to a tally.
+// Adds what a list that ran counts to a tally (document 02 (e)).
 use crate::Tally;
 use crate::sums::add_each;
 use crate::sums::losses;
@@ -7,7 +7,7 @@ use totals_count::count_calls::count_calls;
 use totals_count::waiting::waiting_counts;
 ghost use Rattle.totals_add.specs.Counts.{Countable, CountsAdded};
 
-// The calls of a list, with their answers, the table that they left, and what waited before them.
+// Returns the tally with what a list counts, by its answers, the table that it left, and what waited before it.
 pub fn add_counts(
     table: &[u32],
     list: &[u32],

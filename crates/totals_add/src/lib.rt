@@ -1,4 +1,4 @@
-// Adds a list to totals: the list is run, and what it counts at each endpoint is added.
+// Adds a list to totals (document 02 (e)): the list is run, and what it counts at each endpoint is added.
 mod counts;
 mod sums;
 
@@ -18,7 +18,7 @@ pub struct Tally {
 }
 
 impl Tally {
-    // Nothing is counted yet.
+    // Returns totals in which nothing is counted yet.
     pub fn new() -> Tally
         ensures { λ r. ⌜ r ≡ noTotals ⌝ }
     {
@@ -30,14 +30,14 @@ impl Tally {
     }
 }
 
-// What a list came to, and the totals with it.
+// The outcome of a list's run, and the totals with what it counts.
 pub struct Added {
     pub ran: Ran,
     pub tally: Tally,
 }
 
-// Runs a list from a table and adds what it counts to the totals of the table's endpoints. What was lost is told by what was sent,
-// what was received and what waits: the table's own lost count stops at its largest. A refused list adds noTotals.
+// Runs a list from a table and adds what it counts to the totals of the table's endpoints. What was lost is computed from what was
+// sent, what was received and what waits, since the table's own lost count stops at its largest. A refused list adds nothing.
 pub fn add_list(
     table: &mut [u32],
     list: &[u32],

@@ -1,5 +1,5 @@
--- A loop that counts the calls of a kind at each endpoint: what is counted and what the calls left will count is what the whole
--- list counts; and a loop that fills a list. Assumes nothing.
+-- A loop that counts the calls of a kind at each endpoint: what is counted plus what the remaining calls count is what the whole
+-- list counts. Also a loop that fills a list. Assumes nothing.
 use Prim.Native.Nat.{ℕ, _+_, _<_, _≤_}
 use mathlib.Core.Path.{_≡_, refl, sym, ap, ap₂, _∙_}
 use mathlib.Core.Bool.{Bool, true, false, cond, _&&_}
@@ -23,7 +23,7 @@ use Rattle.totals_theory.proofs.TotalsLaws.{done-few}
 use Rattle.calls.specs.Split.{callOf, secondAt, widthOf}
 use Rattle.calls.proofs.SplitAt.{first-of, split-at}
 
--- the next call begins at place i of the list, its answer at place at of the answers
+-- the next call begins at index i of the list, its answer at index at of the answers
 pub record Counting (is : Kind → Bool) (list answers counts : List ℕ) (at i : ℕ) : Type 0 where
   pub sum : (e : ℕ) → e < 256 → getD counts e 0 + countDone is e (split (drop i list)) (drop at answers) ≡ countDone is e (split list) answers
   pub size : length counts ≡ 256
@@ -36,7 +36,7 @@ counting-start is list answers =
 abbrev pub one : ℕ → ℕ → ℕ → ℕ
 one w answer k = cond (eqb (kind w) k && eqb (answerCode answer) 0) 1 0
 
--- a kind that passes the test is the one with the number k
+-- the test passes the kind k and no other
 abbrev pub Numbered : (Kind → Bool) → ℕ → Type 0
 Numbered is k = (j : ℕ) → is (kindOf j) ≡ eqb j k
 
@@ -53,7 +53,7 @@ adds-at is k f c w answer ws numbered of-call is-first =
     go false true z = refl
     go false false z = refl
 
--- of the call at place i of a list, whose answer stands at place at: the endpoint that it names, and what it adds there
+-- of the call at index i of a list, whose answer is at index at: the endpoint that it names, and what it adds there
 abbrev pub namedAt : List ℕ → ℕ → ℕ
 namedAt list i = fieldB (getD list i 0)
 
@@ -63,7 +63,7 @@ addsAt list answers at i k = one (getD list i 0) (getD answers at 0) k
 -- one call more: the count of the endpoint that it names, with it
 module _ {is : Kind → Bool} {list answers counts : List ℕ} {at i : ℕ} (k : ℕ) (numbered : Numbered is k) (l : i < length list)
     (x : Counting is list answers counts at i) where
-  -- what the calls left count at f: what the first of them does, and what those behind it do
+  -- what the remaining calls count at f: what the first of them does, and what those after it do
   left-at : (f : ℕ) → countDone is f (split (drop i list)) (drop at answers)
       ≡ cond (eqb (namedAt list i) f) (addsAt list answers at i k) 0 + countDone is f (split (drop (i + widthOf (secondAt list i)) list)) (drop (at + 3) answers)
   unfolding countDone

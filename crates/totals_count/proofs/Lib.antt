@@ -1,2 +1,2 @@
--- What is proved of the counts, as definitions: laws that the functions' proofs cite.
+-- What is proved of the counts: laws that the functions' proofs cite.
 pub mod CountLaws

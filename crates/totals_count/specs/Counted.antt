@@ -1,4 +1,4 @@
--- What the calls of a list count at each endpoint that a call can name, by their answers.
+-- What the calls of a list count at each endpoint that a call can name, by their answers (document 02 (e)).
 use mathlib.Core.Path.{_≡_}
 use mathlib.Core.List.{List}
 use Prim.Native.Nat.{ℕ}

@@ -1,2 +1,2 @@
--- What the contracts of `counting` cite besides the machine.
+-- What the contracts of `totals_count` cite besides the machine.
 pub mod Counted

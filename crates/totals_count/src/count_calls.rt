@@ -1,4 +1,4 @@
-// What the calls of a list count at each endpoint, by their answers.
+// What the calls of a list count at each endpoint, by their answers (document 02 (e)).
 use calls::split::second_at;
 use calls::split::width;
 use format::KIND_UNIT;
@@ -19,7 +19,7 @@ pub struct Counted {
     pub received: [u64; 256],
 }
 
-// 1 for a call of a kind that was answered 0, by its first word and the first word of its answer.
+// Returns 1 for a call of a kind that was answered 0, by its first word and the first word of its answer, else 0.
 fn done(first: u32, answer: u32, kind: u32) -> u64
     ensures { λ r. ⌜ r ≡ cond (eqb (kindOf first) kind && eqb (answerCode answer) 0) 1 0 ⌝ }
 {
@@ -31,7 +31,7 @@ fn done(first: u32, answer: u32, kind: u32) -> u64
     0
 }
 
-// The calls of a list, whose answers stand three words for each call.
+// Counts the calls of a list at each endpoint that a call can name. The answers are three words for each call.
 pub fn count_calls(list: &[u32], answers: &[u32]) -> Counted
     ensures { λ r. ⌜ CallsCounted (now (list .entry)) (now (answers .entry)) r ⌝ }
 {

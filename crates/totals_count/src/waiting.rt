@@ -1,4 +1,4 @@
-// What waits at the endpoints of a table.
+// What waits at the endpoints of a table (document 02 (e)).
 use format::KIND_UNIT;
 use table_layout::domains;
 use table_layout::endpoint_word;
@@ -7,7 +7,7 @@ ghost use Rattle.machine.specs.Below.{wordsBelow};
 ghost use Rattle.machine.specs.Table.{endpoint};
 ghost use Rattle.machine.specs.Queue.{waiting};
 
-// What waits at each endpoint, as many as a table can have. Any words will do as a table.
+// Returns how many messages wait at each endpoint, for as many as a table can have. Total: accepts arbitrary words as a table.
 pub fn waiting_counts(table: &[u32]) -> [u64; 32]
     ensures { λ r. ⌜ r ≡ wordsBelow 32 (λ e. waiting (endpoint (now (table .entry)) e)) ⌝ }
 {

@@ -1,5 +1,5 @@
--- The totals over lists: they are those of all the calls as one list, they balance, and they can be made up list by list
--- (specs/Claims: SheetHolds, OneRun, ListByList); and none is above the number of words. Assumes noCounts.
+-- The totals over lists: they are those of all the calls as one list, they balance, and they can be computed list by list
+-- (specs/Claims: SheetHolds, OneRun, ListByList). None is above the count of words. Assumes nothing.
 use Prim.Native.Nat.{ℕ, _+_, _≤_}
 use mathlib.Core.Path.{_≡_, refl, sym, ap, ap₂, subst, _∙_}
 use mathlib.Core.Bool.{Bool, true, false, cond}
@@ -76,7 +76,7 @@ same-totals {a} {b} p q r =
     ap₂ (λ (x y : ℕ). record { sent = x; received = y; lost = a .lost }) p q
     ∙ ap (λ (z : ℕ). record { sent = b .sent; received = b .received; lost = z }) r
 
--- it makes no difference which two of three are taken together first
+-- addition of three totals is associative
 together-first : (a b c : Totals) → together a (together b c) ≡ together (together a b) c
 unfolding together
 together-first a b c = same-totals (omega arith) (omega arith) (omega arith)
@@ -90,7 +90,7 @@ totals-go-on e t (vs ∷ lists) ws =
 pub list-by-list : ListByList
 list-by-list e t lists ws = record { totalsGoOn = totals-go-on e t lists ws; tableGoesOn = table-goes-on t lists ws }
 
--- ---- no total is above the number of words
+-- ---- no total is above the count of words
 
 cond-one : (b : Bool) → cond b 1 0 ≤ 1
 cond-one true = omega arith

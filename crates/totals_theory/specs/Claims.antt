@@ -1,5 +1,5 @@
 -- What is claimed of the totals (document 02 (e)): they are those of all calls run as one list, sends plus waiting at the start
--- are received plus lost plus waiting at the end, and they can be made up list by list.
+-- are received plus lost plus waiting at the end, and they can be computed list by list.
 use Prim.Native.Nat.{ℕ, _+_, _<_, _≤_}
 use mathlib.Core.Path.{_≡_}
 use mathlib.Core.List.{List, [], _∷_, _++_}
@@ -19,7 +19,7 @@ pub record SheetConserved (e : ℕ) (t : List ℕ) (lists : List (List ℕ)) (en
   pub lostOver : totals e t lists .lost ≡ fullSends e t (callsOf lists)
   pub balance : totals e t lists .sent + waiting (endpoint t e) ≡ totals e t lists .received + totals e t lists .lost + waiting (endpoint end e)
 
--- They are, from every accepted table, for every endpoint that it has.
+-- This holds from every accepted table, for every endpoint that it has.
 abbrev pub SheetHolds : Type 0
 SheetHolds =
     (t : List ℕ) (lists : List (List ℕ)) (e : ℕ)
@@ -31,16 +31,16 @@ SheetHolds =
 abbrev pub OneRun : Type 0
 OneRun = (t : List ℕ) (lists : List (List ℕ)) → tableAfterLists t lists ≡ run t (callsOf lists)
 
--- Going on by one list more: what it counts on the table so far is added, and that table is the one that it runs from.
+-- One list more: what it counts on the table so far is added, and that table is the one that it runs from.
 pub record OneMore (e : ℕ) (t : List ℕ) (lists : List (List ℕ)) (ws : List ℕ) : Type 0 where
   pub totalsGoOn : totals e t (lists ++ (ws ∷ [])) ≡ together (totals e t lists) (listTotals e (tableAfterLists t lists) ws)
   pub tableGoesOn : tableAfterLists t (lists ++ (ws ∷ [])) ≡ run (tableAfterLists t lists) (split ws)
 
--- The totals can be made up list by list.
+-- The totals can be computed list by list.
 abbrev pub ListByList : Type 0
 ListByList = (e : ℕ) (t : List ℕ) (lists : List (List ℕ)) (ws : List ℕ) → OneMore e t lists ws
 
--- No count is above so many.
+-- No count is above `most`.
 pub record Few (counted : Totals) (most : ℕ) : Type 0 where
   pub sent : counted .sent ≤ most
   pub received : counted .received ≤ most

@@ -1,5 +1,5 @@
--- Rows that pin the totals, worked out by hand: list L of document 01 twice on table T, lists that are cut by themselves, a queue
--- whose lost word is at its largest, and no list.
+-- Rows that pin the totals (document 02 (e)), worked out by hand: list L of document 01 twice on table T, lists that are split
+-- separately, a queue whose lost word reaches its largest, and no list.
 use Prim.Native.Nat.{ℕ}
 use mathlib.Core.Path.{_≡_}
 use mathlib.Core.List.{List, [], _∷_}
@@ -38,7 +38,7 @@ rows =
       at = 0;
       counted = record { sent = 0; received = 0; lost = 0 };
     }
-    -- the same words as one list: one is
+    -- the same words as one list: one message is sent
     ∷ record {
       table = T;
       lists = (0x2000_0000 ∷ 0xF000_0007 ∷ []) ∷ [];

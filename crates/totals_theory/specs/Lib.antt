@@ -1,5 +1,5 @@
--- What a reader must believe of the totals over lists: what is counted, and what is claimed of it. What the contracts cite
--- besides.
+-- What a reader must believe of the totals over lists (document 02 (e)): what is counted, and what is claimed of it. Also what the
+-- contracts cite.
 pub mod Totals
 pub mod Claims
 pub mod Examples

@@ -12,11 +12,11 @@ pub record Totals : Type 0 where
   pub received : ℕ
   pub lost : ℕ
 
--- noCounts is counted yet
+-- nothing is counted yet
 unfoldable pub noCounts : Totals
 noCounts = record { sent = 0; received = 0; lost = 0 }
 
--- two counts together
+-- the sum of two counts
 unfoldable pub together : Totals → Totals → Totals
 together a b = record { sent = a .sent + b .sent; received = a .received + b .received; lost = a .lost + b .lost }
 
@@ -34,12 +34,12 @@ unfoldable pub tableAfterLists : List ℕ → List (List ℕ) → List ℕ
 tableAfterLists t [] = t
 tableAfterLists t (ws ∷ lists) = tableAfterLists (run t (split ws)) lists
 
--- what all the lists, run so from the table t, count at the endpoint e
+-- what all the lists, run one after another from the table t, count at the endpoint e
 unfoldable pub totals : ℕ → List ℕ → List (List ℕ) → Totals
 totals e t [] = noCounts
 totals e t (ws ∷ lists) = together (listTotals e t ws) (totals e (run t (split ws)) lists)
 
--- the calls of all the lists, each list cut by itself: a word of kind 15 at the front of one makes no call with the last word
+-- the calls of all the lists, each list split separately: a word of kind 15 at the front of one makes no call with the last word
 -- of the one before
 unfoldable pub callsOf : List (List ℕ) → List Call
 callsOf [] = []

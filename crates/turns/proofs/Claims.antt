@@ -1,4 +1,4 @@
--- What the state's words say after handing in and after a turn (specs/Claims). Assumes nothing.
+-- What the state's words represent after handing in and after a turn (specs/Claims). Assumes nothing.
 use mathlib.Core.Path.{_≡_, refl, sym, ap, ap₂, _∙_}
 use mathlib.Core.Bool.{Bool, true, false, cond}
 use mathlib.Core.Logic.{_⊎_, ⊎-elim}
@@ -30,14 +30,14 @@ module _ (ws b : List ℕ) (d : ℕ) (here : length b ≡ blockLength) (within :
   front : length (take (blockAt d) ws) ≡ blockAt d
   front = length-take-le (blockAt d) ws (omega (arith, within))
 
-  -- those that were put there
+  -- those that were stored there
   pub block-at : block (setBlock ws d b) d ≡ b
   unfolding block setBlock
   block-at =
       ap (take blockLength) (drop-at (take (blockAt d) ws) (b ++ drop blockLength (drop (blockAt d) ws)) (blockAt d) front)
       ∙ take-at b (drop blockLength (drop (blockAt d) ws)) blockLength here
 
-  -- and those of another
+  -- and those of another domain
   pub block-else : (e : ℕ) → eqb d e ≡ false → block (setBlock ws d b) e ≡ block ws e
   unfolding block setBlock
   block-else e other = go (decLt e d)
@@ -45,14 +45,14 @@ module _ (ws b : List ℕ) (d : ℕ) (here : length b ≡ blockLength) (within :
       p : List ℕ
       p = take (blockAt d) ws
 
-      -- words that begin alike have the same before d's
+      -- words that begin alike are the same before d's
       low : (rest : List ℕ) → e < d → take blockLength (drop (blockAt e) (p ++ rest)) ≡ take blockLength (drop (blockAt e) p)
       low rest l =
           let z = length-drop (blockAt e) p in
           ap (take blockLength) (drop-append-le (blockAt e) p rest (omega (arith, front, l)))
           ∙ take-append-le blockLength (drop (blockAt e) p) rest (omega (arith, front, l, z))
 
-      -- and words that end alike behind them
+      -- and words that end alike are the same after them
       high : d < e → drop (blockAt e) (p ++ (b ++ drop blockLength (drop (blockAt d) ws))) ≡ drop (blockAt e) ws
       high l =
           let k = 17 * (e - suc d) in
@@ -71,7 +71,7 @@ module _ (ws b : List ℕ) (d : ℕ) (here : length b ≡ blockLength) (within :
           ∙ ap (λ (xs : List ℕ). take blockLength (drop (blockAt e) xs)) (take-append-drop (blockAt d) ws)
       go (no l) = ap (take blockLength) (high (omega (arith, l, eqb-false d e other)))
 
-  -- the place is no domain's
+  -- the place is in no domain's words
   pub place-else : getD (setBlock ws d b) 0 0 ≡ getD ws 0 0
   unfolding setBlock
   place-else =

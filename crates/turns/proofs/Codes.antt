@@ -1,4 +1,4 @@
--- Laws of the codes and promises (specs/Promise): each place that refuses, and where none does. Assumes nothing.
+-- Laws of the codes and promises (specs/Promise): each check that refuses, and where none does. Assumes nothing.
 use mathlib.Core.Path.{_≡_, refl, sym, ap, _∙_}
 use mathlib.Core.Bool.{Bool, true, false, cond, not, _&&_, _||_, false≢true}
 use mathlib.Core.List.{List}
@@ -71,7 +71,7 @@ module _ (t ws : List ℕ) (d : ℕ) (vs : List ℕ) where
           le-ltb mostPending (length (pendingIn (block ws d)) + length vs) (omega (arith, room, fits)),
         )
 
-  -- the promise where it is refused, and where the words are let in
+  -- the promise where the words are refused, and where they are accepted
   pub hand-in-refused : (k : ℕ) → k ≡ handsInCode t ws d vs → (k ≡ 0 → ⊥) → (ws′ : List ℕ) → ws′ ≡ ws → HandInPromise t ws d vs k ws′
   hand-in-refused k is bad ws′ same =
       record { sameCode = is; state = rw (ne-eqb (handsInCode t ws d vs) 0 (λ z. bad (is ∙ z))) same }

@@ -1,4 +1,4 @@
--- What is so of everything that a turn comes to: its code and how many calls it served are small. Assumes nothing.
+-- What holds of every outcome of a turn: its code and how many calls it served are small. Assumes nothing.
 use Prim.Native.Nat.{_≤_}
 use native.Mathlib.Omega.{arith}
 use Rattle.table_check.specs.Checked.{refusalCode}

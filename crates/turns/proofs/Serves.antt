@@ -1,5 +1,5 @@
--- What serving a domain comes to: the call that is handed to the step is the turn's, its words are there to go, and what the step
--- promises of it is what the turn does (specs/Promise). Assumes nothing.
+-- Serving a domain: the call that is passed to the step is the turn's, its words can be removed, and what the step promises of it
+-- is what the turn does (specs/Promise). Assumes nothing.
 use mathlib.Core.Path.{_≡_, refl, sym, ap, _∙_}
 use mathlib.Core.Bool.{Bool, true, false, cond}
 use mathlib.Core.List.{List, [], _++_}

@@ -1,4 +1,4 @@
--- The words of events that are as promised tell a history of the layer (specs/WordEvent). Assumes nothing.
+-- The words of events that are as promised match a history (specs/WordHistory). Assumes nothing.
 use mathlib.Core.Path.{_≡_, refl, sym, ap, ap₂, subst, subst₂, _∙_}
 use mathlib.Core.Bool.{Bool, true, false, cond, not, _||_, false≢true}
 use mathlib.Core.List.{List, [], _∷_, _++_, map}
@@ -25,14 +25,14 @@ use Rattle.turns.specs.Claims as claims
 use Rattle.turns.specs.WordHistory.{WordEvent, AsPromised, tableLeft, stateLeft, codeGiven, answerGiven, holdersGiven, turnDone, eventOf, tableAt, stateAt, answersGiven, allHoldersGiven, turnsDone, eventCodes, MatchesHistory, EveryWordHistory, ServedInTimeByWords, first, FromTheBeginning, WordEvent.handsIn, WordEvent.turns}
 use Rattle.turns.proofs.Claims.{begins, every-hand-in, every-turn}
 
--- the layer that a table and a state's words stand for
+-- the layer that a table and a state's words represent
 abbrev layer : List ℕ → List ℕ → Layer
 layer t ws = record { table = t; turns = turnsIn ws }
 
 abbrev withTurns : List ℕ → Turns → Layer
 withTurns t s = record { table = t; turns = s }
 
--- an event that isn't refused does what it does
+-- an event that isn't refused leaves what `done` says
 after-done : (l : Layer) (e : Event) → eqb (eventCode l e) 0 ≡ true → afterEvent l e ≡ done l e
 unfolding afterEvent
 after-done l e h = rw h
@@ -41,7 +41,7 @@ nothing : {A : Type 0} (b : Bool) → _≡_ {A = List A} [] (cond b [] [])
 nothing true = refl
 nothing false = refl
 
--- What one event tells: what it answered, and what it left.
+-- What one event reports: what it returned, and what it left.
 record Next (t ws : List ℕ) (h : WordEvent) : Type 0 where
   code : codeGiven h ≡ eventCode (layer t ws) (eventOf h)
   answers : answerGiven h ≡ cond (eqb (eventCode (layer t ws) (eventOf h)) 0) (answerAt (layer t ws) (eventOf h)) []
@@ -89,7 +89,7 @@ module _ (t ws : List ℕ) (size : length ws ≡ stateLength (domains t)) where
 
 -- ---- a turn
 
--- what a turn tells of the call that it served
+-- what a turn reports of the call that it served
 turn-answer : (t : List ℕ) (x : Turn) (space : List ℕ) → cond (eqb (servedBy x) 0) [] (take 3 (spaceAfter t x space)) ≡ answerOf t x
 unfolding servedBy spaceAfter answerOf
 turn-answer t idle space = refl
@@ -100,7 +100,7 @@ unfolding servedBy holdersAfterTurn holdersOfTurn
 turn-holders t idle holders = refl
 turn-holders t (serves d c) holders = refl
 
--- a turn that isn't refused was asked for on an accepted table, and leaves its number of domains
+-- a turn that isn't refused was requested on an accepted table, and leaves its count of domains
 turn-accepted : (t : List ℕ) (space lent : ℕ) → eqb (turnCode t space lent) 0 ≡ true → Accepted t
 unfolding turnCode
 turn-accepted t space lent h = go (eqb (tableCode t) 0) refl
@@ -181,7 +181,7 @@ next : (t ws : List ℕ) (h : WordEvent) → length ws ≡ stateLength (domains 
 next t ws (handsIn d vs code ws′) size p = next-hand-in t ws size d vs code ws′ p
 next t ws (turns holders space code n t′ ws′ kept space′) size p = next-turn t ws size holders space code n t′ ws′ kept space′ p
 
--- ---- one layerAfter another
+-- ---- one after another
 
 pub every-word-history : EveryWordHistory
 unfolding answersGiven allHoldersGiven turnsDone tableAt stateAt eventCodes layerAfter alongWith

@@ -1,5 +1,6 @@
--- What ties the state's words to what a history promises (document 02 (m)), in closed statements: what the words say after handing in
--- and after a turn is what handing in and a turn leave of what they said. Each is the type of a theorem in proofs/.
+-- What relates the state's words to what a history promises (document 02 (m)), in closed statements: what the words represent after
+-- handing in and after a turn is what handing in and a turn leave of what they represented. Each is the type of a theorem in
+-- proofs/.
 use Prim.Native.Nat.{ℕ}
 use mathlib.Core.Path.{_≡_}
 use mathlib.Core.List.{List}
@@ -9,11 +10,11 @@ use Rattle.turns_theory.specs.Turns.{begun, handInCode, handedIn, turnCode, aft
 use Rattle.turns_state.specs.State.{stateLength, turnsIn, turnIn, stateHandedIn, stateAfter}
 use Rattle.turns.specs.Promise.{handsInCode, turnsCode}
 
--- the words of the beginning, in any number
+-- words that are all 0, however many, represent the beginning
 abbrev pub Begins : Type 0
 Begins = (size : ℕ) → turnsIn (replicate size 0) ≡ begun
 
--- Handing in, in a state of the right length: the code is the one of what the words say, and so is what they say then.
+-- Handing in, in a state of the right length: the code is the one for what the words represent, and so is what they represent then.
 pub record HandsIn (t ws : List ℕ) (d : ℕ) (vs : List ℕ) : Type 0 where
   pub code : handsInCode t ws d vs ≡ handInCode t (turnsIn ws) d vs
   pub left : handsInCode t ws d vs ≡ 0 → turnsIn (stateHandedIn ws d vs) ≡ handedIn (turnsIn ws) d vs

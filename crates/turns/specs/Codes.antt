@@ -1,5 +1,5 @@
--- The numbers of the answers (document 02 (m)): 35, 36 and 37, document 01's 2 to 6, and 99, which no paper uses, for a state of another
--- length than n domains ask for.
+-- The codes of the answers (document 02 (m)): 35, 36 and 37, document 01's 2 to 6, and 99, which no paper uses, for a state whose
+-- length isn't the one for n domains.
 use Prim.Native.Nat.{ℕ}
 use Rattle.table_check.specs.Checked.{refusalCode}
 use Rattle.run_result.specs.Entry.{entryRefusalCode}
@@ -12,7 +12,7 @@ use Rattle.turns.specs.declared.TurnRefusal.the-variants as turn
 use Rattle.turns.specs.declared.Turned.{Turned}
 use Rattle.turns.specs.declared.Turned.the-variants as turned
 
--- the number for a state of another length
+-- the code for a state of another length
 abbrev pub badTurns : ℕ
 badTurns = 99
 

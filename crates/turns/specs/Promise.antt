@@ -1,4 +1,4 @@
--- What handing in and a turn promise of any words at all: the number, and every lent word at the end (document 02 (m)).
+-- What handing in and a turn promise for arbitrary words: the code, and every lent word at the end (document 02 (m)).
 use Prim.Native.Nat.{ℕ, _+_, _≤_}
 use mathlib.Core.Path.{_≡_}
 use mathlib.Core.Bool.{cond, not}
@@ -17,7 +17,7 @@ use Rattle.turns.specs.Codes.{badTurns}
 
 -- ---- handing in
 
--- the code: 2 to 5, 35, 36, then 99 where the state's length isn't the one for n domains, then 37; 0 where none refuses
+-- the code: 2 to 5, 35, 36, then 99 where the state's length isn't the one for n domains, then 37; 0 where nothing refuses
 unfoldable pub handsInCode : List ℕ → List ℕ → ℕ → List ℕ → ℕ
 handsInCode t ws d vs =
     cond (not (eqb (tableCode t) 0)) (tableCode t)
@@ -33,8 +33,8 @@ pub record HandInPromise (t ws : List ℕ) (d : ℕ) (vs : List ℕ) (code : ℕ
 
 -- ---- a turn
 
--- the code, for a state of a size and so many words lent for the answer and for the holders: 2 to 6, then 99 where the state's length
--- isn't the one for n domains; 0 where none refuses
+-- the code, for a state of a size and so many words lent for the answer and for the holders: 2 to 6, then 99 where the state's
+-- length isn't the one for n domains; 0 where nothing refuses
 unfoldable pub turnsCode : List ℕ → ℕ → ℕ → ℕ → ℕ
 turnsCode t size space lent =
     cond (not (eqb (turnCode t space lent) 0)) (turnCode t space lent)
@@ -45,12 +45,12 @@ unfoldable pub servedBy : Turn → ℕ
 servedBy idle = 0
 servedBy (serves d c) = 1
 
--- the answer space after a turn: three words of a call that was served, in front of what was there
+-- the answer space after a turn: the three words for a call that was served, before the rest of what was there
 unfoldable pub spaceAfter : List ℕ → Turn → List ℕ → List ℕ
 spaceAfter t idle space = space
 spaceAfter t (serves d c) space = answer t c ++ drop 3 space
 
--- where the code is 0, the call of the domain that is next is served, if any is pending; else nothing changes
+-- where the code is 0, the oldest call of the domain that is next is served, if any is pending; else nothing changes
 pub record TurnPromise (t ws holders space : List ℕ) (code served : ℕ) (t′ ws′ kept space′ : List ℕ) : Type 0 where
   pub sameCode : code ≡ turnsCode t (length ws) (length space) (length holders)
   pub sameServed : served ≡ cond (eqb (turnsCode t (length ws) (length space) (length holders)) 0) (servedBy (turnIn t ws)) 0
@@ -59,7 +59,7 @@ pub record TurnPromise (t ws holders space : List ℕ) (code served : ℕ) (t′
   pub sameHolders : kept ≡ cond (eqb (turnsCode t (length ws) (length space) (length holders)) 0) (holdersAfterTurn t (turnIn t ws) holders) holders
   pub answer : space′ ≡ cond (eqb (turnsCode t (length ws) (length space) (length holders)) 0) (spaceAfter t (turnIn t ws) space) space
 
--- what `serve` asks: the domain d is the next, and there is space for its answer
+-- the precondition of `serve`: the state has the right length, the domain d is the next, and there is space for its answer
 pub record MayServe (t ws space : List ℕ) (d : ℕ) : Type 0 where
   pub size : length ws ≡ stateLength (domains t)
   pub next : firstWaiting (domains t) (turnsIn ws) ≡ some d

@@ -1,5 +1,6 @@
--- A history by its words (document 02 (m)): events one layerAfter another, each as the contract of `turns::hand_in` or `turns::turn` promises.
--- Each is lent the table and the state as the event before it left them; a turn is lent any words for the holders and the answer.
+-- A history by its words (document 02 (m)): events one after another, each as the contract of `turns::hand_in` or `turns::turn`
+-- promises. Each is lent the table and the state as the event before it left them. A turn is lent arbitrary words for the holders
+-- and the answer.
 use Prim.Native.Nat.{ℕ, _+_, _<_, _≤_}
 use mathlib.Core.Path.{_≡_}
 use mathlib.Core.Bool.{cond}
@@ -18,7 +19,7 @@ use Rattle.turns_state.specs.Pending.{pendingIn}
 use Rattle.turns_state.specs.State.{stateLength, block, turnsIn}
 use Rattle.turns.specs.Promise.{HandInPromise, TurnPromise}
 
--- An event that happened: what it was lent besides the table and the state, what it answered, and the words that it left.
+-- An event that happened: what it was lent besides the table and the state, what it returned, and the words that it left.
 pub data WordEvent : Type 0 where
   handsIn : (d : ℕ) (words : List ℕ) (code : ℕ) (state : List ℕ) → WordEvent
   turns : (holders space : List ℕ) (code served : ℕ) (table state kept answer : List ℕ) → WordEvent
@@ -37,7 +38,7 @@ unfoldable pub stateLeft : WordEvent → List ℕ
 stateLeft (handsIn d vs code ws′) = ws′
 stateLeft (turns holders space code n t′ ws′ kept space′) = ws′
 
--- its code, its answer's words and its holders, none where no call was served
+-- its code, its answer's words and its holders, of which there are none where no call was served
 unfoldable pub codeGiven : WordEvent → ℕ
 codeGiven (handsIn d vs code ws′) = code
 codeGiven (turns holders space code n t′ ws′ kept space′) = code
@@ -50,17 +51,17 @@ unfoldable pub holdersGiven : WordEvent → List (List ℕ)
 holdersGiven (handsIn d vs code ws′) = []
 holdersGiven (turns holders space code n t′ ws′ kept space′) = cond (eqb n 0) [] (kept ∷ [])
 
--- a turn that wasn't refused
+-- 1 for a turn that wasn't refused
 unfoldable pub turnDone : WordEvent → ℕ
 turnDone (handsIn d vs code ws′) = 0
 turnDone (turns holders space code n t′ ws′ kept space′) = cond (eqb code 0) 1 0
 
--- the event of the layer that it is
+-- the event of a history that it is
 unfoldable pub eventOf : WordEvent → Event
 eventOf (handsIn d vs code ws′) = handIn d vs
 eventOf (turns holders space code n t′ ws′ kept space′) = turn (length space) (length holders)
 
--- ---- one layerAfter another
+-- ---- one after another
 
 -- each is as promised, on what the one before it left
 abbrev pub AllAsPromised : List ℕ → List ℕ → List WordEvent → Type 0
@@ -97,7 +98,7 @@ eventCodes l (e ∷ es) = eventCode l e ∷ eventCodes (afterEvent l e) es
 
 -- ---- what is claimed
 
--- The words tell the history of these events: every code, every answer, the holders layerAfter each call served, how many turns weren't
+-- The words match the history of these events: every code, every answer, the holders after each call served, how many turns weren't
 -- refused, and at the end the table, what is pending and the place of the turn.
 pub record MatchesHistory (l : Layer) (ws : List ℕ) (hs : List WordEvent) : Type 0 where
   pub codes : map codeGiven hs ≡ eventCodes l (map eventOf hs)
@@ -107,7 +108,7 @@ pub record MatchesHistory (l : Layer) (ws : List ℕ) (hs : List WordEvent) : Ty
   pub table : tableAt (l .table) hs ≡ layerAfter l (map eventOf hs) .table
   pub turns : turnsIn (stateAt ws hs) ≡ layerAfter l (map eventOf hs) .turns
 
--- From any state of the right length, whatever its words say.
+-- This holds from any state of the right length, whatever its words represent.
 abbrev pub EveryWordHistory : Type 0
 EveryWordHistory =
     (t ws : List ℕ) (hs : List WordEvent)
@@ -127,9 +128,9 @@ ServedInTimeByWords =
     → domains t ≤ turnsDone hs
     → ServedWithin (domains t) d c (turnsOf (record { table = t; turns = turnsIn ws }) (map eventOf hs))
 
--- From the beginning: nothing is pending. The calls served, in order, are one list for the call-by-call machine, which gives their
--- answers, the holders layerAfter each and the table; noninterference (document 01: the striking rule) speaks of that list; and each domain's
--- calls, those served and then those still pending, are those that it handed in, in that order.
+-- From the beginning: nothing is pending. The calls served, in order, are one list for the call-by-call machine, which returns
+-- their answers, the holders after each and the table. Noninterference (document 01) is claimed of that list. Each domain's calls,
+-- those served and then those still pending, are those that it handed in, in that order.
 abbrev pub first : List ℕ → Layer
 first t = record { table = t; turns = begun }
 

@@ -1,6 +1,6 @@
-// Turns for calls that domains hand in one by one (document 02 (m)), a layer above the kernel: it stands on what `kernel::check` and
-// `kernel::step` say of themselves. What is pending and the place of the turn stand in 1 + 17 n words that the caller lends (crate
-// turn_state).
+// Turns for calls that domains hand in one by one (document 02 (m)), a layer above the kernel that relies on the contracts of
+// `kernel::check` and `kernel::step`. What is pending and the place of the turn are in 1 + 17 n words that the caller lends (crate
+// turns_state).
 mod serving;
 
 use kernel::check;
@@ -19,7 +19,7 @@ ghost use lib.ListN.{length, replicate};
 ghost use Rattle.turns.specs.Codes.{handInRefusalCode, handedInCode, turnRefusalCode, turnedCode, turnedServed};
 ghost use Rattle.turns.specs.Promise.{HandInPromise, TurnPromise};
 
-// Why words aren't handed in.
+// Why words that are handed in are refused.
 pub enum HandInRefusal {
     BadTable(TableRefusal), // 2 to 5
     UnknownDomain, // 35
@@ -29,6 +29,7 @@ pub enum HandInRefusal {
 }
 
 impl HandInRefusal {
+    // Returns the code of the refusal.
     pub fn code(self) -> u32
         ensures { λ r. ⌜ r ≡ handInRefusalCode self ⌝ }
     {
@@ -42,13 +43,14 @@ impl HandInRefusal {
     }
 }
 
-// What handing in comes to.
+// The outcome of handing in.
 pub enum HandedIn {
     Refused(HandInRefusal),
     Pending,
 }
 
 impl HandedIn {
+    // Returns the code of the refusal, or 0 where the words are pending.
     pub fn code(self) -> u32
         ensures { λ r. ⌜ r ≡ handedInCode self ⌝ }
     {
@@ -59,13 +61,14 @@ impl HandedIn {
     }
 }
 
-// Why a turn isn't taken.
+// Why a turn is refused.
 pub enum TurnRefusal {
     Entry(EntryRefusal), // 2 to 6
     BadTurns, // 99, which no paper uses: the state isn't 1 + 17 n words
 }
 
 impl TurnRefusal {
+    // Returns the code of the refusal.
     pub fn code(self) -> u32
         ensures { λ r. ⌜ r ≡ turnRefusalCode self ⌝ }
     {
@@ -76,7 +79,7 @@ impl TurnRefusal {
     }
 }
 
-// What a turn comes to.
+// The outcome of a turn.
 pub enum Turned {
     Refused(TurnRefusal),
     Idle,
@@ -84,6 +87,7 @@ pub enum Turned {
 }
 
 impl Turned {
+    // Returns the code of the refusal, or 0 where the turn isn't refused.
     pub fn code(self) -> u32
         ensures { λ r. ⌜ r ≡ turnedCode self ⌝ }
     {
@@ -94,7 +98,7 @@ impl Turned {
         }
     }
 
-    // How many calls it served.
+    // Returns how many calls the turn served.
     pub fn served(self) -> u32
         ensures { λ r. ⌜ r ≡ turnedServed self ⌝ }
     {
@@ -106,7 +110,7 @@ impl Turned {
     }
 }
 
-// The beginning: nothing is pending, and the first turn of all starts at 0.
+// Sets every word of the state to 0, which is the beginning: nothing is pending, and the first turn starts at 0.
 pub fn begin(state: &mut [u32])
     ensures { λ _. ⌜ now (state .exit) ≡ replicate (length (now (state .entry))) 0 ⌝ }
 {
@@ -117,7 +121,7 @@ pub fn begin(state: &mut [u32])
     }
 }
 
-// A domain hands in the words of one call.
+// Hands in the words of one call for a domain. A refusal changes nothing.
 pub fn hand_in(table: &[u32], state: &mut [u32], domain: u32, words: &[u32]) -> HandedIn
     ensures { λ r. ⌜ HandInPromise (now (table .entry)) (now (state .entry)) domain (now (words .entry)) (handedInCode r) (now (state .exit)) ⌝ }
 {
@@ -141,8 +145,8 @@ pub fn hand_in(table: &[u32], state: &mut [u32], domain: u32, words: &[u32]) -> 
     HandedIn::Pending
 }
 
-// A turn: the oldest call of the domain that is next, or none where nothing is pending. A call that is served is answered in the first
-// three words of the answer space.
+// Serves the oldest call of the domain that is next, or none where nothing is pending. A call that is served is answered in the
+// first three words of the answer space. A turn that is refused changes nothing.
 pub fn turn(table: &mut [u32], state: &mut [u32], holders: &mut [u32], answer: &mut [u32]) -> Turned
     ensures { λ r. ⌜ TurnPromise (now (table .entry)) (now (state .entry)) (now (holders .entry)) (now (answer .entry)) (turnedCode r) (turnedServed r) (now (table .exit)) (now (state .exit)) (now (holders .exit)) (now (answer .exit)) ⌝ }
 {

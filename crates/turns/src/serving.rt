@@ -1,4 +1,4 @@
-// A turn that serves nobody, and one that serves a domain.
+// A turn that serves nobody, and one that serves a domain (document 02 (m)).
 use crate::TurnRefusal;
 use crate::Turned;
 use answers::by_value::put;
@@ -17,7 +17,7 @@ ghost use mathlib.Core.Path.{_≡_};
 ghost use Rattle.turns.specs.Codes.{turnedCode, turnedServed};
 ghost use Rattle.turns.specs.Promise.{turnsCode, MayServe, TurnPromise};
 
-// A turn that serves nobody: its refusal, or idle.
+// Returns the outcome of a turn that serves nobody: its refusal, or idle.
 pub fn nobody(table: &[u32], size: usize, lent: usize, space: usize) -> Turned
     ensures { λ r. ⌜ turnedCode r ≡ turnsCode (now (table .entry)) size space lent ⌝ }
     ensures { λ r. ⌜ turnedServed r ≡ 0 ⌝ }
@@ -39,7 +39,7 @@ pub fn nobody(table: &[u32], size: usize, lent: usize, space: usize) -> Turned
     Turned::Idle
 }
 
-// The oldest call of a domain is served. A step that is refused changes nothing, here neither.
+// Serves the oldest call of a domain. Where the step is refused, nothing changes here either.
 pub fn serve(
     table: &mut [u32],
     state: &mut [u32],

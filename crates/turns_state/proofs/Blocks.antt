@@ -1,4 +1,5 @@
--- Laws of the state's words (specs/State): where a domain's stand, what they say, and what is left of the others. Assumes nothing.
+-- Laws of the state's words (specs/State): where a domain's are, what they represent, and what is left of the others.
+-- Assumes nothing.
 use mathlib.Core.Path.{_≡_, refl, sym, ap, _∙_}
 use mathlib.Core.Bool.{Bool, true, false, cond, not}
 use mathlib.Core.List.{List}
@@ -40,7 +41,7 @@ module _ (ws : List ℕ) (n d : ℕ) (size : length ws ≡ stateLength n) (below
       small zero = refl
       small (suc w) = ne-eqb (min (suc w) mostPending) 0 (λ z. omega arith) ∙ sym (ne-eqb (suc w) 0 (λ z. omega arith))
 
--- a domain's words, put where they were
+-- a domain's words, stored where they were
 pub block-same : (ws : List ℕ) (d : ℕ) → setBlock ws d (block ws d) ≡ ws
 unfolding block setBlock
 block-same ws d = put-same (blockAt d) blockLength ws
@@ -66,7 +67,7 @@ module _ (ws : List ℕ) (d : ℕ) where
       ∙ getD-take blockLength (drop (blockAt d) ws) 1 0 (omega arith)
       ∙ getD-drop (blockAt d) ws 1 0)
 
-  -- not all: nothing is pending, there is no room, and nothing can go
+  -- not all: nothing is pending, there is no room, and nothing can be removed
   module _ (h : length ws < blockAt d + blockLength) where
     short : eqb (length (block ws d)) blockLength ≡ false
     unfolding block

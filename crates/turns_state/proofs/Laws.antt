@@ -1,5 +1,5 @@
--- Laws of a domain's seventeen words (specs/Pending): the tests put together and taken apart, what the two loops make of the words, and
--- what is pending in the words that they leave. Assumes nothing.
+-- Laws of a domain's seventeen words (specs/Pending): the tests and their parts, what the two loops make of the words, and what is
+-- pending in the words that they leave. Assumes nothing.
 use mathlib.Core.Path.{_≡_, refl, sym, ap, ap₂, _∙_}
 use mathlib.Core.Bool.{true, false}
 use mathlib.Core.List.{List, [], _∷_, _++_, append-assoc}
@@ -50,12 +50,12 @@ unfolding pendingIn
 pending-length b h =
     length-take-le (count b) (drop 1 b) (let z = length-drop 1 b in let m = count-most b in omega arith)
 
--- a list has what it begins with, and the rest
+-- a list is its first word and the rest
 cons-drop : (b : List ℕ) → 1 ≤ length b → b ≡ getD b 0 0 ∷ drop 1 b
 cons-drop [] h = absurd (omega arith)
 cons-drop (x ∷ xs) h = refl
 
--- ---- words that go behind
+-- ---- words that are appended
 
 -- the loop has copied all: the count is set
 pub enqueue-end : (b vs : List ℕ) → 1 ≤ length b → set (paste b (1 + count b) vs (length vs)) 0 (count b + length vs) ≡ enqueued b vs
@@ -71,7 +71,7 @@ enqueue-end b vs h =
 
 -- ---- words that move to the front
 
--- the first j of the words behind the first few have moved
+-- the first j of the words after the first few have moved
 abbrev pub moved : List ℕ → ℕ → ℕ → List ℕ
 moved b few j = paste b 1 (drop (1 + few) b) j
 
@@ -89,7 +89,7 @@ module _ (b : List ℕ) (few j : ℕ) (within : 1 + few + j < length b) where
       ∙ ap (λ (i : ℕ). getD b i 0) (sym next)
       ∙ sym (getD-drop (1 + few) b j 0)
 
-  -- a turn of the loop
+  -- one iteration of the loop
   pub moved-more : set (moved b few j) (1 + j) (getD (moved b few j) (1 + few + j) 0) ≡ moved b few (j + 1)
   moved-more =
       ap (λ (w : ℕ). set (moved b few j) (1 + j) w) moved-read
@@ -116,9 +116,9 @@ dequeue-end b few p =
     ∙ ap (λ (ws : List ℕ). left ∷ (ws ++ drop (1 + left) b))
     (ap (take left) (sym (drop-drop few 1 b)) ∙ sym (drop-take few (count b) (drop 1 b) (p .there) (omega (arith, p .there))))
 
--- ---- what is pending then
+-- ---- what is pending afterwards
 
--- a block that begins with a count of at most 16 and has so many words behind it
+-- a block that begins with a count of at most 16 and has so many words after it
 pending-of : (k : ℕ) (ws rest : List ℕ) → k ≤ mostPending → length ws ≡ k → pendingIn (k ∷ (ws ++ rest)) ≡ ws
 unfolding pendingIn count
 pending-of k ws rest h is =
@@ -164,7 +164,7 @@ dequeued-length b few p =
 
 -- ---- the tests
 
--- so many more have room where no more than is left is asked for
+-- so many more have room where they are no more than what is left
 pub room-left : (b : List ℕ) (more k : ℕ) → k ≡ count b → leb more (16 - k) ≡ leb (count b + more) mostPending
 room-left b more k is = go (decLe more (16 - k))
   where

@@ -32,7 +32,7 @@ waiting-found n s =
     (λ is. ⊎-elim (λ f. let (d, is′, it) = f in inl (d, waiting-round n s is ∙ is′, it)) (λ is′. inr (waiting-round n s is ∙ is′)) (from-found n s 0))
     (from-found n s (s .place))
 
--- n is answered where nobody was found there, and then it is asked again from 0
+-- n is returned where nobody was found there, and then the search is repeated from 0
 pub none-there : (n : ℕ) (s : Turns) → orNone n (firstPendingFrom n s (s .place)) ≡ n → orNone n (firstPendingFrom n s 0) ≡ orNone n (firstWaiting n s)
 unfolding orNone
 none-there n s h =

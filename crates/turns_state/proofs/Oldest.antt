@@ -1,4 +1,5 @@
--- The oldest call of the domain that is next: it is what a turn serves, and its words are there to go (specs/State). Assumes nothing.
+-- The oldest call of the domain that is next: it is what a turn serves, and its words can be removed (specs/State).
+-- Assumes nothing.
 use mathlib.Core.Path.{_≡_, sym, ap, ap₂, subst, _∙_}
 use mathlib.Core.Bool.{true, not, false≢true}
 use mathlib.Core.List.{List, [], _∷_}
@@ -24,7 +25,7 @@ use Rattle.turns_state.proofs.Blocks.{block-length, removed-there}
 use Rattle.turns_state.proofs.Words.{width-of, second-oldest}
 use Rattle.turns_state.proofs.Next.{waiting-found, Found}
 
--- the oldest call of words that are there, by their first and what comes second
+-- the oldest call of words that are there, by their first and their second word
 oldest-served : (d : ℕ) (ps : List ℕ) → not (eqb (length ps) 0) ≡ true → servesOldest d (split ps) ≡ serves d (callOf (getD ps 0 0) (secondAt ps 0))
 unfolding servesOldest
 oldest-served d [] h = absurd (false≢true h)
@@ -77,7 +78,7 @@ module _ (t ws : List ℕ) (d : ℕ) (size : length ws ≡ stateLength (domains 
       ∙ oldest-served d (pendingIn (block ws d)) there
       ∙ ap₂ (λ (w : ℕ) (s : Second). serves d (callOf w s)) (sym first) (sym second)
 
-  -- its words are there to go
+  -- its words can be removed
   fits : dequeuable (block ws d) (widthOf (secondOfOldest (block ws d))) ≡ true
   unfolding dequeuable
   fits =

@@ -1,4 +1,5 @@
--- Laws of the words that a domain hands in and of the oldest of those that are pending (specs/State, the cutting). Assumes nothing.
+-- Laws of the words that a domain hands in and of the oldest of those that are pending (specs/State, calls::split).
+-- Assumes nothing.
 use mathlib.Core.Path.{_≡_, refl, sym, ap, _∙_}
 use mathlib.Core.Bool.{Bool, true, false, cond, not, _&&_}
 use mathlib.Core.List.{List, [], _∷_}
@@ -19,12 +20,12 @@ use Rattle.turns_theory.specs.Turns.{isOneOf, width}
 use Rattle.turns_theory.proofs.Pending.{oldest, split-oldest, oldest-width, oldest-first}
 use Rattle.turns_state.specs.State.{isCallOf}
 
--- how wide a call is, by what comes second
+-- how many words a call has, by its second word
 pub width-of : (w : ℕ) (s : Second) → widthOf s ≡ width (callOf w s)
 width-of w Nothing = refl
 width-of w (Word v) = refl
 
--- the oldest call of words is their first with what comes second
+-- the oldest call of words is their first with its second word
 pub second-oldest : (w : ℕ) (ws : List ℕ) → callOf w (secondAt (w ∷ ws) 0) ≡ oldest w ws
 unfolding secondAt oldest
 second-oldest w [] = ap (λ (b : Bool). callOf w (cond (b && pairs w 0) (Word 0) Nothing)) (le-ltb 1 1 (omega arith))
@@ -66,7 +67,7 @@ unfolding isOneOf split
 no-call d [] h = refl
 no-call d (w ∷ ws) h = absurd (omega arith)
 
--- words that are there, by their first and how wide the call is that it begins
+-- words that are there, by their first and the count of words of the call that it begins
 one-call : (d w : ℕ) (ws : List ℕ) → isOneOf d (split (w ∷ ws)) ≡ (isCallOf w d && eqb (length (drop (width (oldest w ws)) (w ∷ ws))) 0)
 one-call d w ws =
     ap (isOneOf d) (split-oldest w ws)
@@ -78,7 +79,7 @@ pub not-its-call : (d : ℕ) (ws : List ℕ) → 1 ≤ length ws → isCallOf (g
 not-its-call d [] l h = absurd (omega arith)
 not-its-call d (w ∷ ws) l h = one-call d w ws ∙ ap (λ (b : Bool). b && eqb (length (drop (width (oldest w ws)) (w ∷ ws))) 0) h
 
--- it is: then all depends on whether words are left
+-- it is: then it depends on whether words are left
 pub its-call : (d : ℕ) (ws : List ℕ) → 1 ≤ length ws → isCallOf (getD ws 0 0) d ≡ true → isOneOf d (split ws) ≡ eqb (length ws) (widthOf (secondAt ws 0))
 its-call d [] l h = absurd (omega arith)
 its-call d (w ∷ ws) l h =

@@ -1,5 +1,5 @@
--- Rows that pin what going behind and going leave of a domain's seventeen words, and which second word the oldest call has. Some words
--- are such as no history makes. Worked out by hand.
+-- Rows that pin what appending and removing leave of a domain's seventeen words, and which second word the oldest call has
+-- (document 02 (m)). No history makes some of these words. Worked out by hand.
 use Prim.Native.Nat.{ℕ}
 use mathlib.Core.Path.{_≡_}
 use mathlib.Core.List.{List, [], _∷_, _++_}
@@ -8,8 +8,8 @@ use Rattle.calls.specs.declared.split.Second.{Second}
 use Rattle.calls.specs.declared.split.Second.the-variants.{Nothing, Word}
 use Rattle.turns_state.specs.Pending.{pendingIn, leftByEnqueue, leftByDequeue, secondOfOldest}
 
--- A row: words behind which others go, and what is left; words of which the first so many go, and what is left; the words that are
--- pending; the second word of the oldest call.
+-- A row: words to which others are appended, and what is left; words of which the first so many are removed, and what is left; the
+-- words that are pending; the second word of the oldest call.
 pub data PendingRow : Type 0 where
   enqueues : (words behind left : List ℕ) → PendingRow
   dequeues : (words : List ℕ) (few : ℕ) (left : List ℕ) → PendingRow
@@ -34,26 +34,26 @@ sixteen = 0x51 ∷ 0x52 ∷ 0x53 ∷ 0x54 ∷ 0x55 ∷ 0x56 ∷ 0x57 ∷ 0x58 �
 
 abbrev pub pendingRows : List PendingRow
 pendingRows =
-    -- words go behind those that are pending, over what was there; all others stay
+    -- words are written after those that are pending, over what was there; all others stay
     enqueues (0 ∷ sixteen) (7 ∷ 8 ∷ [])
     (2 ∷ 7 ∷ 8 ∷ 0x53 ∷ 0x54 ∷ 0x55 ∷ 0x56 ∷ 0x57 ∷ 0x58 ∷ 0x59 ∷ 0x5A ∷ 0x5B ∷ 0x5C ∷ 0x5D ∷ 0x5E ∷ 0x5F ∷ 0x60 ∷ [])
     ∷ enqueues (3 ∷ sixteen) (7 ∷ [])
     (4 ∷ 0x51 ∷ 0x52 ∷ 0x53 ∷ 7 ∷ 0x55 ∷ 0x56 ∷ 0x57 ∷ 0x58 ∷ 0x59 ∷ 0x5A ∷ 0x5B ∷ 0x5C ∷ 0x5D ∷ 0x5E ∷ 0x5F ∷ 0x60 ∷ [])
     ∷ enqueues (15 ∷ sixteen) (7 ∷ []) (16 ∷ take 15 sixteen ++ (7 ∷ []))
-    -- no room: one too many; and nothing more behind a count above 16
+    -- no room: one word too many; and nothing is added after a count above 16
     ∷ enqueues (15 ∷ sixteen) (7 ∷ 8 ∷ []) (15 ∷ sixteen)
     ∷ enqueues (16 ∷ sixteen) (7 ∷ []) (16 ∷ sixteen)
     ∷ enqueues (17 ∷ sixteen) (7 ∷ []) (17 ∷ sixteen)
-    -- sixteen words, and eighteen
+    -- a block of sixteen words, and of eighteen
     ∷ enqueues sixteen (7 ∷ []) sixteen
     ∷ enqueues (0 ∷ 0 ∷ sixteen) (7 ∷ []) (0 ∷ 0 ∷ sixteen)
-    -- the first go, those pending behind them move to the front, and no other word moves
+    -- the first are removed, those pending after them move to the front, and no other word moves
     ∷ dequeues (3 ∷ sixteen) 1
     (2 ∷ 0x52 ∷ 0x53 ∷ 0x53 ∷ 0x54 ∷ 0x55 ∷ 0x56 ∷ 0x57 ∷ 0x58 ∷ 0x59 ∷ 0x5A ∷ 0x5B ∷ 0x5C ∷ 0x5D ∷ 0x5E ∷ 0x5F ∷ 0x60 ∷ [])
     ∷ dequeues (3 ∷ sixteen) 2
     (1 ∷ 0x53 ∷ 0x52 ∷ 0x53 ∷ 0x54 ∷ 0x55 ∷ 0x56 ∷ 0x57 ∷ 0x58 ∷ 0x59 ∷ 0x5A ∷ 0x5B ∷ 0x5C ∷ 0x5D ∷ 0x5E ∷ 0x5F ∷ 0x60 ∷ [])
     ∷ dequeues (2 ∷ sixteen) 2 (0 ∷ sixteen)
-    -- as many as there are at most; a count above 16 is 16
+    -- no more are removed than are pending; a count above 16 is read as 16
     ∷ dequeues (1 ∷ sixteen) 2 (1 ∷ sixteen)
     ∷ dequeues (0 ∷ sixteen) 1 (0 ∷ sixteen)
     ∷ dequeues (0xFFFF_FFFF ∷ sixteen) 15
@@ -65,10 +65,10 @@ pendingRows =
     ∷ holds (16 ∷ sixteen) sixteen
     ∷ holds (17 ∷ sixteen) sixteen
     ∷ holds [] []
-    -- a send with its second word, and a send alone with an old second word behind the pending words
+    -- a send with its second word, and a send alone with an old second word after the pending words
     ∷ seconds (2 ∷ 0x2000_0000 ∷ 0xF000_0007 ∷ replicate 14 0) (Word 0xF000_0007)
     ∷ seconds (1 ∷ 0x2000_0000 ∷ 0xF000_0007 ∷ replicate 14 0) Nothing
     ∷ seconds (0 ∷ 0x2000_0000 ∷ 0xF000_0007 ∷ replicate 14 0) Nothing
-    -- a receive with such a word behind it
+    -- a receive with such a word after it
     ∷ seconds (2 ∷ 0x3000_0000 ∷ 0xF000_0007 ∷ replicate 14 0) Nothing
     ∷ []

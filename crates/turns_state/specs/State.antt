@@ -1,6 +1,6 @@
--- The words in which what is pending and the place of the turn stand: 1 + 17 n of them, the place first, then seventeen words for each
--- domain, lowest number first. What they say, of any words at all, and what handing in and a turn leave of them. A place that isn't
--- below n is one after which nobody comes, so that a turn starts at 0.
+-- The words that represent what is pending and the place of the turn (document 02 (m)): 1 + 17 n of them, the place first, then
+-- seventeen words for each domain, lowest index first. For arbitrary words: what they represent, and what handing in and a turn
+-- leave of them. Where the place isn't below n, no domain is at or after it, so that a turn starts at 0.
 use Prim.Native.Nat.{ℕ, _+_, _*_}
 use mathlib.Core.Bool.{Bool, cond, not, _&&_}
 use mathlib.Core.List.{List, _++_}
@@ -12,46 +12,46 @@ use Rattle.machine.specs.Table.{domains}
 use Rattle.turns_theory.specs.Turns.{Turns, Turn, firstWaiting, turnOf, width, Turn.idle, Turn.serves}
 use Rattle.turns_state.specs.Pending.{blockLength, pendingIn, enqueuable, enqueued, dequeuable, dequeued}
 
--- how many words n domains ask for, and where those of a domain begin
+-- how many words n domains need, and where those of a domain begin
 abbrev pub stateLength : ℕ → ℕ
 stateLength n = 1 + 17 * n
 
 abbrev pub blockAt : ℕ → ℕ
 blockAt d = 1 + 17 * d
 
--- a domain's seventeen words, and the state with others in their place
+-- a domain's seventeen words, and the state with other words in their place
 unfoldable pub block : List ℕ → ℕ → List ℕ
 block ws d = take blockLength (drop (blockAt d) ws)
 
 unfoldable pub setBlock : List ℕ → ℕ → List ℕ → List ℕ
 setBlock ws d b = take (blockAt d) ws ++ (b ++ drop blockLength (drop (blockAt d) ws))
 
--- what the words say
+-- what the words represent
 unfoldable pub turnsIn : List ℕ → Turns
 turnsIn ws = record { pending = λ d. pendingIn (block ws d); place = getD ws 0 0 }
 
--- the turn that comes next on the table t
+-- the next turn on the table t
 unfoldable pub turnIn : List ℕ → List ℕ → Turn
 turnIn t ws = turnOf (domains t) (turnsIn ws)
 
--- ---- what is left of them
+-- ---- the words that are left
 
--- the words vs are handed in for the domain d
+-- after the words vs are handed in for the domain d
 unfoldable pub stateHandedIn : List ℕ → ℕ → List ℕ → List ℕ
 stateHandedIn ws d vs = setBlock ws d (enqueued (block ws d) vs)
 
--- the first few words of the domain d are served
+-- after the first few words of the domain d are served
 unfoldable pub stateServed : List ℕ → ℕ → ℕ → List ℕ
 stateServed ws d few = set (setBlock ws d (dequeued (block ws d) few)) 0 (d + 1)
 
--- a turn is over
+-- after a turn
 unfoldable pub stateAfter : List ℕ → Turn → List ℕ
 stateAfter ws idle = ws
 stateAfter ws (serves d c) = stateServed ws d (width c)
 
--- ---- what the functions of this crate say of them
+-- ---- what the contracts of this crate's functions cite
 
--- the words vs go behind the domain's, where there is room
+-- the words vs are appended to the domain's, where there is room
 unfoldable pub addedTo : List ℕ → ℕ → List ℕ → List ℕ
 addedTo ws d vs = cond (enqueuable (block ws d) (length vs)) (stateHandedIn ws d vs) ws
 
@@ -59,11 +59,11 @@ addedTo ws d vs = cond (enqueuable (block ws d) (length vs)) (stateHandedIn ws d
 unfoldable pub firstOfOldest : List ℕ → ℕ
 firstOfOldest b = cond (eqb (length b) blockLength) (getD b 1 0) 0
 
--- the first few of the domain's words go, where they are there
+-- the first few of the domain's words are removed, where so many are pending
 unfoldable pub removedFrom : List ℕ → ℕ → ℕ → List ℕ
 removedFrom ws d few = cond (dequeuable (block ws d) few) (stateServed ws d few) ws
 
--- a call's first word is no stray, and its caller is d
+-- w is the first word of a call, no stray, and its caller is d
 unfoldable pub isCallOf : ℕ → ℕ → Bool
 isCallOf w d = not (eqb (kind w) 15) && eqb (caller w) d
 
@@ -72,7 +72,7 @@ unfoldable pub orNone : ℕ → Option ℕ → ℕ
 orNone n none = n
 orNone n (some d) = d
 
--- whom a turn is to serve, with so many words for its answer
+-- the domain that a turn is to serve, with so many words for its answer, or n
 unfoldable pub nextToServe : ℕ → List ℕ → ℕ → ℕ
 nextToServe n ws space =
     cond (eqb (length ws) (stateLength n) && leb 3 space) (orNone n (firstWaiting n (turnsIn ws))) n

@@ -1,4 +1,4 @@
-// The domains of a table and what one of them hands in. Any words will do as a table.
+// The domains of a table and what one of them hands in (document 02 (m)). Total: accepts arbitrary words as a table.
 use calls::split::second_at;
 use calls::split::width;
 use format::KIND_UNIT;
@@ -11,7 +11,7 @@ ghost use Rattle.machine.specs.Call.{split};
 ghost use Rattle.turns_theory.specs.Turns.{isOneOf};
 ghost use Rattle.turns_state.specs.State.{stateLength, isCallOf};
 
-// n, the number of domains: it has eight bits in a table's first word.
+// Returns n, the count of domains: eight bits of a table's first word.
 pub fn number(table: &[u32]) -> u8
     ensures { λ n. ⌜ n ≡ machine.domains (now (table .entry)) ⌝ }
 {
@@ -22,7 +22,7 @@ pub fn number(table: &[u32]) -> u8
     (header / 256 % 256) as u8
 }
 
-// A state's size is the one that the table's n domains ask for.
+// Returns whether a state's size is the one for the table's n domains.
 pub fn fits(table: &[u32], size: usize) -> bool
     ensures { λ b. ⌜ b ≡ eqb size (stateLength (machine.domains (now (table .entry)))) ⌝ }
 {
@@ -30,7 +30,7 @@ pub fn fits(table: &[u32], size: usize) -> bool
     size == 1 + 17 * n as usize
 }
 
-// A first word is no stray, and its caller is the domain.
+// Returns whether a call's first word is no stray and has the domain as its caller.
 fn is_call_of(first: u32, domain: u32) -> bool
     ensures { λ b. ⌜ b ≡ isCallOf first domain ⌝ }
 {
@@ -41,7 +41,7 @@ fn is_call_of(first: u32, domain: u32) -> bool
     first / CALLER_UNIT % 64 == domain
 }
 
-// The words are exactly one call, no stray, with the domain as its caller.
+// Returns whether the words are exactly one call, no stray, with the domain as its caller.
 pub fn is_one_call(words: &[u32], domain: u32) -> bool
     ensures { λ b. ⌜ b ≡ isOneOf domain (split (now (words .entry))) ⌝ }
 {

@@ -1,6 +1,6 @@
-// The words in which what is pending and the place of the turn stand (document 02 (m)): 1 + 17 n of them, the place first, then
-// seventeen words for each domain, lowest number first (crate pending). Any words will do as a state: a domain whose seventeen words
-// aren't all there has nothing pending and no room.
+// The words that represent what is pending and the place of the turn (document 02 (m)): 1 + 17 n of them, the place first, then
+// seventeen words for each domain, lowest index first (module pending). Total: accepts arbitrary words as a state. A domain whose
+// seventeen words aren't all there has nothing pending and no room.
 pub mod domain;
 pub mod order;
 pub mod pending;
@@ -11,7 +11,7 @@ ghost use lib.ListN.{length};
 ghost use Rattle.turns_state.specs.Pending.{enqueuable, secondOfOldest, dequeuable};
 ghost use Rattle.turns_state.specs.State.{block, addedTo, firstOfOldest, removedFrom};
 
-// The words go behind those that are pending of the domain, where there is room for them.
+// Appends the words to those that are pending of the domain and returns true, or returns false where there is no room for them.
 pub fn add(state: &mut [u32], domain: u8, words: &[u32]) -> bool
     ensures { λ done. ⌜ done ≡ enqueuable (block (now (state .entry)) domain) (length (now (words .entry))) ⌝ }
     ensures { λ _. ⌜ now (state .exit) ≡ addedTo (now (state .entry)) domain (now (words .entry)) ⌝ }
@@ -24,7 +24,7 @@ pub fn add(state: &mut [u32], domain: u8, words: &[u32]) -> bool
     crate::pending::enqueue(&mut state[at..end], words)
 }
 
-// The first word of the oldest pending call of the domain, where it has one.
+// Returns the first word of the domain's oldest pending call, where it has one, and 0 where its seventeen words aren't all there.
 pub fn first_of_oldest(state: &[u32], domain: u8) -> u32
     ensures { λ w. ⌜ w ≡ firstOfOldest (block (now (state .entry)) domain) ⌝ }
 {
@@ -35,7 +35,7 @@ pub fn first_of_oldest(state: &[u32], domain: u8) -> u32
     state[at + 1]
 }
 
-// Its second word, if it has one.
+// Returns the second word of the domain's oldest pending call, if it has one.
 pub fn second_of_oldest(state: &[u32], domain: u8) -> Second
     ensures { λ s. ⌜ s ≡ secondOfOldest (block (now (state .entry)) domain) ⌝ }
 {
@@ -47,7 +47,8 @@ pub fn second_of_oldest(state: &[u32], domain: u8) -> Second
     crate::pending::second_of_oldest(&state[start..end])
 }
 
-// The first so many pending words of the domain go, where they are there, and the next turn starts after it.
+// Removes the first `few` pending words of the domain, moves the place after it and returns true, or returns false where fewer are
+// pending.
 pub fn remove(state: &mut [u32], domain: u8, few: usize) -> bool
     ensures { λ done. ⌜ done ≡ dequeuable (block (now (state .entry)) domain) few ⌝ }
     ensures { λ _. ⌜ now (state .exit) ≡ removedFrom (now (state .entry)) domain few ⌝ }

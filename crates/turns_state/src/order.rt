@@ -1,4 +1,4 @@
-// Whose turn is next.
+// Whose turn is next (document 02 (m)).
 use crate::domain::number;
 ghost use mathlib.Core.Path.{_≡_};
 ghost use mathlib.Core.Bool.{_&&_};
@@ -9,7 +9,7 @@ ghost use Rattle.machine.specs.Table as machine;
 ghost use Rattle.turns_theory.specs.Turns.{waits, firstPendingFrom, firstWaiting};
 ghost use Rattle.turns_state.specs.State.{stateLength, turnsIn, orNone, nextToServe};
 
-// The domain d isn't before the place and has a call pending.
+// Returns whether the domain d isn't before the place and has a call pending.
 fn waits_from(state: &[u32], n: u8, place: u32, d: u8) -> bool
     requires { ⌜ length (now state) ≡ stateLength n ⌝ }
     requires { ⌜ d < n ⌝ }
@@ -21,7 +21,7 @@ fn waits_from(state: &[u32], n: u8, place: u32, d: u8) -> bool
     state[1 + 17 * d as usize] != 0
 }
 
-// The first of the n domains, from a place on, that has a call pending; n where there is none.
+// Returns the first of the n domains, from a place on, that has a call pending, or n where there is none.
 fn first_from(state: &[u32], n: u8, place: u32) -> u8
     requires { ⌜ length (now state) ≡ stateLength n ⌝ }
     ensures { λ r. ⌜ r ≡ orNone n (firstPendingFrom n (turnsIn (now (state .entry))) place) ⌝ }
@@ -36,7 +36,7 @@ fn first_from(state: &[u32], n: u8, place: u32) -> u8
     n
 }
 
-// The first from the place of the turn on, up and then round to 0; n where there is none.
+// Returns the first domain that has a call pending, from the place of the turn upward and then from 0, or n where there is none.
 fn first_waiting(state: &[u32], n: u8) -> u8
     requires { ⌜ length (now state) ≡ stateLength n ⌝ }
     ensures { λ r. ⌜ r ≡ orNone n (firstWaiting n (turnsIn (now (state .entry)))) ⌝ }
@@ -49,8 +49,8 @@ fn first_waiting(state: &[u32], n: u8) -> u8
     first
 }
 
-// Whom a turn on the table is to serve, with so many words for the answer; n where it is nobody, be it that nothing is pending, that the
-// state's length isn't the one for n domains, or that the answer has no space.
+// Returns the domain that a turn on the table is to serve, with so many words for the answer. It is n for nobody: nothing is
+// pending, the state's length isn't the one for n domains, or the answer has no space.
 pub fn next_to_serve(table: &[u32], state: &[u32], space: usize) -> u8
     ensures { λ r. ⌜ r ≡ nextToServe (machine.domains (now (table .entry))) (now (state .entry)) space ⌝ }
 {

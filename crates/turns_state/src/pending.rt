@@ -1,6 +1,7 @@
-// A domain's seventeen words in the state of the turns, lent as a part of it: how many of its words are pending, then sixteen words
-// of which the first so many are, oldest first. Nothing here sees another domain's. Words from the count on are never looked at; a
-// count above 16 is read as 16. Each function tests the words first: others stay as they are.
+// A domain's seventeen words in the state of the turns (document 02 (m)), lent as a part of it: the count of its pending words,
+// then sixteen words of which the first so many are pending, oldest first. Nothing here reads another domain's words. Words from
+// the count on are never read, and a count above 16 is read as 16. Where the words aren't seventeen, `enqueue` and `dequeue` change
+// nothing.
 use calls::split::Second;
 use calls::split::second_at;
 ghost use mathlib.Core.Path.{_≡_};
@@ -8,7 +9,7 @@ ghost use Prim.Native.Nat.{_+_, _≤_};
 ghost use lib.ListN.{length};
 ghost use Rattle.turns_state.specs.Pending.{count, enqueuable, leftByEnqueue, dequeuable, leftByDequeue, enqueued, dequeued, secondOfOldest, MayEnqueue, MayDequeue};
 
-// How many words are pending.
+// Returns the count of pending words, at most 16.
 pub fn count(block: &[u32]) -> usize
     ensures { λ r. ⌜ r ≡ count (now (block .entry)) ⌝ }
 {
@@ -22,7 +23,7 @@ pub fn count(block: &[u32]) -> usize
     16
 }
 
-// Seventeen words, of which so many more can be pending.
+// Returns whether the words are seventeen and `more` words have room.
 fn enqueuable(block: &[u32], more: usize) -> bool
     ensures { λ b. ⌜ b ≡ enqueuable (now (block .entry)) more ⌝ }
 {
@@ -33,7 +34,7 @@ fn enqueuable(block: &[u32], more: usize) -> bool
     more <= 16 - pending
 }
 
-// The words go behind those that are pending.
+// Appends the words to those that are pending.
 fn put_last(block: &mut [u32], words: &[u32])
     requires { ⌜ MayEnqueue (now block) (length (now words)) ⌝ }
     ensures { λ _. ⌜ now (block .exit) ≡ enqueued (now (block .entry)) (now (words .entry)) ⌝ }
@@ -47,7 +48,7 @@ fn put_last(block: &mut [u32], words: &[u32])
     block[0] = (pending + words.len()) as u32;
 }
 
-// The words go behind those that are pending, where there is room for them.
+// Appends the words to those that are pending and returns true, or returns false where there is no room for them.
 pub fn enqueue(block: &mut [u32], words: &[u32]) -> bool
     ensures { λ done. ⌜ done ≡ enqueuable (now (block .entry)) (length (now (words .entry))) ⌝ }
     ensures { λ _. ⌜ now (block .exit) ≡ leftByEnqueue (now (block .entry)) (now (words .entry)) ⌝ }
@@ -59,7 +60,7 @@ pub fn enqueue(block: &mut [u32], words: &[u32]) -> bool
     true
 }
 
-// The second word of the oldest pending call, if it has one.
+// Returns the second word of the oldest pending call, if it has one.
 pub fn second_of_oldest(block: &[u32]) -> Second
     ensures { λ r. ⌜ r ≡ secondOfOldest (now (block .entry)) ⌝ }
 {
@@ -70,7 +71,7 @@ pub fn second_of_oldest(block: &[u32]) -> Second
     second_at(&block[1..end], 0)
 }
 
-// Seventeen words, of which so many are pending.
+// Returns whether the words are seventeen and at least `few` are pending.
 fn dequeuable(block: &[u32], few: usize) -> bool
     ensures { λ b. ⌜ b ≡ dequeuable (now (block .entry)) few ⌝ }
 {
@@ -81,7 +82,7 @@ fn dequeuable(block: &[u32], few: usize) -> bool
     few <= pending
 }
 
-// The first so many words go, and those pending behind them move to the front. Words from the count that is left on aren't touched.
+// Removes the first `few` words and moves the pending ones after them to the front. Words from the count that is left on stay.
 fn move_down(block: &mut [u32], few: usize)
     requires { ⌜ MayDequeue (now block) few ⌝ }
     ensures { λ _. ⌜ now (block .exit) ≡ dequeued (now (block .entry)) few ⌝ }
@@ -95,7 +96,7 @@ fn move_down(block: &mut [u32], few: usize)
     block[0] = left as u32;
 }
 
-// The first so many pending words go.
+// Removes the first `few` pending words and returns true, or returns false where fewer are pending.
 pub fn dequeue(block: &mut [u32], few: usize) -> bool
     ensures { λ done. ⌜ done ≡ dequeuable (now (block .entry)) few ⌝ }
     ensures { λ _. ⌜ now (block .exit) ≡ leftByDequeue (now (block .entry)) few ⌝ }

@@ -1,5 +1,5 @@
--- What a history of handing in and turns comes to: the calls served are one list for the machine, each domain's calls go in order,
--- and what a history from the beginning can have made stays so (specs/Claims). Assumes nothing.
+-- What holds of a history of handing in and turns: the calls served are one list for the machine, each domain's calls are served in
+-- order, and what a history from the beginning can make stays so (specs/Claims). Assumes nothing.
 use mathlib.Core.Path.{_≡_, refl, sym, ap, subst, subst₂, _∙_}
 use mathlib.Core.Bool.{Bool, true, false, cond, not, _&&_, true≢false, false≢true}
 use mathlib.Core.Logic.{_⊎_, ⊎-elim}
@@ -112,9 +112,9 @@ history-noninterference l es a =
     (sym (one .table))
     (noninterference (l .table) cs [] a)
 
--- ---- what handing in lets through
+-- ---- what handing in accepts
 
--- The words are let in: the table is accepted, the domain is one, the words are one call of it, and there is room for them.
+-- The words are accepted: the table is accepted, the domain is below n, the words are one call of it, and there is room for them.
 pub record LetIn (t : List ℕ) (s : Turns) (d : ℕ) (ws : List ℕ) : Type 0 where
   pub accepted : Accepted t
   pub below : d < domains t
@@ -150,7 +150,7 @@ served-append d (serves e c ∷ ts) rest = go (eqb e d) (served-append d ts rest
     go true h = ap (λ (cs : List Call). c ∷ cs) h
     go false h = h
 
--- words handed in go behind those pending
+-- words handed in are appended to those pending
 pub handed-order : (l : Layer) (e : ℕ) (ws : List ℕ) (d : ℕ) → isOneOf e (split ws) ≡ true → split (handedIn (l .turns) e ws .pending d) ≡ split (l .turns .pending d) ++ cond (eqb e d) (split ws) []
 unfolding handedIn replaced
 handed-order l e ws d one = go (eqb e d) refl
@@ -161,7 +161,7 @@ handed-order l e ws d one = go (eqb e d) refl
         ∙ ap (λ (x : ℕ). split (l .turns .pending x) ++ split ws) (eqb-true e d is)
     go false is = sym (append-nil _)
 
--- a turn takes the oldest call of the domain that it serves
+-- a turn removes the oldest call of the domain that it serves
 turn-order : (l : Layer) (d : ℕ) → servedOf d (nextTurn l ∷ []) ++ split (afterTurn (l .turns) (nextTurn l) .pending d) ≡ split (l .turns .pending d)
 unfolding nextTurn afterTurn servedOf replaced
 turn-order l d =
@@ -218,7 +218,7 @@ unfolding done
 steady-done l (handIn d ws) s = s
 steady-done l (turn space lent) s = steady-turn (l .table) (nextTurn l) s
 
--- ---- what a history from the beginning can have made
+-- ---- what a history from the beginning can make
 
 pub begins-proper : BeginsProper
 unfolding begun allOf split
@@ -287,7 +287,7 @@ served-proper n s d c p it =
       place = let b = it .below in omega arith;
     }
 
--- A history on its way: an accepted table of n domains, and what can have been made.
+-- A history in progress: an accepted table of n domains, and what a history can make.
 record Sound (n : ℕ) (l : Layer) : Type 0 where
   steady : Steady n (l .table)
   proper : ProperHistory n (l .turns)

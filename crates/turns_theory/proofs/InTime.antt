@@ -1,5 +1,5 @@
 -- The oldest pending call of a domain is served within n turns that aren't refused (specs/Claims: ServedInTime): each turn that
--- serves another domain comes nearer to it. Assumes nothing.
+-- serves another domain leaves fewer domains before it. Assumes nothing.
 use mathlib.Core.Path.{_≡_, refl, sym, ap, ap₂, subst, _∙_}
 use mathlib.Core.Bool.{Bool, true, false, cond, not, true≢false}
 use mathlib.Core.Logic.{_⊎_, ⊎-elim, _⊎_.inl, _⊎_.inr}
@@ -18,7 +18,7 @@ use Rattle.turns_theory.specs.Claims.{ServedWithin, ServedInTime}
 use Rattle.turns_theory.proofs.Pending.{cons-same, no-cons, Serving, turn-cases, replaced-else}
 use Rattle.turns_theory.proofs.Histories.{let-in, handed-order, Steady, steady-done}
 
--- how many domains are looked at before d, from a place on, up and round to 0
+-- how many domains are searched before d, from a place on, upward and then from 0
 unfoldable pub ahead : ℕ → ℕ → ℕ → ℕ
 ahead n place d = cond (leb place d) (d - place) (d + (n - place))
 
@@ -37,7 +37,7 @@ ahead-few n place d l = go (decLt d place)
     go (yes b) = rw (ahead-round n place d b) (omega arith)
     go (no b) = rw (ahead-up n place d (omega arith)) (omega arith)
 
--- a turn that serves another comes nearer
+-- after a turn that serves another domain, fewer are before d
 nearer : (n : ℕ) (s : Turns) (e : ℕ) (c : Call) (d : ℕ) → Serving n s e c → d < n → waits s d ≡ true → eqb e d ≡ false → ahead n (e + 1) d < ahead n (s .place) d
 nearer n s e c d it l w other = go (decLt d (s .place)) (it .order)
   where
@@ -81,7 +81,7 @@ later m d c e x ts other w =
 
 module _ (n d : ℕ) (below : d < n) (c : Call) where
   -- what is claimed of the events es, from every accepted table of n domains in which c is the oldest pending call of d, and with m
-  -- turns where fewer are ahead
+  -- turns where fewer than m domains are ahead
   abbrev InTimeAlong : List Event → Type 0
   InTimeAlong es =
       (l : Layer) (cs : List Call) (m : ℕ)
@@ -91,7 +91,7 @@ module _ (n d : ℕ) (below : d < n) (c : Call) where
       → m ≤ length (turnsOf l es)
       → ServedWithin m d c (turnsOf l es)
 
-  -- a turn: it serves d, or another and comes nearer
+  -- a turn: it serves d, or another domain, and then fewer are before d
   at-turn : (es : List Event) → InTimeAlong es → (l : Layer) (cs : List Call) (m space lent : ℕ)
       → Steady n (l .table) → split (l .turns .pending d) ≡ c ∷ cs → ahead n (l .turns .place) d < m
       → m ≤ length (nextTurn l ∷ turnsOf (done l (turn space lent)) es)
@@ -141,7 +141,7 @@ module _ (n d : ℕ) (below : d < n) (c : Call) where
       (handed-order l x ws d one ∙ ap (λ (ks : List Call). ks ++ cond (eqb x d) (split ws) []) is)
       near
 
-  -- one event, and others behind it
+  -- one event, and others after it
   at-event : (e : Event) (es : List Event) → InTimeAlong es → InTimeAlong (e ∷ es)
   unfolding alongWith afterEvent turnAt
   at-event e es rest l cs m s is near = go e (eqb (eventCode l e) 0) refl

@@ -1,4 +1,4 @@
--- Laws of pending words: what a call at their front is and what remains behind it, what handing in adds, and whom a turn serves
+-- Laws of pending words: what a call at their front is and what remains after it, what handing in adds, and whom a turn serves
 -- (specs/Turns). Assumes nothing.
 use mathlib.Core.Path.{_≡_, refl, sym, ap, subst, _∙_}
 use mathlib.Core.Bool.{Bool, true, false, cond, not, _&&_, true≢false, false≢true}
@@ -35,7 +35,7 @@ split-oldest w (v ∷ ws) = go (pairs w v)
     go true = refl
     go false = refl
 
--- a call is no longer than the words at whose front it stands
+-- a call is no longer than the words at whose front it is
 pub oldest-width : (w : ℕ) (ws : List ℕ) → width (oldest w ws) ≤ suc (length ws)
 unfolding oldest
 oldest-width w [] = omega arith
@@ -55,7 +55,7 @@ no-cons {A} p = true≢false (ap isNil p)
     isNil [] = true
     isNil (x ∷ xs) = false
 
--- ---- words behind words
+-- ---- words after words
 
 -- the words begin with no word of kind 15
 unfoldable pub opens : List ℕ → Bool
@@ -107,9 +107,9 @@ one-opens d (w ∷ ws) h =
     go true p = absurd (false≢true p)
     go false p = refl
 
--- ---- the first below a number
+-- ---- the first below a bound
 
--- the number i is the lowest below k of which p holds
+-- i is the lowest index below k of which p holds
 pub record Lowest (k : ℕ) (p : ℕ → Bool) (i : ℕ) : Type 0 where
   pub below : i < k
   pub holds : p i ≡ true
@@ -139,7 +139,7 @@ first-found (suc k) p e is h l =
     (λ same. subst (λ (x : ℕ). firstBelow (suc x) p ≡ some e) same (first-here e p is h))
     (below-or-last k e l)
 
--- what the search for the first comes to: it is found, or there is none
+-- the outcomes of the search for the first: it is found, or there is none
 abbrev pub Searched : ℕ → (ℕ → Bool) → Type 0
 Searched k p = ((i : ℕ) × (firstBelow k p ≡ some i) × Lowest k p i) ⊎ ((firstBelow k p ≡ none) × ((j : ℕ) → j < k → p j ≡ false))
 
@@ -258,7 +258,7 @@ turn-cases n s =
 
 -- ---- what is pending of the others
 
--- what holds of the words that took their place and of the others holds of all
+-- what holds of the words that replace d's and of the others' holds of all
 pub replaced-all : (P : ℕ → List ℕ → Type 0) (f : ℕ → List ℕ) (d : ℕ) (ws : List ℕ) (e : ℕ) → P d ws → P e (f e) → P e (replaced f d ws e)
 unfolding replaced
 replaced-all P f d ws e here there = go (eqb d e) refl

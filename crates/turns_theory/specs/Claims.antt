@@ -1,4 +1,5 @@
--- What is claimed of histories of handing in and turns (document 02 (m)), in closed statements. Each is the type of a theorem in proofs/.
+-- The claims about histories of handing in and turns (document 02 (m)), as closed statements. Each is the type of a theorem in
+-- proofs/.
 use Prim.Native.Nat.{ℕ, _<_, _≤_}
 use mathlib.Core.Path.{_≡_}
 use mathlib.Core.Bool.{Bool, true, false, _&&_}
@@ -32,26 +33,27 @@ ServedInTime =
     → ServedWithin (domains (l .table)) d c (turnsOf l es)
 
 -- The calls served, in order, as one list for the call-by-call machine: its answers, its table at the end, and the holders of its
--- table layerAfter each call.
+-- table after each call.
 pub record OneList (l : Layer) (es : List Event) : Type 0 where
   pub answers : answersServed l es ≡ machine.answers (l .table) (served (turnsOf l es))
   pub table : layerAfter l es .table ≡ machine.run (l .table) (served (turnsOf l es))
   pub holders : holdersThroughout l es ≡ holdersEach (l .table) (served (turnsOf l es))
 
--- Of every history, with no limit on its length, from any words as a table.
+-- This holds of every history, with no limit on its length, from arbitrary words as a table.
 abbrev pub AsOneList : Type 0
 AsOneList = (l : Layer) (es : List Event) → OneList l es
 
--- Noninterference (document 01: the striking rule) of every history from an accepted table: for every domain, what it sees of the
--- calls served is what it sees of the machine fed those of them alone that are kept.
+-- Noninterference (document 01) of every history from an accepted table: for every domain, what it sees of the calls served is what
+-- it sees of the machine that is fed only the kept ones, without the purged calls.
 abbrev pub EveryHistoryNoninterference : Type 0
 EveryHistoryNoninterference =
     (l : Layer) (es : List Event)
     → Accepted (l .table)
     → Noninterference (l .table) (served (turnsOf l es)) (answersServed l es) (layerAfter l es .table)
 
--- In order: the calls of a domain that were served, and then those still pending, are those that were pending, and then those that it
--- handed in. So none is lost, none is served twice, and each domain's are served in the order in which they were handed in.
+-- In order: the calls of a domain that were served, and then those still pending, are those that were pending, and then those that
+-- it handed in. So none is lost, none is served twice, and each domain's calls are served in the order in which they were handed
+-- in.
 abbrev pub InOrder : Type 0
 InOrder =
     (l : Layer) (es : List Event) (d : ℕ)
@@ -67,15 +69,15 @@ IdleExactly =
 abbrev pub RefusedChangesNothing : Type 0
 RefusedChangesNothing = (l : Layer) (e : Event) → eqb (eventCode l e) 0 ≡ false → afterEvent l e ≡ l
 
--- ---- what a history from the beginning can have made
+-- ---- what a history from the beginning can make
 
 -- each of the calls has the caller d; none is a stray
 unfoldable pub allOf : ℕ → List Call → Bool
 allOf d [] = true
 allOf d (c ∷ cs) = calledBy d (callerOf c) && allOf d cs
 
--- Among n domains: each has at most 16 words pending, which are calls of its own, no other number has any, and the place is a domain
--- or n.
+-- Among n domains: each has at most 16 words pending, which are calls of its own, no index from n on has any, and the place is a
+-- domain or n.
 pub record ProperHistory (n : ℕ) (s : Turns) : Type 0 where
   pub own : (d : ℕ) → d < n → allOf d (split (s .pending d)) ≡ true
   pub few : (d : ℕ) → d < n → length (s .pending d) ≤ mostPending

@@ -1,5 +1,5 @@
--- Rows that pin handing in and turns on a table of four domains: a history served by turns, and each refusal at its place. Inputs and
--- outcomes are literals, worked out by hand.
+-- Rows that pin handing in and turns (document 02 (m)) on a table of four domains: a history served by turns, and each refusal
+-- where it applies. Inputs and outcomes are literals, worked out by hand.
 use Prim.Native.Nat.{ℕ}
 use mathlib.Core.Path.{_≡_}
 use mathlib.Core.List.{List, [], _∷_, _++_}
@@ -9,8 +9,8 @@ use Rattle.machine.specs.Examples.{emptySlots}
 use Rattle.turns_theory.specs.Turns.{Turns, Turn, begun, replaced, handInCode, turnCode, Turn.idle, Turn.serves}
 use Rattle.turns_theory.specs.History.{Layer, Event, layerAfter, turnsOf, answersServed, holdersThroughout, Event.handIn, Event.turn}
 
--- what the rows show of a history: its turns that weren't refused, the answers and the holders of each call served, and at its end the
--- table, the pending words of the domains 0 to 3 and the place of the turn
+-- what the rows show of a history: its turns that weren't refused, the answers and the holders of each call served, and at its end
+-- the table, the pending words of the domains 0 to 3 and the place of the turn
 pub record Shown : Type 0 where
   pub turns : List Turn
   pub answers : List ℕ
@@ -32,13 +32,14 @@ shown l es =
       place = end .turns .place;
     }
 
--- A row: a history from the beginning; the code of handing in for a domain, with so many words pending of it; or the code of a turn.
+-- A row: a history from the beginning; the code of handing in for a domain, with so many of its words pending; or the code of a
+-- turn.
 pub data TurnRow : Type 0 where
   shows : (table : List ℕ) (events : List Event) (outcome : Shown) → TurnRow
   handsIn : (table : List ℕ) (count d : ℕ) (words : List ℕ) (code : ℕ) → TurnRow
   turnsWith : (table : List ℕ) (space lent code : ℕ) → TurnRow
 
--- so many words pending of the domain d, and of no other
+-- so many words pending of the domain d, and none of any other
 abbrev pub pendingOf : ℕ → ℕ → Turns
 pendingOf d count = record { pending = replaced (begun .pending) d (replicate count 0x5000_0000); place = 0 }
 
@@ -65,8 +66,8 @@ four =
     ++ (0x2000_0000 ∷ 0x2000_0001 ∷ 0x2000_0003 ∷ 0x2000_0000 ∷ [])
     ++ (0x3000_0011 ∷ 0x4000_0202 ∷ 0x5000_0000 ∷ 0x6000_0000 ∷ emptySlots)
 
--- 2 and 3 hand in before 0 does; nothing was pending at the first turn, so the next still starts at 0. A turn with a word too few for
--- the holders or for the answer serves nobody. 0 comes round again, and what is handed in meanwhile waits for its turn.
+-- 2 and 3 hand in before 0 does. Nothing was pending at the first turn, so the next still starts at 0. A turn with a word too few
+-- for the holders or for the answer serves nobody. 0 is served again, and what is handed in meanwhile waits for its turn.
 abbrev pub events : List Event
 events =
     turn 3 4
@@ -123,17 +124,17 @@ outcome =
 abbrev pub turnRows : List TurnRow
 turnRows =
     shows four events outcome
-    -- 2 to 5 come first, also for a domain that isn't one
+    -- 2 to 5 are checked first, also for a domain that isn't below n
     ∷ handsIn [] 0 0 (0x5000_0000 ∷ []) 2
     ∷ handsIn (0 ∷ four) 0 9 [] 2
     ∷ handsIn (four ++ (0 ∷ [])) 0 9 [] 3
     ∷ handsIn (set four 1 0) 0 9 [] 4
     ∷ handsIn (set four 20 0) 0 9 [] 5
-    -- 35 from n on, before the words are looked at
+    -- 35 for a domain from n on, before the words are checked
     ∷ handsIn four 0 3 (0x50C0_0000 ∷ []) 0
     ∷ handsIn four 0 4 (0x5100_0000 ∷ []) 35
     ∷ handsIn four 0 4 [] 35
-    -- 36: no word, a stray, two calls, a word behind a call of two, another's call; also where there is no room
+    -- 36: no word, a stray, two calls, a word after a call of one word and of two, another's call; also where there is no room
     ∷ handsIn four 0 1 [] 36
     ∷ handsIn four 0 1 (0xF040_0000 ∷ []) 36
     ∷ handsIn four 0 1 (0x5040_0000 ∷ 0x5040_0000 ∷ []) 36
@@ -141,11 +142,11 @@ turnRows =
     ∷ handsIn four 0 1 (0x2040_0000 ∷ 0xF000_0000 ∷ 0xF000_0000 ∷ []) 36
     ∷ handsIn four 0 1 (0x5080_0000 ∷ []) 36
     ∷ handsIn four 16 1 (0x2080_0000 ∷ 0xF000_0000 ∷ []) 36
-    -- a look up and a send without their second words and an unknown kind go in
+    -- a look up and a send without their second words and an unknown kind are accepted
     ∷ handsIn four 0 1 (0x1040_0000 ∷ []) 0
     ∷ handsIn four 0 1 (0x2040_0000 ∷ []) 0
     ∷ handsIn four 0 1 (0x0040_0000 ∷ []) 0
-    -- 37 past 16 words
+    -- 37 above 16 words
     ∷ handsIn four 15 1 (0x5040_0000 ∷ []) 0
     ∷ handsIn four 16 1 (0x5040_0000 ∷ []) 37
     ∷ handsIn four 14 1 (0x2040_0000 ∷ 0xF000_0000 ∷ []) 0

@@ -1,5 +1,5 @@
--- A history: events of handing in and of turns, one layerAfter another, from a table and what is pending. Only turns alter the table, and
--- only these events what is pending and the place of the turn.
+-- A history (document 02 (m)): events of handing in and of turns, one after another, from a table and what is pending. Only turns
+-- change the table, and only these events change what is pending and the place of the turn.
 use Prim.Native.Nat.{ℕ}
 use mathlib.Core.Bool.{cond}
 use mathlib.Core.List.{List, [], _∷_, _++_}
@@ -11,30 +11,31 @@ use Rattle.machine.specs.Holders.{holdersOf}
 use Rattle.turns_theory.specs.Turns.{Turns, Turn, handInCode, handedIn, turnCode, turnOf, afterTurn, tableAfter, answerOf, holdersAfterTurn}
 use Rattle.turns_theory.specs.Turns.{Turn.idle, Turn.serves}
 
--- The table and what stands beside it.
+-- The table and what is kept between turns.
 pub record Layer : Type 0 where
   pub table : List ℕ
   pub turns : Turns
 
--- An event: the domain d hands in words, or a turn is asked for with so many words lent for the answer and for the holders.
+-- An event: the domain d hands in words, or a turn is requested with so many words lent for the answer and for the holders.
 pub data Event : Type 0 where
   handIn : (d : ℕ) (ws : List ℕ) → Event
   turn : (space lent : ℕ) → Event
 
--- its code: 0, or the number that refuses it
+-- its code: 0, or the code that refuses it
 unfoldable pub eventCode : Layer → Event → ℕ
 eventCode l (handIn d ws) = handInCode (l .table) (l .turns) d ws
 eventCode l (turn space lent) = turnCode (l .table) space lent
 
--- the turn that comes next
+-- the next turn
 unfoldable pub nextTurn : Layer → Turn
 nextTurn l = turnOf (domains (l .table)) (l .turns)
 
--- what an event that isn't refused leaves; one that is changes nothing
+-- what an event leaves where it isn't refused
 unfoldable pub done : Layer → Event → Layer
 done l (handIn d ws) = record { table = l .table; turns = handedIn (l .turns) d ws }
 done l (turn space lent) = record { table = tableAfter (l .table) (nextTurn l); turns = afterTurn (l .turns) (nextTurn l) }
 
+-- what an event leaves: one that is refused changes nothing
 unfoldable pub afterEvent : Layer → Event → Layer
 afterEvent l e = cond (eqb (eventCode l e) 0) (done l e) l
 
@@ -45,7 +46,7 @@ layerAfter l (e ∷ es) = layerAfter (afterEvent l e) es
 
 -- ---- what is seen of a history
 
--- something of each event that isn't refused, in order
+-- what f yields of each event that isn't refused, in order
 unfoldable pub alongWith : {A : Type 0} → (Layer → Event → List A) → Layer → List Event → List A
 alongWith f l [] = []
 alongWith f l (e ∷ es) = cond (eqb (eventCode l e) 0) (f l e) [] ++ alongWith f (afterEvent l e) es
@@ -66,7 +67,7 @@ answerAt l (turn space lent) = answerOf (l .table) (nextTurn l)
 abbrev pub answersServed : Layer → List Event → List ℕ
 answersServed = alongWith answerAt
 
--- the holders that each call served left
+-- the holders after each call served
 unfoldable pub holdersOfTurn : List ℕ → Turn → List (List ℕ)
 holdersOfTurn t idle = []
 holdersOfTurn t (serves d c) = holdersAfterTurn t (serves d c) [] ∷ []
@@ -97,7 +98,7 @@ servedOf d [] = []
 servedOf d (idle ∷ ts) = servedOf d ts
 servedOf d (serves e c ∷ ts) = let rest = servedOf d ts in cond (eqb e d) (c ∷ rest) rest
 
--- the holders of the table layerAfter each of the calls cs, which the machine is fed one layerAfter another
+-- the holders of the table after each of the calls cs, which the machine is fed one after another
 unfoldable pub holdersEach : List ℕ → List Call → List (List ℕ)
 holdersEach t [] = []
 holdersEach t (c ∷ cs) = holdersOf (step t c) ∷ holdersEach (step t c) cs

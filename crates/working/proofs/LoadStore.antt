@@ -1,4 +1,4 @@
--- What is taken in of an accepted table stands for it, and what is put out after a run is the table at its end.
+-- The state loaded from an accepted table represents it, and the state stored after a run is the table at its end.
 -- Assumes nothing.
 use mathlib.Core.Path.{_≡_, refl, sym, ap, ap₂, _∙_}
 use mathlib.Core.Bool.{true, cond}
@@ -21,7 +21,7 @@ use Rattle.working_load.proofs.Loaded.{loaded-represents}
 use Rattle.working_load.proofs.Stored.{store-is-table}
 use Rattle.working.specs.Run.{RepresentsTable, Left}
 
--- rows put out leave a table its length
+-- storing rows leaves a table its length
 rows-length : (n : ℕ) (rows : List (List ℕ)) (t : List ℕ) → length (storedRows n rows t) ≡ length t
 unfolding storedRows
 rows-length n rows t = words-length (length t) _
@@ -45,7 +45,7 @@ module _ (t : List ℕ) (a : Accepted t) where
   eight : domains t % 256 ≡ domains t
   eight = mod-eq-of-lt (omega (arith, accepted-counts t a .1))
 
-  -- what is taken in stands for the table
+  -- the loaded state represents the table
   module _ (n m : ℕ) (isN : n ≡ domains t) (isM : m ≡ endpoints t) where
     small : n % 256 ≡ domains t
     small = ap (λ (k : ℕ). k % 256) isN ∙ eight
@@ -73,7 +73,7 @@ module _ (t : List ℕ) (a : Accepted t) where
         ringsAre : cond (hasQueues (n % 256) m (length t) (length lent)) (ringsOf (n % 256) m t) lent ≡ ringsOf (domains t) (endpoints t) t
         ringsAre = rw (small, isM, has-queues (length t) (length lent) refl long) refl
 
-    -- what is put out is the table at the end
+    -- the stored state is the table at the end
     pub store : (names owned ws space : List ℕ) (k : ℕ) (rows : List (List ℕ)) (rings space′ holders t₁ t₂ : List ℕ)
         → Left n m names owned t ws space k rows rings space′ holders
         → t₁ ≡ cond (hasRights n (length t)) (storedRows n rows t) t

@@ -1,4 +1,4 @@
--- A run of a list on its way, on a working state: the kernel's run on its way, and that the state stands for its table.
+-- The invariant of a run of a list on a working state: the invariant of the kernel's run, and that the state represents its table.
 -- Assumes nothing.
 use mathlib.Core.Path.{_≡_, refl, sym, ap, ap₂, subst₂, _∙_}
 use mathlib.Core.List.{List, _++_}
@@ -21,7 +21,7 @@ use Rattle.working_theory.proofs.Simulation.{calls-simulate}
 use Rattle.working.specs.Outcome.{StateOutcome}
 use Rattle.working.specs.Run.{RepresentsTable, Left}
 
--- k calls of the list ws are done, the next begins at place i; the rest is what stands now
+-- k calls of the list ws are done and the next begins at place i; rows, rings, space and p are as they are now
 pub record OnItsWay (n m : ℕ) (names owned t₀ ws space₀ p₀ : List ℕ) (rows : List (List ℕ)) (rings space p : List ℕ) (k i : ℕ) : Type 0 where
   pub table : List ℕ
   pub underway : Underway t₀ ws space₀ p₀ table space p k i
@@ -40,7 +40,7 @@ module _ (n m : ℕ) (names hints owned ws space₀ p₀ : List ℕ) where
       }
 
   module _ (t₀ : List ℕ) (rows : List (List ℕ)) (rings space p : List ℕ) (k i : ℕ) (y : OnItsWay n m names owned t₀ ws space₀ p₀ rows rings space p k i) where
-    -- one call more, on the state, is one on the table
+    -- one more call on the state is one more on the table
     served : (w : ℕ) (s : Second) (words : List ℕ) (rows′ : List (List ℕ)) (rings′ p′ : List ℕ)
         → StateOutcome n m rows rings (namedIn m names hints) owned p w (decoded w s) words rows′ rings′ p′
         → kernel.StepOutcome (y .table) (callOf w s) words (machine.step (y .table) (callOf w s)) p′

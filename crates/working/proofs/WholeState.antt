@@ -1,5 +1,5 @@
--- What a call comes to, by its kind: a refusal, or the kind's row; so what it reads and alters of a part of the state is what it
--- reads and alters of the whole. Assumes nothing.
+-- The decision on a call, by its kind: a refusal, or that of the kind's row. So what the call reads and alters of a part of the
+-- state is what it reads and alters of the whole. Assumes nothing.
 use mathlib.Core.Path.{_≡_, refl, sym, ap, subst, _∙_}
 use mathlib.Core.List.{List, [], _∷_}
 use mathlib.Core.Option.{Option, none, some}
@@ -150,7 +150,7 @@ module _ (n m w : ℕ) (rows : List (List ℕ)) (rings : List ℕ) (named : ℕ 
     served-receive s =
         queue-served words rings′ (Receive u e) (record { same = refl; rowsStay = refl; ringsSame = refl; holdersStay = refl }) s
 
-  -- a call that moves rights
+  -- a call that alters rights
   record OnRights (x : Decision) : Type 0 where
     pub same : answerFrom w rows [] [] x ≡ answerFrom w rows rings owned x
     pub altered : effectFrom rows [] x ≡ effectFrom rows rings x

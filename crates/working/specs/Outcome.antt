@@ -1,4 +1,4 @@
--- What a call on a working state is answered, and what it leaves of the state and of the holders.
+-- What a call on a working state is answered, and what it leaves of the state and of the holders (document 02 (l)).
 use mathlib.Core.Path.{_≡_}
 use mathlib.Core.List.{List}
 use mathlib.Core.Option.{Option}

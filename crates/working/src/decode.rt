@@ -1,5 +1,5 @@
-// A call taken decoded, for the calls on a working state: the same `match` as `calls::decode::decode`. A function that both runs of an
-// archive call is inlined in neither, and then each call of a list costs half as much again (docs/DECISIONS.md).
+// Decodes a call for the working run: the same `match` as `calls::decode::decode`. It is here a second time because a function that
+// both runs of an archive call is inlined in neither, and then each call of a list costs half as much again (docs/DECISIONS.md).
 use calls::Call;
 use calls::Refusal;
 use calls::decode::grant;
@@ -24,7 +24,7 @@ use format::calls::KIND_SEND;
 ghost use mathlib.Core.Path.{_≡_};
 ghost use Rattle.calls.specs.Decode.{decoded};
 
-// Takes a call of one or two words decoded, whatever the words, and returns it as one choice among its kinds.
+// Decodes a call of one or two words and returns it as one choice among its kinds. It accepts arbitrary words.
 pub fn decode(first: u32, second: Second) -> Call
     ensures { λ r. ⌜ r ≡ decoded first second ⌝ }
 {

@@ -1,6 +1,6 @@
-// The run of a list on a working layout: the lent table is taken in once, after the entry's checks, and put out once, at the end.
-// In between no word of it is read or written: the calls run on the rights as rows, the queues as rings, the names and the
-// endpoints owned.
+// The run of a list on a working layout (document 02 (l)): the lent table is loaded once, after the entry's checks, and stored
+// once, at the end. In between no word of it is read or written: the calls run on the rights as rows, the queues as rings, the
+// names and the endpoints owned.
 pub mod by_length;
 mod decode;
 mod run_list;
@@ -30,8 +30,8 @@ ghost use Rattle.machine.specs.Promise.{RunPromise};
 ghost use Rattle.kernel.specs.Run.{AllRun};
 ghost use Rattle.run_result.specs.Entry.{ranCode, ranCalls};
 
-// Returns a hint for each name: the endpoint that has it, at the place that the name gives; of two names with one place the later
-// stays. Nothing rests on them, since a hint is believed only where the name is found.
+// Returns the hints for the names: at the index that a name gives, the endpoint that has it. Of two names with one index the later
+// stays. No answer depends on the hints, since a hint is used only where its endpoint has the name.
 fn make_hints(names: &[u32; 32], m: u32) -> [u8; 1024] {
     let mut hints = [0u8; 1024];
     let mut e: u32 = 0;
@@ -44,7 +44,8 @@ fn make_hints(names: &[u32; 32], m: u32) -> [u8; 1024] {
     hints
 }
 
-// The calls of a list on a table that is taken in and put out; its queues are taken in to the words lent for the rings.
+// Runs the calls of a list on a table that it loads before and stores after, and returns how many they were. The queues are loaded
+// into the words lent for the rings.
 fn run_on_rings(
     table: &mut [u32],
     rings: &mut [u32],
@@ -84,7 +85,7 @@ fn run_on_rings(
     calls
 }
 
-// The calls of a list, with words for as many rings as the table has endpoints.
+// Runs the calls of a list, with words for as many rings as the table has endpoints, and returns how many they were.
 fn run_calls(table: &mut [u32], list: &[u32], answers: &mut [u32], holders: &mut [u32]) -> usize
     requires { ⌜ Accepted (now table) ⌝ }
     requires { ⌜ length (now list) ≤ 4096 ⌝ }
@@ -97,7 +98,8 @@ fn run_calls(table: &mut [u32], list: &[u32], answers: &mut [u32], holders: &mut
     run_on_rings(table, &mut words[0..end], list, answers, holders)
 }
 
-// A list of calls on any table, with any answer space and any words for the holders: what `kernel::run` promises.
+// Runs a list of calls on any table, with any answer space and any words for the holders, and returns how the run ended. It keeps
+// the promise of `kernel::run`.
 pub fn run_working(table: &mut [u32], list: &[u32], answers: &mut [u32], holders: &mut [u32]) -> Ran
     ensures { λ r. ⌜ RunPromise (now (table .entry)) (now (list .entry)) (now (answers .entry)) (now (holders .entry)) (ranCode r) (ranCalls r) (now (answers .exit)) (now (table .exit)) (now (holders .exit)) ⌝ }
 {

@@ -1,5 +1,5 @@
-// One call on a working state: it is taken decoded into one choice among its kinds, and each kind is served by a function of its own.
-// It accepts any numbers and words.
+// Serves one call on a working state (document 02 (l)): it is decoded into one choice among its kinds, and each kind is served by a
+// function of its own. `serve` is total: it accepts arbitrary numbers and words.
 use crate::decode::decode;
 use answers::Answer;
 use answers::by_value::refuse;

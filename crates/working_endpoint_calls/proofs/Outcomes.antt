@@ -1,4 +1,4 @@
--- What is answered and left, by what a call came to. Assumes nothing.
+-- What is answered and left, by the decision on a call. Assumes nothing.
 use mathlib.Core.Path.{_≡_, refl, sym, ap, ap₂, subst, _∙_}
 use mathlib.Core.List.{List, [], _∷_, _++_}
 use Prim.Native.Nat.{ℕ, _+_, _-_, _*_, _%_}
@@ -81,11 +81,11 @@ module _ (d : Decision) (e w : ℕ) (r words : List ℕ) where
             (ap (withRing rings e) (left ∙ ap (λ (v : List ℕ). ofTwelve v (ringTake v) v) (sym at)));
       }
 
--- served by what was read is served by what the call comes to
+-- a call served by one decision is served by an equal one
 pub so-decided : (d d′ : Decision) (w : ℕ) (rings words rings′ : List ℕ) → d ≡ d′ → RingsOutcome d w rings words rings′ → RingsOutcome d′ w rings words rings′
 so-decided d d′ w rings words rings′ is served = subst (λ (x : Decision). RingsOutcome x w rings words rings′) is served
 
--- and so are the rings that the ring was lent from
+-- a call served on a ring is served on the rings that it was lent from
 pub ring-back :
     (rings : List ℕ) (e : ℕ) (d d′ : Decision) (w : ℕ) (words r′ : List ℕ)
     → d ≡ d′
@@ -95,7 +95,7 @@ ring-back rings e d d′ w words r′ is served =
     so-decided d d′ w rings words _ is
     (subst (λ (x : List ℕ). RingsOutcome d w rings words x) (sym (back rings e r′)) (served .among rings (sym (lent rings e))))
 
--- an endpoint that was found: its number is shown
+-- an endpoint that was found: its index is shown
 pub looked-up :
     (e : ℕ) (d : Decision) (w : ℕ) (rows : List (List ℕ)) (rings owned words : List ℕ)
     → machine.lookedUp e ≡ d

@@ -34,13 +34,13 @@ module _ (rings : List ℕ) (e : ℕ) where
   pub same-back : withRing rings e (ringAt rings e) ≡ rings
   same-back = ap (λ (rest : List ℕ). take (12 * e) rings ++ rest) (take-append-drop 12 (drop (12 * e) rings)) ∙ take-append-drop (12 * e) rings
 
-  -- a ring of which words are missing is none
+  -- a ring of which words are missing doesn't have twelve
   not-there : length rings < 12 * e + 12 → length (ringAt rings e) ≡ 12 → ⊥
   not-there past twelve = omega (arith, length-take 12 (drop (12 * e) rings), length-drop (12 * e) rings)
 
   pub not-put : (r : List ℕ) → length rings < 12 * e + 12 → rings ≡ withRing rings e (ofTwelve (ringAt rings e) r (ringAt rings e))
   not-put r past = sym same-back ∙ ap (withRing rings e) (not-twelve (ringAt rings e) r (ringAt rings e) (not-there past))
 
-  -- and shows nothing
+  -- such a ring shows nothing
   pub nothing-shown : (x : ℕ) → length rings < 12 * e + 12 → 0 ≡ ofTwelve (ringAt rings e) x 0
   nothing-shown x past = not-twelve (ringAt rings e) x 0 (not-there past)

@@ -1,5 +1,5 @@
-// The calls about endpoints, on a working state: each tests the call's numbers, then what the rows and the ring hold; a send and a
-// receive lend the endpoint's ring once. It accepts any numbers and words.
+// The calls about endpoints on a working state (document 02 (l)). Each checks that the call's fields are in range, then what the
+// state holds. A send and a receive lend the endpoint's ring once. The public functions accept arbitrary values.
 use answers::Answer;
 use answers::by_value::done;
 use answers::by_value::refusal;
@@ -28,14 +28,17 @@ ghost use Rattle.ring.specs.Ring.{count, ringOwner};
 ghost use Rattle.working_theory.specs.State.{hintPlace, namedIn, nobody, readingFrom, answerFrom, ringAt};
 ghost use Rattle.working_endpoint_calls.specs.Outcome.{RingOutcome, RingsOutcome};
 
-// Returns the place of the hint for a name.
+// The factor of the hash of a name: about 2^32 over the golden ratio, so that names close to each other hash apart.
+const HASH_FACTOR: u64 = 0x9E37_79B1;
+
+// Returns the index of the hint for a name.
 pub fn hint_place(name: u32) -> usize
     ensures { λ r. ⌜ r ≡ hintPlace name ⌝ }
 {
-    (name as u64 * 0x9E37_79B1 / 0x40_0000 % 1024) as usize
+    (name as u64 * HASH_FACTOR / 0x40_0000 % 1024) as usize
 }
 
-// Returns the first endpoint that has the name, if one has it.
+// Returns the first endpoint that has the name, or none.
 fn find(names: &[u32; 32], m: u32, name: u32) -> Found
     ensures { λ r. ⌜ foundOf r ≡ firstBelow m (λ e. eqb (getD (now (names .entry)) (e % 32) 0) name) ⌝ }
 {
@@ -50,7 +53,7 @@ fn find(names: &[u32; 32], m: u32, name: u32) -> Found
     Found::Nothing
 }
 
-// Returns whether the endpoint is one of m and has the name.
+// Returns whether the endpoint is one of the m and has the name.
 fn has_name(names: &[u32; 32], m: u32, e: u32, name: u32) -> bool
     ensures { λ b. ⌜ b ≡ (ltb e m && eqb (getD (now (names .entry)) (e % 32) 0) name) ⌝ }
 {
@@ -61,13 +64,14 @@ fn has_name(names: &[u32; 32], m: u32, e: u32, name: u32) -> bool
     false
 }
 
+// Returns a byte as a word.
 fn wide(small: u8) -> u32
     ensures { λ r. ⌜ r ≡ small ⌝ }
 {
     small as u32
 }
 
-// Returns the endpoint that has the name: the one of the hint where that has it, else the first that has it.
+// Returns the endpoint that has the name, or none: the hint's endpoint where that has it, else the first that has it.
 fn find_by(names: &[u32; 32], hints: &[u8; 1024], m: u32, name: u32) -> Found
     ensures { λ r. ⌜ foundOf r ≡ namedIn m (now (names .entry)) (now (hints .entry)) name ⌝ }
 {
@@ -102,7 +106,7 @@ pub fn look_up(
     }
 }
 
-// Answers my endpoints.
+// Returns the answer to a call of my endpoints.
 pub fn my_endpoints(n: u32, owned: &[u32; 16], first: u32, caller: u32) -> Answer
     ensures { λ a. ⌜ answerWords a ≡ answerFrom first [] [] (now (owned .entry)) (decidedBy n 0 (readingFrom [] [] nobody) (calls.MyEndpoints caller)) ⌝ }
 {
@@ -114,7 +118,7 @@ pub fn my_endpoints(n: u32, owned: &[u32; 16], first: u32, caller: u32) -> Answe
     done(first, owned[at], 0)
 }
 
-// Sends a message to the endpoint of a ring, by the ring's own words.
+// Sends a message to the endpoint of the ring and returns the answer. The owner is read from the ring's own words.
 fn send_on(
     ring: &mut [u32],
     rows: &[[u8; 16]; 16],
@@ -136,7 +140,7 @@ fn send_on(
     done(first, 0, 0)
 }
 
-// Answers a send where words of the endpoint's ring are missing: the message goes nowhere.
+// Returns the answer to a send where words of the endpoint's ring are missing. The message is put into no ring.
 fn send_beyond(
     rings: &[u32],
     rows: &[[u8; 16]; 16],
@@ -182,7 +186,7 @@ pub fn send(
     send_on(&mut rings[start..end], rows, first, caller, e, message)
 }
 
-// Receives from the endpoint of a ring, by the ring's own words.
+// Receives from the endpoint of the ring and returns the answer. The owner and the count are read from the ring's own words.
 fn receive_on(ring: &mut [u32], first: u32, caller: u32, e: u32) -> Answer
     requires { ⌜ length (now ring) ≡ 12 ⌝ }
     ensures { λ a. ⌜ RingOutcome (receiveAccess caller (ringOwner (now (ring .entry))) (count (now (ring .entry))) e) e first (now (ring .entry)) (answerWords a) (now (ring .exit)) ⌝ }
@@ -197,7 +201,7 @@ fn receive_on(ring: &mut [u32], first: u32, caller: u32, e: u32) -> Answer
     done(first, taken.message, taken.lost)
 }
 
-// Answers a receive where words of the endpoint's ring are missing: no message is shown.
+// Returns the answer to a receive where words of the endpoint's ring are missing. It shows no message.
 fn receive_beyond(rings: &[u32], first: u32, caller: u32, e: u32) -> Answer
     requires { ⌜ length (now rings) < 12 * e + 12 ⌝ }
     ensures { λ a. ⌜ RingsOutcome (receiveAccess caller (ringOwner (ringAt (now (rings .entry)) e)) (count (ringAt (now (rings .entry)) e)) e) first (now (rings .entry)) (answerWords a) (now (rings .entry)) ⌝ }

@@ -1,4 +1,4 @@
--- Laws of taking in and putting out.
+-- Laws of loading and storing.
 pub mod Places
 pub mod LoadLoop
 pub mod StoreLoop

@@ -1,4 +1,4 @@
--- The rings as they are taken in, one after the other. Assumes nothing.
+-- The rings as they are loaded, one after the other. Assumes nothing.
 use mathlib.Core.Path.{_≡_, refl, sym, ap, ap₂, subst, _∙_}
 use mathlib.Core.Bool.{true, false, cond}
 use mathlib.Core.List.{List, _++_}
@@ -18,7 +18,7 @@ use Rattle.ring.proofs.Words.{of-twelve}
 use Rattle.working_load.specs.Layout.{wordsAt, hasQueues, ringsOf}
 use Rattle.working_load.proofs.Places.{HasQueues, words-within, words-lent}
 
--- the rings of the first e endpoints are taken in
+-- the rings of the first e endpoints are loaded
 pub record Taking (n m : ℕ) (t rings : List ℕ) (e : ℕ) : Type 0 where
   pub size : length rings ≡ 12 * m
   pub done : (i : ℕ) → i < 12 * e → getD rings i 0 ≡ getD (ringOf (wordsAt n t (i / 12))) (i % 12) 0
@@ -73,7 +73,7 @@ module _ (n m : ℕ) (t rings : List ℕ) (e : ℕ) (s : Taking n m t rings e) (
       subst (λ (k : ℕ). Taking n m t (take (12 * e) rings ++ (x ++ drop k (drop (12 * e) rings))) (e + 1)) (sym (add-sub-cancel-left (12 * e) 12))
       (taking-next x ring)
 
--- every ring is taken in
+-- every ring is loaded
 pub taking-end : (n m : ℕ) (t rings : List ℕ) (e : ℕ) → Taking n m t rings e → e ≡ m → rings ≡ ringsOf n m t
 unfolding ringsOf
 taking-end n m t rings e s all =
@@ -83,7 +83,7 @@ taking-end n m t rings e s all =
     f : ℕ → ℕ
     f i = getD (ringOf (wordsAt n t (i / 12))) (i % 12) 0
 
--- on either side of the test
+-- the loaded rings, on either side of the test
 pub taken-none : (n m : ℕ) (t rings : List ℕ) → hasQueues n m (length t) (length rings) ≡ false → rings ≡ cond (hasQueues n m (length t) (length rings)) (ringsOf n m t) rings
 taken-none n m t rings h = rw h
 

@@ -1,5 +1,4 @@
--- What is taken in stands for the table, and what is put out is the table that a state stands for (specs/Claims).
--- Assumes nothing.
+-- A loaded state represents the table (specs/Claims). Assumes nothing.
 use mathlib.Core.Path.{_≡_, refl, sym, ap, ap₂, subst, _∙_}
 use mathlib.Core.Bool.{Bool, cond}
 use mathlib.Core.List.{List}
@@ -34,7 +33,7 @@ words-are : (t : List ℕ) (e : ℕ) → wordsAt (domains t) t e ≡ endpoint t 
 unfolding endpoint
 words-are t e = refl
 
--- the ring of an endpoint among those taken in
+-- the ring of an endpoint among the loaded ones
 module _ (n m : ℕ) (t : List ℕ) (e : ℕ) (l : e < m) (twelve : length (ringOf (wordsAt n t e)) ≡ 12) where
   taken-ring : ringAt (ringsOf n m t) e ≡ ringOf (wordsAt n t e)
   unfolding ringsOf

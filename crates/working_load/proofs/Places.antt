@@ -1,4 +1,4 @@
--- Where the endpoints' words stand in a table of the right length, and their rings. Assumes nothing.
+-- Where the endpoints' words and their rings are, in a table that is long enough. Assumes nothing.
 use mathlib.Core.Path.{_≡_, ap₂}
 use mathlib.Core.Bool.{true, false, _&&_}
 use mathlib.Core.List.{List}
@@ -12,7 +12,7 @@ use Rattle.machine.specs.Table.{endpointAt}
 use Rattle.machine.proofs.Bools.{and-left, and-right}
 use Rattle.working_load.specs.Layout.{wordsAt, hasQueues}
 
--- what the test says
+-- what follows from the test
 pub record HasQueues (n m size lent : ℕ) : Type 0 where
   pub few : m ≤ 32
   pub there : endpointAt n m ≤ size
@@ -28,7 +28,7 @@ has-queues n m size lent h =
       twelve = eqb-true _ _ (and-right (leb m 32 && leb (endpointAt n m) size) (eqb lent (12 * m)) h);
     }
 
--- and as the code makes it
+-- the test as the code makes it
 pub too-many : (n m size lent : ℕ) → 32 < m → false ≡ hasQueues n m size lent
 unfolding hasQueues
 too-many n m size lent most = rw (lt-leb m 32 most)

@@ -1,4 +1,4 @@
--- The rings put out to a table, one after the other. Assumes nothing.
+-- The rings stored to a table, one after the other. Assumes nothing.
 use mathlib.Core.Path.{_≡_, refl, sym, ap, ap₂, subst, _∙_}
 use mathlib.Core.Bool.{true, false, cond, _&&_}
 use mathlib.Core.List.{List, _∷_, _++_}
@@ -21,11 +21,11 @@ use Rattle.working_theory.specs.State.{ringAt}
 use Rattle.working_load.specs.Layout.{wordsAt, hasQueues, isQueue, storedQueues}
 use Rattle.working_load.proofs.Places.{HasQueues, words-within, words-lent}
 
--- word j behind the rights words, as it is put out
+-- word j after the rights words, as it is stored
 abbrev wordOut : ℕ → List ℕ → List ℕ → ℕ → ℕ
 wordOut n rings t j = getD (storedQueue (ringAt rings (j / 12)) (wordsAt n t (j / 12))) (j % 12) 0
 
--- the rings of the first e endpoints are put out
+-- the rings of the first e endpoints are stored
 pub record Out (n m : ℕ) (rings t₀ t : List ℕ) (e : ℕ) : Type 0 where
   pub size : length t ≡ length t₀
   pub before : (i : ℕ) → i < endpointAt n 0 → getD t i 0 ≡ getD t₀ i 0
@@ -109,7 +109,7 @@ module _ (n m : ℕ) (rings t₀ t : List ℕ) (e : ℕ) (s : Out n m rings t₀
       (ap₂ (λ (k i : ℕ). take i t ++ (x ++ drop k (drop i t))) (sym (add-sub-cancel-left at 12)) (sym is))
       (out-next x out)
 
--- every ring is put out
+-- every ring is stored
 pub out-end : (n m : ℕ) (rings t₀ t : List ℕ) (e : ℕ) → Out n m rings t₀ t e → e ≡ m → t ≡ storedQueues n m rings t₀
 unfolding storedQueues isQueue
 out-end n m rings t₀ t e s all =
@@ -136,7 +136,7 @@ out-end n m rings t₀ t e s all =
         ∙ ap (λ (k : ℕ). getD t₀ k 0) (sym back)
         ∙ rw (le-leb a i (omega arith), le-ltb i (endpointAt n m) (omega arith))
 
--- on either side of the test
+-- the table with the rings stored, on either side of the test
 pub out-none : (n m : ℕ) (rings t : List ℕ) → hasQueues n m (length t) (length rings) ≡ false → t ≡ cond (hasQueues n m (length t) (length rings)) (storedQueues n m rings t) t
 out-none n m rings t h = rw h
 

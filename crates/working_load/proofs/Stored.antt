@@ -1,4 +1,4 @@
--- What stands for a table, put out to one with the same unchanging parts, is that table (specs/Claims). Assumes nothing.
+-- A state that represents a table, stored to one with the same unchanging parts, is that table (specs/Claims). Assumes nothing.
 use mathlib.Core.Path.{_≡_, sym, ap, ap₂, subst, _∙_}
 use mathlib.Core.Bool.{true, cond, _&&_}
 use mathlib.Core.List.{List}
@@ -42,7 +42,7 @@ header-whole w h =
     let isZero : upper w ≡ 0 = eqb-true _ _ (and-right (eqb (kind w) 1) (eqb (upper w) 0) b2) in
     omega arith
 
--- and a sound rights word of its rights
+-- a sound rights word is made of its rights alone
 rights-whole : (w : ℕ) → rightsWordOk w ≡ true → word 2 (payload w) ≡ w
 unfolding rightsWordOk
 rights-whole w h =
@@ -82,7 +82,7 @@ module _ (t₀ t : List ℕ) (n m : ℕ) (rows : List (List ℕ)) (rings names o
       ∙ ap (λ (k : ℕ). getD t (rightsAt k (j / n) (j % n)) 0) (sym (x .domains))
       ∙ ap (λ (i : ℕ). getD t i 0) at
 
-  -- an endpoint's words are as they were before the rings are put out
+  -- an endpoint's words are as they were before the rings are stored
   module _ (e : ℕ) (l : e < m) where
     there : endpointAt n e + 12 ≤ length t₁
     there = omega (arith, out .size, size, frame .size)

@@ -1,5 +1,5 @@
--- What is claimed of taking in and putting out: what is taken in stands for the table, and what stands for a table, put out to one
--- with the same unchanging parts, is that table.
+-- What is claimed of loading and storing (document 02 (l)): a loaded state represents the table, and a state that represents a
+-- table, stored to one with the same unchanging parts, is that table.
 use Prim.Native.Nat.{ℕ}
 use mathlib.Core.Path.{_≡_}
 use mathlib.Core.List.{List}
@@ -10,7 +10,7 @@ use Rattle.rights_matrix.specs.Rows.{rowsOf, storedRows}
 use Rattle.working_theory.specs.Represents.{Represents}
 use Rattle.working_load.specs.Layout.{ringsOf, storedQueues, namesOf, ownedOf}
 
--- what is taken in stands for the table
+-- a loaded state represents the table
 abbrev pub LoadedRepresents : Type 0
 LoadedRepresents =
     (t : List ℕ)
@@ -20,7 +20,7 @@ LoadedRepresents =
     (ownedOf (domains t) (endpoints t) t)
     t
 
--- what is put out is the table that the state stands for
+-- a stored state is the table that it represents
 abbrev pub StoreIsTable : Type 0
 StoreIsTable =
     (t₀ t : List ℕ) (n m : ℕ) (rows : List (List ℕ)) (rings names owned : List ℕ)

@@ -1,5 +1,5 @@
--- A table's endpoints in the working state: what is made of its words, and of its words by what is put out (document 02 (l)).
--- Any words will do as a table of n domains and m endpoints.
+-- A table's endpoints in the working state (document 02 (l)): what is loaded from the table's words and what storing makes of them.
+-- The definitions are total: they accept arbitrary words as a table of n domains and m endpoints.
 use Prim.Native.Nat.{ℕ, _+_, _-_, _*_, _/_, _%_, _^_, min}
 use mathlib.Core.Bool.{Bool, cond, _&&_}
 use mathlib.Core.List.{List}
@@ -27,7 +27,7 @@ ringsOf n m t = wordsBelow (12 * m) (λ i. getD (ringOf (wordsAt n t (i / 12))) 
 unfoldable pub isQueue : ℕ → ℕ → ℕ → Bool
 isQueue n m i = leb (endpointAt n 0) i && ltb i (endpointAt n m)
 
--- the rings put out to the table, word by word: its other words stay
+-- the table with the rings stored to it, word by word: its other words stay
 unfoldable pub storedQueues : ℕ → ℕ → List ℕ → List ℕ → List ℕ
 storedQueues n m rings t =
     wordsBelow (length t)
@@ -39,6 +39,6 @@ storedQueues n m rings t =
 unfoldable pub namesOf : ℕ → ℕ → List ℕ → List ℕ
 namesOf n m t = wordsBelow 32 (λ e. cond (ltb e m) (payload (getD t (endpointAt n e) 0)) 0)
 
--- for each of sixteen domains the endpoints, among the first 32, that it owns, of whose number four bits count
+-- for each of sixteen domains the endpoints, among the first 32, that it owns; only the low four bits of an owner's index count
 unfoldable pub ownedOf : ℕ → ℕ → List ℕ → List ℕ
 ownedOf n m t = wordsBelow 16 (λ u. bitsBelow (min m 32) (λ e. eqb (fieldB (getD t (endpointAt n e + 1) 0) % 16) u))

@@ -1,3 +1,3 @@
--- What the contracts of taking in and putting out cite, and what is claimed of them.
+-- What the contracts of loading and storing cite, and what is claimed of them.
 pub mod Layout
 pub mod Claims

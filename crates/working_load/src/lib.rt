@@ -1,5 +1,5 @@
-// A table's endpoints taken in from it and put out to it: the queues as rings, the names side by side, and for each domain the
-// endpoints that it owns as bits. Any words will do as a table.
+// Loads a table's endpoints and stores their queues (document 02 (l)): the queues as rings, the names side by side, and for each
+// domain the endpoints that it owns as bits. All functions are total: they accept arbitrary words as a table.
 use format::KIND_UNIT;
 use format::tables::ENDPOINT_WORDS;
 use format::tables::MOST_ENDPOINTS;
@@ -12,7 +12,7 @@ ghost use Prim.Native.Nat.{_%_, min};
 ghost use lib.ListN.{length};
 ghost use Rattle.working_load.specs.Layout.{hasQueues, ringsOf, storedQueues, namesOf, ownedOf};
 
-// At most 32 endpoints, words enough for them in the table, and twelve lent for each.
+// Returns whether there are at most 32 endpoints, words enough for them in the table, and twelve words lent for each.
 fn has_queues(n: u32, m: u32, size: usize, lent: usize) -> bool
     ensures { λ b. ⌜ b ≡ hasQueues (n % 256) m size lent ⌝ }
 {
@@ -23,7 +23,8 @@ fn has_queues(n: u32, m: u32, size: usize, lent: usize) -> bool
     (end <= size) & (lent == ENDPOINT_WORDS * m as usize)
 }
 
-// The rings of the table's queues. They stay as they are where they or the table aren't of the right length.
+// Loads the rings from the table's queues. They stay as they are where m is over 32, the table is too short, or their length isn't
+// twelve words for each endpoint.
 pub fn load_rings(table: &[u32], n: u32, m: u32, rings: &mut [u32])
     ensures { λ _. ⌜ now (rings .exit) ≡ cond (hasQueues (n % 256) m (length (now (table .entry))) (length (now (rings .entry)))) (ringsOf (n % 256) m (now (table .entry))) (now (rings .entry)) ⌝ }
 {
@@ -41,7 +42,8 @@ pub fn load_rings(table: &[u32], n: u32, m: u32, rings: &mut [u32])
     }
 }
 
-// The rings put out to the table's queues. It stays as it is where it or the rings aren't of the right length.
+// Stores the rings to the table's queues. The table stays as it is where m is over 32, it is too short, or the rings' length isn't
+// twelve words for each endpoint.
 pub fn store_rings(rings: &[u32], n: u32, m: u32, table: &mut [u32])
     ensures { λ _. ⌜ now (table .exit) ≡ cond (hasQueues (n % 256) m (length (now (table .entry))) (length (now (rings .entry)))) (storedQueues (n % 256) m (now (rings .entry)) (now (table .entry))) (now (table .entry)) ⌝ }
 {
@@ -59,7 +61,7 @@ pub fn store_rings(rings: &[u32], n: u32, m: u32, table: &mut [u32])
     }
 }
 
-// At most 32.
+// Returns m, or 32 where m is over 32.
 fn at_most(m: u32) -> u32
     ensures { λ r. ⌜ r ≡ min m 32 ⌝ }
 {
@@ -69,7 +71,7 @@ fn at_most(m: u32) -> u32
     MOST_ENDPOINTS
 }
 
-// The endpoints' names, side by side; 0 where there is none.
+// Returns the names of the first 32 endpoints, side by side, and 0 where there is no endpoint.
 pub fn load_names(table: &[u32], n: u32, m: u32) -> [u32; 32]
     ensures { λ r. ⌜ r ≡ namesOf (n % 256) m (now (table .entry)) ⌝ }
 {
@@ -85,7 +87,7 @@ pub fn load_names(table: &[u32], n: u32, m: u32) -> [u32; 32]
     names
 }
 
-// What each domain owns, a bit for each endpoint. Of an owner's number four bits count.
+// Returns which of the first 32 endpoints each domain owns, a bit for each. Only the low four bits of an owner's index count.
 pub fn load_owned(table: &[u32], n: u32, m: u32) -> [u32; 16]
     ensures { λ r. ⌜ r ≡ ownedOf (n % 256) m (now (table .entry)) ⌝ }
 {

@@ -1,4 +1,4 @@
--- What is answered and left, by what a call came to. Assumes nothing.
+-- What is answered and left, by the decision on a call. Assumes nothing.
 use mathlib.Core.Path.{_≡_, refl, ap, ap₂, subst, _∙_}
 use mathlib.Core.List.{List, [], _∷_}
 use Prim.Native.Nat.{ℕ}

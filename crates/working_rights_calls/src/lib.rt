@@ -1,5 +1,5 @@
-// The calls about rights, on a working state: each tests the call's numbers, then what the rows hold, writes one place of a row and
-// notes the change in the holders. It accepts any numbers and words.
+// The calls about rights on a working state (document 02 (l)). Each checks that the call's fields are in range, then what the rows
+// hold. One that alters rights writes one place of a row and notes the change in the holders. All accept arbitrary values.
 use answers::Answer;
 use answers::by_value::done;
 use answers::by_value::refusal;
@@ -23,8 +23,8 @@ ghost use Rattle.holders.specs.Noted.{holdersAfter};
 ghost use Rattle.working_theory.specs.State.{nobody, readingFrom, rowBits, answerFrom, rowsAfter};
 ghost use Rattle.working_rights_calls.specs.Outcome.{RightsOutcome};
 
-// Returns the rights of a holder on the eight targets from one on, four bits each. It goes from the last to the first, so each step
-// moves up what is there; what goes past 32 bits is cut off.
+// Returns the rights of a holder on the eight targets from a given one on, four bits each. It goes from the last target to the
+// first, so each step shifts up what is there. Bits past 32 are dropped.
 fn bits(rows: &[[u8; 16]; 16], holder: u32, from: u32) -> u32
     ensures { λ r. ⌜ r ≡ rowBits (now (rows .entry)) holder from ⌝ }
 {
@@ -38,7 +38,7 @@ fn bits(rows: &[[u8; 16]; 16], holder: u32, from: u32) -> u32
     bits
 }
 
-// Answers my rights: the caller's row, eight targets to a word.
+// Returns the answer to a call of my rights: the caller's row, eight targets to a word.
 pub fn my_rights(n: u32, rows: &[[u8; 16]; 16], first: u32, caller: u32) -> Answer
     ensures { λ a. ⌜ answerWords a ≡ answerFrom first (now (rows .entry)) [] [] (decidedBy n 0 (readingFrom [] [] nobody) (calls.MyRights caller)) ⌝ }
 {
@@ -51,7 +51,7 @@ pub fn my_rights(n: u32, rows: &[[u8; 16]; 16], first: u32, caller: u32) -> Answ
     done(first, low, high)
 }
 
-// Writes a holder's rights on a target, and notes them in the holders.
+// Writes a holder's rights on a target and notes them in the holders.
 fn alter(rows: &mut [[u8; 16]; 16], holders: &mut [u32], holder: u32, target: u32, rights: u32)
     ensures { λ _. ⌜ now (rows .exit) ≡ rowsAfter (now (rows .entry)) (newRights holder target rights) ⌝ }
     ensures { λ _. ⌜ now (holders .exit) ≡ holdersAfter (now (holders .entry)) (newRights holder target rights) ⌝ }
@@ -115,7 +115,7 @@ pub fn remove(
     done(first, 0, 0)
 }
 
-// Takes rights back from a holder and returns the answer.
+// Revokes rights of a holder and returns the answer.
 pub fn revoke(
     n: u32,
     rows: &mut [[u8; 16]; 16],

@@ -7,7 +7,7 @@ use Rattle.machine.specs.Machine as machine
 use Rattle.machine.specs.Machine.{Decision, code, answerWord}
 use Rattle.working_theory.specs.State.{firstFrom, secondFrom, answerFrom}
 
--- a refusal answers its number, and nothing else
+-- the answer to a refused call has the refusal's code, and nothing else
 pub refused-answer :
     (d : Decision) (k w : ℕ) (rows : List (List ℕ)) (rings owned words : List ℕ)
     → machine.refused k ≡ d

@@ -1,4 +1,4 @@
--- What is read of a state is what is read of the table that it stands for. Assumes nothing.
+-- What is read of a state is what is read of the table that it represents. Assumes nothing.
 use mathlib.Core.Path.{_≡_, refl, sym, ap, ap₂, _∙_}
 use mathlib.Core.Bool.{Bool, true, false, not, _&&_}
 use mathlib.Core.List.{List}
@@ -95,7 +95,7 @@ module _ (n m : ℕ) (rows : List (List ℕ)) (rings names owned t : List ℕ) (
         named = found-same hints;
       }
 
-  -- so a call comes to the same
+  -- so the decision on a call is the same
   pub decided-same : (hints : List ℕ) (w : ℕ) (s : Second) → decidedBy n m (readingFrom rows rings (namedIn m names hints)) (decoded w s) ≡ decide t (callOf w s)
   decided-same hints w s =
       same-decision n m (readingFrom rows rings (namedIn m names hints)) (readingOf t) (same-reading hints) (decoded w s)

@@ -1,4 +1,4 @@
--- A call on a state goes along with the call on the table that it stands for (specs/Represents). Assumes nothing.
+-- A call on a state simulates the call on the table that the state represents (specs/Represents). Assumes nothing.
 use mathlib.Core.Path.{_≡_, refl, sym, ap, ap₂, subst, subst₂, _∙_}
 use mathlib.Core.Logic.{⊎-elim}
 use mathlib.Core.Bool.{true, false, cond}
@@ -125,7 +125,7 @@ module _ (n m : ℕ) (rows : List (List ℕ)) (rings names owned t : List ℕ) (
         revoking = λ _ _ _ _ _ _. answer-words w s rows rings owned t _ refl refl;
       })
 
-  -- ---- what is noted in the holders is what the table's effect has noted in them
+  -- ---- the effect on the state notes in the holders what the effect on the table notes
   noted-along : (c : Call) (p : List ℕ) → holdersAfter p (effectFrom rows rings (decide t c)) ≡ holdersAfter p (effect t (decide t c))
   unfolding effectFrom effect holdersAfter
   noted-along c p =
@@ -142,7 +142,7 @@ module _ (n m : ℕ) (rows : List (List ℕ)) (rings names owned t : List ℕ) (
         revoking = λ _ _ lg lh _ _. ap (λ (k : ℕ). noted p (fieldB (first c)) (fieldA (first c)) (without k (fieldC (first c)))) (same-held _ _ lh lg);
       })
 
-  -- ---- what is left stands for the table after it, but for what never changes
+  -- ---- what is left represents the table after the call, but for what never changes
   record Core (rows′ : List (List ℕ)) (rings′ t′ : List ℕ) : Type 0 where
     pub rights : SameRights n rows′ t′
     pub size : length rings′ ≡ 12 * m

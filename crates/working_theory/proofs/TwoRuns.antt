@@ -1,4 +1,4 @@
--- Two that keep the promise of a run give the same (specs/TwoWays). Assumes nothing.
+-- Two runs that keep the promise of a run give the same (specs/TwoRuns). Assumes nothing.
 use mathlib.Core.Path.{sym, _∙_}
 use Rattle.working_theory.specs.TwoRuns.{BothGiveTheSame}
 

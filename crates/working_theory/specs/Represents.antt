@@ -1,4 +1,5 @@
--- When a working state stands for a table, and what is claimed of it: a call on the state is the call on the table.
+-- When a working state represents a table (document 02 (l)), and what is claimed of it: a call on the state simulates the call on
+-- the table.
 use Prim.Native.Nat.{ℕ, _*_, _<_}
 use mathlib.Core.Path.{_≡_}
 use mathlib.Core.List.{List}
@@ -18,8 +19,8 @@ use Rattle.rights_matrix.specs.Claims.{SameRights}
 use Rattle.ring.specs.Claims.{RepresentsQueue}
 use Rattle.working_theory.specs.State.{ringAt, namedIn, readingFrom, answerFrom, effectFrom, rowsAfter, ringsAfter}
 
--- The state stands for the table t of n domains and m endpoints: the rows for its rights, each ring for its endpoint's queue,
--- the names for theirs, and the bits for what each domain owns.
+-- The state represents the table t of n domains and m endpoints: the rows represent its rights, each ring its endpoint's queue, the
+-- names are those of the endpoints, and the bits are what each domain owns.
 pub record Represents (n m : ℕ) (rows : List (List ℕ)) (rings names owned t : List ℕ) : Type 0 where
   pub domains : n ≡ machine.domains t
   pub endpoints : m ≡ machine.endpoints t
@@ -29,9 +30,9 @@ pub record Represents (n m : ℕ) (rows : List (List ℕ)) (rings names owned t 
   pub sameNames : (e : ℕ) → e < m → getD names e 0 ≡ name (endpoint t e)
   pub sameOwned : (u : ℕ) → u < n → getD owned u 0 ≡ ownedBits t u
 
--- A call of the first word w and what comes second, on a state, whatever the hints to its names, and on the table t: it comes to the
--- same, it is answered the same, what it leaves stands for the table after it, and noting its effect makes of the holders those of
--- the table after it.
+-- A call of the first word w and the second s, on a state, whatever the hints for its names, and on the table t: the decision is
+-- the same, the answer is the same, what it leaves represents the table after it, and noting its effect makes of the table's
+-- holders those of the table after it.
 pub record Simulates (w : ℕ) (s : Second) (n m : ℕ) (rows : List (List ℕ)) (rings names hints owned t : List ℕ) : Type 0 where
   pub decided : decidedBy n m (readingFrom rows rings (namedIn m names hints)) (decoded w s) ≡ decide t (callOf w s)
   pub answer : answerFrom w rows rings owned (decide t (callOf w s)) ≡ answer t (callOf w s)
@@ -43,6 +44,7 @@ pub record Simulates (w : ℕ) (s : Second) (n m : ℕ) (rows : List (List ℕ))
       (step t (callOf w s))
   pub holders : holdersAfter (holdersOf t) (effectFrom rows rings (decide t (callOf w s))) ≡ holdersOf (step t (callOf w s))
 
+-- on a state that represents an accepted table, every call simulates the call on the table
 abbrev pub CallsSimulate : Type 0
 CallsSimulate =
     (w : ℕ) (s : Second) (n m : ℕ) (rows : List (List ℕ)) (rings names hints owned t : List ℕ)

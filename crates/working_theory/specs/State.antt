@@ -1,6 +1,7 @@
--- The working state of a run (document 02 (l)), part by part: the rights as rows (crate rows), the queues as rings of twelve words
--- (crate rings), the endpoints' names side by side, and for each domain the endpoints that it owns as bits. What is read of it for a
--- call, what is answered, and what a decision alters. Any numbers and words will do.
+-- The working state of a run (document 02 (l)), part by part: the rights as rows (crate rights_matrix), the queues as rings of
+-- twelve words (crate ring), the endpoints' names side by side, and for each domain the endpoints that it owns as bits. The file
+-- has what is read for a call, what is answered, and what a decision alters. The definitions are total: they accept arbitrary
+-- numbers and words.
 use Prim.Native.Nat.{ℕ, _+_, _*_, _/_, _%_, _^_}
 use mathlib.Core.Bool.{cond, _&&_}
 use mathlib.Core.Option.{Option, none, some}
@@ -23,23 +24,23 @@ ringAt rings e = take 12 (drop (12 * e) rings)
 abbrev pub withRing : List ℕ → ℕ → List ℕ → List ℕ
 withRing rings e r = take (12 * e) rings ++ (r ++ drop 12 (drop (12 * e) rings))
 
--- where the hint for a name stands, among 1,024
+-- the index of the hint for a name, among 1,024
 abbrev pub hintPlace : ℕ → ℕ
 hintPlace x = x * 2654435761 / 4194304 % 1024
 
--- The endpoint, among m, that has a name. A hint is believed only where it is one of the m and has that name; else it is the
--- first that has it. Any numbers will do as hints.
+-- The endpoint, among m, that has a name. The hint is used only where it is one of the m and has that name. Else it is the first
+-- that has it. The hints may be arbitrary numbers.
 unfoldable pub namedIn : ℕ → List ℕ → List ℕ → ℕ → Option ℕ
 namedIn m names hints x =
     cond (ltb (getD hints (hintPlace x) 0) m && eqb (getD names (getD hints (hintPlace x) 0 % 32) 0) x)
     (some (getD hints (hintPlace x) 0))
     (firstBelow m (λ e. eqb (getD names (e % 32) 0) x))
 
--- no endpoint has a name: what is read where no name is asked for
+-- no endpoint has a name: what is read for a call without a name
 abbrev pub nobody : ℕ → Option ℕ
 nobody x = none
 
--- what is read for a call, with the endpoint that has a name as it is found
+-- what is read for a call, with the function that finds the endpoint of a name
 abbrev pub readingFrom : List (List ℕ) → List ℕ → (ℕ → Option ℕ) → Reading
 readingFrom rows rings named =
     record {
@@ -49,11 +50,11 @@ readingFrom rows rings named =
       named = named;
     }
 
--- the rights of u on the eight targets from g on, four bits each, as far as they go into a word
+-- the rights of u on the eight targets from g on, four bits each, as far as they fit into a word
 unfoldable pub rowBits : List (List ℕ) → ℕ → ℕ → ℕ
 rowBits rows u g = sumBelow 8 (λ i. heldIn rows u (g + i) * 16 ^ i) % 2 ^ 32
 
--- the first data word of the answer to a decision, zero where nothing is named
+-- the first data word of the answer by a decision, zero where it has no data
 unfoldable pub firstFrom : List (List ℕ) → List ℕ → List ℕ → machine.Decision → ℕ
 firstFrom rows rings owned (machine.refused n) = 0
 firstFrom rows rings owned (machine.lookedUp e) = e
@@ -65,7 +66,7 @@ firstFrom rows rings owned (machine.grants g h r) = 0
 firstFrom rows rings owned (machine.removes g u r) = 0
 firstFrom rows rings owned (machine.revokes g h r) = 0
 
--- and the second
+-- the second data word
 unfoldable pub secondFrom : List (List ℕ) → List ℕ → machine.Decision → ℕ
 secondFrom rows rings (machine.refused n) = 0
 secondFrom rows rings (machine.lookedUp e) = 0
@@ -77,7 +78,7 @@ secondFrom rows rings (machine.grants g h r) = 0
 secondFrom rows rings (machine.removes g u r) = 0
 secondFrom rows rings (machine.revokes g h r) = 0
 
--- the answer to a call with the first word w, on which a decision fell
+-- the answer to a call with the first word w, by the decision on it
 unfoldable pub answerFrom : ℕ → List (List ℕ) → List ℕ → List ℕ → machine.Decision → List ℕ
 answerFrom w rows rings owned d =
     answerWord (one w) (code d) ∷ firstFrom rows rings owned d ∷ secondFrom rows rings d ∷ []
@@ -95,7 +96,7 @@ effectFrom rows rings (machine.grants g h r) = newRights h g (adds (heldIn rows 
 effectFrom rows rings (machine.removes g u r) = newRights u g (without (heldIn rows u g) r)
 effectFrom rows rings (machine.revokes g h r) = newRights h g (without (heldIn rows h g) r)
 
--- the rows after that, and the rings; a place of a row has eight bits
+-- the rows after an effect, and the rings; a place of a row has eight bits
 unfoldable pub rowsAfter : List (List ℕ) → Effect → List (List ℕ)
 rowsAfter rows nothing = rows
 rowsAfter rows (newRights h g s) = withHeld rows h g (s % 256)

@@ -1,4 +1,4 @@
--- What is claimed of two ways to run a list: both give the same.
+-- What is claimed of two runs of a list, in place and on a working state (document 02 (l)): both give the same.
 use Prim.Native.Nat.{ℕ}
 use mathlib.Core.Path.{_≡_}
 use mathlib.Core.List.{List}
@@ -12,8 +12,8 @@ pub record SameRun (code code′ calls calls′ : ℕ) (answers answers′ end e
   pub sameTable : end ≡ end′
   pub sameHolders : kept ≡ kept′
 
--- Two that keep the promise of a run from the same words, as `kernel::run` and `run_working` do by their contracts, give the same:
--- on every table, accepted or not, and every list. So whatever the promise says of one, the striking rule too, it says of both.
+-- Two runs that keep the promise of a run from the same words, as `kernel::run` and `run_working` do by their contracts, give the
+-- same, on every table, accepted or not, and every list. So what the promise says of one, of purged calls too, it says of both.
 abbrev pub BothGiveTheSame : Type 0
 BothGiveTheSame =
     (t ws space holders : List ℕ) (code code′ calls calls′ : ℕ) (answers answers′ end end′ kept kept′ : List ℕ)

@@ -9,7 +9,7 @@ use Rattle.machine.specs.Call.{kindOf, Kind.stray, Kind.unknown}
 use Rattle.writer_theory.specs.Rows.{noCall, ofColumns, rowCall}
 
 module _ (u a b c : ℕ) where
-  -- a row goes by its kind
+  -- a row is read by its kind
   pub of-kind : (k n : ℕ) → k ≡ n → ofColumns (kindOf n) u a b c ≡ rowCall k u a b c
   unfolding rowCall
   of-kind k n e = ap (λ (m : ℕ). ofColumns (kindOf m) u a b c) (sym e)

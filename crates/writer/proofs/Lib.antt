@@ -1,4 +1,4 @@
--- What the proofs of several functions cite, and callers.
+-- What the proofs of several functions and of callers cite.
 pub mod Passes
 pub mod Outcomes
 pub mod ByKind

@@ -1,4 +1,4 @@
--- What the writing comes to, by what the code finds: each of its answers is the one that is due (written_lists: specs/Write).
+-- The result of writing, by what the code finds: each result is the one that is due (writer_theory: specs/Write).
 -- Assumes nothing.
 use Prim.Native.Nat.{ℕ, min, _<_, _≤_}
 use mathlib.Core.Path.{_≡_, refl, sym, ap, _∙_}
@@ -36,7 +36,7 @@ held-calls calls count long = go (decLe count 4096)
         ∙ take-all 4096 calls (omega arith)
         ∙ sym (take-all count calls (omega arith))
 
--- what was found, taken apart
+-- the cases of what was found
 found-unfit : (o : Option ℕ) (words i : ℕ) → Unfit i ≡ found o words → o ≡ some i
 found-unfit none words i e = let z : _≡_ {A = ℕ} 0 1 = cc in absurd (omega arith)
 found-unfit (some j) words i e = cc

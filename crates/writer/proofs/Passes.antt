@@ -17,13 +17,13 @@ use Rattle.writer.specs.declared.Measured.the-variants.{Words, Unfit}
 use Rattle.writer_theory.specs.Write.{unfitFrom, firstUnfit}
 use Rattle.writer.specs.FirstPass.{found, measured}
 
--- the call at place i of the first n of some calls, and those behind it
+-- the call at index i of the first n of some calls, and those after it
 pub front-of : (calls : List Call) (n i : ℕ) (d : Call) → i < n → n ≤ length calls → drop i (take n calls) ≡ getD calls i d ∷ drop (i + 1) (take n calls)
 front-of calls n i d l most =
     let m : i < length (take n calls) = omega (arith, length-take-le n calls most) in
     rw (add-one i, ← getD-take n calls i d l) (drop-cons (take n calls) i d m)
 
--- ---- the first pass: the calls before place i fit and are so many words; what is left is still to be looked at
+-- ---- the first pass: the calls before index i fit and are so many words, and the others are still to be tested
 pub record Measuring (cs : List Call) (words i : ℕ) : Type 0 where
   pub within : i ≤ length cs
   pub few : words ≤ 2 * i
@@ -68,7 +68,7 @@ module _ {cs : List Call} {words i : ℕ} (m : Measuring cs words i) where
       ap₂ found (sym (ap (unfitFrom i) nothing) ∙ m .unfit)
       (omega (arith, m .sum, ap (λ (x : List Call). length (written x)) nothing))
 
--- ---- the second pass: the words of the calls before place i are written, up to place at; what is left fits and has space
+-- ---- the second pass: the words of the calls before index i are written, up to index at; the other calls fit and have space
 pub record Putting (cs : List Call) (list₀ list : List ℕ) (at i : ℕ) : Type 0 where
   pub within : i ≤ length cs
   pub fit : allFit (drop i cs) ≡ true
@@ -137,7 +137,7 @@ module _ {cs : List Call} {list₀ list : List ℕ} {at i : ℕ} (p : Putting cs
             ∙ drop-drop (length (encodedWords c)) at list₀
             ∙ ap (λ (k : ℕ). drop (at + k) list₀) (sym e)
 
-  -- the place is in the list
+  -- the index is in the list
   pub place-within : at ≤ length list₀
   place-within = omega (arith, p .size, p .long, ap length (p .filled), length-append (p .done) (drop at list₀))
 

@@ -1,4 +1,4 @@
--- The writer's two passes (its proofs/Passes) over the calls of rows, where the code goes by words: what each keeps.
+-- The writer's two passes (proofs/Passes) over the calls of rows, where the code counts in words: what each keeps.
 -- Assumes nothing.
 use Prim.Native.Nat.{ℕ, _+_, _*_, _<_, _≤_}
 use mathlib.Core.Path.{_≡_, refl, sym, ap, _∙_}
@@ -23,7 +23,7 @@ use Rattle.writer.proofs.Passes.{Measuring, measuring-start, measured-u
 use Rattle.writer_theory.specs.Rows.{callAt, rowsHandedIn}
 use Rattle.writer.proofs.RowAt.{front-row, whole-row}
 
--- ---- where the row of a number begins: from that place on stand the calls from that number on
+-- ---- where the row of an index begins: from there on are the calls from that index on
 pub record Begins (ws : List ℕ) (from i : ℕ) : Type 0 where
   pub within : from ≤ length ws
   pub five : from ≡ 5 * i
@@ -40,14 +40,14 @@ module _ {ws : List ℕ} {from i : ℕ} (b : Begins ws from i) where
     behind : drop (i + 1) (rowsHandedIn ws) ≡ rowsHandedIn (drop (from + 5) ws)
     behind = sym (drop-drop 1 i (rowsHandedIn ws)) ∙ ap (drop 1) first
 
-    -- the call of the row, and those behind it
+    -- the call of the row, and those after it
     front : drop i (rowsHandedIn ws) ≡ callAt ws from ∷ drop (i + 1) (rowsHandedIn ws)
     front = first ∙ ap (λ (cs : List Call). callAt ws from ∷ cs) (sym behind)
 
     inside : i < length (rowsHandedIn ws)
     inside = omega (arith, length-drop i (rowsHandedIn ws), ap length first)
 
-    -- the next row, behind one that fits
+    -- the next row, after one that fits
     begins-next : fits (callAt ws from) ≡ true → Begins ws (from + 5) (i + 1)
     begins-next h = record { within = whole-row ws from h; five = omega (arith, b .five); left = behind }
 
@@ -82,7 +82,7 @@ module _ {ws : List ℕ} {words from i : ℕ} (m : Measures ws words from i) whe
   pub measures-all : length ws ≤ from → Words words ≡ measured (rowsHandedIn ws)
   measures-all past = measured-all (m .pass) (none-left (m .place) past)
 
--- ---- the second pass: the number of the row is nowhere in the code
+-- ---- the second pass: the code has no index of the row
 pub record Puts (ws list₀ list : List ℕ) (from at : ℕ) : Type 0 where
   pub i : ℕ
   pub place : Begins ws from i
@@ -107,7 +107,7 @@ module _ {ws list₀ list : List ℕ} {from at : ℕ} (p : Puts ws list₀ list 
   pub puts-done : length ws ≤ from → list ≡ written (rowsHandedIn ws) ++ drop (length (written (rowsHandedIn ws))) list₀
   puts-done past = put-done (p .pass) (none-left (p .place) past)
 
--- ---- between the two: a call wants a word at least, so that where the words aren't too many the calls aren't
+-- ---- between the two: a call needs at least one word, so where the words aren't too many the calls aren't
 pub count-left-out : (cs : List Call) (words size : ℕ) → words ≡ length (written cs) → tooLong words words size ≡ tooLong (length cs) words size
 unfolding tooLong
 count-left-out cs words size e = go (decLe words longestList)

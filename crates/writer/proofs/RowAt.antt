@@ -1,4 +1,4 @@
--- The call that begins at a place of some rows, and those behind it (written_lists: specs/Rows). Assumes nothing.
+-- The call that begins at an index of some rows, and those after it (writer_theory: specs/Rows). Assumes nothing.
 use Prim.Native.Nat.{ℕ, suc, _+_, _<_, _≤_}
 use mathlib.Core.Path.{_≡_, refl, sym, ap, ap₂, _∙_}
 use mathlib.Core.Bool.{true, false≢true}

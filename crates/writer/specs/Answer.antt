@@ -1,9 +1,9 @@
--- The answers of the code as document 02's numbers.
+-- The results of the code as document 02's codes and numbers (document 02, (c)).
 use Prim.Native.Nat.{ℕ}
 use Rattle.writer.specs.declared.Written.{Written}
 use Rattle.writer.specs.declared.Written.the-variants.{Done, BadCall, TooLong}
 
--- a writer's answer as document 02's number
+-- the code of a result of the writer
 abbrev pub writtenCode : Written → ℕ
 writtenCode (Done words) = 0
 writtenCode (BadCall i) = 30

@@ -1,4 +1,4 @@
--- The answers of the code, and what the first pass finds.
+-- The results of the code, and what the first pass finds.
 pub mod Answer
 pub mod FirstPass
 pub mod Rows

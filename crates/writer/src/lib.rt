@@ -1,6 +1,6 @@
-// The writer of call lists (document 02, (c)): calls as values go in and words come out, those that the reader takes past 10,
-// 11, 13 and 14. It is lent no table. Two passes: the first finds a call that can't be written and counts the words, and only
-// then are words written.
+// The writer of call lists (document 02, (c)): it takes calls as values and writes words, those that the reader takes past 10,
+// 11, 13 and 14. It is lent no table. It makes two passes: the first finds a call that can't be written and counts the words, and
+// only the second writes words.
 pub mod rows;
 
 use call_encode::fits;
@@ -18,18 +18,18 @@ ghost use Rattle.writer_theory.specs.Write.{tooLong, WritePromise};
 ghost use Rattle.writer.specs.Answer.{writtenCode, writtenNumber};
 ghost use Rattle.writer.specs.FirstPass.{measured};
 
-// What writing came to.
+// The result of writing.
 pub enum Written {
     // 0: so many words are written
     Done(usize),
-    // 30: the call of this number, from 0, is a refused one or has a field that exceeds its bits
+    // 30: the call of this index, from 0, is a refused one or has a field that exceeds its bits
     BadCall(usize),
     // 31: the words would pass 4,096 or the lent space
     TooLong,
 }
 
 impl Written {
-    // Document 02's number for it.
+    // Returns document 02's code of the result.
     pub fn code(self) -> u32
         ensures { λ r. ⌜ r ≡ writtenCode self ⌝ }
     {
@@ -40,7 +40,7 @@ impl Written {
         }
     }
 
-    // The number that goes with it.
+    // Returns the number that goes with the code: the count of words written, the index of the bad call, or 0.
     pub fn number(self) -> usize
         ensures { λ r. ⌜ r ≡ writtenNumber self ⌝ }
     {
@@ -56,11 +56,11 @@ impl Written {
 pub enum Measured {
     // the calls are so many words
     Words(usize),
-    // the call of this number can't be written
+    // the call of this index can't be written
     Unfit(usize),
 }
 
-// The first pass, over the first n calls.
+// Makes the first pass, over the first n calls, and returns what it finds.
 fn measure(calls: [Call; LONGEST_LIST], n: usize) -> Measured
     requires { ⌜ n ≤ 4096 ⌝ }
     ensures { λ r. ⌜ r ≡ measured (take n calls) ⌝ }
@@ -78,7 +78,7 @@ fn measure(calls: [Call; LONGEST_LIST], n: usize) -> Measured
     Measured::Words(words)
 }
 
-// The second pass: the words of the first n calls, which fit and have space.
+// Makes the second pass: stores the words of the first n calls, which fit and have space.
 fn put_all(calls: [Call; LONGEST_LIST], n: usize, list: &mut [u32])
     requires { ⌜ n ≤ 4096 ⌝ }
     requires { ⌜ allFit (take n calls) ≡ true ⌝ }
@@ -95,7 +95,7 @@ fn put_all(calls: [Call; LONGEST_LIST], n: usize, list: &mut [u32])
     }
 }
 
-// How many of count calls the array holds.
+// Returns how many of count calls the array holds.
 fn held(count: usize) -> usize
     ensures { λ r. ⌜ r ≡ min count 4096 ⌝ }
 {
@@ -106,16 +106,16 @@ fn held(count: usize) -> usize
     }
 }
 
-// 31: more calls than a list may have words, or words that pass that or the lent space.
+// Returns whether 31 is due: more calls than a list may have words, or more words than that or than the lent space.
 pub fn too_long(count: usize, words: usize, size: usize) -> bool
     ensures { λ r. ⌜ r ≡ tooLong count words size ⌝ }
 {
     (LONGEST_LIST < count) | (LONGEST_LIST < words) | (size < words)
 }
 
-// The first count calls, written into the front of the list; its words past them are left. A refusal writes no word.
-// A count above 4,096 hands in calls that aren't there: 31, after 30 for a bad one among those that are. The array is 80 KB,
-// and goes by value.
+// Writes the first count calls to the start of the list and returns the result. The list's words past them are left, and a refusal
+// writes no word. A count above 4,096 asks for calls that aren't there: 31, but 30 if one of those that are there is bad. The
+// array is 80 KB, and is passed by value.
 pub fn write(calls: [Call; LONGEST_LIST], count: usize, list: &mut [u32]) -> Written
     ensures { λ r. ⌜ WritePromise (take count calls) count (now (list .entry)) (writtenCode r) (writtenNumber r) (now (list .exit)) ⌝ }
 {

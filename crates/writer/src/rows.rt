@@ -1,5 +1,5 @@
-// Calls as C hands them to the writer: five words a call, here a row (document 02, (c)). The writer's two passes go over the
-// rows as they are lent: a call is taken from its row in each, and none is kept, so that little stack is needed.
+// Calls as C passes them to the writer: five words a call, here a row (document 02, (c)). The writer's two passes go over the rows
+// as they are lent. Each takes a call from its row and keeps none, so that little stack is needed.
 use crate::Measured;
 use crate::Written;
 use crate::too_long;
@@ -27,13 +27,13 @@ ghost use Rattle.writer_theory.specs.Write.{WritePromise};
 ghost use Rattle.writer.specs.FirstPass.{measured};
 ghost use Rattle.writer_theory.specs.Rows.{whereZero, rowCall, callAt, rowsHandedIn};
 
-// What stands for a row that is no call.
+// Represents a row that is no call.
 const NO_CALL: Call = Call::Refused {
     caller: 0,
     refusal: Refusal::UnknownKind,
 };
 
-// The call where its unused columns are zero; 0 is given for a column that its kind uses.
+// Returns the call where its unused columns are zero, else no call. 0 is passed for a column that its kind uses.
 fn where_zero(a: u32, b: u32, c: u32, call: Call) -> Call
     ensures { λ r. ⌜ r ≡ whereZero a b c call ⌝ }
 {
@@ -44,7 +44,7 @@ fn where_zero(a: u32, b: u32, c: u32, call: Call) -> Call
     }
 }
 
-// The call of a row of kind 1, 2 or 3; kind 0 is no call.
+// Returns the call of a row of kind 1, 2 or 3. Kind 0 is no call.
 fn endpoint_row(kind: u32, caller: u32, a: u32, b: u32, c: u32) -> Call
     requires { ⌜ kind < 4 ⌝ }
     ensures { λ r. ⌜ r ≡ rowCall kind caller a b c ⌝ }
@@ -74,7 +74,7 @@ fn endpoint_row(kind: u32, caller: u32, a: u32, b: u32, c: u32) -> Call
     }
 }
 
-// The call of a row of a kind from 4 on; one above the last kind is no call.
+// Returns the call of a row of a kind from 4 on. A kind above the last is no call.
 fn rights_row(kind: u32, caller: u32, a: u32, b: u32, c: u32) -> Call
     requires { ⌜ 4 ≤ kind ⌝ }
     ensures { λ r. ⌜ r ≡ rowCall kind caller a b c ⌝ }
@@ -108,7 +108,7 @@ fn rights_row(kind: u32, caller: u32, a: u32, b: u32, c: u32) -> Call
     }
 }
 
-// The call of a row.
+// Returns the call of a row.
 fn row_call(kind: u32, caller: u32, a: u32, b: u32, c: u32) -> Call
     ensures { λ r. ⌜ r ≡ rowCall kind caller a b c ⌝ }
 {
@@ -119,7 +119,7 @@ fn row_call(kind: u32, caller: u32, a: u32, b: u32, c: u32) -> Call
     }
 }
 
-// The call that begins at a place.
+// Returns the call of the row that begins at an index. Fewer than five words are no call.
 fn call_at(rows: &[u32], at: usize) -> Call
     requires { ⌜ at ≤ length (now rows) ⌝ }
     ensures { λ r. ⌜ r ≡ callAt (now (rows .entry)) at ⌝ }
@@ -136,7 +136,7 @@ fn call_at(rows: &[u32], at: usize) -> Call
     )
 }
 
-// The first pass, over all rows, also past the 4,096th.
+// Makes the first pass, over all rows, also past the 4,096th, and returns what it finds.
 fn measure(rows: &[u32]) -> Measured
     ensures { λ r. ⌜ r ≡ measured (rowsHandedIn (now (rows .entry))) ⌝ }
 {
@@ -155,7 +155,7 @@ fn measure(rows: &[u32]) -> Measured
     Measured::Words(words)
 }
 
-// The second pass: the words of the calls, which fit and have space.
+// Makes the second pass: stores the words of the calls, which fit and have space.
 fn put_all(rows: &[u32], list: &mut [u32])
     requires { ⌜ allFit (rowsHandedIn (now rows)) ≡ true ⌝ }
     requires { ⌜ length (written (rowsHandedIn (now rows))) ≤ length (now list) ⌝ }
@@ -171,9 +171,9 @@ fn put_all(rows: &[u32], list: &mut [u32])
     }
 }
 
-// The calls of the rows, written into the front of the list; its words past them are left. A refusal writes no word. A bad call
-// is looked for among all rows before their words are too many. That there are more than 4,096 rows isn't looked at by itself:
-// each wants a word at least.
+// Writes the calls of the rows to the start of the list and returns the result. The list's words past them are left, and a refusal
+// writes no word. A bad call among all rows comes before too many words. Whether there are more than 4,096 rows isn't tested by
+// itself: each needs at least one word.
 pub fn write_rows(rows: &[u32], list: &mut [u32]) -> Written
     ensures { λ r. ⌜ WritePromise (rowsHandedIn (now (rows .entry))) (length (rowsHandedIn (now (rows .entry)))) (now (list .entry)) (writtenCode r) (writtenNumber r) (now (list .exit)) ⌝ }
 {

@@ -1,4 +1,4 @@
--- The words that fields are written in: how many they are, and that each field is read back as it went in.
+-- The words that fields are written in: how many they are, and that each field is read back as it was written.
 -- Assumes nothing.
 use Prim.Native.Nat.{ℕ, _+_, _*_, _/_, _%_, _<_, _≤_}
 use mathlib.Core.Path.{_≡_, refl}
@@ -23,7 +23,7 @@ pub record Bounds (f : Fields) : Type 0 where
   pub c : f .c < 256
   pub second : f .second < 268435456
 
--- six tests taken apart
+-- each of six tests, where all of them hold
 each : (k u a b c x : Bool) → (k && u && a && b && c && x) ≡ true
     → (k ≡ true) × (u ≡ true) × (a ≡ true) × (b ≡ true) × (c ≡ true) × (x ≡ true)
 each true true true true true x h = (refl, refl, refl, refl, refl, h)

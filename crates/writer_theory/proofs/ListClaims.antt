@@ -1,4 +1,4 @@
--- The claims hold of whoever keeps the promise (specs/Claims). Assumes nothing.
+-- The claims hold of code that keeps the promise (specs/ListClaims). Assumes nothing.
 use Prim.Native.Nat.{ℕ, _+_, _≤_}
 use mathlib.Core.Path.{_≡_, refl, sym, ap, ap₂, _∙_}
 use mathlib.Core.Bool.{Bool, true, false, cond, _&&_}
@@ -34,7 +34,7 @@ none-unfit i (c ∷ cs) h = go (fits c) h (none-unfit (i + 1) cs)
     go true e later = later e
     go false e later = let z : _≡_ {A = ℕ} 0 1 = cc in absurd (omega arith)
 
--- where the code is 0 the words are in front
+-- where the code is 0 the words are at the start
 in-front : (count : ℕ) (ws list : List ℕ) → wordsPut count ws list .code ≡ 0 → take (wordsPut count ws list .number) (wordsPut count ws list .list) ≡ ws
 unfolding wordsPut
 in-front count ws list =
@@ -81,7 +81,7 @@ each-wants-a-word [] = omega arith
 each-wants-a-word (c ∷ cs) =
     omega (arith, one-or-two c .0, each-wants-a-word cs, length-append (encodedWords c) (written cs))
 
--- as many calls as words at most
+-- no more calls than words
 few-calls : (ws : List ℕ) → length (readFrom ws) ≤ length ws
 unfolding readFrom
 few-calls ws = omega (arith, length-map (split ws) decodedCalls, split-few ws)
@@ -101,7 +101,7 @@ written-as-it-came ws list h short room =
 
 -- ---- rows
 
--- as many words as a list may have are told as they are
+-- a count of words that a list may have is returned as it is
 pub rows-read-back : RowsReadBack
 rows-read-back rows list code number end p zero =
     let few = words-few (rowsHandedIn rows) (length (rowsHandedIn rows)) list (sym (p .sameCode) ∙ zero) in

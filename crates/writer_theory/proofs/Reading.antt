@@ -24,13 +24,13 @@ use Rattle.writer_theory.proofs.FieldWords.{Holds, bounds, held, second
 abbrev pub secondOf : Fields → Second
 secondOf f = cond (wantsSecond (f .kind)) (Word (word 15 (f .second))) Nothing
 
--- what is taken decoded is a first word and what comes second
+-- the machine's call of a first word and, if there is one, a second is decoded from these words
 pub taken-of : (w : ℕ) (s : Second) → decodedCalls (callOf w s) ≡ decoded w s
 unfolding decodedCalls
 taken-of w Nothing = refl
 taken-of w (Word v) = refl
 
--- a first word that holds the fields of a call that fits is taken decoded into the call
+-- a first word that holds the fields of a call that fits is decoded into the call
 apart-back : (c : Call) (w : ℕ) → fits c ≡ true → Holds w (fieldsOf c) → decoded w (secondOf (fieldsOf c)) ≡ c
 unfolding fits withinBits fieldsOf decoded ofKind whole needsSecond kindOf unusedFields allZero wantsSecond hasSecond secondPayload
 apart-back (LookUp u x) w h r =
@@ -45,7 +45,7 @@ apart-back (Remove u g s) w h r = simp (r .kind, r .caller, r .a, r .b, r .c)
 apart-back (Revoke u g k s) w h r = simp (r .kind, r .caller, r .a, r .b, r .c)
 apart-back (Refused u s) w h r = absurd (false≢true h)
 
--- a word makes one call with a second one that is behind it, where its kind wants one; where not, with none
+-- a word makes one call with a second word after it, where its kind wants one, and otherwise with none
 both : (w v : ℕ) → wantsSecond (kind w) ≡ true → kind v ≡ 15 → pairs w v ≡ true
 unfolding pairs
 both w v a b = rw (a, b)
@@ -54,7 +54,7 @@ alone : (w v : ℕ) → wantsSecond (kind w) ≡ false → pairs w v ≡ false
 unfolding pairs
 alone w v a = rw a
 
--- the words of a call, cut off the front of a list
+-- the words of a call, split off the front of a list
 split-front : (f : Fields) → withinBits f ≡ true → (rest : List ℕ) → split (fieldWords f ++ rest) ≡ callOf (firstWord f) (secondOf f) ∷ split rest
 unfolding fieldWords
 split-front f h rest = go (wantsSecond (f .kind)) (ap wantsSecond (held f h .kind)) rest
@@ -88,7 +88,7 @@ reads-back (c ∷ cs) h =
 pub different-words : DifferentWords
 different-words cs ds c d e = sym (reads-back cs c) ∙ ap readFrom e ∙ reads-back ds d
 
--- a call that can be written is no refused one
+-- a call that can be written isn't a refused one
 fits-past : (c : Call) → fits c ≡ true → past c ≡ true
 unfolding fits withinBits fieldsOf past
 fits-past (LookUp u x) h = refl

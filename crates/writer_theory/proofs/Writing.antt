@@ -27,7 +27,7 @@ use Rattle.writer_theory.specs.Words.{fieldsAt, fieldsOf, withinBits, fi
 use Rattle.writer_theory.specs.Claims.{readFrom, past, allPast, ofTheFour, WritesBack}
 use Rattle.writer_theory.proofs.Reading.{taken-of}
 
--- the fields that a first word and what comes second hold
+-- the fields that a first word and, if there is one, a second hold
 abbrev fieldsIn : ℕ → Second → Fields
 fieldsIn w s = fieldsAt (kind w) (caller w) (fieldA w) (fieldB w) (fieldC w) (secondPayload (callOf w s))
 
@@ -36,7 +36,7 @@ abbrev wordsIn : ℕ → Second → List ℕ
 wordsIn w Nothing = w ∷ []
 wordsIn w (Word v) = w ∷ v ∷ []
 
--- what comes second, if anything, is what the cutting puts there
+-- the second word, if there is one, makes one call with the first, as in a split list
 abbrev FromSplit : ℕ → Second → Type 0
 FromSplit w Nothing = Unit {0}
 FromSplit w (Word v) = pairs w v ≡ true
@@ -59,7 +59,7 @@ within w s some =
       lt-ltb (secondPayload (callOf w s)) 268435456 (second-below w s),
     )
 
--- a word is made of its fields again
+-- a word is its fields put together again
 again : (w : ℕ) → word (kind w) (caller w * 4194304 + fieldA w * 65536 + fieldB w * 256 + fieldC w) ≡ w
 again w =
     digits (caller w) (fieldA w) (fieldB w) (fieldC w)
@@ -101,13 +101,13 @@ three-zero x y z h =
     let rest = two-zero y z (and-right (eqb x 0) (allZero (y ∷ z ∷ [])) h) in
     (eqb-true x 0 (and-left (eqb x 0) (allZero (y ∷ z ∷ [])) h), rest .0, rest .1)
 
--- no second word holds nothing
+-- without a second word, what it holds is 0
 no-payload : (w : ℕ) (s : Second) → hasSecond (callOf w s) ≡ false → secondPayload (callOf w s) ≡ 0
 unfolding hasSecond secondPayload
 no-payload w Nothing h = refl
 no-payload w (Word v) h = absurd (true≢false h)
 
--- the cutting puts a second word only where it is wanted
+-- a split list has a second word only where it is wanted
 split-wants : (w : ℕ) (s : Second) → FromSplit w s → hasSecond (callOf w s) ≡ true → wantsSecond (kind w) ≡ true
 unfolding hasSecond pairs
 split-wants w Nothing from h = absurd (false≢true h)

@@ -13,16 +13,16 @@ use Rattle.calls.specs.declared.Call.{Call}
 use Rattle.calls.specs.declared.Call.the-variants.{LookUp, Send, Receive, MyEndpoints, MyRights, Grant, Remove, Revoke, Refused}
 use Rattle.writer_theory.specs.Words.{allFit, written}
 
--- a call of one or two words taken decoded
+-- a call of one or two words, decoded
 unfoldable pub decodedCalls : machine.Call → Call
 decodedCalls (machine.one w) = decoded w Nothing
 decodedCalls (machine.two w v) = decoded w (Word v)
 
--- what the reader makes of a list of words: the list is cut, and each call taken decoded
+-- what the reader makes of a list of words: the list is split, and each call is decoded
 unfoldable pub readFrom : List ℕ → List Call
 readFrom ws = map decodedCalls (machine.split ws)
 
--- a number of the four places that need no table
+-- a code of the four places that need no table
 unfoldable pub ofTheFour : ℕ → Bool
 ofTheFour n = eqb n 10 || eqb n 11 || eqb n 13 || eqb n 14
 
@@ -38,12 +38,12 @@ past (Grant u g h r) = true
 past (Remove u g r) = true
 past (Revoke u g h r) = true
 
--- none of some calls is
+-- none of a list of calls is
 unfoldable pub allPast : List Call → Bool
 allPast [] = true
 allPast (c ∷ cs) = past c && allPast cs
 
--- Calls that can be written are read back: taking their words decoded gives the calls.
+-- Calls that can be written are read back: decoding their words gives the calls.
 abbrev pub ReadsBack : Type 0
 ReadsBack = (cs : List Call) → allFit cs ≡ true → readFrom (written cs) ≡ cs
 
@@ -55,6 +55,6 @@ DifferentWords = (cs ds : List Call) → allFit cs ≡ true → allFit ds ≡ tr
 abbrev pub WritesBack : Type 0
 WritesBack = (ws : List ℕ) → allPast (readFrom ws) ≡ true → (allFit (readFrom ws) ≡ true) × (written (readFrom ws) ≡ ws)
 
--- The reader takes what is written past the four.
+-- What is written, the reader takes past the four.
 abbrev pub TakenByReader : Type 0
 TakenByReader = (cs : List Call) → allFit cs ≡ true → allPast (readFrom (written cs)) ≡ true

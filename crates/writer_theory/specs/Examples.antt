@@ -1,5 +1,5 @@
--- Rows that pin the writing: calls, how many are handed in, the lent words, and everything that comes of them. Worked out by
--- hand from document 01, 'The calls', and document 02, (c).
+-- Rows that pin down the results of writing: calls, how many are passed, the lent words, and the whole result. Worked out by hand
+-- from document 01, 'The calls', and document 02, (c).
 use Prim.Native.Nat.{ℕ}
 use mathlib.Core.Path.{_≡_}
 use mathlib.Core.List.{List, [], _∷_, _++_, map}
@@ -9,7 +9,7 @@ use Rattle.calls.specs.declared.Call.the-variants.{LookUp, Send, Receive, MyEnd
 use Rattle.calls.specs.declared.Refusal.the-variants.{Stray, NoSecondWord}
 use Rattle.writer_theory.specs.Write.{WriteOutcome, refusal, writing}
 
--- a row: what the writing of so many calls into these words comes to
+-- a row: the result of writing so many calls into these words
 pub record Row : Type 0 where
   pub calls : List Call
   pub count : ℕ
@@ -38,7 +38,7 @@ eachKindWords =
     ∷ 0x8042_0008
     ∷ []
 
--- name 0, C 0, and every field at its largest: no table is asked
+-- name 0, C 0, and every field at its largest: no table is read
 abbrev pub noTable : List Call
 noTable =
     LookUp 63 0 ∷ Send 63 255 268435455 ∷ Receive 63 255 ∷ MyEndpoints 63 ∷ MyRights 63 ∷ Grant 63 63 255 255
@@ -82,11 +82,11 @@ rows =
     ∷ record { calls = noTable; count = 9; list = replicate 11 7; leaves = record { code = 0; number = 11; list = noTableWords } }
     -- no call
     ∷ record { calls = []; count = 0; list = 7 ∷ []; leaves = record { code = 0; number = 0; list = 7 ∷ [] } }
-    -- 31: a space too short by one
+    -- 31: a space that is too short by one word
     ∷ record { calls = eachKind; count = 8; list = replicate 9 7; leaves = refusal 31 0 (replicate 9 7) }
     -- 30 before 31: a bad call and no space at all
     ∷ record { calls = Send 0 1 5 ∷ MyRights 64 ∷ []; count = 2; list = []; leaves = refusal 30 1 [] }
-    -- a count above 4,096: 31, after 30 for a bad call among those that are there
+    -- a count above 4,096: 31, but 30 if one of the calls that are there is bad
     ∷ record { calls = MyRights 0 ∷ []; count = 4097; list = 7 ∷ []; leaves = refusal 31 0 (7 ∷ []) }
     ∷ record { calls = MyRights 64 ∷ []; count = 4097; list = 7 ∷ []; leaves = refusal 30 0 (7 ∷ []) }
     -- exactly 4,096 words, of one word a call and of two; and one word more

@@ -1,4 +1,4 @@
--- The words of a call, and what is claimed of them.
+-- The words of a call, and what is claimed of them (document 02, (c)).
 pub mod Words
 pub mod Claims
 pub mod Write

@@ -1,4 +1,5 @@
--- What the claims about the words of calls (crate written_calls) come to for whoever keeps the promise of writing, or of rows.
+-- What the claims about the words of calls (specs/Claims) mean for code that keeps the promise of writing, or of rows
+-- (document 02, (c)).
 use Prim.Native.Nat.{ℕ, _≤_}
 use mathlib.Core.Path.{_≡_}
 use mathlib.Core.Bool.{true}
@@ -11,7 +12,7 @@ use Rattle.writer_theory.specs.Claims.{readFrom, allPast}
 use Rattle.writer_theory.specs.Write.{writing, WritePromise}
 use Rattle.writer_theory.specs.Rows.{rowsHandedIn, RowsPromise}
 
--- Where the answer is 0, taking apart as many words as it says gives the calls that were handed in.
+-- Where the code is 0, decoding as many words as the answer says gives the calls that were passed.
 abbrev pub WrittenReadsBack : Type 0
 WrittenReadsBack =
     (cs : List Call) (count : ℕ) (list : List ℕ) (code number : ℕ) (end : List ℕ)
@@ -19,7 +20,8 @@ WrittenReadsBack =
     → code ≡ 0
     → readFrom (take number end) ≡ cs
 
--- A list that is read as calls past the four is written out as it came, where it has the space and is no longer than a list may be.
+-- A list that is read as calls past the four is written as it came, where there is space for it and it isn't longer than a list
+-- may be.
 abbrev pub WrittenAsItCame : Type 0
 WrittenAsItCame =
     (ws list : List ℕ)
@@ -28,11 +30,11 @@ WrittenAsItCame =
     → length ws ≤ length list
     → writing (readFrom ws) (length (readFrom ws)) list ≡ record { code = 0; number = length ws; list = ws ++ drop (length ws) list }
 
--- A call wants a word at least: so where all calls are there, more than 4,096 of them are more than 4,096 words.
+-- A call needs at least one word: so where all calls are there, more than 4,096 of them are more than 4,096 words.
 abbrev pub EachWantsAWord : Type 0
 EachWantsAWord = (cs : List Call) → length cs ≤ length (written cs)
 
--- Of rows: where the answer is 0, taking apart as many words as it says gives the calls of the rows.
+-- Of rows: where the code is 0, decoding as many words as the answer says gives the calls of the rows.
 abbrev pub RowsReadBack : Type 0
 RowsReadBack =
     (rows list : List ℕ) (code number : ℕ) (end : List ℕ)

@@ -1,4 +1,4 @@
--- Rows of five words and the calls that they are, and what comes of writing them. Worked out by hand from document 02, (c).
+-- Rows of five words and the calls that they are, and the results of writing them. Worked out by hand from document 02, (c).
 use Prim.Native.Nat.{ℕ, zero, suc}
 use mathlib.Core.Path.{_≡_}
 use mathlib.Core.List.{List, [], _∷_, _++_}
@@ -7,7 +7,7 @@ use Rattle.calls.specs.declared.Call.the-variants.{LookUp, Send, Receive, MyEnd
 use Rattle.writer_theory.specs.Write.{WriteOutcome, refusal}
 use Rattle.writer_theory.specs.Rows.{noCall, rowsHandedIn, writingRows}
 
--- one call of each kind, with a field of every column that it uses; a number is handed in as it is, whether it fits or not
+-- one call of each kind, with a value in every column that it uses; a value is passed as it is, whether it fits or not
 abbrev pub EachKindHandedIn : Type 0
 EachKindHandedIn =
     rowsHandedIn
@@ -22,7 +22,7 @@ EachKindHandedIn =
     ∷ [])
     ≡ LookUp 9 268435456 ∷ Send 9 8 7 ∷ Receive 9 256 ∷ MyEndpoints 64 ∷ MyRights 9 ∷ Grant 9 6 8 7 ∷ Remove 9 6 7 ∷ Revoke 9 6 8 7 ∷ []
 
--- no calls: kinds that aren't one; each column that a kind doesn't use; and four words left over
+-- rows that are no calls: kinds that no call has, each column that a kind doesn't use, and four words left over
 abbrev pub noCalls : List ℕ
 noCalls =
     0 ∷ 0 ∷ 0 ∷ 0 ∷ 0
@@ -49,7 +49,7 @@ noCalls =
 abbrev pub NoCallsHandedIn : Type 0
 NoCallsHandedIn = rowsHandedIn noCalls ≡ replicate 19 noCall
 
--- rows, lent words, and everything that comes of them
+-- rows, lent words, and the whole result
 pub record Row : Type 0 where
   pub rows : List ℕ
   pub list : List ℕ
@@ -67,7 +67,7 @@ myRights (suc n) = 5 ∷ 0 ∷ 0 ∷ 0 ∷ 0 ∷ myRights n
 abbrev pub writtenRows : List Row
 writtenRows =
     record { rows = 2 ∷ 1 ∷ 0 ∷ 3 ∷ 5 ∷ 3 ∷ 2 ∷ 0 ∷ 1 ∷ 0 ∷ []; list = 7 ∷ 7 ∷ 7 ∷ 7 ∷ []; leaves = record { code = 0; number = 3; list = 0x2040_0300 ∷ 0xF000_0005 ∷ 0x3080_0100 ∷ 7 ∷ [] } }
-    -- one word over is a third call that is none
+    -- one word left over is a third call that can't be written
     ∷ record { rows = 2 ∷ 1 ∷ 0 ∷ 3 ∷ 5 ∷ 3 ∷ 2 ∷ 0 ∷ 1 ∷ 0 ∷ 5 ∷ []; list = 7 ∷ 7 ∷ 7 ∷ 7 ∷ []; leaves = refusal 30 2 (7 ∷ 7 ∷ 7 ∷ 7 ∷ []) }
     -- 4,097 calls: 31, and 30 where the last of them is bad
     ∷ record { rows = myRights 4097; list = 7 ∷ []; leaves = refusal 31 0 (7 ∷ []) }

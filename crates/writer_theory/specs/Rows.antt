@@ -1,5 +1,5 @@
--- Calls as plain words, as C hands them over: five words a call, here a row. They are its kind, its caller, A, B, and C or, for
--- a look up and a send, what the second word holds (document 02, (c)).
+-- Calls as plain words, as C passes them: five words a call, here a row. They are its kind, its caller, A, B, and C or, for a
+-- look up and a send, what the second word holds (document 02, (c)).
 use mathlib.Core.Path.{_≡_}
 use Prim.Native.Nat.{ℕ, _+_, min}
 use mathlib.Core.Bool.{cond, _&&_}
@@ -13,11 +13,11 @@ use Rattle.calls.specs.declared.Call.the-variants.{LookUp, Send, Receive, MyEnd
 use Rattle.calls.specs.declared.Refusal.the-variants.{UnknownKind}
 use Rattle.writer_theory.specs.Write.{WriteOutcome, writing}
 
--- what stands for a row that is no call: a refused one
+-- what represents a row that is no call: a refused one
 abbrev pub noCall : Call
 noCall = Refused 0 UnknownKind
 
--- a call whose unused columns are zero; 0 is given for a column that its kind uses
+-- the call where its unused columns are zero, else no call; 0 is passed for a column that its kind uses
 unfoldable pub whereZero : ℕ → ℕ → ℕ → Call → Call
 whereZero a b c call = cond (eqb a 0 && eqb b 0 && eqb c 0) call noCall
 
@@ -38,7 +38,7 @@ ofColumns unknown u a b c = noCall
 unfoldable pub rowCall : ℕ → ℕ → ℕ → ℕ → ℕ → Call
 rowCall k u a b c = ofColumns (machine.kindOf k) u a b c
 
--- the call of the row that begins at a place of some words
+-- the call of the row that begins at an index of some words
 unfoldable pub callAt : List ℕ → ℕ → Call
 callAt ws at =
     cond (ltb (length ws) (at + 5)) noCall
@@ -53,11 +53,11 @@ rowsHandedIn (k ∷ (u ∷ (a ∷ []))) = noCall ∷ []
 rowsHandedIn (k ∷ (u ∷ (a ∷ (b ∷ [])))) = noCall ∷ []
 rowsHandedIn (k ∷ (u ∷ (a ∷ (b ∷ (c ∷ ws))))) = rowCall k u a b c ∷ rowsHandedIn ws
 
--- the writing of the calls that are handed in: all of them are there
+-- the writing of the calls of the rows: all of them are there
 abbrev pub writingRows : List ℕ → List ℕ → WriteOutcome
 writingRows rows list = writing (rowsHandedIn rows) (length (rowsHandedIn rows)) list
 
--- What is promised of whoever writes the calls of rows into the words list and answers in 16 bits each: a number that doesn't
+-- What is promised of code that writes the calls of rows into the words list and answers in 16 bits each: a number that doesn't
 -- fit there is answered as 65,535, the largest that does.
 pub record RowsPromise (rows list : List ℕ) (code number : ℕ) (end : List ℕ) : Type 0 where
   pub sameCode : code ≡ writingRows rows list .code

@@ -1,5 +1,5 @@
 -- The words that a call is written in (document 01, 'The calls'; document 02, (c)). A call is a value of the type that crate
--- calls takes words apart into.
+-- calls decodes words into.
 use Prim.Native.Nat.{ℕ, _+_, _*_}
 use mathlib.Core.Bool.{Bool, true, cond, not, _&&_}
 use mathlib.Core.List.{List, [], _∷_, _++_}
@@ -14,7 +14,7 @@ use Rattle.writer_theory.specs.declared.Fields.{Fields}
 abbrev pub fieldsAt : ℕ → ℕ → ℕ → ℕ → ℕ → ℕ → Fields
 fieldsAt k u a b c x = record { kind = k; caller = u; a = a; b = b; c = c; second = x }
 
--- where a call has its fields: what its kind doesn't use is zero; a refused call is of no kind, and 0 begins no call
+-- the fields of a call: those that its kind doesn't use are zero; a refused call is of no kind, and 0 begins no call
 unfoldable pub fieldsOf : Call → Fields
 fieldsOf (LookUp u x) = fieldsAt 1 u 0 0 0 x
 fieldsOf (Send u e m) = fieldsAt 2 u 0 e 0 m
@@ -26,7 +26,7 @@ fieldsOf (Remove u g r) = fieldsAt 7 u g 0 r 0
 fieldsOf (Revoke u g h r) = fieldsAt 8 u g h r 0
 fieldsOf (Refused u r) = fieldsAt 0 u 0 0 0 0
 
--- the call is no refused one, and every field is within its bits
+-- the call isn't a refused one, and every field is within its bits
 unfoldable pub withinBits : Fields → Bool
 withinBits f =
     not (eqb (f .kind) 0) && ltb (f .caller) 64 && ltb (f .a) 64 && ltb (f .b) 256 && ltb (f .c) 256
@@ -48,7 +48,7 @@ fits c = withinBits (fieldsOf c)
 unfoldable pub encodedWords : Call → List ℕ
 encodedWords c = fieldWords (fieldsOf c)
 
--- every one of some calls can be written
+-- every call of a list can be written
 unfoldable pub allFit : List Call → Bool
 allFit [] = true
 allFit (c ∷ cs) = fits c && allFit cs

@@ -1,4 +1,4 @@
--- The writing of a list of calls: from any calls and any lent words to the code, the number that goes with it, and every word
+-- The writing of a list of calls: from arbitrary calls and lent words to the code, the number that goes with it, and every word
 -- at the end (document 02, (c)).
 use Prim.Native.Nat.{ℕ, _+_}
 use mathlib.Core.Path.{_≡_}
@@ -11,16 +11,16 @@ use Rattle.machine.specs.Entry.{longestList}
 use Rattle.calls.specs.declared.Call.{Call}
 use Rattle.writer_theory.specs.Words.{fits, written}
 
--- the number of the first call that can't be written, where the first of them is number i
+-- the index of the first call that can't be written, where the first call of the list has the index i
 unfoldable pub unfitFrom : ℕ → List Call → Option ℕ
 unfitFrom i [] = none
 unfitFrom i (c ∷ cs) = cond (fits c) (unfitFrom (i + 1) cs) (some i)
 
--- the number from 0 of the first call that can't be written
+-- the index from 0 of the first call that can't be written
 unfoldable pub firstUnfit : List Call → Option ℕ
 firstUnfit cs = unfitFrom 0 cs
 
--- 31: more calls than a list may have words, or words that pass that or the lent space
+-- 31: more calls than a list may have words, or more words than that or than the lent space
 unfoldable pub tooLong : ℕ → ℕ → ℕ → Bool
 tooLong count words size = ltb longestList count || ltb longestList words || ltb size words
 
@@ -34,24 +34,24 @@ pub record WriteOutcome : Type 0 where
 abbrev pub refusal : ℕ → ℕ → List ℕ → WriteOutcome
 refusal n i list = record { code = n; number = i; list = list }
 
--- the words ws of so many calls: in front of the lent words, those past them left, or refused by 31
+-- the words ws of so many calls: at the start of the lent words, those past them left, or refused by 31
 unfoldable pub wordsPut : ℕ → List ℕ → List ℕ → WriteOutcome
 wordsPut count ws list =
     cond (tooLong count (length ws) (length list)) (refusal 31 0 list)
     (record { code = 0; number = length ws; list = ws ++ drop (length ws) list })
 
--- 30 with the number of the first call that can't be written, before 31 is looked at
+-- 30 with the index of the first call that can't be written, before 31 is checked
 abbrev pub afterUnfit : Option ℕ → ℕ → List ℕ → List ℕ → WriteOutcome
 afterUnfit none count ws list = wordsPut count ws list
 afterUnfit (some i) count ws list = refusal 30 i list
 
 -- The writing of count calls into lent words. The calls cs are those of them that are there: an array may hold fewer than are
--- counted, and for the others 31 is due, since each call wants a word at least.
+-- counted. For the others 31 is due, since each call needs at least one word.
 unfoldable pub writing : List Call → ℕ → List ℕ → WriteOutcome
 writing cs count list = afterUnfit (firstUnfit cs) count (written cs) list
 
--- What is promised of whoever writes count calls, of which cs are there, into the words list: it answered a code and a number
--- and left the words as end.
+-- What is promised of code that writes count calls, of which cs are there, into the words list: it answers a code and a number
+-- and leaves the words as end.
 pub record WritePromise (cs : List Call) (count : ℕ) (list : List ℕ) (code number : ℕ) (end : List ℕ) : Type 0 where
   pub sameCode : code ≡ writing cs count list .code
   pub sameNumber : number ≡ writing cs count list .number

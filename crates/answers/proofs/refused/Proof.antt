@@ -1,4 +1,4 @@
--- `refused` meets its contract: no number is above 23. Assumes nothing.
+-- `refused` meets its contract: no code is above 23. Assumes nothing.
 use mathlib.Core.Path.{ap}
 use mathlib.Core.List.{[], _∷_}
 use Prim.Native.Nat.{ℕ, _+_}

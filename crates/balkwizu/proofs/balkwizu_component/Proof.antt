@@ -1,5 +1,5 @@
 -- `balkwizu::balkwizu_component` meets its contract: the code is small and the members are bits below sixteen, so one word holds
--- both, and what `components::component_of` tells of them holds of the word's two halves. Assumes nothing.
+-- both, and what `components::component_of` reports of them holds of the word's two halves. Assumes nothing.
 use Prim.Native.Nat.{ℕ, _<_}
 use mathlib.Core.Path.{sym, subst₂, _∙_}
 use native.Mathlib.Omega.{arith}

@@ -1,5 +1,5 @@
--- `balkwizu::balkwizu_repair` meets its contract: the code and the number of words altered are small, so one word holds both, and what
--- `repair::repair` promises of them it promises of the word's two halves. Assumes nothing.
+-- `balkwizu::balkwizu_repair` meets its contract: the code and the count of words altered are small, so one word holds both, and
+-- what `repair::repair` promises of them it promises of the word's two halves. Assumes nothing.
 use Prim.Native.Nat.{ℕ, _≤_}
 use mathlib.Core.Path.{sym, subst₂, _∙_}
 use native.Mathlib.Omega.{arith}

@@ -1,6 +1,5 @@
--- `balkwizu::balkwizu_run` meets its contract: a run's code and its number of calls are small, so one word holds both, and
--- what `kernel::run` promises of them it promises of the word's two halves.
--- Assumes nothing.
+-- `balkwizu::balkwizu_run` meets its contract: a run's code and its count of calls are small, so one word holds both, and what
+-- `kernel::run` promises of them it promises of the word's two halves. Assumes nothing.
 use native.Mathlib.Omega.{arith}
 use Rattle.balkwizu.proofs.Halves.{Fits, run-fits, run-halves}
 use Rattle.balkwizu.proofs.balkwizu_run.Statement.{statement}

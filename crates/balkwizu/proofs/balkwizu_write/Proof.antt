@@ -1,5 +1,5 @@
 -- `balkwizu::balkwizu_write` meets its contract: the code is small and the number has 16 bits, so one word holds both, and what
--- `call_rows::write_rows` promises of them holds of the word's two halves. Assumes nothing.
+-- `writer::rows::write_rows` promises of them holds of the word's two halves. Assumes nothing.
 use Prim.Native.Nat.{ℕ, min, _<_, _≤_}
 use mathlib.Core.Path.{sym, ap, _∙_}
 use native.Mathlib.Nat.{min-le-right}

@@ -1,5 +1,5 @@
--- `balkwizu_turns::balkwizu_turn` meets its contract: a turn's code is small and it serves one call at most, so one word holds both,
--- and what `turns::turn` promises of them it promises of the word's two halves. Assumes nothing.
+-- `balkwizu_turns::balkwizu_turn` meets its contract: a turn's code is small and it serves one call at most, so one word holds
+-- both, and what `turns::turn` promises of them it promises of the word's two halves. Assumes nothing.
 use Prim.Native.Nat.{ℕ, _+_, _*_, _/_, _%_, _<_, _≤_}
 use mathlib.Core.Path.{_≡_, sym, subst₂, _∙_}
 use native.Mathlib.Omega.{arith}

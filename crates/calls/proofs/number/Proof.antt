@@ -1,4 +1,4 @@
--- `calls::number` meets its contract: each arm is one case of `numberOf`.
+-- `number` meets its contract: each arm is one case of `numberOf`.
 -- Assumes nothing.
 use mathlib.Core.Path.{sym, ap}
 use Rattle.calls.specs.Number.{numberOf}

@@ -1,4 +1,4 @@
--- `component_of` meets its contract: a table is refused, or the number is no domain's, or its component is told.
+-- `component_of` meets its contract: a table is refused, or the index is no domain's, or its component is reported.
 -- Assumes nothing.
 use mathlib.Core.Path.{sym, ap, _∙_}
 use native.Mathlib.Omega.{arith}

@@ -1,4 +1,4 @@
--- `fill` meets its contract: the words are worked out where they can be. Assumes nothing.
+-- `fill` meets its contract: the holders are computed where they can be. Assumes nothing.
 use mathlib.Core.Path.{sym, _∙_}
 use borrow.Author.Needs.{needs}
 use Rattle.holders_theory.proofs.Filled.{filled-done, filled-stays}

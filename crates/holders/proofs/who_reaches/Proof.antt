@@ -1,4 +1,4 @@
--- `who_reaches` meets its contract: the question is refused, or the closure of the domain alone is told. Assumes nothing.
+-- `who_reaches` meets its contract: the question is refused, or the closure of the domain alone is reported. Assumes nothing.
 use mathlib.Core.Path.{sym, ap, _∙_}
 use native.Mathlib.Omega.{arith}
 use borrow.Author.Tests.{not-true, not-false}

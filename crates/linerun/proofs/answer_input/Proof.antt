@@ -1,4 +1,4 @@
--- `linerun::answer_input` meets its contract: all lines of what is told are the report. Assumes nothing.
+-- `linerun::answer_input` meets its contract: all lines of what it returns are the report. Assumes nothing.
 use mathlib.Core.Path.{sym, ap, _∙_}
 use native.Mathlib.Nat.{sub-zero}
 use native.Mathlib.Omega.{arith}

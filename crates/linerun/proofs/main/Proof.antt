@@ -1,5 +1,5 @@
--- `linerun::main` hands on what it was given: the bytes as the reading left them, words for the answers that are as the definition
--- has them, and line after line, each once, with room for the longest. Assumes nothing.
+-- `linerun::main` passes each function what it needs: the bytes as the reading left them, words for the answers that are as the
+-- definition has them, and line after line, each once, with room for the longest. Assumes nothing.
 use Prim.Native.Nat.{_-_, _≤_}
 use mathlib.Core.Path.{_≡_, refl}
 use borrow.Author.Needs.{needs}

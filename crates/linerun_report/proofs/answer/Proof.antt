@@ -1,4 +1,4 @@
--- `linerun_report::answer` meets its contract: the two ways that the definition goes. Assumes nothing.
+-- `linerun_report::answer` meets its contract: the two cases of the definition. Assumes nothing.
 use Prim.Native.Nat.{ℕ, min}
 use mathlib.Core.Path.{refl, sym, ap, _∙_}
 use mathlib.Core.List.{List, append-nil}

@@ -1,4 +1,4 @@
--- `report` meets its contract: the two ways that the definition goes. Assumes nothing.
+-- `report` meets its contract: the two cases of the definition. Assumes nothing.
 use mathlib.Core.Path.{sym, _∙_}
 use native.Mathlib.Nat.{sub-zero}
 use native.Mathlib.Omega.{arith}

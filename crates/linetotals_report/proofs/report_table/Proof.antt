@@ -3,14 +3,14 @@ use native.Mathlib.Omega.{arith}
 use Rattle.text.proofs.WriteLaws.{then}
 use Rattle.linetotals_text.proofs.LineLaws.{length-lastLine}
 use Rattle.linetotals_run.specs.Ran.{listsAfter}
-use Rattle.linetotals_report.proofs.ReportLaws.{Told, told, counted, few-endpoints, sheet-is}
+use Rattle.linetotals_report.proofs.ReportLaws.{CountedLines, told, counted, few-endpoints, sheet-is}
 use borrow.Author.Needs.{needs}
 use Rattle.linetotals_report.proofs.report_table.Statement.{statement}
 use Rattle.linetotals_report.proofs.report_table.Tie as tie
 
 -- what was counted, and what waited
 told-of : (c : tie.After-waiting-counts2) → let ran = c .before .before .before .before in
-    Told (ran .before .before .before .before .before .before .args .table .now) (listsAfter (ran .before .before .before .before .before .before .args .table .now) (ran .run-lists .ensures .bytes) .lists)
+    CountedLines (ran .before .before .before .before .before .before .args .table .now) (listsAfter (ran .before .before .before .before .before .before .args .table .now) (ran .run-lists .ensures .bytes) .lists)
     (ran .run-lists .result .tally) (ran .before .before .waiting-counts .result) (c .waiting-counts2 .result)
 told-of c =
     let ran = c .before .before .before .before in

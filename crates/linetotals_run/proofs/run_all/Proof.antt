@@ -26,7 +26,7 @@ abbrev μ-loop : tie.MeasureT-loop
 μ-loop table₀ holders₀ input₀ list₀ answers₀ tally₀ count₀ words₀ got₀ table holders input list answers tally count words got =
     65536 - count
 
--- what stands before the next list, and that a list of so many words follows
+-- by the bytes before the next list, a list of so many words follows
 follows : (c : tie.After-next2 Inv-loop μ-loop) → let at-loop = c .before .before .before .before .before .loop in
     Words (c .next2 .given .0 .0) ≡ nextOf (65536 - at-loop .count) (take (at-loop .got - 4 * at-loop .words) (drop (4 * at-loop .words) (at-loop .input)))
 follows c = sym (c .next2 .given .1) ∙ c .before .before .next-list .ensures

@@ -1,4 +1,4 @@
--- `run_lists` meets its contract: a refused table is told by its code, an accepted one is run from. Assumes nothing.
+-- `run_lists` meets its contract: a refused table gives its code, and lists run from an accepted one. Assumes nothing.
 use mathlib.Core.Path.{sym, _∙_}
 use native.Mathlib.Omega.{arith}
 use Rattle.machine.specs.Check.{Accepted}

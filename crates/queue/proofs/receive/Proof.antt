@@ -1,4 +1,4 @@
--- `receive` meets its contract: words that pass the test are what `take_oldest` asks for. Assumes nothing.
+-- `receive` meets its contract: words that pass the test meet the precondition of `take_oldest`. Assumes nothing.
 use borrow.Author.Tests.{not-true, not-false}
 use mathlib.Core.Bool.{true, false}
 use mathlib.Core.Path.{_≡_, refl, sym, _∙_}

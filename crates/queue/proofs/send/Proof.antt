@@ -1,4 +1,4 @@
--- `send` meets its contract: behind the test, the waiting count and the capacity are the machine's `hasSpace`.
+-- `send` meets its contract: once the test is passed, the waiting count and the capacity are the machine's `hasSpace`.
 -- Assumes nothing.
 use borrow.Author.Tests.{not-true, not-false}
 use mathlib.Core.Bool.{true, false}

@@ -1,4 +1,4 @@
--- `send_to_full` meets its contract: once the oldest message is out there is room for the newcomer. Assumes nothing.
+-- `send_to_full` meets its contract: once the oldest message is out there is space for the new one. Assumes nothing.
 use native.Mathlib.Omega.{arith}
 use mathlib.Core.Path.{subst, sym, _∙_}
 use mathlib.Core.List.{List}

@@ -1,4 +1,4 @@
--- `reach::bit` meets its contract. Assumes nothing.
+-- `reachability::bit` meets its contract. Assumes nothing.
 use native.Mathlib.Omega.{arith}
 use borrow.Author.Needs.{needs}
 use Rattle.machine.proofs.Below.{one-bit}

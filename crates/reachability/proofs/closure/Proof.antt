@@ -1,4 +1,4 @@
--- `reach::closure` meets its contract: a round that adds nobody ends it, and so do as many rounds as there are words.
+-- `reachability::closure` meets its contract: a round that adds nobody ends it, and so do as many rounds as there are words.
 -- Assumes nothing.
 use Prim.Native.Nat.{_-_}
 use mathlib.Core.Path.{sym, _∙_}

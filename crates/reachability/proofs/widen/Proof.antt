@@ -1,4 +1,4 @@
--- `reach::widen` meets its contract: each turn joins word v where v is a member. Assumes nothing.
+-- `reachability::widen` meets its contract: each iteration joins word v where v is a member. Assumes nothing.
 use Prim.Native.Nat.{_-_}
 use mathlib.Core.Logic.{⊎-elim}
 use borrow.Author.Needs.{needs}

@@ -1,4 +1,4 @@
--- `count_differing` meets its contract: so many of the words passed differ. Assumes nothing.
+-- `count_differing` meets its contract: this count of the words passed differs. Assumes nothing.
 use Prim.Native.Nat.{_-_}
 use mathlib.Core.Logic.{⊎-elim}
 use native.Mathlib.Omega.{arith}

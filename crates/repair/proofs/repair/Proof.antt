@@ -10,7 +10,7 @@ use Rattle.repair.proofs.Outcomes.{too-many-words}
 use Rattle.repair.proofs.repair.Statement.{statement}
 use Rattle.repair.proofs.repair.Tie as tie
 
--- the part that is lent of so many words
+-- the lent part has this count of words
 lent : (copy : List ℕ) (size : ℕ) → size ≤ length copy → length (take (size - 0) copy) ≡ size
 lent copy size l = length-take-le (size - 0) copy (omega arith) ∙ omega arith
 

@@ -1,4 +1,4 @@
--- `repair_by_copy` meets its contract: each answer is the one that is due for the mended copy. Assumes nothing.
+-- `repair_by_copy` meets its contract: each answer is the required one for the mended copy. Assumes nothing.
 use mathlib.Core.Path.{_≡_, refl, sym, ap, _∙_}
 use mathlib.Core.Bool.{true}
 use native.Mathlib.Omega.{arith}

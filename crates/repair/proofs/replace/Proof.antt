@@ -1,4 +1,5 @@
--- `replace` meets its contract: the words passed are the new ones, and the pairs of those that differ are told. Assumes nothing.
+-- `replace` meets its contract: the words passed are the new ones, and the pairs of those that differ are in the list.
+-- Assumes nothing.
 use Prim.Native.Nat.{_+_, _-_, _<_, _≤_}
 use mathlib.Core.Logic.{⊎-elim}
 use native.Mathlib.Omega.{arith}
@@ -15,14 +16,14 @@ Inv-loop table₀ new list₀ at₀ i₀ table list at i = Replacing table₀ ne
 abbrev μ-loop : tie.MeasureT-loop
 μ-loop table₀ new list₀ at₀ i₀ table list at i = length table₀ - i
 
--- the place of a word, among the table's and as a number
+-- the place of a word, among the table's words and below 641
 inside : (c : tie.In-loop Inv-loop μ-loop) → c .before .loop .i < length (now (c .before .before .args .table))
 inside c = omega (arith, c .loop-test .taken, c .before .loop .inv .copied .size)
 
 small : (c : tie.In-loop Inv-loop μ-loop) → c .before .loop .i < 641
 small c = omega (arith, inside c, c .before .before .pre .1 .0)
 
--- the place of a pair
+-- the place of a pair, at most 1280
 few : (c : tie.In-loop Inv-loop μ-loop) → c .before .loop .at ≤ 1280
 few c = omega (arith, small c, replacing-few (c .before .loop .inv))
 

@@ -1,4 +1,4 @@
--- `store` meets its contract: the rows are put out one after the other. Assumes nothing.
+-- `store` meets its contract: the rows are stored one after the other. Assumes nothing.
 use mathlib.Core.Path.{sym, _∙_}
 use Prim.Native.Nat.{_+_, _-_, _≤_}
 use native.Mathlib.Omega.{arith}

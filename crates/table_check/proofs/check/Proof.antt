@@ -1,4 +1,4 @@
--- `check` gives the machine's `tableCode`: each place is tested once, in the order of document 01. Assumes nothing.
+-- `check` returns the machine's `tableCode`: each place is tested once, in the order of document 01. Assumes nothing.
 use mathlib.Core.Path.{_≡_}
 use mathlib.Core.Bool.{true}
 use denote.Ref.{now}
@@ -8,7 +8,7 @@ use Rattle.table_check.proofs.Places.{past, stopped, code-0, code-2, co
 use Rattle.table_check.proofs.check.Statement.{statement}
 use Rattle.table_check.proofs.check.Tie as tie
 
--- what is known of the table behind the places 2, 3 and 4
+-- what is known of the table after the places 2, 3 and 4
 header-holds : (c : tie.Else1) → headerOk (now (c .before .before .before .args .table)) ≡ true
 header-holds c = search past
 

@@ -1,4 +1,4 @@
--- `endpoints_ok` is the machine's `endpointsOk`: the endpoints passed are right, and their names are gathered.
+-- `endpoints_ok` is the machine's `endpointsOk`: the endpoints passed are valid, and their names are gathered.
 -- Assumes nothing.
 use Prim.Native.Nat.{_+_, _-_, _*_, _≤_, zero-le}
 use mathlib.Core.Path.{_≡_, refl, sym, ap, _∙_}

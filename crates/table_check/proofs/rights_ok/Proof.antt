@@ -1,4 +1,4 @@
--- `rights_ok` is the machine's `rightsOk`: rights alone are gathered where the words passed are right. Assumes nothing.
+-- `rights_ok` is the machine's `rightsOk`: rights alone are gathered where the words passed are valid. Assumes nothing.
 use Prim.Native.Nat.{_+_, _-_, _≤_}
 use native.Mathlib.Omega.{arith}
 use borrow.Author.Count.{falls}

@@ -1,4 +1,4 @@
--- `image::check` gives `bytesCode`: each place is tested once, in the order of document 01. Assumes nothing.
+-- `table_check_bytes::check` returns `bytesCode`: each place is tested once, in the order of document 01. Assumes nothing.
 use mathlib.Core.Path.{_≡_, sym, _∙_}
 use mathlib.Core.Bool.{true}
 use borrow.Author.Tests.{eqb-true, not-true, not-false}
@@ -11,7 +11,7 @@ use Rattle.table_check_bytes.proofs.Places.{fitting-headed, bytes-2, by
 use Rattle.table_check_bytes.proofs.check.Statement.{statement}
 use Rattle.table_check_bytes.proofs.check.Tie as tie
 
--- what is known of the bytes behind the places 2, 3 and 4
+-- what is known of the bytes after the places 2, 3 and 4
 header-holds : (c : tie.Else1) → headerOk (wordsOf (now (c .before .before .before .args .bytes))) ≡ true
 header-holds c = sym (c .before .header-ok .ensures) ∙ not-false _ (c .if1 .left)
 

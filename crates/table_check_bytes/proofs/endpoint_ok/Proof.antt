@@ -1,4 +1,4 @@
--- `endpoint_ok` is the machine's `endpointOk` of twelve words where they stand. Assumes nothing.
+-- `endpoint_ok` is the machine's `endpointOk` of twelve words at their places. Assumes nothing.
 use mathlib.Core.Path.{ap, ap₂, _∙_}
 use mathlib.Core.Bool.{_&&_}
 use borrow.Author.Needs.{needs}

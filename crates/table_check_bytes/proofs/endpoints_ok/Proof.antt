@@ -1,4 +1,4 @@
--- `endpoints_ok` is the machine's `endpointsOk` of the words: the endpoints passed are right, and their names are
+-- `endpoints_ok` is the machine's `endpointsOk` of the words: the endpoints passed are valid, and their names are
 -- gathered. Assumes nothing.
 use Prim.Native.Nat.{ℕ, _-_, _%_, zero-le}
 use mathlib.Core.Path.{refl, sym, ap, ap₂, _∙_}

@@ -1,5 +1,5 @@
--- `rights_ok` is the machine's `rightsOk` of the words: rights alone are gathered where the words passed are
--- right. Assumes nothing.
+-- `rights_ok` is the machine's `rightsOk` of the words: rights alone are gathered where the words passed are valid. Assumes
+-- nothing.
 use Prim.Native.Nat.{_+_, _-_, _*_, _≤_}
 use mathlib.Core.Path.{ap, _∙_}
 use native.Mathlib.Omega.{arith}

@@ -1,4 +1,4 @@
--- `slots_ok`: no bit is gathered where the slots passed are right. Assumes nothing.
+-- `slots_ok`: no bit is gathered where the slots passed are valid. Assumes nothing.
 use Prim.Native.Nat.{_+_, _-_}
 use mathlib.Core.Path.{ap, _∙_}
 use native.Mathlib.Omega.{arith}

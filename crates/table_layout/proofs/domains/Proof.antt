@@ -1,4 +1,4 @@
--- `layout::domains` is the machine's `domains`. Assumes nothing.
+-- `table_layout::domains` is the machine's `domains`. Assumes nothing.
 use mathlib.Core.Path.{ap}
 use borrow.Author.Needs.{needs}
 use Rattle.machine.specs.Word.{fieldB}

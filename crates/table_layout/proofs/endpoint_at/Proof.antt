@@ -1,4 +1,4 @@
--- `endpoint_at` meets its contract: the place is small, whatever the endpoint is. Assumes nothing.
+-- `endpoint_at` meets its contract: the place is small, for every endpoint. Assumes nothing.
 use native.Mathlib.Omega.{arith}
 use borrow.Author.Needs.{needs}
 use Rattle.table_layout.proofs.Places.{square-small}

@@ -1,4 +1,4 @@
--- `layout::endpoints` is the machine's `endpoints`. Assumes nothing.
+-- `table_layout::endpoints` is the machine's `endpoints`. Assumes nothing.
 use mathlib.Core.Path.{ap}
 use borrow.Author.Needs.{needs}
 use Rattle.machine.specs.Word.{fieldC}

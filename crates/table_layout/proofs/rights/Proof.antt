@@ -1,4 +1,4 @@
--- `layout::rights` meets its contract. Assumes nothing.
+-- `table_layout::rights` meets its contract. Assumes nothing.
 use mathlib.Core.Path.{ap, _∙_}
 use Prim.Native.Nat.{ℕ}
 use borrow.Author.Needs.{needs}

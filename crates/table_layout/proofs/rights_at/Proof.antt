@@ -1,4 +1,4 @@
--- `rights_at` meets its contract: the place fits, whoever the holder and the target are. Assumes nothing.
+-- `rights_at` meets its contract: the place fits a machine word, for every holder and target. Assumes nothing.
 use Prim.Native.Nat.{_*_, _≤_}
 use native.Mathlib.Omega.{arith}
 use borrow.Author.Needs.{needs}

@@ -1,4 +1,4 @@
--- `layout::word` meets its contract. Assumes nothing.
+-- `table_layout::word` meets its contract. Assumes nothing.
 use mathlib.Core.Path.{sym}
 use borrow.Author.Needs.{needs}
 use lib.ListN.{List·getD-eq-default}

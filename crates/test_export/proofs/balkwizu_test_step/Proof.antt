@@ -1,5 +1,5 @@
--- `balkwizu_test_step` meets its contract: a space under three words is told before the step, and what `kernel::step`
--- promises is handed on as a number and the words of the three slices. Assumes nothing.
+-- `balkwizu_test_step` meets its contract: a space under three words is refused before the step, and what `kernel::step` promises
+-- is returned as a code and the words of the three slices. Assumes nothing.
 use Prim.Native.Nat.{ℕ, _<_, _≤_}
 use mathlib.Core.Path.{_≡_, sym, ap, subst₂, _∙_}
 use mathlib.Core.Bool.{Bool, cond}
@@ -34,7 +34,7 @@ room : (t space holders : List ℕ) → 3 ≤ length space → exportedCode t sp
 unfolding exportedCode
 room t space holders h = simp (le-ltb _ _ h)
 
--- what the step promises of a call that is refused and of one that is answered, as it is handed on
+-- what the step promises of a call that is refused and of one that is answered, as it is returned to C
 refused : (t space holders : List ℕ) (c : Call) (r : EntryRefusal) (t′ kept : List ℕ) → 3 ≤ length space
     → StepPromise t c holders (Refused r) t′ kept → Exported t c space holders (entryRefusalCode r) t′ space kept
 refused t space holders c r t′ kept h p =
@@ -85,7 +85,7 @@ same-length c = search needs
 same-length-2 : tie.Need-same-length-2
 same-length-2 c = search needs
 
--- what the step promises of what it came to, with the second word as C gave it
+-- what the step promises of its outcome, with the second word as C passed it
 stepped : (c : tie.After-step) (s : Stepped) → c .step .result ≡ s → (let a = c .before .before .before .before .before .before .before .before .args in StepPromise (now (a .table)) (callOf (a .first) (secondGiven (a .second) (a .has))) (now (a .holders)) s (c .step .last .0) (c .step .last .1 .1 .1 .0))
 stepped c s is =
     let a = c .before .before .before .before .before .before .before .before .args in

@@ -1,4 +1,4 @@
--- `given` meets its contract: the number beside the word is 0 or it isn't. Assumes nothing.
+-- `given` meets its contract: `has` is 0 or it isn't. Assumes nothing.
 use borrow.Author.Tests.{eq-eqb, ne-eqb}
 use Rattle.test_export.specs.Exported.{secondGiven}
 use Rattle.test_export.proofs.given.Statement.{statement}

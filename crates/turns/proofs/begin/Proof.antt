@@ -1,4 +1,4 @@
--- `begin` meets its contract. The loop's invariant: the words passed are 0, and the rest are as they came. Assumes nothing.
+-- `begin` meets its contract. The loop's invariant: the words passed are 0, and the rest are as they were. Assumes nothing.
 use mathlib.Core.Path.{_≡_, refl, sym, ap, ap₂, _∙_}
 use mathlib.Core.List.{List, _++_, append-nil}
 use Prim.Native.Nat.{ℕ, _+_, _-_, _≤_}

@@ -1,4 +1,4 @@
--- `hand_in` meets its contract: each place that refuses, in its order, and then the words are added. Assumes nothing.
+-- `hand_in` meets its contract: each check that refuses, in its order, and then the words are added. Assumes nothing.
 use mathlib.Core.Path.{_≡_, refl, sym, ap, _∙_}
 use mathlib.Core.Bool.{true}
 use Prim.Native.Nat.{_<_}
@@ -57,7 +57,7 @@ returns-4 c =
     (hands-size _ _ _ _ (accepted (test .before .before .before .before)) (below (test .before .before)) (one test) (sym (c .before .fits2 .ensures) ∙ not-true _ (c .if3 .taken)))
     (λ z. omega arith) _ refl
 
--- the state has the length that n domains ask for
+-- the state has the length for n domains
 size : (c : tie.Else3) → (let a = c .before .before .before .before .before .before .before .before .before .before .before .before .args in length (a .state .now) ≡ stateLength (domains (a .table .now)))
 size c = eqb-true _ _ (sym (c .before .fits2 .ensures) ∙ not-false _ (c .if3 .left))
 

@@ -1,4 +1,4 @@
--- `run_on_rings` meets its contract: what is taken in stands for the table, and what is put out is the table at the end of the
+-- `run_on_rings` meets its contract: the loaded state represents the table, and the stored state is the table at the end of the
 -- run. Assumes nothing.
 use mathlib.Core.Path.{_∙_}
 use Rattle.holders.proofs.Filled.{filled-accepted}

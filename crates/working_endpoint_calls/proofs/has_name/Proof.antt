@@ -1,4 +1,4 @@
--- `has_name` meets its contract: each return rewrites the test with what led there. Assumes nothing.
+-- `has_name` meets its contract: each return rewrites the test by the branch that was taken. Assumes nothing.
 use borrow.Author.Tests.{lt-ltb, le-ltb}
 use borrow.Author.Needs.{needs}
 use Rattle.working_endpoint_calls.proofs.has_name.Statement.{statement}

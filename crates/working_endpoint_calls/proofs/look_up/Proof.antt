@@ -1,4 +1,4 @@
--- `look_up` meets its contract: 12, and then what has the name. Assumes nothing.
+-- `look_up` meets its contract: refused with code 12, or decided by what has the name. Assumes nothing.
 use mathlib.Core.Path.{_≡_, sym, ap, _∙_}
 use mathlib.Core.List.{[]}
 use Rattle.machine.specs.Machine.{lookUpPlaces}
@@ -32,7 +32,7 @@ enum-told c = c .match .keys2
 find-by-requires : tie.Need-find-by-requires
 find-by-requires c κs = tt
 
--- what has the name is what the call comes to
+-- what was found by the name gives the decision on the call
 reached : (c : tie.After-find-by)
     → let a = c .before .before .before .before .args in
     lookUpPlaces (foundOf (c .find-by .result)) ≡ decidedBy (a .n) (a .m) (readingFrom [] [] (namedIn (a .m) (a .names .now) (a .hints .now))) (LookUp (a .caller) (a .name))

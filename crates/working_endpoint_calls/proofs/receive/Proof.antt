@@ -1,4 +1,5 @@
--- `receive` meets its contract: refused by a number, or served beyond the rings or on a ring lent as a part of them. Assumes nothing.
+-- `receive` meets its contract: refused by the range of a field, or served beyond the rings or on a ring lent as a part of them.
+-- Assumes nothing.
 use mathlib.Core.Path.{ap, _∙_}
 use mathlib.Core.List.{List}
 use Prim.Native.Nat.{ℕ}

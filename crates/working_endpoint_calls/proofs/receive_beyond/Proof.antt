@@ -12,7 +12,7 @@ use borrow.Author.Needs.{needs}
 use Rattle.working_endpoint_calls.proofs.receive_beyond.Statement.{statement}
 use Rattle.working_endpoint_calls.proofs.receive_beyond.Tie as tie
 
--- what was read is what the call comes to
+-- the decision by what was read is the decision on the call
 reached : (c : tie.After-receive)
     → let a = c .before .before .before .before .args in
     decisionOf (c .receive .result) ≡ receiveAccess (a .caller) (ringOwner (ringAt (a .rings .now) (a .e))) (count (ringAt (a .rings .now) (a .e))) (a .e)

@@ -9,7 +9,7 @@ use borrow.Author.Needs.{needs}
 use Rattle.working_endpoint_calls.proofs.receive_on.Statement.{statement}
 use Rattle.working_endpoint_calls.proofs.receive_on.Tie as tie
 
--- what was read is what the call comes to
+-- the decision by what was read is the decision on the call
 reached : (c : tie.After-receive)
     → let a = c .before .before .before .before .args in
     decisionOf (c .receive .result) ≡ receiveAccess (a .caller) (ringOwner (a .ring .now)) (count (a .ring .now)) (a .e)

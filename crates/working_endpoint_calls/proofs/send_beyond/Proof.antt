@@ -13,7 +13,7 @@ use borrow.Author.Needs.{needs}
 use Rattle.working_endpoint_calls.proofs.send_beyond.Statement.{statement}
 use Rattle.working_endpoint_calls.proofs.send_beyond.Tie as tie
 
--- what was read is what the call comes to
+-- the decision by what was read is the decision on the call
 reached : (c : tie.After-send)
     → let a = c .before .before .before .before .args in
     decisionOf (c .send .result) ≡ sendAccess (heldIn (a .rows .now) (a .caller) (ringOwner (ringAt (a .rings .now) (a .e)))) (a .e) (a .message)

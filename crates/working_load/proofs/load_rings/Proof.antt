@@ -1,4 +1,4 @@
--- `load_rings` meets its contract: the rings are taken in one after the other. Assumes nothing.
+-- `load_rings` meets its contract: the rings are loaded one after the other. Assumes nothing.
 use mathlib.Core.Path.{sym, _∙_}
 use Prim.Native.Nat.{_+_, _-_, _*_, _%_, _≤_}
 use native.Mathlib.Omega.{arith}

@@ -1,4 +1,4 @@
--- `store_rings` meets its contract: the rings are put out one after the other. Assumes nothing.
+-- `store_rings` meets its contract: the rings are stored one after the other. Assumes nothing.
 use mathlib.Core.Path.{sym, _∙_}
 use Prim.Native.Nat.{_+_, _-_, _%_, _≤_}
 use native.Mathlib.Omega.{arith}

@@ -1,4 +1,5 @@
--- `bits` meets its contract. The loop's invariant: the rights on the targets from the present one on are found, as far as they are kept. Assumes nothing.
+-- `bits` meets its contract. The loop's invariant: the rights on the targets from the current one on are collected, as far as they
+-- are kept. Assumes nothing.
 use mathlib.Core.Path.{_≡_, ap, _∙_}
 use mathlib.Core.List.{List, []}
 use Prim.Native.Nat.{ℕ, _+_, _-_, _%_, _≤_}
@@ -22,7 +23,7 @@ Inv-loop rows holder from bits₀ i₀ bits i = (i ≤ 8) × Kept 16 (onTarget r
 abbrev μ-loop : tie.MeasureT-loop
 μ-loop rows holder from bits₀ i₀ bits i = i
 
--- of a target four bits count
+-- only the low four bits of a target's index count
 same-place : (rows : List (List ℕ)) (u g i : ℕ) → heldIn rows u (g % 16 + i) ≡ heldIn rows u (g + i)
 unfolding heldIn
 same-place rows u g i = ap (λ (k : ℕ). getD (getD rows (u % 16) []) k 0) (omega arith)

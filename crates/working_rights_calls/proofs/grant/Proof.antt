@@ -1,4 +1,4 @@
--- `grant` meets its contract: refused by a number, refused by what was read, or done. Assumes nothing.
+-- `grant` meets its contract: refused by the range of a field, refused by what was read, or done. Assumes nothing.
 use mathlib.Core.Path.{_≡_, sym, ap, ap₂, _∙_}
 use mathlib.Core.List.{[]}
 use Prim.Native.Nat.{ℕ}
@@ -15,7 +15,7 @@ use borrow.Author.Needs.{needs}
 use Rattle.working_rights_calls.proofs.grant.Statement.{statement}
 use Rattle.working_rights_calls.proofs.grant.Tie as tie
 
--- what was read, behind the numbers, is what the call comes to
+-- after the ranges, the decision by what was read is the decision on the call
 reached : (c : tie.After-grant)
     → let a = c .before .before .before .before .before .before .before .before .before .args in
     decisionOf (c .grant .result) ≡ decidedBy (a .n) 0 (readingFrom (a .rows .now) [] nobody) (Grant (a .caller) (a .target) (a .recipient) (a .given))

@@ -1,4 +1,4 @@
--- `measure` meets its contract: the loop's invariant is the first pass on its way (proofs/Passes). Assumes nothing.
+-- `measure` meets its contract: the loop's invariant is the first pass, partly done (proofs/Passes). Assumes nothing.
 use Prim.Native.Nat.{_+_, _-_, _<_, _≤_}
 use mathlib.Core.Path.{_≡_, sym, _∙_}
 use mathlib.Core.List.{_∷_}

@@ -1,4 +1,4 @@
--- `put_all` meets its contract: the loop's invariant is the second pass on its way (proofs/Passes). Assumes nothing.
+-- `put_all` meets its contract: the loop's invariant is the second pass, partly done (proofs/Passes). Assumes nothing.
 use Prim.Native.Nat.{_+_, _-_, _<_, _≤_}
 use mathlib.Core.Path.{_≡_}
 use mathlib.Core.List.{_∷_}

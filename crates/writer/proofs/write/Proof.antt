@@ -1,4 +1,4 @@
--- `write` meets its contract: each answer is the one that is due for what the first pass found. Assumes nothing.
+-- `write` meets its contract: each result is the one that is due for what the first pass found. Assumes nothing.
 use Prim.Native.Nat.{ℕ, _≤_}
 use mathlib.Core.Path.{_≡_, sym, ap, _∙_}
 use mathlib.Core.Bool.{false}
@@ -14,7 +14,7 @@ use Rattle.writer.proofs.Outcomes.{held-calls, unfit, all-fit, too-long
 use Rattle.writer.proofs.write.Statement.{statement}
 use Rattle.writer.proofs.write.Tie as tie
 
--- the calls that are looked at are those that are there
+-- the calls that are tested are those that are there
 calls-are : (c : tie.After-held) → (let a = c .before .before .args in take (c .held .result) (a .calls) ≡ take (a .count) (a .calls))
 calls-are c =
     let a = c .before .before .args in

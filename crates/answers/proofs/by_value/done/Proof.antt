@@ -1,4 +1,4 @@
--- `given::done` meets its contract. Assumes nothing.
+-- `by_value::done` meets its contract. Assumes nothing.
 use Rattle.answers.specs.Answer.{headOf}
 use Rattle.answers.proofs.AnswerWords.{same-head}
 use borrow.Author.Needs.{needs}

@@ -1,4 +1,4 @@
--- `given::put` meets its contract: three words, one after the other. Assumes nothing.
+-- `by_value::put` meets its contract: three words, one after the other. Assumes nothing.
 use native.Mathlib.Omega.{arith}
 use lib.ListN.{length-set}
 use Rattle.answers.proofs.Space.{too-short, three-put}

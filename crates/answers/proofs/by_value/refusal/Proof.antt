@@ -1,4 +1,4 @@
--- `given::refusal` meets its contract. Assumes nothing.
+-- `by_value::refusal` meets its contract. Assumes nothing.
 use mathlib.Core.Path.{ap, _∙_}
 use Prim.Native.Nat.{ℕ, _+_}
 use native.Mathlib.Omega.{arith}

@@ -1,4 +1,4 @@
--- `given::refuse` meets its contract: 12, where the caller is unknown and the call's own number isn't before it; else its own.
+-- `by_value::refuse` meets its contract: 12 where the caller is unknown and the call's own code isn't before it, else its own.
 -- Assumes nothing.
 use mathlib.Core.Path.{ap, _∙_}
 use Prim.Native.Nat.{ℕ}

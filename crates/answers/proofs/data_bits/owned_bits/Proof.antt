@@ -1,5 +1,5 @@
--- `lists::owned_bits` meets its contract. The loop's invariant: the bits from e on are found, as far as they are kept, those below e
--- still to be. Assumes nothing.
+-- `data_bits::owned_bits` meets its contract. The loop's invariant: the bits from e on are found, as far as they are kept, and
+-- those below e are still to be found. Assumes nothing.
 use mathlib.Core.Path.{_≡_, sym, ap, subst, _∙_}
 use Prim.Native.Nat.{ℕ, _+_, _-_, _≤_}
 use native.Mathlib.Omega.{arith}
@@ -39,7 +39,7 @@ mul-bits c = search needs
 endpoint-at-requires : tie.Need-endpoint-at-requires Inv-loop μ-loop
 endpoint-at-requires c κs = search needs
 
--- every endpoint lies within the table
+-- every endpoint is within the table
 within : (c : tie.After-endpoint-at Inv-loop μ-loop) → c .endpoint-at .result + 12 ≤ length (c .before .before .before .before .args .table .now)
 within c =
     let start = c .before .before .before .before in

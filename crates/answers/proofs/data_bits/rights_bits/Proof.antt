@@ -1,5 +1,5 @@
--- `lists::rights_bits` meets its contract. The loop's invariant: the rights on the targets from the present one on are found, as far as
--- they are kept, those below still to be. Assumes nothing.
+-- `data_bits::rights_bits` meets its contract. The loop's invariant: the rights on the targets from the present one on are found,
+-- as far as they are kept, and those below are still to be found. Assumes nothing.
 use mathlib.Core.Path.{_≡_, ap, subst, _∙_}
 use Prim.Native.Nat.{ℕ, _-_, _<_, _≤_}
 use native.Mathlib.Nat.{le-trans}
@@ -39,7 +39,7 @@ sub-target c = omega arith
 rights-at-requires : tie.Need-rights-at-requires Inv-loop μ-loop
 rights-at-requires c κs = search needs
 
--- the holder's rights lie within the table
+-- the holder's rights are within the table
 within : (c : tie.After-rights-at Inv-loop μ-loop) → c .rights-at .result < length (c .before .before .before .before .args .table .now)
 within c =
     let start = c .before .before .before .before in

@@ -1,6 +1,5 @@
--- `layouts::balkwizu_run_by_length` meets its contract: a run's code and its number of calls are small, so one word holds both, and
--- what `choosing::run_by_length` promises of them it promises of the word's two halves.
--- Assumes nothing.
+-- `layouts::balkwizu_run_by_length` meets its contract: a run's code and its count of calls are small, so one word holds both, and
+-- what `working::by_length::run_by_length` promises of them it promises of the word's two halves. Assumes nothing.
 use native.Mathlib.Omega.{arith}
 use Rattle.balkwizu.proofs.Halves.{Fits, run-fits, run-halves}
 use Rattle.balkwizu.proofs.layouts.balkwizu_run_by_length.Statement.{statement}

@@ -1,6 +1,5 @@
--- `layouts::balkwizu_run_working` meets its contract: a run's code and its number of calls are small, so one word holds both, and
--- what `working::run_working` promises of them it promises of the word's two halves.
--- Assumes nothing.
+-- `layouts::balkwizu_run_working` meets its contract: a run's code and its count of calls are small, so one word holds both, and
+-- what `working::run_working` promises of them it promises of the word's two halves. Assumes nothing.
 use native.Mathlib.Omega.{arith}
 use Rattle.balkwizu.proofs.Halves.{Fits, run-fits, run-halves}
 use Rattle.balkwizu.proofs.layouts.balkwizu_run_working.Statement.{statement}

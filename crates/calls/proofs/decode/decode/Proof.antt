@@ -1,4 +1,4 @@
--- `calls::decode::decode` meets its contract: each arm is one case of the kind.
+-- `decode::decode` meets its contract: each arm is one case of the kind.
 -- Assumes nothing.
 use Prim.Native.Nat.{_/_}
 use mathlib.Core.Path.{_≡_, _∙_}

@@ -1,4 +1,4 @@
--- `calls::kinds::grant` meets its contract: it uses every field, so nothing is left to test.
+-- `decode::grant` meets its contract: it uses every field, so nothing is left to test.
 -- Assumes nothing.
 use mathlib.Core.Path.{refl}
 use Rattle.machine.specs.Call.{unusedFields, Kind.grant}

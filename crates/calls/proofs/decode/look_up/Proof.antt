@@ -1,4 +1,4 @@
--- `calls::kinds::look_up` meets its contract: each `return` is one case of the places 13 and 14.
+-- `decode::look_up` meets its contract: each `return` is one case of the places 13 and 14.
 -- Assumes nothing.
 use mathlib.Core.Path.{refl}
 use borrow.Author.Needs.{needs}

@@ -1,4 +1,4 @@
--- `calls::kinds::my_rights` meets its contract: each `return` is one case of the place 13.
+-- `decode::my_rights` meets its contract: each `return` is one case of the place 13.
 -- Assumes nothing.
 use mathlib.Core.Path.{refl}
 use Rattle.machine.specs.Call.{unusedFields, Kind.myRights}

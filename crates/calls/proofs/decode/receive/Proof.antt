@@ -1,4 +1,4 @@
--- `calls::kinds::receive` meets its contract: each `return` is one case of the place 13.
+-- `decode::receive` meets its contract: each `return` is one case of the place 13.
 -- Assumes nothing.
 use mathlib.Core.Path.{refl}
 use native.Mathlib.Omega.{arith}

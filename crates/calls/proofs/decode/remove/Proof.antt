@@ -1,4 +1,4 @@
--- `calls::kinds::remove` meets its contract: each `return` is one case of the place 13.
+-- `decode::remove` meets its contract: each `return` is one case of the place 13.
 -- Assumes nothing.
 use mathlib.Core.Path.{refl}
 use native.Mathlib.Omega.{arith}

@@ -1,4 +1,4 @@
--- `calls::kinds::revoke` meets its contract: it uses every field, so nothing is left to test.
+-- `decode::revoke` meets its contract: it uses every field, so nothing is left to test.
 -- Assumes nothing.
 use mathlib.Core.Path.{refl}
 use Rattle.machine.specs.Call.{unusedFields, Kind.revoke}

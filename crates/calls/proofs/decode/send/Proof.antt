@@ -1,4 +1,4 @@
--- `calls::kinds::send` meets its contract: each `return` is one case of the places 13 and 14.
+-- `decode::send` meets its contract: each `return` is one case of the places 13 and 14.
 -- Assumes nothing.
 use mathlib.Core.Path.{refl}
 use native.Mathlib.Omega.{arith}

@@ -1,4 +1,4 @@
--- `cutting::begun` meets its contract: the choice is that of `make_one_call`'s answer.
+-- `split::begun` meets its contract: it chooses by what `make_one_call` returns.
 -- Assumes nothing.
 use mathlib.Core.Path.{_∙_, sym, ap}
 use mathlib.Core.Bool.{Bool, cond}

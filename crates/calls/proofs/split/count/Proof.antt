@@ -1,4 +1,4 @@
--- `cutting::count` meets its contract. The invariant says what remains (proofs/Counted).
+-- `split::count` meets its contract. The invariant says what remains (proofs/Counted).
 -- Assumes nothing.
 use Prim.Native.Nat.{_≤_, _-_}
 use native.Mathlib.Omega.{arith}

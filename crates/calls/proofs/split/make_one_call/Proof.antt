@@ -1,4 +1,4 @@
--- `cutting::make_one_call` meets its contract: the two tests are those of `pairs`, the other way round.
+-- `split::make_one_call` meets its contract: the two tests are those of `pairs`, in the other order.
 -- Assumes nothing.
 use borrow.Author.Needs.{needs}
 use borrow.Author.Tests.{eq-eqb, ne-eqb}

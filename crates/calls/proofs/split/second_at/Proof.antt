@@ -1,4 +1,4 @@
--- `cutting::second_at` meets its contract: each return rewrites `secondAt` with the tests that led there.
+-- `split::second_at` meets its contract: each return rewrites `secondAt` with the tests that led there.
 -- Assumes nothing.
 use Prim.Native.Nat.{_+_, _<_, _≤_}
 use mathlib.Core.Path.{_∙_, sym}

@@ -1,4 +1,4 @@
--- `cutting::wants_second` meets its contract: its tests are those of `wantsSecond`, in their order.
+-- `split::wants_second` meets its contract: its tests are those of `wantsSecond`, in their order.
 -- Assumes nothing.
 use borrow.Author.Tests.{eq-eqb, ne-eqb}
 use Rattle.machine.specs.Call.{wantsSecond}

@@ -1,4 +1,4 @@
--- `joins::joined_word` meets its contract. Assumes nothing.
+-- `connections::joined_word` meets its contract. Assumes nothing.
 use mathlib.Core.Path.{sym, _∙_}
 use mathlib.Core.Logic.{⊎-elim}
 use Prim.Native.Nat.{_-_, _<_}

@@ -1,4 +1,4 @@
--- `joins::joined_words` meets its contract: the words are filled in one after the other. Assumes nothing.
+-- `connections::joined_words` meets its contract: the words are filled in one after the other. Assumes nothing.
 use mathlib.Core.Path.{refl}
 use Prim.Native.Nat.{_-_}
 use borrow.Author.Needs.{needs}

@@ -1,4 +1,4 @@
--- `joins::joins` meets its contract. Assumes nothing.
+-- `connections::joins` meets its contract. Assumes nothing.
 use borrow.Author.Needs.{needs}
 use Rattle.components.proofs.Words.{joined-read}
 use Rattle.components.proofs.connections.joins.Statement.{statement}

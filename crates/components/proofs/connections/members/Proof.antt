@@ -1,4 +1,4 @@
--- `joins::members` meets its contract: the closure over the words of the joins is the component. Assumes nothing.
+-- `connections::members` meets its contract: the closure over the words of the joins is the component. Assumes nothing.
 use mathlib.Core.Path.{_∙_}
 use native.Mathlib.Omega.{arith}
 use borrow.Author.Needs.{needs}

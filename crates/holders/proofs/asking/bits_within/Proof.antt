@@ -21,7 +21,7 @@ cast-bit c = search needs
 bit-requires : tie.Need-bit-requires Inv-loop μ-loop
 bit-requires c κs = search needs
 
--- the bound is the bit of the number of the words
+-- the bound is the bit of the count of the words
 is-bound : (c : tie.After-bit Inv-loop μ-loop) → c .bit .result ≡ 2 ^ length (c .before .before .args .words .now)
 is-bound c = bit-is (omega (arith, c .before .before .pre)) (c .bit .ensures)
 

@@ -1,4 +1,4 @@
--- `reading::table_input::after_table` meets its contract (`rest-part`). Assumes nothing.
+-- `input_words::table_input::after_table` meets its contract (`rest-part`). Assumes nothing.
 use Rattle.input_words.proofs.TableLaws.{rest-part}
 use borrow.Author.Needs.{needs}
 use Rattle.input_words.proofs.table_input.after_table.Statement.{statement}

@@ -1,4 +1,4 @@
--- `reading::table_input::no_table` meets its contract: each return rewrites by the tests that led there. Assumes nothing.
+-- `input_words::table_input::no_table` meets its contract: each return rewrites by the tests that led there. Assumes nothing.
 use borrow.Author.Needs.{needs}
 use borrow.Author.Tests.{lt-ltb, le-ltb}
 use Rattle.input_words.specs.TableInput.{noTable}

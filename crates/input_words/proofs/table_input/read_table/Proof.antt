@@ -1,4 +1,4 @@
--- `reading::table_input::read_table` meets its contract (`table-part`). Assumes nothing.
+-- `input_words::table_input::read_table` meets its contract (`table-part`). Assumes nothing.
 use Rattle.input_words.proofs.TableLaws.{fills-none, table-part}
 use borrow.Author.Needs.{needs}
 use Rattle.input_words.proofs.table_input.read_table.Statement.{statement}

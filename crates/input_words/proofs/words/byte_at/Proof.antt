@@ -1,4 +1,4 @@
--- `reading::words::byte_at` meets its contract. Assumes nothing.
+-- `input_words::words::byte_at` meets its contract. Assumes nothing.
 use borrow.Author.Needs.{needs}
 use mathlib.Core.Path.{sym}
 use lib.ListN.{List·getD-eq-default}

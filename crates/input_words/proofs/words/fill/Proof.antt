@@ -1,4 +1,4 @@
--- `reading::words::fill` meets its contract: after i turns the first i words stand at the front. Assumes nothing.
+-- `input_words::words::fill` meets its contract: after i iterations the first i words are at the front. Assumes nothing.
 use borrow.Author.Needs.{needs}
 use Prim.Native.Nat.{_-_, _/_, _<_, _≤_, min}
 use mathlib.Core.Path.{_≡_, refl, sym, _∙_}

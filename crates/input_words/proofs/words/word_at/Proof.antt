@@ -1,4 +1,4 @@
--- `reading::words::word_at` meets its contract: past the end the word is 0 (`wordAt-past`). Assumes nothing.
+-- `input_words::words::word_at` meets its contract: past the end the word is 0 (`wordAt-past`). Assumes nothing.
 use borrow.Author.Needs.{needs}
 use mathlib.Core.Path.{sym}
 use Rattle.input_words.proofs.WordLaws.{wordAt-past}

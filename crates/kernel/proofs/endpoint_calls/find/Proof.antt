@@ -1,4 +1,4 @@
--- `queues::find` meets its contract. The loop's invariant: of the endpoints looked at, the one found is the first that has
+-- `endpoint_calls::find` meets its contract. The loop's invariant: of the endpoints looked at, the one found is the first that has
 -- the name. Assumes nothing.
 use mathlib.Core.Path.{_≡_, sym, ap, _∙_}
 use mathlib.Core.Bool.{Bool}

@@ -1,4 +1,4 @@
--- `queues::look_up` meets its contract: 12, and then what has the name. Assumes nothing.
+-- `endpoint_calls::look_up` meets its contract: 12, and then the endpoint that has the name. Assumes nothing.
 use mathlib.Core.Path.{_≡_, sym, ap, _∙_}
 use Rattle.machine.specs.Machine.{lookUpPlaces}
 use Rattle.calls.specs.Decide.{decideCall}
@@ -34,7 +34,7 @@ enum-told c = c .match .keys2
 find-requires : tie.Need-find-requires
 find-requires c κs = c .before .before .before .before .pre
 
--- what has the name is what the call comes to
+-- the endpoint that has the name decides the call
 reached : (c : tie.After-find)
     → let a = c .before .before .before .before .before .args in
     lookUpPlaces (foundOf (c .find .result)) ≡ decideCall (a .table .now) (LookUp (a .caller) (a .name))

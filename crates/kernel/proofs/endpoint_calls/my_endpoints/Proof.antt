@@ -1,4 +1,4 @@
--- `queues::my_endpoints` meets its contract: 12, or the endpoints, all of which are in the table. Assumes nothing.
+-- `endpoint_calls::my_endpoints` meets its contract: 12, or the endpoints, all of which are in the table. Assumes nothing.
 use mathlib.Core.Path.{refl}
 use borrow.Author.Needs.{needs}
 use Rattle.rules.specs.Range.{callNumbers}

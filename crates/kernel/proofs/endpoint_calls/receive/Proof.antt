@@ -1,4 +1,4 @@
--- `queues::receive` meets its contract: refused by a number, refused by what was read, or done. Assumes nothing.
+-- `endpoint_calls::receive` meets its contract: refused by a range test, refused by what was read, or done. Assumes nothing.
 use mathlib.Core.Path.{_≡_, sym, ap, ap₂, _∙_}
 use Prim.Native.Nat.{ℕ, _+_, _≤_, _<_}
 use native.Mathlib.Omega.{arith}
@@ -63,7 +63,7 @@ read c j l =
     let s = c .before .before .before .before .before in
     ap (λ (k : ℕ). getD (s .args .table .now) (k + j) 0) (c .endpoint-at .ensures) ∙ endpoint-read _ _ (s .pre .1 .0) _ j l
 
--- the lost word bears its kind
+-- the lost word has its kind
 lost-kind : (c : tie.After-endpoint-at) → kind (getD (c .before .before .before .before .before .args .table .now) (c .endpoint-at .result + 3) 0) ≡ 6
 lost-kind c =
     let s = c .before .before .before .before .before in
@@ -92,7 +92,7 @@ slice-read-count c = omega (arith, there (c .before .before))
 receive-requires : tie.Need-receive-requires
 receive-requires c κs = tt
 
--- what was read, behind the numbers, is what the call comes to
+-- what was read, after the range tests, decides the call
 reached : (c : tie.After-receive)
     → let a = c .before .before .before .before .before .before .before .before .args in
     decisionOf (c .receive .result) ≡ decideCall (a .table .now) (Receive (a .caller) (a .e))

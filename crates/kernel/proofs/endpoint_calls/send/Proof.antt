@@ -1,4 +1,4 @@
--- `queues::send` meets its contract: refused by a number, refused by what was read, or done. Assumes nothing.
+-- `endpoint_calls::send` meets its contract: refused by a range test, refused by what was read, or done. Assumes nothing.
 use mathlib.Core.Path.{_≡_, sym, ap, _∙_}
 use Prim.Native.Nat.{ℕ, _+_, _≤_, _<_}
 use native.Mathlib.Omega.{arith}
@@ -78,7 +78,7 @@ held-requires c κs =
     let s = at .before .before .before .before .before in
     (s .pre .0, (s .pre .1 .0, (ranged at .0, owner-in _ (s .pre .0) _ (s .pre .1 .0) _ _ _ (s .pre .1 .1 .0) (ranged at .1) (owned at))))
 
--- what was read, behind the numbers, is what the call comes to
+-- what was read, after the range tests, decides the call
 reached : (c : tie.After-send)
     → let a = c .before .before .before .before .before .before .before .before .before .args in
     decisionOf (c .send .result) ≡ decideCall (a .table .now) (Send (a .caller) (a .e) (a .message))

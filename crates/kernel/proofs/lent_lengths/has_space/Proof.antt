@@ -1,4 +1,4 @@
--- `space::has_space` meets its contract: a list has no more calls than words. Assumes nothing.
+-- `lent_lengths::has_space` meets its contract: a list has no more calls than words. Assumes nothing.
 use mathlib.Core.Path.{sym, ap, _∙_}
 use mathlib.Core.Bool.{not}
 use Prim.Native.Nat.{ℕ, _*_}

@@ -1,4 +1,4 @@
--- `space::one_a_domain` meets its contract: n is read out of the table. Assumes nothing.
+-- `lent_lengths::one_a_domain` meets its contract: n is read from the table. Assumes nothing.
 use mathlib.Core.Path.{ap}
 use Prim.Native.Nat.{ℕ}
 use lib.Dec.{eqb}

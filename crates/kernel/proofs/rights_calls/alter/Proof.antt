@@ -1,4 +1,4 @@
--- `moves::alter` meets its contract: the rights fit, and their word is in the table. Assumes nothing.
+-- `rights_calls::alter` meets its contract: the rights fit, and their word is in the table. Assumes nothing.
 use Prim.Native.Nat.{_<_}
 use native.Mathlib.Omega.{arith}
 use lib.ListN.{length}
@@ -11,7 +11,7 @@ use Rattle.kernel.proofs.rights_calls.alter.Tie as tie
 rights-at-requires : tie.Need-rights-at-requires
 rights-at-requires c κs = tt
 
--- the word's place
+-- the word's index
 there : (c : tie.After-rights-at) → c .rights-at .result < length (c .before .before .before .args .table .now)
 there c =
     let s = c .before .before .before in

@@ -1,4 +1,4 @@
--- `moves::grant` meets its contract: refused by a number, refused by what was read, or done. Assumes nothing.
+-- `rights_calls::grant` meets its contract: refused by a range test, refused by what was read, or done. Assumes nothing.
 use mathlib.Core.Path.{_≡_, refl, sym, ap, ap₂, _∙_}
 use Prim.Native.Nat.{ℕ, _<_, _≤_}
 use borrow.Author.Needs.{needs}
@@ -36,7 +36,7 @@ returns c =
 enum-told : tie.Need-enum-told
 enum-told c = c .match .keys2
 
--- the numbers, once their tests are passed
+-- the indices and rights, once the range tests are passed
 ranged : (c : tie.After-enum-told)
     → let a = c .before .before .before .before .before .args in
     (a .caller < a .n) × (a .target < a .n) × (a .recipient < a .n) × (a .given ≤ 15)
@@ -54,7 +54,7 @@ held-requires-2 c κs =
     let s = told .before .before .before .before .before in
     (s .pre .0, (s .pre .1, (ranged told .0, ranged told .2)))
 
--- what was read, behind the numbers, is what the call comes to
+-- what was read, after the range tests, decides the call
 reached : (c : tie.After-grant)
     → let a = c .before .before .before .before .before .before .before .before .before .before .args in
     decisionOf (c .grant .result) ≡ decideCall (a .table .now) (Grant (a .caller) (a .target) (a .recipient) (a .given))

@@ -1,4 +1,4 @@
--- `moves::held` meets its contract: both are domains, so the word is in the table. Assumes nothing.
+-- `rights_calls::held` meets its contract: both are domains, so the word is in the table. Assumes nothing.
 use mathlib.Core.Path.{ap, _∙_}
 use Prim.Native.Nat.{ℕ}
 use native.Mathlib.Omega.{arith}

@@ -1,4 +1,4 @@
--- `moves::my_rights` meets its contract: 12, or the rights, which are in the table. Assumes nothing.
+-- `rights_calls::my_rights` meets its contract: 12, or the rights, which are in the table. Assumes nothing.
 use mathlib.Core.Path.{refl}
 use Prim.Native.Nat.{_<_}
 use native.Mathlib.Omega.{arith}

@@ -1,4 +1,4 @@
--- `moves::remove` meets its contract: refused by a number, refused by what was read, or done. Assumes nothing.
+-- `rights_calls::remove` meets its contract: refused by a range test, refused by what was read, or done. Assumes nothing.
 use mathlib.Core.Path.{_≡_, refl, sym, ap, _∙_}
 use Prim.Native.Nat.{ℕ, _<_, _≤_}
 use borrow.Author.Needs.{needs}
@@ -36,7 +36,7 @@ returns c =
 enum-told : tie.Need-enum-told
 enum-told c = c .match .keys2
 
--- the numbers, once their tests are passed
+-- the indices and rights, once the range tests are passed
 ranged : (c : tie.After-enum-told) → let a = c .before .before .before .before .before .args in (a .caller < a .n) × (a .target < a .n) × (a .given ≤ 15)
 ranged c = in-remove _ (c .enum-told .given .1) _ _ _ _ (c .before .before .of-remove .ensures)
 
@@ -46,7 +46,7 @@ held-requires c κs =
     let s = told .before .before .before .before .before in
     (s .pre .0, (s .pre .1, (ranged told .0, ranged told .1)))
 
--- what was read, behind the numbers, is what the call comes to
+-- what was read, after the range tests, decides the call
 reached : (c : tie.After-remove)
     → let a = c .before .before .before .before .before .before .before .before .args in
     decisionOf (c .remove .result) ≡ decideCall (a .table .now) (Remove (a .caller) (a .target) (a .given))

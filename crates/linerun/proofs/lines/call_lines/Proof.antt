@@ -1,5 +1,5 @@
--- `linerun::lines::call_lines` meets its contract: before the turn of call i the lines of the calls below it are written. Assumes
--- nothing.
+-- `linerun::lines::call_lines` meets its contract: before the iteration of call i the lines of the calls below it are written.
+-- Assumes nothing.
 use borrow.Author.Needs.{needs}
 use Prim.Native.Nat.{_+_, _-_, _*_, _≤_}
 use lib.ListN.{getD}

@@ -1,4 +1,4 @@
--- `linerun::lines::lines_between` meets its contract: the part that is filled joins what is printed before it. Assumes nothing.
+-- `linerun::lines::lines_between` meets its contract: the part that is filled continues what is printed before it. Assumes nothing.
 use mathlib.Core.Path.{ap, _∙_}
 use mathlib.Core.List.{_++_}
 use borrow.Author.Needs.{needs}

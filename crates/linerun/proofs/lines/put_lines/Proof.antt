@@ -1,4 +1,4 @@
--- `linerun::lines::put_lines` meets its contract: the first line and then calls, or calls alone. Assumes nothing.
+-- `linerun::lines::put_lines` meets its contract: the first line and then calls' lines, or these only. Assumes nothing.
 use Prim.Native.Nat.{ℕ, zero, suc, _+_, _-_, _*_, _≤_, _<_}
 use mathlib.Core.Path.{_≡_, refl}
 use mathlib.Core.List.{List}
@@ -11,7 +11,7 @@ use Rattle.linerun_report.specs.Lines.{mostBytes, linesFrom, linesBetween}
 use Rattle.linerun.proofs.lines.put_lines.Statement.{statement}
 use Rattle.linerun.proofs.lines.put_lines.Tie as tie
 
--- lines from another than the first on are those of calls
+-- lines from one after the first on are those of calls
 calls-alone : (calls code : ℕ) (answers : List ℕ) (line next : ℕ) → 0 < line
     → linesBetween calls code answers line next ≡ linesFrom answers (line - 1) (next - 1 - (line - 1))
 unfolding linesBetween
@@ -21,7 +21,7 @@ calls-alone calls code answers (suc i) next h =
     let count : next - 1 - i ≡ next - suc i = omega arith in
     rw (call, count) refl
 
--- and have few bytes
+-- they have few bytes
 few-bytes : (r line next : ℕ) → 0 < line → r ≤ 0 + 66 * (next - 1 - (line - 1)) → r ≤ mostBytes (next - line)
 few-bytes r line next h few = omega arith
 

@@ -1,4 +1,4 @@
--- `stdin::read_after` meets its contract: what stands before the part that is lent stays. Assumes nothing.
+-- `stdin::read_after` meets its contract: the bytes before the part that is lent stay. Assumes nothing.
 use Prim.Native.Nat.{_+_, _-_}
 use borrow.Author.Needs.{needs}
 use borrow.Rule.Slice.PartMut.{take-put}

@@ -1,4 +1,4 @@
--- `linerun_text::lines::call_line` meets its contract: the pieces of the line are written one after another (`then`). Assumes nothing.
+-- `linerun_text::lines::call_line` meets its contract: it writes the line piece by piece (`then`). Assumes nothing.
 use Rattle.text.specs.Ascii.{ascii}
 use Rattle.text.proofs.WriteLaws.{then, writes-length}
 use Rattle.linerun_text.specs.Lines.{callLine}

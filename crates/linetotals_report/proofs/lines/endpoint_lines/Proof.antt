@@ -1,4 +1,4 @@
--- `lines::endpoint_lines` meets its contract: after e turns the lines of the endpoints below e are written. Assumes nothing.
+-- `lines::endpoint_lines` meets its contract: after e iterations the lines of the endpoints below e are written. Assumes nothing.
 use Prim.Native.Nat.{_-_, _*_, _≤_}
 use mathlib.Core.Path.{_≡_}
 use native.Mathlib.Omega.{arith}

@@ -1,4 +1,4 @@
--- `list::add_words` meets its contract: the words of the bytes are the list, and it runs. Assumes nothing.
+-- `add_words::add_words` meets its contract: the words of the bytes are the list, and it runs. Assumes nothing.
 use native.Mathlib.Nat.{le-trans}
 use Rattle.text.proofs.WriteLaws.{fills-part}
 use Rattle.linetotals_run.proofs.RanLaws.{words-fit, words-added}

@@ -1,4 +1,4 @@
--- `totals_text::lines::last_line` meets its contract: the pieces of the line are written one after another (`then`). Assumes nothing.
+-- `linetotals_text::lines::last_line` meets its contract: it writes the line piece by piece (`then`). Assumes nothing.
 use Rattle.text.specs.Ascii.{ascii}
 use Rattle.text.proofs.WriteLaws.{then}
 use Rattle.linetotals_text.specs.Lines.{lastLine}

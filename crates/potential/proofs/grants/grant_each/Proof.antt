@@ -19,7 +19,7 @@ abbrev μ-loop : tie.MeasureT-loop
 loop-holds : tie.Need-loop-holds Inv-loop μ-loop
 loop-holds c = stepping-start _ _ _
 
--- the matrix keeps its size, and the cell stands in it
+-- the matrix keeps its size, and the cell is in it
 size : (c : tie.In-loop Inv-loop μ-loop) → length (c .before .loop .rights) ≡ c .before .before .before .args .n * c .before .before .before .args .n
 size c = c .before .loop .inv .size ∙ c .before .before .before .pre .0
 

@@ -7,7 +7,7 @@ use Rattle.potential.proofs.Cells.{at-below, grant-done, grant-not-done
 use Rattle.potential.proofs.grants.grant_on.Statement.{statement}
 use Rattle.potential.proofs.grants.grant_on.Tie as tie
 
--- both cells stand in the matrix
+-- both cells are in the matrix
 from-below : (c : tie.After-cell-at) → c .cell-at .result < length (c .before .before .args .rights .now)
 from-below c =
     let pre = c .before .before .pre in

@@ -1,4 +1,4 @@
--- `matrix::cell_at` meets its contract: the place fits, whoever the holder and the target are. Assumes nothing.
+-- `matrix::cell_at` meets its contract: the index fits, whatever the holder and the target are. Assumes nothing.
 use Prim.Native.Nat.{_*_, _≤_}
 use native.Mathlib.Omega.{arith}
 use borrow.Author.Needs.{needs}

@@ -1,4 +1,4 @@
--- `mend` meets its contract: a table that 4 or 5 refuses is mended by the two passes, any other stays. Assumes nothing.
+-- `mend` meets its contract: a table refused with 4 or 5 is mended by the two passes, any other stays. Assumes nothing.
 use Prim.Native.Nat.{ℕ, _<_, _≤_}
 use mathlib.Core.Path.{_≡_, subst, _∙_}
 use borrow.Author.Needs.{needs}
@@ -9,7 +9,7 @@ use Rattle.repair.proofs.MendPasses.{still-headed, both-passes, from-fo
 use Rattle.repair.proofs.mend.mend.Statement.{statement}
 use Rattle.repair.proofs.mend.mend.Tie as tie
 
--- the number that was tested is the table's
+-- the code that was tested is the table's
 code-is : (c : tie.After-code) → c .code .result ≡ tableCode (now (c .before .before .before .before .args .table))
 code-is c = c .code .ensures ∙ c .before .check .ensures
 

@@ -1,4 +1,4 @@
--- `range::of_refused` meets its contract: 12 stands between 11 and 13. Assumes nothing.
+-- `range::of_refused` meets its contract: 12 is between 11 and 13. Assumes nothing.
 use mathlib.Core.Path.{sym}
 use borrow.Author.Tests.{lt-ltb, le-ltb}
 use Rattle.rules.specs.Range.{followed, refusedNumbers}

@@ -1,4 +1,4 @@
--- `all_different`: either way tells it. Assumes nothing.
+-- `all_different`: each of the two functions that it calls returns it. Assumes nothing.
 use Rattle.table_check.proofs.names.all_different.Statement.{statement}
 use Rattle.table_check.proofs.names.all_different.Tie as tie
 

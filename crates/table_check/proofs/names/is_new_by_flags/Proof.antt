@@ -1,4 +1,4 @@
--- `is_new_by_flags`: a flag that isn't set tells that the name is new; where it is set, `is_new` tells. Assumes nothing.
+-- `is_new_by_flags`: a name whose flag isn't set is new; where it is set, `is_new` decides. Assumes nothing.
 use borrow.Author.Needs.{needs}
 use Rattle.table_check.proofs.Flags.{flag-below, flag-unset}
 use Rattle.table_check.proofs.names.is_new_by_flags.Statement.{statement}

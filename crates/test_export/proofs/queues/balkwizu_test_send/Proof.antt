@@ -1,4 +1,4 @@
--- `balkwizu_test_send` meets its contract: what `queue::send` promises, with its answer as a number. Assumes nothing.
+-- `balkwizu_test_send` meets its contract: what `queue::send` promises, with its answer as a code. Assumes nothing.
 use borrow.Author.Needs.{needs}
 use mathlib.Core.Path.{ap, _∙_}
 use Rattle.test_export.specs.ExportedQueues.{doneCode}

@@ -1,4 +1,4 @@
--- `text::write::copy` meets its contract: after i turns the first i bytes are written. Assumes nothing.
+-- `text::write::copy` meets its contract: after i iterations the first i bytes are written. Assumes nothing.
 use Prim.Native.Nat.{_-_, _≤_}
 use mathlib.Core.Path.{_≡_, refl, sym}
 use native.Mathlib.Omega.{arith}

@@ -1,4 +1,4 @@
--- `text::write::put` meets its contract: past the end nothing is written, and what fits otherwise. Assumes nothing.
+-- `text::write::put` meets its contract: past the end it writes nothing, and otherwise what fits. Assumes nothing.
 use Prim.Native.Nat.{_-_}
 use lib.ListN.{length}
 use mathlib.Core.Path.{sym, _∙_}

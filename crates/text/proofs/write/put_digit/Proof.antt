@@ -1,4 +1,4 @@
--- `text::write::put_digit` meets its contract: past the end nothing is written, and one byte otherwise. Assumes nothing.
+-- `text::write::put_digit` meets its contract: past the end it writes nothing, and otherwise one byte. Assumes nothing.
 use Prim.Native.Nat.{_+_}
 use mathlib.Core.Path.{_≡_, sym, ap, _∙_}
 use mathlib.Core.List.{[], _∷_}

@@ -1,12 +1,12 @@
--- `calls::count_calls` meets its contract: what is counted so far and what the calls left will count is what the list counts.
--- Assumes nothing.
+-- `count_calls::count_calls` meets its contract: what is counted so far plus what the remaining calls count is what the list
+-- counts. Assumes nothing.
 use Prim.Native.Nat.{ℕ, _+_, _*_, _-_, _≤_}
 use mathlib.Core.Path.{_≡_, ap, _∙_}
 use native.Mathlib.Omega.{arith}
 use lib.ListN.{length, getD}
 use Rattle.machine.specs.Counts.{isSend, isReceive}
 use Rattle.calls.specs.Split.{secondAt, widthOf}
-use Rattle.calls.proofs.SplitAt as cutting
+use Rattle.calls.proofs.SplitAt as splits
 use Rattle.totals_count.proofs.CountLaws.{Counting, one, addsAt, counting-start, counting-next, counting-end, counted-few, sends-are, receives-are}
 use Rattle.totals_count.proofs.count_calls.count_calls.Statement.{statement}
 use Rattle.totals_count.proofs.count_calls.count_calls.Tie as tie
@@ -18,7 +18,6 @@ Inv-loop list answers sent₀ received₀ at₀ i₀ sent received at i =
 abbrev μ-loop : tie.MeasureT-loop
 μ-loop list answers sent₀ received₀ at₀ i₀ sent received at i = length list - i
 
--- a call is one word at least
 -- what the two additions add
 sent-adds : (c : tie.After-done Inv-loop μ-loop)
     → let args = c .before .before .before .before .before .before .before .args in
@@ -36,7 +35,7 @@ received-adds c =
     let first = getD (c .before .before .before .before .before .before .before .before .args .list .now) (c .before .before .before .before .before .loop .i) 0 in
     c .done2 .ensures ∙ ap (λ (a : ℕ). one first a 3) (c .before .before .word .ensures)
 
--- the next call begins behind this one, within the list
+-- the next call begins after this one, within the list; a call is one word at least
 next-place : (c : tie.After-width Inv-loop μ-loop)
     → let list = c .before .before .before .before .before .before .before .before .before .before .args .list .now in
     let i = c .before .before .before .before .before .before .before .loop .i in
@@ -45,9 +44,9 @@ next-place c =
     let second = c .before .second-at in
     let list = c .before .before .before .before .before .before .before .before .before .before .args .list .now in
     let i = c .before .before .before .before .before .before .before .loop .i in
-    let cut = cutting.split-at list i (c .before .before .before .before .before .before .loop-test .taken) in
+    let cut = splits.split-at list i (c .before .before .before .before .before .before .loop-test .taken) in
     let wide : c .width .result ≡ widthOf (secondAt list i) = c .width .ensures ∙ ap widthOf (second .ensures) in
-    (omega (arith, cut .within, wide), omega (arith, wide, cutting.wide (secondAt list i)))
+    (omega (arith, cut .within, wide), omega (arith, wide, splits.wide (secondAt list i)))
 
 loop-holds : tie.Need-loop-holds Inv-loop μ-loop
 loop-holds c = (counting-start isSend _ _, counting-start isReceive _ _, omega arith, omega arith)

@@ -1,4 +1,4 @@
--- `calls::done` meets its contract: each return rewrites by the tests that led there. Assumes nothing.
+-- `count_calls::done` meets its contract: each return rewrites by the tests that led there. Assumes nothing.
 use borrow.Author.Tests.{eq-eqb, ne-eqb}
 use Rattle.totals_count.proofs.count_calls.done.Statement.{statement}
 use Rattle.totals_count.proofs.count_calls.done.Tie as tie

@@ -1,4 +1,4 @@
--- `serving::nobody` meets its contract: each place that refuses a turn, in its order. Assumes nothing.
+-- `serving::nobody` meets its contract: each check that refuses a turn, in its order. Assumes nothing.
 use mathlib.Core.Path.{_≡_, refl, sym, ap, _∙_}
 use native.Mathlib.Omega.{arith}
 use borrow.Author.Needs.{needs}

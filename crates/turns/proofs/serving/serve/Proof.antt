@@ -1,4 +1,4 @@
--- `serving::serve` meets its contract: the step is handed the turn's call, and what it promises is handed on. Assumes nothing.
+-- `serving::serve` meets its contract: the step gets the turn's call, and what it promises is what the turn does. Assumes nothing.
 use mathlib.Core.Path.{_≡_, ap, ap₂, subst₂, _∙_}
 use borrow.Author.Needs.{needs}
 use denote.Ref.{now}
@@ -12,7 +12,7 @@ use Rattle.turns.proofs.Serves.{serve-refused, serve-answered}
 use Rattle.turns.proofs.serving.serve.Statement.{statement}
 use Rattle.turns.proofs.serving.serve.Tie as tie
 
--- what the step promises of what it came to, of the turn's call
+-- what the step promises of its outcome, for the turn's call
 stepped : (c : tie.After-step) (s : Stepped) → c .step .result ≡ s → (let a = c .before .before .before .before .before .before .before .before .before .before .before .args in StepPromise (now (a .table)) (oldest-call (now (a .state)) (a .domain)) (now (a .holders)) s (c .step .last .0) (c .step .last .1 .1 .1 .0))
 stepped c s is =
     let a = c .before .before .before .before .before .before .before .before .before .before .before .args in

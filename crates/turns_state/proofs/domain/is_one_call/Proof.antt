@@ -1,4 +1,4 @@
--- `domain::is_one_call` meets its contract: the first word's caller, and no word behind the call that it begins. Assumes nothing.
+-- `domain::is_one_call` meets its contract: the first word's caller, and no word after the call that it begins. Assumes nothing.
 use mathlib.Core.Path.{sym, ap, _∙_}
 use native.Mathlib.Omega.{arith}
 use borrow.Author.Needs.{needs}

@@ -1,4 +1,4 @@
--- `domain::number` is the machine's number of domains; there is none in no words. Assumes nothing.
+-- `domain::number` is the machine's count of domains; it is 0 for no words. Assumes nothing.
 use mathlib.Core.Path.{sym, ap}
 use native.Mathlib.Omega.{arith}
 use borrow.Author.Needs.{needs}

@@ -10,7 +10,7 @@ use Rattle.turns_state.proofs.Next.{next-size, next-space, next-waiting
 use Rattle.turns_state.proofs.order.next_to_serve.Statement.{statement}
 use Rattle.turns_state.proofs.order.next_to_serve.Tie as tie
 
--- the number that was read is the table's
+-- the count that was read is the table's
 told : (c : tie.After-number) → (let a = c .before .before .before .args in nextToServe (c .number .result) (now (a .state)) (a .space) ≡ nextToServe (domains (now (a .table))) (now (a .state)) (a .space))
 told c =
     let a = c .before .before .before .args in

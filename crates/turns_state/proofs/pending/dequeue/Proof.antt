@@ -1,4 +1,4 @@
--- `dequeue` meets its contract: words that pass the test are what `move_down` asks for. Assumes nothing.
+-- `dequeue` meets its contract: words that pass the test meet the precondition of `move_down`. Assumes nothing.
 use mathlib.Core.Path.{_≡_, sym, _∙_}
 use mathlib.Core.Bool.{true, false}
 use borrow.Author.Needs.{needs}
@@ -9,7 +9,7 @@ use Rattle.turns_state.proofs.Laws.{may-dequeue, not-dequeued, dequeued
 use Rattle.turns_state.proofs.pending.dequeue.Statement.{statement}
 use Rattle.turns_state.proofs.pending.dequeue.Tie as tie
 
--- what the test says of the words, on either side of it
+-- what the test says of the words, where they pass it and where they don't
 refused : (c : tie.Then1) → (let a = c .before .before .before .before .args in dequeuable (now (a .block)) (a .few)) ≡ false
 refused c = sym (c .before .dequeuable .ensures) ∙ not-true _ (c .if1 .taken)
 

@@ -1,4 +1,4 @@
--- `enqueue` meets its contract: words that pass the test are what `put_last` asks for. Assumes nothing.
+-- `enqueue` meets its contract: words that pass the test meet the precondition of `put_last`. Assumes nothing.
 use mathlib.Core.Path.{_≡_, sym, _∙_}
 use mathlib.Core.Bool.{true, false}
 use borrow.Author.Needs.{needs}
@@ -10,7 +10,7 @@ use Rattle.turns_state.proofs.Laws.{may-enqueue, not-enqueued, enqueued
 use Rattle.turns_state.proofs.pending.enqueue.Statement.{statement}
 use Rattle.turns_state.proofs.pending.enqueue.Tie as tie
 
--- what the test says of the words, on either side of it
+-- what the test says of the words, where they pass it and where they don't
 refused : (c : tie.Then1) → (let a = c .before .before .before .before .before .args in enqueuable (now (a .block)) (length (now (a .words)))) ≡ false
 refused c = sym (c .before .enqueuable .ensures) ∙ not-true _ (c .if1 .taken)
 

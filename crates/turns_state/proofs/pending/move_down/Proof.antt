@@ -1,5 +1,5 @@
 -- `move_down` meets its contract. The loop's invariant: the words passed have moved to the front, and the rest of the words are as
--- they came. Assumes nothing.
+-- they were. Assumes nothing.
 use mathlib.Core.Path.{_≡_, ap, ap₂, _∙_}
 use mathlib.Core.List.{List}
 use Prim.Native.Nat.{ℕ, _+_, _-_, _≤_}

@@ -1,5 +1,5 @@
--- `put_last` meets its contract. The loop's invariant: the words passed stand behind those that were pending, and the rest of the
--- words are as they came. Assumes nothing.
+-- `put_last` meets its contract. The loop's invariant: the words passed are after those that were pending, and the rest of the
+-- words are as they were. Assumes nothing.
 use mathlib.Core.Path.{_≡_, sym, ap, _∙_}
 use mathlib.Core.List.{List}
 use Prim.Native.Nat.{ℕ, _+_, _-_, _≤_}

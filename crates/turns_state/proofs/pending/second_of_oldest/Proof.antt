@@ -1,4 +1,4 @@
--- `second_of_oldest` meets its contract: the words that are lent to the cutting are those that are pending. Assumes nothing.
+-- `second_of_oldest` meets its contract: the words that are lent to `second_at` are those that are pending. Assumes nothing.
 use mathlib.Core.Path.{_≡_, ap, _∙_}
 use Prim.Native.Nat.{ℕ, _+_, _-_}
 use native.Mathlib.Omega.{arith}

@@ -1,4 +1,4 @@
--- `call_at` meets its contract: five words, or too few. Assumes nothing.
+-- `rows::call_at` meets its contract: five words, or too few. Assumes nothing.
 use mathlib.Core.Path.{_∙_}
 use native.Mathlib.Omega.{arith}
 use borrow.Author.Needs.{needs}

@@ -1,4 +1,4 @@
--- `endpoint_row` meets its contract: each arm is one kind. Assumes nothing.
+-- `rows::endpoint_row` meets its contract: each arm is one kind. Assumes nothing.
 use mathlib.Core.Path.{_≡_, _∙_}
 use native.Mathlib.Omega.{arith}
 use Rattle.machine.specs.Call.{kindOf}

@@ -1,4 +1,4 @@
--- `measure` meets its contract: the loop's invariant is the first pass on its way (proofs/Rounds). Assumes nothing.
+-- `rows::measure` meets its contract: the loop's invariant is the first pass, partly done (proofs/Rounds). Assumes nothing.
 use Prim.Native.Nat.{_-_}
 use mathlib.Core.Path.{_≡_, sym, ap, _∙_}
 use native.Mathlib.Omega.{arith}
@@ -18,7 +18,7 @@ Inv-loop rows words₀ from₀ i₀ words from i = Measures rows words from i
 abbrev μ-loop : tie.MeasureT-loop
 μ-loop rows words₀ from₀ i₀ words from i = length rows - from
 
--- what was asked of the row's call
+-- whether the row's call fits
 fits-is : (c : tie.After-fits2 Inv-loop μ-loop)
     → (let here = c .before .before .before in fits (callAt (now (here .before .before .args .rows)) (here .loop .from)) ≡ c .fits2 .result)
 fits-is c = sym (c .fits2 .ensures ∙ ap fits (c .before .call-at .ensures))

@@ -1,4 +1,4 @@
--- `put_all` meets its contract: the loop's invariant is the second pass on its way (proofs/Rounds). Assumes nothing.
+-- `rows::put_all` meets its contract: the loop's invariant is the second pass, partly done (proofs/Rounds). Assumes nothing.
 use Prim.Native.Nat.{_-_}
 use mathlib.Core.Path.{ap, _∙_}
 use native.Mathlib.Omega.{arith}

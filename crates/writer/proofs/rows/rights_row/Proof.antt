@@ -1,4 +1,4 @@
--- `rights_row` meets its contract: each arm is one kind. Assumes nothing.
+-- `rows::rights_row` meets its contract: each arm is one kind. Assumes nothing.
 use mathlib.Core.Path.{_∙_}
 use native.Mathlib.Omega.{arith}
 use Prim.Native.Nat.{_≤_}

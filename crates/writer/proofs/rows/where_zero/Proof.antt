@@ -1,4 +1,4 @@
--- `where_zero` meets its contract: the columns are zero or they aren't. Assumes nothing.
+-- `rows::where_zero` meets its contract: the columns are zero or they aren't. Assumes nothing.
 use Rattle.writer_theory.specs.Rows.{whereZero}
 use Rattle.writer.proofs.rows.where_zero.Statement.{statement}
 use Rattle.writer.proofs.rows.where_zero.Tie as tie

@@ -1,4 +1,4 @@
--- `write_rows` meets its contract: each answer is the one that is due for what the first pass found. Assumes nothing.
+-- `rows::write_rows` meets its contract: each result is the one that is due for what the first pass found. Assumes nothing.
 use mathlib.Core.Path.{_≡_, sym, _∙_}
 use borrow.Author.Needs.{needs}
 use denote.Ref.{now}

@@ -1,4 +1,4 @@
--- `Range::then` meets its contract: a refusal stays, and the test decides else. Assumes nothing.
+-- `Range::then` meets its contract: a refusal stays, and otherwise the test decides. Assumes nothing.
 use Rattle.machine.specs.Machine.{place}
 use Rattle.rules.specs.Range.{followed}
 use Rattle.rules.proofs.range.Range.then.Statement.{statement}
