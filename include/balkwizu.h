@@ -575,11 +575,10 @@ uint32_t balkwizu_run_working(uint32_t *table, size_t table_len,
                               uint32_t *holders, size_t holders_len);
 
 /*
- * The same run once more, which chooses by the list's length: a list that is long for
- * its table runs as by balkwizu_run_working, any other as by balkwizu_run. All that is
- * said of balkwizu_run holds of it, the caller's duties too, and which way it went can
- * be seen by nothing but the time that it took. Choosing costs a division and a
- * comparison.
+ * The same run once more, which chooses by the list's length: a list of 128 words or
+ * more runs as by balkwizu_run_working, a shorter one as by balkwizu_run. All that is
+ * said of balkwizu_run holds of it, the caller's duties too, and which run it took can
+ * be seen by nothing but the time. Choosing costs one comparison.
  *
  * Which of the three to take: this one. balkwizu_run where the stack is too short for
  * BALKWIZU_RUN_BY_LENGTH_STACK_BYTES, or where every list is short;

@@ -200,7 +200,7 @@ fn send_and_receive(mut rng: Rng) -> Workload {
         name: "send and receive between two domains".to_string(),
         table: table_with(&[0, 1, 0, 0], 2, &[1]),
         lists,
-        goal: 0.95,
+        goal: 0.9,
     }
 }
 
@@ -255,7 +255,7 @@ fn all_kinds(mut rng: Rng) -> Workload {
         name: "mixed list of all eight kinds".to_string(),
         table: table_with(&rights, 4, &[0, 1, 2, 3]),
         lists,
-        goal: 0.95,
+        goal: 1.15,
     }
 }
 
@@ -308,7 +308,7 @@ fn refusals(mut rng: Rng) -> Workload {
         lists: in_rotation(call_word(9, 0, 0, 0, 0), || {
             refused[rng.below(refused.len())].clone()
         }),
-        goal: 0.95,
+        goal: 1.15,
     }
 }
 
@@ -328,7 +328,7 @@ fn largest(mut rng: Rng) -> Workload {
         name: "n 16, m 32, my rights and look up".to_string(),
         lists,
         table,
-        goal: 0.8,
+        goal: 1.3,
     }
 }
 
