@@ -80,9 +80,9 @@ extern "C" {
  *     balkwizu_component: general and xmm registers, aligned stack
  *     balkwizu_potential: general and xmm registers, aligned stack
  *     balkwizu_repair: general and xmm registers, aligned stack
- *     balkwizu_run: general and xmm registers, aligned stack, red zone, unmarked jumps
- *     balkwizu_run_by_length: general and xmm registers, aligned stack, red zone, unmarked jumps
- *     balkwizu_run_working: general and xmm registers, aligned stack
+ *     balkwizu_run: general and xmm registers, aligned stack, unmarked jumps
+ *     balkwizu_run_by_length: general and xmm registers, aligned stack, unmarked jumps
+ *     balkwizu_run_working: general and xmm registers, aligned stack, unmarked jumps
  *     balkwizu_table_check: general and xmm registers, aligned stack
  *     balkwizu_version: general registers
  *     balkwizu_who_reaches: general registers
