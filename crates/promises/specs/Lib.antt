@@ -1,0 +1,2 @@
+-- What the contract of the one function cites.
+pub mod Promises

@@ -1,0 +1,364 @@
+-- Everything that is claimed, on one page: a field for each closed claim of documents 01 and 02 and of our own, in the papers' order.
+-- A field's type is the claim as its crate states it. What is claimed of the words that a function leaves is in its contract.
+use mathlib.Core.List.{[], _∷_}
+use Rattle.holders_theory.specs.Claims as holders-theory-claims
+use Rattle.holders_theory.specs.Examples as holders-theory-examples
+use Rattle.isolation_theory.specs.Component as isolation-theory-component
+use Rattle.isolation_theory.specs.ComponentExamples as isolation-theory-component-examples
+use Rattle.isolation_theory.specs.LineExamples as isolation-theory-line-examples
+use Rattle.isolation_theory.specs.TwoLines as isolation-theory-two-lines
+use Rattle.linerun_report.specs.Examples as linerun-report-examples
+use Rattle.linerun_report.specs.Report as linerun-report-report
+use Rattle.linetotals_input.specs.Examples as linetotals-input-examples
+use Rattle.linetotals_theory.specs.Examples as linetotals-theory-examples
+use Rattle.linetotals_theory.specs.Sheet as linetotals-theory-sheet
+use Rattle.machine.specs.AnyWordsExamples as machine-any-words-examples
+use Rattle.machine.specs.CodeExamples as machine-code-examples
+use Rattle.machine.specs.CountExamples as machine-count-examples
+use Rattle.machine.specs.Examples as machine-examples
+use Rattle.machine.specs.FieldExamples as machine-field-examples
+use Rattle.machine.specs.MachineClaims as machine-machine-claims
+use Rattle.machine.specs.PurgeExamples as machine-purge-examples
+use Rattle.machine.specs.TableExamples as machine-table-examples
+use Rattle.machine_limits.specs.Rows as machine-limits-rows
+use Rattle.potential_theory.specs.Claims as potential-theory-claims
+use Rattle.potential_theory.specs.Examples as potential-theory-examples
+use Rattle.queue.specs.Examples as queue-examples
+use Rattle.queue.specs.LaterSlots as queue-later-slots
+use Rattle.reachability.specs.Chain as reachability-chain
+use Rattle.reachability.specs.Examples as reachability-examples
+use Rattle.repair_theory.specs.Claims as repair-theory-claims
+use Rattle.repair_theory.specs.Examples as repair-theory-examples
+use Rattle.repair_theory.specs.RepairClaims as repair-theory-repair-claims
+use Rattle.rights_matrix_theory.specs.Claims as rights-matrix-theory-claims
+use Rattle.rights_matrix_theory.specs.Examples as rights-matrix-theory-examples
+use Rattle.ring_theory.specs.Claims as ring-theory-claims
+use Rattle.ring_theory.specs.Examples as ring-theory-examples
+use Rattle.rules.specs.Readings as rules-readings
+use Rattle.table_check_bytes.specs.Bytes as table-check-bytes-bytes
+use Rattle.totals_add.specs.Tallied as totals-add-tallied
+use Rattle.totals_theory.specs.Claims as totals-theory-claims
+use Rattle.totals_theory.specs.Examples as totals-theory-examples
+use Rattle.turns.specs.Claims as turns-claims
+use Rattle.turns.specs.Examples as turns-examples
+use Rattle.turns.specs.WordHistory as turns-word-history
+use Rattle.turns_state.specs.Examples as turns-state-examples
+use Rattle.turns_theory.specs.Claims as turns-theory-claims
+use Rattle.turns_theory.specs.Examples as turns-theory-examples
+use Rattle.working_load.specs.Claims as working-load-claims
+use Rattle.working_theory.specs.Represents as working-theory-represents
+use Rattle.working_theory.specs.TwoRuns as working-theory-two-runs
+use Rattle.writer_theory.specs.Claims as writer-theory-claims
+use Rattle.writer_theory.specs.Examples as writer-theory-examples
+use Rattle.writer_theory.specs.ListClaims as writer-theory-list-claims
+use Rattle.writer_theory.specs.RowExamples as writer-theory-row-examples
+
+pub record Promises : Type 0 where
+  -- ---- Document 01, "Into firmware and onto the bench": the worked example and its edges
+  -- The worked example L and its edges, P1 to P12: one list of rows under one claim.
+  pub D-rows : machine-examples.EveryRow machine-examples.rows
+  -- ---- Document 01, "The table", "The calls" and "Where each number is checked": rows that pin what the worked example leaves
+  -- open
+  -- Every code from 10 to 23 with its order, what each call answers, a table in which the caller, the target and the owner
+  -- differ, and the edges of the entry.
+  pub D-codes : machine-examples.EveryRow machine-code-examples.codeRows
+  -- The check of a table, word by word and bit by bit, and the order of its places.
+  pub D-tables : machine-table-examples.EveryTable machine-table-examples.tableRows
+  -- The fields of a call, bit by bit, which words make one call, which right each call requires, and a queue through all its
+  -- slots.
+  pub D-fields : machine-examples.EveryRow machine-field-examples.fieldRows
+  -- What the definitions give for words that no check accepts.
+  pub D-any-words : machine-any-words-examples.AnyWordsHold
+  -- The counts and the order of messages of one list, of endpoint 1 and of endpoint 0.
+  pub D-counts-row : machine-count-examples.CountRowHolds
+  -- The smallest table, one with no endpoint and the largest; then the largest with its last rights word or its last slot wrong,
+  -- with the name of its last endpoint repeated, and with one domain or one endpoint more.
+  pub D-sizes : machine-table-examples.EveryTable (machine-limits-rows.sizeRows ∷ [])
+  -- Calls at both ends of the largest table, every right there is, and a list that is one word too long.
+  pub D-limits : machine-examples.EveryRow machine-limits-rows.boundRows
+  -- Bytes that are those of words of 32 bits get the code of the words.
+  pub D-bytes-same-code : table-check-bytes-bytes.SameCode
+  -- Bytes left over after the last whole word get 3, unless the first word is broken.
+  pub D-bytes-left-over : table-check-bytes-bytes.LeftOver
+  -- ---- Document 01, "Influence": what a call may alter, and what its answer may depend on
+  -- A call on an accepted table leaves an accepted table, with the same unchanging parts.
+  pub I-stays-accepted : machine-machine-claims.EveryCallStaysAccepted
+  -- A run leaves an accepted table, with the same unchanging parts.
+  pub I-run-stays-accepted : machine-machine-claims.EveryRunStaysAccepted
+  -- "A call may alter only what belongs to domains its caller influences", on an accepted table.
+  pub I-alters-only : machine-machine-claims.EveryCallAltersOnly
+  -- A call's answer depends only on its own words, its caller's part and the unchanging parts, on an accepted table and any
+  -- other.
+  pub I-answer-depends : machine-machine-claims.EveryCallAnswerDepends
+  -- Every right has a source, and none is lost except by its holder or by one that may revoke it, call by call: on an
+  -- accepted table, for any two domains and each single right.
+  pub I-each-right : machine-machine-claims.EveryCallEachRight
+  -- Every right at the end of a run has a source.
+  pub I-rights-provenance : machine-machine-claims.EveryRunRightsProvenance
+  -- ---- Document 01, noninterference: "The rule is one statement about a whole list, not one for each call"
+  -- Strike every call whose caller is not in d's source set, and d sees the same: its answers, rights, queues and lost counts.
+  pub N-noninterference : machine-machine-claims.EveryRunNoninterference
+  -- Source sets and what d sees without the purged calls, in rows.
+  pub N-purge-rows : machine-purge-examples.EveryPurgeRow machine-purge-examples.purgeRows
+  -- ---- Document 01, demand 4: call totals and lost counts are conserved by the queues
+  -- Each call is answered by three words, on any table.
+  pub C-answers : machine-machine-claims.EveryRunAnswered
+  -- The call totals and lost counts of every endpoint are conserved by its queue.
+  pub C-counts-conserved : machine-machine-claims.EveryRunCountsConserved
+  -- Every queue is first in, first out.
+  pub C-fifo-order : machine-machine-claims.EveryRunFifoOrder
+  -- ---- What a call reads
+  -- Two readings of a table that agree on what a call reads give one decision.
+  pub R-same-decision : rules-readings.SameDecision
+  -- ---- The program linerun
+  -- Inputs and what linerun prints, byte for byte.
+  pub P-linerun-rows : linerun-report-examples.EveryRow linerun-report-examples.rows
+  -- Where linerun wants no further byte, what follows changes nothing.
+  pub P-linerun-nothing-follows : linerun-report-report.NothingFollows
+  -- linerun lends space enough: code 6 never comes.
+  pub P-linerun-never-six : linerun-report-report.NeverSix
+  -- ---- Document 02 (b): a remove takes a set of rights, all or nothing
+  -- A remove is all or nothing, on an accepted table.
+  pub B-all-or-nothing : machine-machine-claims.EveryRemoveAllOrNothing
+  -- A remove of one right has the same decision as in document 01, on any table.
+  pub B-remove-of-one : machine-machine-claims.EveryRemoveOfOne
+  -- ---- Document 02 (c): lists are written as well as read
+  -- Calls that can be written are read back: decoding their words gives the calls.
+  pub W-reads-back : writer-theory-claims.ReadsBack
+  -- Two different lists of calls are never written in the same words.
+  pub W-different-words : writer-theory-claims.DifferentWords
+  -- A list that is read as calls past the four can be written, and is written as it came.
+  pub W-writes-back : writer-theory-claims.WritesBack
+  -- What is written, the reader takes past the four.
+  pub W-taken-by-reader : writer-theory-claims.TakenByReader
+  -- Where the code is 0, decoding as many words as the answer says gives the calls that were passed.
+  pub W-written-reads-back : writer-theory-list-claims.WrittenReadsBack
+  -- A list that is read as calls past the four is written as it came, where there is space for it and it isn't longer than a
+  -- list may be.
+  pub W-written-as-it-came : writer-theory-list-claims.WrittenAsItCame
+  -- A call needs at least one word, so more than 4,096 calls are more than 4,096 words.
+  pub W-each-wants-a-word : writer-theory-list-claims.EachWantsAWord
+  -- Of rows: where the code is 0, decoding as many words as the answer says gives the calls of the rows.
+  pub W-rows-read-back : writer-theory-list-claims.RowsReadBack
+  -- Calls, the lent words, and the whole outcome.
+  pub W-rows : writer-theory-examples.EveryRow writer-theory-examples.rows
+  -- Each call that cannot be written is refused by 30 as the third of four, and no word is written.
+  pub W-bad-calls : writer-theory-examples.EveryBadCall
+  -- Rows of five words, the lent words, and the whole outcome.
+  pub W-five-words : writer-theory-row-examples.EveryRow writer-theory-row-examples.writtenRows
+  -- One call of each kind, with a value in every column that it uses; a value is passed as it is, whether it fits or not.
+  pub W-each-kind : writer-theory-row-examples.EachKindHandedIn
+  -- Rows with an unknown kind, with a value in a column that their kind does not use, or too short are no calls.
+  pub W-no-calls : writer-theory-row-examples.NoCallsHandedIn
+  -- ---- Document 02 (d): a receive leaves the slots from the waiting count on, whatever they hold
+  -- Of any twelve words with 1 to 8 waiting, the slots from the waiting count on stay.
+  pub Q-later-slots : queue-later-slots.LaterSlotsStay
+  -- Which words a send is done with, on both sides of each test.
+  pub Q-send-rows : queue-examples.EverySendRow queue-examples.sendRows
+  -- ---- Document 02 (e): end-of-shift totals
+  -- Sends plus waiting at the start are received plus lost plus waiting at the end, each the count of all calls as one list: from
+  -- every accepted table, for every endpoint that it has.
+  pub E-sheet : totals-theory-claims.SheetHolds
+  -- The table that lists leave is the one that all their calls leave, run as one list.
+  pub E-one-run : totals-theory-claims.OneRun
+  -- The totals can be computed list by list.
+  pub E-list-by-list : totals-theory-claims.ListByList
+  -- The tally that is kept list by list is that of all the lists.
+  pub E-tally : totals-add-tallied.EveryTallyListByList
+  -- Lists and their totals.
+  pub E-totals-rows : totals-theory-examples.EveryRow totals-theory-examples.rows
+  -- Bytes and the lists that they give: what is wanted first, what each code is for, and which of two comes first.
+  pub E-input-rows : linetotals-input-examples.EveryRow linetotals-input-examples.rows
+  -- Inputs and what linetotals prints, byte for byte.
+  pub E-sheet-rows : linetotals-theory-examples.EveryRow linetotals-theory-examples.rows
+  -- Where linetotals wants no further byte, what follows changes nothing.
+  pub E-nothing-follows : linetotals-theory-sheet.NothingFollows
+  -- ---- Document 02 (g): the isolation rule between two lines
+  -- The isolation rule between two lines, of the machine fed any calls, however many.
+  pub G-lines : isolation-theory-two-lines.IsolationBetweenLines
+  -- The isolation rule between two runs of the kernel on one list: what it left on both lines looks the same to d.
+  pub G-runs : isolation-theory-two-lines.IsolationBetweenRuns
+  -- Pairs of lines, the condition on them, and what a domain sees.
+  pub G-rows : isolation-theory-line-examples.EveryLineRow isolation-theory-line-examples.lineRows
+  -- The condition can be met by lines that differ.
+  pub G-condition-met : isolation-theory-line-examples.ConditionMet
+  -- Equal parts of each member are not enough: without the rights held on a member the rule is false.
+  pub G-parts-not-enough : isolation-theory-line-examples.PartsAreNotEnough
+  -- Nor is it enough to agree on d alone,
+  pub G-own-part-not-enough : isolation-theory-line-examples.OwnPartIsNotEnough
+  -- nor on the source set that is computed on the table at the end: rights that were used and then removed are missed.
+  pub G-last-table-not-enough : isolation-theory-line-examples.LastTableIsNotEnough
+  -- ---- Document 02 (h): who can reach the drives right now
+  -- Noting what a call alters turns the holders of the table before it into those of the table after it, computed afresh.
+  pub H-kept : holders-theory-claims.HoldersKept
+  -- Noted from the start of a list on, the words are the holders of the table after each of its calls: after the first k, for
+  -- any k.
+  pub H-kept-along : holders-theory-claims.HoldersKeptAlong
+  -- Of any words that can be asked, the set holds exactly those that have a chain in these words, d itself among them.
+  pub H-asked-exactly : holders-theory-claims.AskedExactly
+  -- The holders of an accepted table can be asked about each of its domains: the set holds exactly those that have a chain of
+  -- rights to it in that table.
+  pub H-asked-now : holders-theory-claims.AskedNow
+  -- The closure of the set s holds exactly those that have a chain to a member of s, whatever the words and the set.
+  pub H-closed-exactly : reachability-chain.ClosedExactly
+  -- For any relation below n, the closure of d alone holds exactly those that have a chain to d.
+  pub H-relation-closed-exactly : reachability-chain.RelationClosedExactly
+  -- Relations and their closures.
+  pub H-closure-rows : reachability-examples.EveryClosureRow reachability-examples.closureRows
+  -- Tables and their holders.
+  pub H-table-rows : holders-theory-examples.EveryHoldersRow holders-theory-examples.tableRows
+  -- Single changes and the holders after them.
+  pub H-change-rows : holders-theory-examples.EveryHoldersRow holders-theory-examples.changeRows
+  -- Words that are asked, and the answer.
+  pub H-asking-rows : holders-theory-examples.EveryHoldersRow holders-theory-examples.askingRows
+  -- ---- Document 02 (j): connected components, which no list joins
+  -- A component is exactly what is connected with its domain, in arbitrary words.
+  pub J-component : isolation-theory-component.EveryComponent
+  -- A component holds domains alone, so that a call of an unknown caller is purged whatever the table.
+  pub J-of-domains : isolation-theory-component.EveryComponentOfDomains
+  -- No run joins components: at its end no domain influences one outside the component that it had at the start.
+  pub J-stay : isolation-theory-component.EveryRunComponentsStay
+  -- Strike every call whose caller is not in d's component, and d sees the same.
+  pub J-noninterference : isolation-theory-component.EveryRunComponentNoninterference
+  -- The same of the words that the kernel left, for any list that runs: no run joins components,
+  pub J-run-stay : isolation-theory-component.EveryPromisedRunComponentsStay
+  -- and d sees the same without the calls from outside its component.
+  pub J-run-noninterference : isolation-theory-component.EveryPromisedRunComponentNoninterference
+  -- Tables and their components.
+  pub J-rows : isolation-theory-component-examples.EveryComponentRow isolation-theory-component-examples.componentRows
+  -- ---- Which rights any list could ever give
+  -- The computed rights are exactly the potential ones.
+  pub V-exact : potential-theory-claims.EveryPotentialRight
+  -- Whatever calls are run, however many, refused or not: if their known callers are in s, they give only what is potential.
+  pub V-run-within : potential-theory-claims.EveryRunWithinPotential
+  -- The same of the words that the kernel left, for any list that runs.
+  pub V-promised-run-within : potential-theory-claims.EveryPromisedRunWithinPotential
+  -- What all domains together can bring about bounds all calls whatsoever.
+  pub V-run-within-everyone : potential-theory-claims.EveryRunWithinEveryone
+  -- The same of the words that the kernel left, for any list that runs.
+  pub V-promised-run-within-everyone : potential-theory-claims.EveryPromisedRunWithinEveryone
+  -- Nothing new becomes possible: what is potential after calls of s was so before them.
+  pub V-nothing-new : potential-theory-claims.EveryRunNothingNew
+  -- There is one list that gives all of them, and it is computed.
+  pub V-list-gives-all : potential-theory-claims.EveryPotentialListGivesAll
+  -- A run of that list by the kernel leaves them.
+  pub V-run-gives-all : potential-theory-claims.EveryPromisedRunGivesAll
+  -- Outside its component nothing is potential for a domain, whoever acts.
+  pub V-in-component : potential-theory-claims.EveryPotentialInComponent
+  -- Tables, who acts, and the potential rights.
+  pub V-rows : potential-theory-examples.EveryPotentialRow potential-theory-examples.potentialRows
+  -- ---- Document 02 (k): a damaged table is repaired, and no right is added
+  -- Where word 0 and the length are right, each holder's rights word on each target and each endpoint is mended.
+  pub K-each-part : repair-theory-claims.EachPartMended
+  -- A table that can be mended is accepted once it is mended.
+  pub K-mended-accepted : repair-theory-claims.MendedAccepted
+  -- One that cannot be mended is still refused, so that 33 is answered only where mending is not enough.
+  pub K-unmendable-refused : repair-theory-claims.UnmendableRefused
+  -- A sound table stays.
+  pub K-sound-stays : repair-theory-claims.SoundStays
+  -- Mending adds no right, a word read by its bits,
+  pub K-no-right-added : repair-theory-claims.NoRightAdded
+  -- nor in any other reading of a word, so long as 20000000 shows none.
+  pub K-no-right-in-any-reading : repair-theory-claims.NoRightInAnyReading
+  -- Mending alters no other word than a broken rights word and the queue words of an endpoint with a broken one.
+  pub K-only-broken : repair-theory-claims.OnlyBrokenAltered
+  -- What results passes the check.
+  pub K-repair-accepted : repair-theory-repair-claims.EveryRepairAccepted
+  -- A refusal alters neither the table nor the list.
+  pub K-refusal-alters-nothing : repair-theory-repair-claims.EveryRefusalAltersNothing
+  -- A sound table stays and yields an empty list.
+  pub K-sound-table-stays : repair-theory-repair-claims.EverySoundTableStays
+  -- No holder has a right at the end that its word didn't show before, read by its bits or in any other way.
+  pub K-repair-adds-no-right : repair-theory-repair-claims.EveryRepairAddsNoRight
+  -- Only broken words, and the queue words of an endpoint with one, are altered.
+  pub K-repair-only-broken : repair-theory-repair-claims.EveryRepairAltersOnlyBroken
+  -- The pairs at the front of the list report exactly the words that were altered, lowest place first, each by its place and its
+  -- old content; the words after them stay.
+  pub K-reported-exactly : repair-theory-repair-claims.EveryRepairReportedExactly
+  -- The old table can be restored: the pairs put back into the table that was left give the table as it was.
+  pub K-put-back : repair-theory-repair-claims.EveryRepairPutBack
+  -- Sound tables stay and yield an empty list, one of them with every right there is.
+  pub K-sound-rows : repair-theory-examples.EveryRow repair-theory-examples.soundRows
+  -- A broken rights word becomes 20000000, whatever its low bits: by its kind and by its bits, the first and the last.
+  pub K-rights-rows : repair-theory-examples.EveryRow repair-theory-examples.rightsRows
+  -- An endpoint with a broken waiting, lost or slot word is emptied. Words that already are those of an empty queue are not
+  -- reported; a sound lost count that is not 0 is.
+  pub K-queue-rows : repair-theory-examples.EveryRow repair-theory-examples.queueRows
+  -- The lent list longer than needed, of exactly two words for each altered word, and one word less.
+  pub K-list-rows : repair-theory-examples.EveryRow repair-theory-examples.listRows
+  -- What is not mended is refused by 33: word 0, the length, a name, an info, and a name that repeats.
+  pub K-frame-rows : repair-theory-examples.EveryRow repair-theory-examples.frameRows
+  -- Putting back takes the pairs in their order, and ignores a word that is left over.
+  pub K-put-back-rows : repair-theory-examples.PutBackHolds
+  -- ---- Document 02 (l): the working layout, with the same answers, the same holders and, stored, the same table words
+  -- Two runs that keep the promise of a run from the same words, as `kernel::run` and `run_working` do by their contracts, leave
+  -- the same, on every table, accepted or not, and every list.
+  pub L-same : working-theory-two-runs.BothGiveTheSame
+  -- On a state that represents an accepted table, every call simulates the call on the table.
+  pub L-simulates : working-theory-represents.CallsSimulate
+  -- A loaded state represents the table.
+  pub L-loaded : working-load-claims.LoadedRepresents
+  -- A stored state is the table that it represents.
+  pub L-stored : working-load-claims.StoreIsTable
+  -- Loaded rows represent the table's rights.
+  pub L-rights-loaded : rights-matrix-theory-claims.LoadedRights
+  -- What is put into rows is held.
+  pub L-rights-put : rights-matrix-theory-claims.PutIsHeld
+  -- Stored rows are the table's rights words.
+  pub L-rights-stored : rights-matrix-theory-claims.StoredRights
+  -- A row of what each domain holds on each, and of what is held on and by a domain that is not there.
+  pub L-rights-row-loaded : rights-matrix-theory-examples.RowLoaded
+  -- A row where domain 0's rights on 1 become 15 and are stored: the header and the word after the rights words stay.
+  pub L-rights-row-stored : rights-matrix-theory-examples.RowStored
+  -- A loaded ring represents the queue.
+  pub L-ring-loaded : ring-theory-claims.LoadedRingRepresents
+  -- A send, to a full queue too, and a receive leave a ring that represents what they leave of the queue.
+  pub L-ring-simulates : ring-theory-claims.QueuesSimulate
+  -- A ring stored to words with the same name and info is the queue.
+  pub L-ring-stored : ring-theory-claims.StoreIsQueue
+  -- Rings whose places wrap round and full rings: what a send, a receive, loading and storing make of them.
+  pub L-ring-rows : ring-theory-examples.EveryRing ring-theory-examples.ringRows
+  -- ---- Document 02 (m): turns
+  -- Served in time: the oldest pending call of a domain is served within n turns that aren't refused, whatever is handed in.
+  pub M-served-in-time : turns-theory-claims.ServedInTime
+  -- As one list: the calls served, in order, have the answers, the table at the end and the holders after each call that the
+  -- machine gives for them, however long the history, from arbitrary words as a table.
+  pub M-one-list : turns-theory-claims.AsOneList
+  -- Of every history from an accepted table, for every domain: it sees of the calls served what it sees of the machine that is
+  -- fed only the kept ones.
+  pub M-noninterference : turns-theory-claims.EveryHistoryNoninterference
+  -- The calls of a domain that were served, and then those still pending, are those that were pending, and then those that it
+  -- handed in: none is lost, none is served twice, and each is served in its order.
+  pub M-in-order : turns-theory-claims.InOrder
+  -- A turn is idle exactly where none of the n domains has a call pending.
+  pub M-idle-exactly : turns-theory-claims.IdleExactly
+  -- A refused event changes nothing.
+  pub M-refused : turns-theory-claims.RefusedChangesNothing
+  -- The beginning is proper: each domain has at most 16 words pending, calls of its own, and an index that is no domain has none.
+  pub M-begins-proper : turns-theory-claims.BeginsProper
+  -- A history from an accepted table leaves a proper state.
+  pub M-stays-proper : turns-theory-claims.StaysProper
+  -- A turn serves a domain's own calls.
+  pub M-serves-own : turns-theory-claims.ServesOwn
+  -- Histories and which calls their turns serve.
+  pub M-order-rows : turns-theory-examples.EveryTurnRow turns-theory-examples.turnRows
+  -- States and the calls that pend in them.
+  pub M-pending-rows : turns-state-examples.EveryPendingRow turns-state-examples.pendingRows
+  -- Words that are all 0, however many, represent the beginning.
+  pub M-words-begin : turns-claims.Begins
+  -- Handing in, in a state of the right length: the code is the one for what the words represent, and so is what they represent
+  -- then.
+  pub M-words-hand-in : turns-claims.EveryHandIn
+  -- A turn, in a state of the right length: likewise.
+  pub M-words-turn : turns-claims.EveryTurn
+  -- Events that keep the promises of their functions match a history: codes, answers, holders, and at the end the table, what is
+  -- pending and the place of the turn, from any state of the right length.
+  pub M-word-history : turns-word-history.EveryWordHistory
+  -- Served in time, by the words: the oldest pending call of a domain is served within n turns that are not refused.
+  pub M-words-served-in-time : turns-word-history.ServedInTimeByWords
+  -- From words that are all 0, events that keep the promises are as one list.
+  pub M-from-the-beginning : turns-word-history.FromTheBeginning
+  -- States, what is handed in, and the words left.
+  pub M-hand-in-rows : turns-examples.EveryRow turns-examples.handInRows
+  -- States, a turn, and the words left.
+  pub M-turn-rows : turns-examples.EveryRow turns-examples.turnRows
