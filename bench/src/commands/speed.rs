@@ -58,9 +58,8 @@ exceed. A goal is for the check, or for the run that is meant for long lists,
 and is told of each proved run.
 Every kernel's runs are first compared with the separate machine's. The plain C
 checks words as the bytes that they are in memory; the proved check of words is
-in the archive of the crate test_check_export (`rt staticlib test_check_export`), which
-the program is built with where it is there, and its rows are left out where it
-isn't.
+in an archive of its own (`rt staticlib test_check_export`), which the program
+is built with where it is there, and its rows are left out where it isn't.
 
 Runs that are merged must be of one program, processor, seed and number of
 rounds, and made at different times.
