@@ -1,5 +1,5 @@
 -- What is reported of who can reach a domain, and that it is exactly the chains (specs/Asked, specs/Claims). Assumes nothing.
-use mathlib.Core.Path.{_≡_, sym, subst, _∙_}
+use mathlib.Core.Path.{_≡_, sym, ap, subst, _∙_}
 use mathlib.Core.Bool.{true, _&&_, and-true}
 use mathlib.Core.List.{List}
 use Prim.Native.Nat.{ℕ, _^_, _<_, _≤_}
@@ -14,16 +14,21 @@ use Rattle.machine.specs.Below.{bitsBelow}
 use Rattle.machine.specs.Table.{domains}
 use Rattle.machine.specs.Check.{Accepted}
 use Rattle.machine.specs.Influence.{reaches}
+use Rattle.machine.specs.Call.{split}
+use Rattle.machine.specs.Run.{run}
+use Rattle.machine.specs.Entry.{ran, Runs}
 use Rattle.machine.specs.Holders.{holdersOf}
 use Rattle.machine.proofs.Bools.{and-left, and-right, cond-elim}
-use Rattle.machine.proofs.Below.{all-at, all-of, bits-lt, words-at}
+use Rattle.machine.proofs.Below.{all-at, all-of, bits-lt, bits-at, words-at}
 use Rattle.machine.proofs.Accepted.{accepted-counts}
+use Rattle.machine.proofs.Step.{run-accepted}
+use Rattle.machine.proofs.Promise.{runs-accepted, entry-ran, entry-code}
 use Rattle.reachability.specs.Chain.{Chain, linked, linkWords}
 use Rattle.reachability.proofs.Bits.{bit-own, bit-other}
 use Rattle.reachability.proofs.Bounds.{closed-lt}
 use Rattle.reachability.proofs.Chain.{closed-exactly, relation-closed-exactly}
 use Rattle.holders_theory.specs.Asked.{bitsWithin, askable, askCode, asked}
-use Rattle.holders_theory.specs.Claims.{AskedExactly, AskedNow}
+use Rattle.holders_theory.specs.Claims.{HoldersSay, AskedExactly, AskedNow, AskedAfterRun}
 use Rattle.holders_theory.proofs.Filled.{holders-length}
 
 -- ---- when words can be asked
@@ -84,3 +89,18 @@ unfolding askCode asked holdersOf linkWords
 asked-now t d u a l =
     let h = holders-askable t d a l in
     (rw h, rw h (relation-closed-exactly (domains t) (reaches t) d u))
+
+pub asked-after-run : AskedAfterRun
+unfolding ran
+asked-after-run t ws space holders calls answers end kept d u p l =
+    let runs : Runs t ws (length space) (length holders) = sym (p .sameCode ∙ entry-code t ws space holders) in
+    let whole = entry-ran t ws space holders runs in
+    let stays = run-accepted t (split ws) (runs-accepted t ws (length space) (length holders) runs) in
+    rw (p .sameTable ∙ ap (λ o. o .table) whole, p .sameHolders ∙ ap (λ o. o .holders) whole)
+    (asked-now (run t (split ws)) d u (stays .accepted) (omega (arith, l, stays .frame .sameDomains)))
+
+-- ---- word by word
+pub holders-say : HoldersSay
+unfolding holdersOf
+holders-say t h g a b =
+    rw (words-at (domains t) (λ g. bitsBelow (domains t) (λ h. reaches t h g)) g 0 b) (bits-at (domains t) (λ h. reaches t h g) h a)

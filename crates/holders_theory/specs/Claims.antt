@@ -5,7 +5,7 @@ use mathlib.Core.Path.{_≡_}
 use mathlib.Core.Bool.{true}
 use mathlib.Core.Logic.{_↔_}
 use mathlib.Core.List.{List}
-use lib.ListN.{take}
+use lib.ListN.{getD, take}
 use Rattle.machine.specs.Below.{hasBit}
 use Rattle.machine.specs.Table.{domains}
 use Rattle.machine.specs.Check.{Accepted}
@@ -14,9 +14,14 @@ use Rattle.machine.specs.Machine.{decide, effect, step}
 use Rattle.machine.specs.Run.{run}
 use Rattle.machine.specs.Influence.{reaches}
 use Rattle.machine.specs.Holders.{holdersOf}
+use Rattle.machine.specs.Promise.{RunPromise}
 use Rattle.reachability.specs.Chain.{Chain, linked, among}
 use Rattle.holders_theory.specs.Noted.{holdersAfter, holdersAfterCalls}
 use Rattle.holders_theory.specs.Asked.{askable, askCode, asked}
+
+-- Bit h of word g of a table's holders says whether h has any right on g.
+abbrev pub HoldersSay : Type 0
+HoldersSay = (t : List ℕ) (h g : ℕ) → h < domains t → g < domains t → hasBit (getD (holdersOf t) g 0) h ≡ reaches t h g
 
 -- Noting what a call alters turns the holders of the table before it into those of the table after it, computed afresh.
 abbrev pub HoldersKept : Type 0
@@ -42,3 +47,12 @@ AskedNow =
     → Accepted t
     → d < domains t
     → (askCode (holdersOf t) d ≡ 0) × ((hasBit (asked (holdersOf t) d) u ≡ true) ↔ Chain (among (domains t) (reaches t)) d u)
+
+-- The same of the words that a run of the kernel left: its holders can be asked about each domain, and the set holds exactly those
+-- that have a chain of rights to it in the table that the run left.
+abbrev pub AskedAfterRun : Type 0
+AskedAfterRun =
+    (t ws space holders : List ℕ) (calls : ℕ) (answers end kept : List ℕ) (d u : ℕ)
+    → RunPromise t ws space holders 0 calls answers end kept
+    → d < domains t
+    → (askCode kept d ≡ 0) × ((hasBit (asked kept d) u ≡ true) ↔ Chain (among (domains end) (reaches end)) d u)

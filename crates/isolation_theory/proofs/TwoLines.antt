@@ -143,4 +143,6 @@ between-lines s t cs d l b a =
 
 pub between-runs : IsolationBetweenRuns
 between-runs s t ws p q d l b a =
-    rw (ran-answers s ws p, ran-table s ws p, ran-answers t ws q, ran-table t ws q) (same-seen s t (split ws) d l b a _ _)
+    let seen : view d (split ws) (p .answers) (p .end) ≡ view d (split ws) (q .answers) (q .end) =
+    rw (ran-answers s ws p, ran-table s ws p, ran-answers t ws q, ran-table t ws q) (same-seen s t (split ws) d l b a _ _) in
+    (seen, same-set s t (split ws) d l b a)

@@ -43,11 +43,12 @@ IsolationBetweenLines =
     → AgreeOnSources d cs s t
     → SameOnBoth d cs s t
 
--- The isolation rule between two runs of the kernel on one list: what it left on both lines looks the same to d.
+-- The isolation rule between two runs of the kernel on one list: what it left on both lines looks the same to d, and the source
+-- set of d computed on the second table is the same too.
 abbrev pub IsolationBetweenRuns : Type 0
 IsolationBetweenRuns =
     (s t ws : List ℕ) (p : PromisedRun s ws) (q : PromisedRun t ws) (d : ℕ)
     → TwoLines s t
     → d < domains s
     → AgreeOnSources d (split ws) s t
-    → view d (split ws) (p .answers) (p .end) ≡ view d (split ws) (q .answers) (q .end)
+    → (view d (split ws) (p .answers) (p .end) ≡ view d (split ws) (q .answers) (q .end)) × (sources s (split ws) d ≡ sources t (split ws) d)

@@ -17,4 +17,5 @@ pub mod Noninterference
 pub mod Trail
 pub mod Split
 pub mod Counts
+pub mod Refused
 pub mod Promise

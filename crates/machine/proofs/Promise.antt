@@ -15,13 +15,14 @@ use Rattle.machine.specs.Call.{split}
 use Rattle.machine.specs.Run as machine
 use Rattle.machine.specs.Entry.{Outcome, longestList, holdersCode, spaceCode, entryCode, Runs, refusal, ran, entry}
 use Rattle.machine.specs.Holders.{holdersOf}
-use Rattle.machine.specs.RunClaims.{Noninterference, RightsProvenance, CountsConserved, FifoOrder}
-use Rattle.machine.specs.Promise.{RunPromise}
+use Rattle.machine.specs.RunClaims.{RefusalChangesNothing, Noninterference, RightsProvenance, CountsConserved, FifoOrder}
+use Rattle.machine.specs.Promise.{RunPromise, Keeps, EveryEntryKeeps}
 use Rattle.machine.proofs.Bools.{cond-elim}
 use Rattle.machine.proofs.Split.{split-few}
 use Rattle.machine.proofs.Counts.{counts-conserved, fifo-order}
 use Rattle.machine.proofs.Trail.{rights-provenance}
 use Rattle.machine.proofs.Noninterference.{noninterference}
+use Rattle.machine.proofs.Refused.{refusal-changes-nothing}
 
 -- a list that runs has an accepted table
 pub runs-accepted : (t ws : List ℕ) (size lent : ℕ) → Runs t ws size lent → Accepted t
@@ -52,6 +53,10 @@ entry-code t ws space holders =
 
 -- a list that runs left what is claimed of every run
 module _ (t ws space : List ℕ) (lent : ℕ) (r : Runs t ws (length space) lent) where
+  ran-refusals : RefusalChangesNothing t (split ws) (ran t ws space .answers) (ran t ws space .table)
+  unfolding ran
+  ran-refusals = refusal-changes-nothing t (split ws) (drop (3 * length (split ws)) space)
+
   ran-noninterference : Noninterference t (split ws) (ran t ws space .answers) (ran t ws space .table)
   unfolding ran
   ran-noninterference = noninterference t (split ws) (drop (3 * length (split ws)) space) (runs-accepted t ws _ lent r)
@@ -69,10 +74,7 @@ module _ (t ws space : List ℕ) (lent : ℕ) (r : Runs t ws (length space) lent
   ran-in-order = fifo-order t (split ws) (drop (3 * length (split ws)) space) (runs-accepted t ws _ lent r)
 
 -- What the entry leaves keeps the promise.
-abbrev Kept : List ℕ → List ℕ → List ℕ → List ℕ → Outcome → Type 0
-Kept t ws space holders o = RunPromise t ws space holders (o .code) (o .calls) (o .answers) (o .table) (o .holders)
-
-pub promise-kept : (t ws space holders : List ℕ) → Kept t ws space holders (entry t ws space holders)
+pub promise-kept : EveryEntryKeeps
 promise-kept t ws space holders =
     record {
       sameCode = refl;
@@ -80,6 +82,7 @@ promise-kept t ws space holders =
       sameAnswers = refl;
       sameTable = refl;
       sameHolders = refl;
+      refusals = λ z. from z (λ o. RefusalChangesNothing t (split ws) (o .answers) (o .table)) (ran-refusals t ws space _);
       noninterference = λ z. from z (λ o. Noninterference t (split ws) (o .answers) (o .table)) (ran-noninterference t ws space _);
       rightsProvenance = λ z. from z (λ o. RightsProvenance t (split ws) (o .table)) (ran-rights t ws space _);
       counts = λ z. from z (λ o. (e : ℕ) → e < endpoints t → CountsConserved e t (split ws) (o .answers) (o .table)) (ran-counts t ws space _);
@@ -95,7 +98,7 @@ promise-kept t ws space holders =
         subst P (sym (entry-ran t ws space holders r)) (f r)
 
 -- So does every function that leaves the same.
-pub promise-of : (t ws space holders : List ℕ) (o : Outcome) → o ≡ entry t ws space holders → Kept t ws space holders o
+pub promise-of : (t ws space holders : List ℕ) (o : Outcome) → o ≡ entry t ws space holders → Keeps t ws space holders o
 promise-of t ws space holders o e = rw e (promise-kept t ws space holders)
 
 -- ---- the entry place by place

@@ -370,7 +370,7 @@ no-caller t c n =
       revoking = λ k _ _ _ _ _. absurd (n k);
     })
 
-refused-keeps : (t : List ℕ) (c : Call) (n : ℕ) → decide t c ≡ refused n → step t c ≡ t
+pub refused-keeps : (t : List ℕ) (c : Call) (n : ℕ) → decide t c ≡ refused n → step t c ≡ t
 unfolding step effect after
 refused-keeps t c n e = rw e
 

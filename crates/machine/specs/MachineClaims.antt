@@ -19,7 +19,7 @@ use Rattle.machine.specs.Run.{run, answers}
 use Rattle.machine.specs.Influence.{influences}
 use Rattle.machine.specs.SameParts.{SameFrame, SamePart}
 use Rattle.machine.specs.Trail.{GivenBy, RemovedBy, RevokedBy}
-use Rattle.machine.specs.RunClaims.{Noninterference, RightsProvenance, CountsConserved, FifoOrder}
+use Rattle.machine.specs.RunClaims.{RefusalChangesNothing, Noninterference, RightsProvenance, CountsConserved, FifoOrder}
 
 -- ---- one call
 
@@ -116,6 +116,11 @@ EveryRunStaysAccepted = (t : List ℕ) (cs : List Call) → Accepted t → Stays
 -- Each call is answered by three words, on any table.
 abbrev pub EveryRunAnswered : Type 0
 EveryRunAnswered = (t : List ℕ) (cs : List Call) → length (answers t cs) ≡ 3 * length cs
+
+-- A refused call changes nothing, on any table.
+abbrev pub EveryRunRefusalChangesNothing : Type 0
+EveryRunRefusalChangesNothing =
+    (t : List ℕ) (cs : List Call) (rest : List ℕ) → RefusalChangesNothing t cs (answers t cs ++ rest) (run t cs)
 
 -- Noninterference (specs/RunClaims).
 abbrev pub EveryRunNoninterference : Type 0

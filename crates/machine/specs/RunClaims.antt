@@ -1,19 +1,36 @@
 -- Claims about the words that a run left. The calls cs were run from the table t, and left the answers, three words for each
 -- call and perhaps others after them, and the table end. Each claim is a field of the kernel's contract (specs/Promise). That
 -- the machine's own runs meet it is in specs/MachineClaims.
-use Prim.Native.Nat.{ℕ, _+_, _<_, _^_, min}
+use Prim.Native.Nat.{ℕ, _+_, _*_, _<_, _^_, min}
 use mathlib.Core.Path.{_≡_}
 use mathlib.Core.Bool.{true}
 use mathlib.Core.Logic.{_⊎_}
-use mathlib.Core.List.{List, _++_, map}
+use mathlib.Core.List.{List, [], _∷_, _++_, map}
+use lib.ListN.{length, take, drop}
 use Rattle.machine.specs.Right.{holds}
 use Rattle.machine.specs.Table.{domains, rights, endpoint}
 use Rattle.machine.specs.Queue.{waiting, lost, mostLost}
 use Rattle.machine.specs.Call.{Call}
+use Rattle.machine.specs.Machine.{Decision.refused, decide, step, answerWord}
 use Rattle.machine.specs.Run as machine
 use Rattle.machine.specs.Purge.{purge, view}
 use Rattle.machine.specs.Counts.{sentTo, receivedFrom, fullSends, messagesFrom, messagesTo, messageOf, takenOf, countPushed, gone, messages}
 use Rattle.machine.specs.Trail.{GivenAlong}
+
+-- The call c is refused by n, where the calls before ran ahead of it and the calls later follow: no table word is altered, its
+-- three answer words are its number and two zeros, and the table at the end is that of a run without it.
+pub record RefusedHere (t : List ℕ) (before : List Call) (c : Call) (later : List Call) (n : ℕ) (answers end : List ℕ) : Type 0 where
+  pub table : step (machine.run t before) c ≡ machine.run t before
+  pub answer : take 3 (drop (3 * length before) answers) ≡ answerWord c n ∷ 0 ∷ 0 ∷ []
+  pub without : end ≡ machine.run t (before ++ later)
+
+-- A refusal changes nothing, wherever in the list the call is.
+abbrev pub RefusalChangesNothing : List ℕ → List Call → List ℕ → List ℕ → Type 0
+RefusalChangesNothing t cs answers end =
+    (before : List Call) (c : Call) (later : List Call) (n : ℕ)
+    → cs ≡ before ++ (c ∷ later)
+    → decide (machine.run t before) c ≡ refused n
+    → RefusedHere t before c later n answers end
 
 -- Noninterference (specs/Purge): for every domain d, what d sees of the run is what it sees of the machine run on the kept
 -- calls alone, from the same table.

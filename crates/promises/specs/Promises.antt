@@ -18,6 +18,7 @@ use Rattle.machine.specs.CountExamples as machine-count-examples
 use Rattle.machine.specs.Examples as machine-examples
 use Rattle.machine.specs.FieldExamples as machine-field-examples
 use Rattle.machine.specs.MachineClaims as machine-machine-claims
+use Rattle.machine.specs.Promise as machine-promise
 use Rattle.machine.specs.PurgeExamples as machine-purge-examples
 use Rattle.machine.specs.TableExamples as machine-table-examples
 use Rattle.machine_limits.specs.Rows as machine-limits-rows
@@ -80,6 +81,12 @@ pub record Promises : Type 0 where
   pub D-bytes-same-code : table-check-bytes-bytes.SameCode
   -- Bytes left over after the last whole word get 3, unless the first word is broken.
   pub D-bytes-left-over : table-check-bytes-bytes.LeftOver
+  -- ---- Document 01, demands 1 and 2: a refusal is by its number and changes nothing
+  -- What the entry leaves keeps the promise of a run, and so does what is stated by the entry, as the report of linerun.
+  pub D-entry-keeps : machine-promise.EveryEntryKeeps
+  -- A refused call, wherever in a list, alters no table word, is answered with its number and two zero words, and the table at the
+  -- end is that of a run without it.
+  pub D-refusals : machine-machine-claims.EveryRunRefusalChangesNothing
   -- ---- Document 01, "Influence": what a call may alter, and what its answer may depend on
   -- A call on an accepted table leaves an accepted table, with the same unchanging parts.
   pub I-stays-accepted : machine-machine-claims.EveryCallStaysAccepted
@@ -176,7 +183,8 @@ pub record Promises : Type 0 where
   -- ---- Document 02 (g): the isolation rule between two lines
   -- The isolation rule between two lines, of the machine fed any calls, however many.
   pub G-lines : isolation-theory-two-lines.IsolationBetweenLines
-  -- The isolation rule between two runs of the kernel on one list: what it left on both lines looks the same to d.
+  -- The isolation rule between two runs of the kernel on one list: what it left on both lines looks the same to d, and the source
+  -- set of d computed on the second table is the same too.
   pub G-runs : isolation-theory-two-lines.IsolationBetweenRuns
   -- Pairs of lines, the condition on them, and what a domain sees.
   pub G-rows : isolation-theory-line-examples.EveryLineRow isolation-theory-line-examples.lineRows
@@ -189,6 +197,8 @@ pub record Promises : Type 0 where
   -- nor on the source set that is computed on the table at the end: rights that were used and then removed are missed.
   pub G-last-table-not-enough : isolation-theory-line-examples.LastTableIsNotEnough
   -- ---- Document 02 (h): who can reach the drives right now
+  -- Bit h of word g of a table's holders says whether h has any right on g.
+  pub H-say : holders-theory-claims.HoldersSay
   -- Noting what a call alters turns the holders of the table before it into those of the table after it, computed afresh.
   pub H-kept : holders-theory-claims.HoldersKept
   -- Noted from the start of a list on, the words are the holders of the table after each of its calls: after the first k, for
@@ -199,6 +209,9 @@ pub record Promises : Type 0 where
   -- The holders of an accepted table can be asked about each of its domains: the set holds exactly those that have a chain of
   -- rights to it in that table.
   pub H-asked-now : holders-theory-claims.AskedNow
+  -- The holders that a run left can be asked about each domain: the set holds exactly those that have a chain of rights to it in
+  -- the table that the run left.
+  pub H-asked-after-run : holders-theory-claims.AskedAfterRun
   -- The closure of the set s holds exactly those that have a chain to a member of s, whatever the words and the set.
   pub H-closed-exactly : reachability-chain.ClosedExactly
   -- For any relation below n, the closure of d alone holds exactly those that have a chain to d.

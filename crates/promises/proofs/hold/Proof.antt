@@ -16,6 +16,8 @@ use Rattle.machine.proofs.Consistency as machine-consistency-proofs
 use Rattle.machine.proofs.Counts as machine-counts-proofs
 use Rattle.machine.proofs.Examples as machine-examples-proofs
 use Rattle.machine.proofs.Noninterference as machine-noninterference-proofs
+use Rattle.machine.proofs.Promise as machine-promise-proofs
+use Rattle.machine.proofs.Refused as machine-refused-proofs
 use Rattle.machine.proofs.Step as machine-step-proofs
 use Rattle.machine.proofs.Trail as machine-trail-proofs
 use Rattle.machine_limits.proofs.Rows as machine-limits-rows-proofs
@@ -71,6 +73,8 @@ returns c =
       D-limits = machine-limits-rows-proofs.every-bound-row;
       D-bytes-same-code = table-check-bytes-laws-proofs.same-code;
       D-bytes-left-over = table-check-bytes-laws-proofs.left-over;
+      D-entry-keeps = machine-promise-proofs.promise-kept;
+      D-refusals = machine-refused-proofs.refusal-changes-nothing;
       I-stays-accepted = machine-step-proofs.stays-accepted;
       I-run-stays-accepted = machine-step-proofs.run-accepted;
       I-alters-only = machine-step-proofs.alters-only;
@@ -118,10 +122,12 @@ returns c =
       G-parts-not-enough = isolation-theory-line-examples-proofs.parts-are-not-enough;
       G-own-part-not-enough = isolation-theory-line-examples-proofs.own-part-is-not-enough;
       G-last-table-not-enough = isolation-theory-line-examples-proofs.last-table-is-not-enough;
+      H-say = holders-theory-reported-proofs.holders-say;
       H-kept = holders-theory-kept-proofs.holders-kept;
       H-kept-along = holders-theory-kept-proofs.holders-kept-along;
       H-asked-exactly = holders-theory-reported-proofs.asked-exactly;
       H-asked-now = holders-theory-reported-proofs.asked-now;
+      H-asked-after-run = holders-theory-reported-proofs.asked-after-run;
       H-closed-exactly = reachability-chain-proofs.closed-exactly;
       H-relation-closed-exactly = reachability-chain-proofs.relation-closed-exactly;
       H-closure-rows = reachability-examples-proofs.every-closure-row;
