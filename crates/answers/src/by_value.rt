@@ -24,7 +24,8 @@ pub fn refusal(first: u32, refusal: Refusal) -> Answer
 
 // Returns the answer to a call that is refused without a table: 12 may come before its own code.
 pub fn refuse(n: u32, first: u32, caller: u32, number: Refusal) -> Answer
-    ensures { λ a. ⌜ answerWords a ≡ answerWord (one first) (code (refusedNumbers n caller number (refused (numberOf number)))) ∷ 0 ∷ 0 ∷ [] ⌝ }
+    ensures { λ a. ⌜ answerWords a
+        ≡ answerWord (one first) (code (refusedNumbers n caller number (refused (numberOf number)))) ∷ 0 ∷ 0 ∷ [] ⌝ }
 {
     let range = of_refused(n, caller, number);
     if let Range::Outside(refused) = range {

@@ -60,7 +60,8 @@ fn refused(head: u32, refusal: Refusal) -> Answer
 
 // Returns the answer to my endpoints: a bit for each endpoint that the caller owns.
 pub fn endpoints_listed(table: &[u32], first: u32, caller: u32) -> Answer
-    ensures { λ a. ⌜ answerWords a ≡ answerWord (one first) 0 ∷ shown (hasEndpoints (now (table .entry))) (ownedBits (now (table .entry)) caller) ∷ 0 ∷ [] ⌝ }
+    ensures { λ a. ⌜ answerWords a
+        ≡ answerWord (one first) 0 ∷ shown (hasEndpoints (now (table .entry))) (ownedBits (now (table .entry)) caller) ∷ 0 ∷ [] ⌝ }
 {
     let n = domains(table);
     let m = endpoints(table);
@@ -78,7 +79,9 @@ fn two_words(table: &[u32], n: u32, first: u32, caller: u32) -> Answer
     requires { ⌜ n ≡ domains (now table) ⌝ }
     requires { ⌜ 8 < n ⌝ }
     requires { ⌜ rightsAt n caller n ≤ length (now table) ⌝ }
-    ensures { λ a. ⌜ answerWords a ≡ answerWord (one first) 0 ∷ rightsBits (now (table .entry)) caller 0 % 2 ^ 32 ∷ rightsBits (now (table .entry)) caller 8 % 2 ^ 32 ∷ [] ⌝ }
+    ensures { λ a. ⌜ answerWords a
+        ≡ answerWord (one first) 0 ∷ rightsBits (now (table .entry)) caller 0 % 2 ^ 32
+        ∷ rightsBits (now (table .entry)) caller 8 % 2 ^ 32 ∷ [] ⌝ }
 {
     let low = rights_bits(table, n, caller, 0, 8);
     if n < 16 {
@@ -91,7 +94,9 @@ fn two_words(table: &[u32], n: u32, first: u32, caller: u32) -> Answer
 
 // Returns the answer to my rights: the caller's rights, eight targets to a word.
 pub fn rights_listed(table: &[u32], first: u32, caller: u32) -> Answer
-    ensures { λ a. ⌜ answerWords a ≡ answerWord (one first) 0 ∷ shown (hasRow (now (table .entry)) caller) (rightsBits (now (table .entry)) caller 0) ∷ shown (hasRow (now (table .entry)) caller) (rightsBits (now (table .entry)) caller 8) ∷ [] ⌝ }
+    ensures { λ a. ⌜ answerWords a
+        ≡ answerWord (one first) 0 ∷ shown (hasRow (now (table .entry)) caller) (rightsBits (now (table .entry)) caller 0)
+        ∷ shown (hasRow (now (table .entry)) caller) (rightsBits (now (table .entry)) caller 8) ∷ [] ⌝ }
 {
     let n = domains(table);
     let end = rights_at(n, caller, n);

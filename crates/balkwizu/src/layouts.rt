@@ -15,7 +15,8 @@ pub extern "C" fn balkwizu_run_working(
     answers: &mut [u32],
     holders: &mut [u32],
 ) -> u32
-    ensures { λ r. ⌜ RunPromise (now (table .entry)) (now (list .entry)) (now (answers .entry)) (now (holders .entry)) (r % 65536) (r / 65536) (now (answers .exit)) (now (table .exit)) (now (holders .exit)) ⌝ }
+    ensures { λ r. ⌜ RunPromise (now (table .entry)) (now (list .entry)) (now (answers .entry)) (now (holders .entry)) (r % 65536)
+        (r / 65536) (now (answers .exit)) (now (table .exit)) (now (holders .exit)) ⌝ }
 {
     let ran = working::run_working(table, list, answers, holders);
     let code = ran.code();
@@ -34,7 +35,8 @@ pub extern "C" fn balkwizu_run_by_length(
     answers: &mut [u32],
     holders: &mut [u32],
 ) -> u32
-    ensures { λ r. ⌜ RunPromise (now (table .entry)) (now (list .entry)) (now (answers .entry)) (now (holders .entry)) (r % 65536) (r / 65536) (now (answers .exit)) (now (table .exit)) (now (holders .exit)) ⌝ }
+    ensures { λ r. ⌜ RunPromise (now (table .entry)) (now (list .entry)) (now (answers .entry)) (now (holders .entry)) (r % 65536)
+        (r / 65536) (now (answers .exit)) (now (table .exit)) (now (holders .exit)) ⌝ }
 {
     let ran = working::by_length::run_by_length(table, list, answers, holders);
     let code = ran.code();

@@ -48,7 +48,8 @@ pub extern "C" fn balkwizu_run(
     answers: &mut [u32],
     holders: &mut [u32],
 ) -> u32
-    ensures { λ r. ⌜ RunPromise (now (table .entry)) (now (list .entry)) (now (answers .entry)) (now (holders .entry)) (r % 65536) (r / 65536) (now (answers .exit)) (now (table .exit)) (now (holders .exit)) ⌝ }
+    ensures { λ r. ⌜ RunPromise (now (table .entry)) (now (list .entry)) (now (answers .entry)) (now (holders .entry)) (r % 65536)
+        (r / 65536) (now (answers .exit)) (now (table .exit)) (now (holders .exit)) ⌝ }
 {
     let ran = kernel::run(table, list, answers, holders);
     let code = ran.code();
@@ -102,7 +103,8 @@ pub extern "C" fn balkwizu_component(table: &[u32], domain: u32) -> u32
 // C: uint32_t balkwizu_repair(uint32_t *table, size_t table_len, uint32_t *changes, size_t changes_len)
 #[no_mangle]
 pub extern "C" fn balkwizu_repair(table: &mut [u32], changes: &mut [u32]) -> u32
-    ensures { λ r. ⌜ RepairPromise (now (table .entry)) (now (changes .entry)) (r % 65536) (r / 65536) (now (table .exit)) (now (changes .exit)) ⌝ }
+    ensures { λ r. ⌜ RepairPromise (now (table .entry)) (now (changes .entry)) (r % 65536) (r / 65536) (now (table .exit))
+        (now (changes .exit)) ⌝ }
 {
     let repaired = repair::repair(table, changes);
     let code = repaired.code();

@@ -59,7 +59,8 @@ pub extern "C" fn balkwizu_turn(
     holders: &mut [u32],
     answer: &mut [u32],
 ) -> u32
-    ensures { λ r. ⌜ TurnPromise (now (table .entry)) (now (state .entry)) (now (holders .entry)) (now (answer .entry)) (r % 65536) (r / 65536) (now (table .exit)) (now (state .exit)) (now (holders .exit)) (now (answer .exit)) ⌝ }
+    ensures { λ r. ⌜ TurnPromise (now (table .entry)) (now (state .entry)) (now (holders .entry)) (now (answer .entry)) (r % 65536)
+        (r / 65536) (now (table .exit)) (now (state .exit)) (now (holders .exit)) (now (answer .exit)) ⌝ }
 {
     let turned = turns::turn(table, state, holders, answer);
     let code = turned.code();

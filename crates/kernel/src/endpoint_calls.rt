@@ -56,7 +56,9 @@ pub fn look_up(table: &[u32], n: u32, m: u32, first: u32, caller: u32, name: u32
     requires { ⌜ Accepted (now table) ⌝ }
     requires { ⌜ n ≡ domains (now table) ⌝ }
     requires { ⌜ m ≡ endpoints (now table) ⌝ }
-    ensures { λ a. ⌜ ((p : List ℕ) → CallOutcome (now (table .entry)) p first (decideCall (now (table .entry)) (LookUp caller name)) (answerWords a) (now (table .entry)) p) ⌝ }
+    ensures { λ a. ⌜ ((p : List ℕ)
+        → CallOutcome (now (table .entry)) p first (decideCall (now (table .entry)) (LookUp caller name)) (answerWords a)
+        (now (table .entry)) p) ⌝ }
 {
     let range = of_caller(n, caller);
     if let Range::Outside(refused) = range {
@@ -83,7 +85,9 @@ pub fn send(
     requires { ⌜ n ≡ domains (now table) ⌝ }
     requires { ⌜ m ≡ endpoints (now table) ⌝ }
     requires { ⌜ message ≤ mostPayload ⌝ }
-    ensures { λ a. ⌜ ((p : List ℕ) → CallOutcome (now (table .entry)) p first (decideCall (now (table .entry)) (Send caller e message)) (answerWords a) (now (table .exit)) p) ⌝ }
+    ensures { λ a. ⌜ ((p : List ℕ)
+        → CallOutcome (now (table .entry)) p first (decideCall (now (table .entry)) (Send caller e message)) (answerWords a)
+        (now (table .exit)) p) ⌝ }
 {
     let range = of_endpoint(n, m, caller, e);
     if let Range::Outside(refused) = range {
@@ -106,7 +110,9 @@ pub fn receive(table: &mut [u32], n: u32, m: u32, first: u32, caller: u32, e: u3
     requires { ⌜ Accepted (now table) ⌝ }
     requires { ⌜ n ≡ domains (now table) ⌝ }
     requires { ⌜ m ≡ endpoints (now table) ⌝ }
-    ensures { λ a. ⌜ ((p : List ℕ) → CallOutcome (now (table .entry)) p first (decideCall (now (table .entry)) (Receive caller e)) (answerWords a) (now (table .exit)) p) ⌝ }
+    ensures { λ a. ⌜ ((p : List ℕ)
+        → CallOutcome (now (table .entry)) p first (decideCall (now (table .entry)) (Receive caller e)) (answerWords a)
+        (now (table .exit)) p) ⌝ }
 {
     let range = of_endpoint(n, m, caller, e);
     if let Range::Outside(refused) = range {
@@ -132,7 +138,9 @@ pub fn receive(table: &mut [u32], n: u32, m: u32, first: u32, caller: u32, e: u3
 pub fn my_endpoints(table: &[u32], n: u32, first: u32, caller: u32) -> Answer
     requires { ⌜ Accepted (now table) ⌝ }
     requires { ⌜ n ≡ domains (now table) ⌝ }
-    ensures { λ a. ⌜ ((p : List ℕ) → CallOutcome (now (table .entry)) p first (decideCall (now (table .entry)) (MyEndpoints caller)) (answerWords a) (now (table .entry)) p) ⌝ }
+    ensures { λ a. ⌜ ((p : List ℕ)
+        → CallOutcome (now (table .entry)) p first (decideCall (now (table .entry)) (MyEndpoints caller)) (answerWords a)
+        (now (table .entry)) p) ⌝ }
 {
     let range = of_caller(n, caller);
     if let Range::Outside(refused) = range {

@@ -45,7 +45,8 @@ pub fn check(table: &[u32]) -> Checked
 // Runs one call by itself, as a run of one call does, and returns the result. Total: accepts arbitrary words as the table and as
 // the holders.
 pub fn step(table: &mut [u32], first: u32, second: Second, holders: &mut [u32]) -> Stepped
-    ensures { λ r. ⌜ StepPromise (now (table .entry)) (callOf first second) (now (holders .entry)) r (now (table .exit)) (now (holders .exit)) ⌝ }
+    ensures { λ r. ⌜ StepPromise (now (table .entry)) (callOf first second) (now (holders .entry)) r (now (table .exit))
+        (now (holders .exit)) ⌝ }
 {
     let checked = check(table);
     if let Checked::Refused(refusal) = checked {
@@ -90,7 +91,8 @@ pub fn enter(table: &[u32], list: &[u32], space: usize, lent: usize) -> Entered
 // Runs a list of calls and returns the result. Total: accepts arbitrary words as the table, the list, the answer space and the
 // holders.
 pub fn run(table: &mut [u32], list: &[u32], answers: &mut [u32], holders: &mut [u32]) -> Ran
-    ensures { λ r. ⌜ RunPromise (now (table .entry)) (now (list .entry)) (now (answers .entry)) (now (holders .entry)) (ranCode r) (ranCalls r) (now (answers .exit)) (now (table .exit)) (now (holders .exit)) ⌝ }
+    ensures { λ r. ⌜ RunPromise (now (table .entry)) (now (list .entry)) (now (answers .entry)) (now (holders .entry)) (ranCode r)
+        (ranCalls r) (now (answers .exit)) (now (table .exit)) (now (holders .exit)) ⌝ }
 {
     let entered = enter(table, list, answers.len(), holders.len());
     if let Entered::Refused(refusal) = entered {

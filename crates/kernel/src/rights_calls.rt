@@ -69,7 +69,9 @@ pub fn grant(
 ) -> Answer
     requires { ⌜ Accepted (now table) ⌝ }
     requires { ⌜ n ≡ domains (now table) ⌝ }
-    ensures { λ a. ⌜ CallOutcome (now (table .entry)) (now (holders .entry)) first (decideCall (now (table .entry)) (Grant caller target recipient given)) (answerWords a) (now (table .exit)) (now (holders .exit)) ⌝ }
+    ensures { λ a. ⌜ CallOutcome (now (table .entry)) (now (holders .entry)) first
+        (decideCall (now (table .entry)) (Grant caller target recipient given)) (answerWords a) (now (table .exit))
+        (now (holders .exit)) ⌝ }
 {
     let range = of_grant(n, caller, target, recipient, given);
     if let Range::Outside(refused) = range {
@@ -99,7 +101,8 @@ pub fn remove(
 ) -> Answer
     requires { ⌜ Accepted (now table) ⌝ }
     requires { ⌜ n ≡ domains (now table) ⌝ }
-    ensures { λ a. ⌜ CallOutcome (now (table .entry)) (now (holders .entry)) first (decideCall (now (table .entry)) (Remove caller target given)) (answerWords a) (now (table .exit)) (now (holders .exit)) ⌝ }
+    ensures { λ a. ⌜ CallOutcome (now (table .entry)) (now (holders .entry)) first
+        (decideCall (now (table .entry)) (Remove caller target given)) (answerWords a) (now (table .exit)) (now (holders .exit)) ⌝ }
 {
     let range = of_remove(n, caller, target, given);
     if let Range::Outside(refused) = range {
@@ -128,7 +131,9 @@ pub fn revoke(
 ) -> Answer
     requires { ⌜ Accepted (now table) ⌝ }
     requires { ⌜ n ≡ domains (now table) ⌝ }
-    ensures { λ a. ⌜ CallOutcome (now (table .entry)) (now (holders .entry)) first (decideCall (now (table .entry)) (Revoke caller target holder given)) (answerWords a) (now (table .exit)) (now (holders .exit)) ⌝ }
+    ensures { λ a. ⌜ CallOutcome (now (table .entry)) (now (holders .entry)) first
+        (decideCall (now (table .entry)) (Revoke caller target holder given)) (answerWords a) (now (table .exit))
+        (now (holders .exit)) ⌝ }
 {
     let range = of_grant(n, caller, target, holder, given);
     if let Range::Outside(refused) = range {
@@ -150,7 +155,9 @@ pub fn revoke(
 pub fn my_rights(table: &[u32], n: u32, first: u32, caller: u32) -> Answer
     requires { ⌜ Accepted (now table) ⌝ }
     requires { ⌜ n ≡ domains (now table) ⌝ }
-    ensures { λ a. ⌜ ((p : List ℕ) → CallOutcome (now (table .entry)) p first (decideCall (now (table .entry)) (MyRights caller)) (answerWords a) (now (table .entry)) p) ⌝ }
+    ensures { λ a. ⌜ ((p : List ℕ)
+        → CallOutcome (now (table .entry)) p first (decideCall (now (table .entry)) (MyRights caller)) (answerWords a)
+        (now (table .entry)) p) ⌝ }
 {
     let range = of_caller(n, caller);
     if let Range::Outside(refused) = range {

@@ -21,7 +21,8 @@ pub fn run_calls(table: &mut [u32], list: &[u32], answers: &mut [u32], holders: 
     requires { ⌜ length (now list) ≤ 4096 ⌝ }
     requires { ⌜ 3 * length (split (now list)) ≤ length (now answers) ⌝ }
     requires { ⌜ length (now holders) ≡ machine.domains (now table) ⌝ }
-    ensures { λ k. ⌜ AllRun (now (table .entry)) (now (list .entry)) (now (answers .entry)) k (now (answers .exit)) (now (table .exit)) (now (holders .exit)) ⌝ }
+    ensures { λ k. ⌜ AllRun (now (table .entry)) (now (list .entry)) (now (answers .entry)) k (now (answers .exit)) (now (table .exit))
+        (now (holders .exit)) ⌝ }
 {
     fill(table, holders);
     let n = domains(table);

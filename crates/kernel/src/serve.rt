@@ -33,7 +33,8 @@ pub fn serve(
     requires { ⌜ Accepted (now table) ⌝ }
     requires { ⌜ n ≡ domains (now table) ⌝ }
     requires { ⌜ m ≡ endpoints (now table) ⌝ }
-    ensures { λ a. ⌜ CallOutcome (now (table .entry)) (now (holders .entry)) first (decideCall (now (table .entry)) (decoded first second)) (answerWords a) (now (table .exit)) (now (holders .exit)) ⌝ }
+    ensures { λ a. ⌜ CallOutcome (now (table .entry)) (now (holders .entry)) first
+        (decideCall (now (table .entry)) (decoded first second)) (answerWords a) (now (table .exit)) (now (holders .exit)) ⌝ }
 {
     let call = decode(first, second);
     match call {

@@ -35,7 +35,8 @@ fn put_lines(told: Head, answers: &[u32], line: usize, next: usize, out: &mut [u
     requires { ⌜ (line < next) × (next ≤ told .calls + 1) × (told .calls ≤ 4096) ⌝ }
     requires { ⌜ 3 * told .calls ≤ length (now answers) ⌝ }
     requires { ⌜ mostBytes (next - line) ≤ length (now out) ⌝ }
-    ensures { λ r. ⌜ Writes 0 (linesBetween (told .calls) (told .code) (now (answers .entry)) line next) (now (out .entry)) r (now (out .exit)) ⌝ }
+    ensures { λ r. ⌜ Writes 0 (linesBetween (told .calls) (told .code) (now (answers .entry)) line next) (now (out .entry)) r
+        (now (out .exit)) ⌝ }
     ensures { λ r. ⌜ r ≤ mostBytes (next - line) ⌝ }
 {
     if line == 0 {
@@ -57,7 +58,8 @@ pub fn lines_between<'a>(
     requires { ⌜ (line < next) × (next ≤ told .calls + 1) × (told .calls ≤ 4096) ⌝ }
     requires { ⌜ 3 * told .calls ≤ length (now answers) ⌝ }
     requires { ⌜ mostBytes (next - line) ≤ length (now out) ⌝ }
-    ensures { λ r. ⌜ printedBefore (told .calls) (told .code) (now (answers .entry)) line ++ now r ≡ printedBefore (told .calls) (told .code) (now (answers .entry)) next ⌝ }
+    ensures { λ r. ⌜ printedBefore (told .calls) (told .code) (now (answers .entry)) line ++ now r
+        ≡ printedBefore (told .calls) (told .code) (now (answers .entry)) next ⌝ }
 {
     let printed = put_lines(told, answers, line, next, out);
     let lines = &out[..];

@@ -32,7 +32,8 @@ fn answer_input(input: &[u8], read: Input, answers: &mut [u32]) -> Head
     requires { ⌜ Reads (take (read .have) (now input)) (read .ended) ⌝ }
     requires { ⌜ now answers ≡ answerSpace ⌝ }
     ensures { λ r. ⌜ r .calls ≤ 4096 ⌝ }
-    ensures { λ r. ⌜ Prints (take (read .have) (now (input .entry))) (read .ended) (printedBefore (r .calls) (r .code) (now (answers .exit)) (r .calls + 1)) ⌝ }
+    ensures { λ r. ⌜ Prints (take (read .have) (now (input .entry))) (read .ended)
+        (printedBefore (r .calls) (r .code) (now (answers .exit)) (r .calls + 1)) ⌝ }
 {
     let have = read.have;
     answer(&input[0..have], answers)

@@ -16,7 +16,9 @@ pub fn endpoint_lines(
     out: &mut [u8],
 ) -> usize
     requires { ⌜ Counted m (now sent) (now received) (now lost) (now start) (now end) ⌝ }
-    ensures { λ r. ⌜ Writes 0 (countsLines (now (sent .entry)) (now (received .entry)) (now (lost .entry)) (now (start .entry)) (now (end .entry)) m) (now (out .entry)) r (now (out .exit)) ⌝ }
+    ensures { λ r. ⌜ Writes 0
+        (countsLines (now (sent .entry)) (now (received .entry)) (now (lost .entry)) (now (start .entry)) (now (end .entry)) m)
+        (now (out .entry)) r (now (out .exit)) ⌝ }
     ensures { λ r. ⌜ r ≤ 146 * m ⌝ }
 {
     let mut at: usize = 0;

@@ -87,7 +87,9 @@ fn replace(table: &mut [u32], new: &[u32], list: &mut [u32])
     requires { ⌜ length (now table) ≤ 641 ⌝ }
     requires { ⌜ length (changes (now table) (now new)) ≤ length (now list) ⌝ }
     ensures { λ _. ⌜ now (table .exit) ≡ now (new .entry) ⌝ }
-    ensures { λ _. ⌜ now (list .exit) ≡ changes (now (table .entry)) (now (new .entry)) ++ drop (length (changes (now (table .entry)) (now (new .entry)))) (now (list .entry)) ⌝ }
+    ensures { λ _. ⌜ now (list .exit)
+        ≡ changes (now (table .entry)) (now (new .entry))
+        ++ drop (length (changes (now (table .entry)) (now (new .entry)))) (now (list .entry)) ⌝ }
 {
     let mut at: usize = 0;
     let mut i: usize = 0;
@@ -108,7 +110,8 @@ fn replace(table: &mut [u32], new: &[u32], list: &mut [u32])
 fn repair_by_copy(table: &mut [u32], copy: &mut [u32], list: &mut [u32]) -> Repaired
     requires { ⌜ length (now copy) ≡ length (now table) ⌝ }
     requires { ⌜ length (now table) ≤ 641 ⌝ }
-    ensures { λ r. ⌜ RepairPromise (now (table .entry)) (now (list .entry)) (repairedCode r) (repairedCount r) (now (table .exit)) (now (list .exit)) ⌝ }
+    ensures { λ r. ⌜ RepairPromise (now (table .entry)) (now (list .entry)) (repairedCode r) (repairedCount r) (now (table .exit))
+        (now (list .exit)) ⌝ }
 {
     if !mend_copy(table, copy) {
         return Repaired::BadFrame;
@@ -123,7 +126,8 @@ fn repair_by_copy(table: &mut [u32], copy: &mut [u32], list: &mut [u32]) -> Repa
 
 // Repairs the table and lists what was altered. More words than the largest table has are no table, and are refused.
 pub fn repair(table: &mut [u32], list: &mut [u32]) -> Repaired
-    ensures { λ r. ⌜ RepairPromise (now (table .entry)) (now (list .entry)) (repairedCode r) (repairedCount r) (now (table .exit)) (now (list .exit)) ⌝ }
+    ensures { λ r. ⌜ RepairPromise (now (table .entry)) (now (list .entry)) (repairedCode r) (repairedCount r) (now (table .exit))
+        (now (list .exit)) ⌝ }
 {
     let size = table.len();
     if LONGEST_TABLE < size {

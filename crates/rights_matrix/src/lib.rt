@@ -99,7 +99,9 @@ fn store_row(rows: &[[u8; 16]; 16], holder: u32, words: &mut [u32])
 
 // Stores the rows to a table of n domains. The table stays as it is where n is over sixteen or it lacks rights words.
 pub fn store(rows: &[[u8; 16]; 16], n: u32, table: &mut [u32])
-    ensures { λ _. ⌜ now (table .exit) ≡ cond (hasRights n (length (now (table .entry)))) (storedRows n (now (rows .entry)) (now (table .entry))) (now (table .entry)) ⌝ }
+    ensures { λ _. ⌜ now (table .exit)
+        ≡ cond (hasRights n (length (now (table .entry)))) (storedRows n (now (rows .entry)) (now (table .entry)))
+        (now (table .entry)) ⌝ }
 {
     if !has_rights(n, table.len()) {
         return;

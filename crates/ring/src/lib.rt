@@ -88,7 +88,8 @@ pub fn receive(ring: &mut [u32]) -> Received
 
 // Loads a ring from an endpoint's words.
 pub fn load(q: &[u32], ring: &mut [u32])
-    ensures { λ _. ⌜ now (ring .exit) ≡ ofTwelve (now (q .entry)) (ofTwelve (now (ring .entry)) (ringOf (now (q .entry))) (now (ring .entry))) (now (ring .entry)) ⌝ }
+    ensures { λ _. ⌜ now (ring .exit)
+        ≡ ofTwelve (now (q .entry)) (ofTwelve (now (ring .entry)) (ringOf (now (q .entry))) (now (ring .entry))) (now (ring .entry)) ⌝ }
 {
     if q.len() != ENDPOINT_WORDS {
         return;
@@ -123,7 +124,9 @@ fn store_slot(ring: &[u32], first: u32, waits: u32, i: u32) -> u32
 
 // Stores a ring to an endpoint's words. The name and the info stay as they are.
 pub fn store(ring: &[u32], q: &mut [u32])
-    ensures { λ _. ⌜ now (q .exit) ≡ ofTwelve (now (ring .entry)) (ofTwelve (now (q .entry)) (storedQueue (now (ring .entry)) (now (q .entry))) (now (q .entry))) (now (q .entry)) ⌝ }
+    ensures { λ _. ⌜ now (q .exit)
+        ≡ ofTwelve (now (ring .entry)) (ofTwelve (now (q .entry)) (storedQueue (now (ring .entry)) (now (q .entry))) (now (q .entry)))
+        (now (q .entry)) ⌝ }
 {
     if ring.len() != ENDPOINT_WORDS {
         return;

@@ -34,7 +34,8 @@ pub extern "C" fn balkwizu_test_step(
     answer: &mut [u32],
     holders: &mut [u32],
 ) -> u32
-    ensures { λ r. ⌜ Exported (now (table .entry)) (callOf first (secondGiven second has)) (now (answer .entry)) (now (holders .entry)) r (now (table .exit)) (now (answer .exit)) (now (holders .exit)) ⌝ }
+    ensures { λ r. ⌜ Exported (now (table .entry)) (callOf first (secondGiven second has)) (now (answer .entry)) (now (holders .entry))
+        r (now (table .exit)) (now (answer .exit)) (now (holders .exit)) ⌝ }
 {
     if answer.len() < 3 {
         return 99;

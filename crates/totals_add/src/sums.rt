@@ -8,7 +8,8 @@ ghost use Rattle.totals_add.specs.Added.{addedBelow};
 // Returns what was lost at each endpoint below m: the sends and what waited before them, less the receives and what waits after.
 pub fn losses(sent: &[u64], received: &[u64], before: &[u64], after: &[u64], m: usize) -> [u64; 32]
     requires { ⌜ CanBalance m (now sent) (now received) (now before) (now after) ⌝ }
-    ensures { λ r. ⌜ (length r ≡ 32) × Balances m (now (sent .entry)) (now (received .entry)) (now (before .entry)) (now (after .entry)) r ⌝ }
+    ensures { λ r. ⌜ (length r ≡ 32)
+        × Balances m (now (sent .entry)) (now (received .entry)) (now (before .entry)) (now (after .entry)) r ⌝ }
 {
     let mut lost = [0u64; 32];
     for e in 0..m {

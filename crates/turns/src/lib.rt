@@ -123,7 +123,8 @@ pub fn begin(state: &mut [u32])
 
 // Hands in the words of one call for a domain. A refusal changes nothing.
 pub fn hand_in(table: &[u32], state: &mut [u32], domain: u32, words: &[u32]) -> HandedIn
-    ensures { λ r. ⌜ HandInPromise (now (table .entry)) (now (state .entry)) domain (now (words .entry)) (handedInCode r) (now (state .exit)) ⌝ }
+    ensures { λ r. ⌜ HandInPromise (now (table .entry)) (now (state .entry)) domain (now (words .entry)) (handedInCode r)
+        (now (state .exit)) ⌝ }
 {
     let checked = check(table);
     if let Checked::Refused(refusal) = checked {
@@ -148,7 +149,8 @@ pub fn hand_in(table: &[u32], state: &mut [u32], domain: u32, words: &[u32]) -> 
 // Serves the oldest call of the domain that is next, or none where nothing is pending. A call that is served is answered in the
 // first three words of the answer space. A turn that is refused changes nothing.
 pub fn turn(table: &mut [u32], state: &mut [u32], holders: &mut [u32], answer: &mut [u32]) -> Turned
-    ensures { λ r. ⌜ TurnPromise (now (table .entry)) (now (state .entry)) (now (holders .entry)) (now (answer .entry)) (turnedCode r) (turnedServed r) (now (table .exit)) (now (state .exit)) (now (holders .exit)) (now (answer .exit)) ⌝ }
+    ensures { λ r. ⌜ TurnPromise (now (table .entry)) (now (state .entry)) (now (holders .entry)) (now (answer .entry)) (turnedCode r)
+        (turnedServed r) (now (table .exit)) (now (state .exit)) (now (holders .exit)) (now (answer .exit)) ⌝ }
 {
     let n = number(table);
     let next = next_to_serve(table, state, answer.len());

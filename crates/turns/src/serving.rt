@@ -48,7 +48,8 @@ pub fn serve(
     domain: u8,
 ) -> Turned
     requires { ⌜ MayServe (now table) (now state) (now answer) domain ⌝ }
-    ensures { λ r. ⌜ TurnPromise (now (table .entry)) (now (state .entry)) (now (holders .entry)) (now (answer .entry)) (turnedCode r) (turnedServed r) (now (table .exit)) (now (state .exit)) (now (holders .exit)) (now (answer .exit)) ⌝ }
+    ensures { λ r. ⌜ TurnPromise (now (table .entry)) (now (state .entry)) (now (holders .entry)) (now (answer .entry)) (turnedCode r)
+        (turnedServed r) (now (table .exit)) (now (state .exit)) (now (holders .exit)) (now (answer .exit)) ⌝ }
 {
     let first = first_of_oldest(state, domain);
     let second = second_of_oldest(state, domain);

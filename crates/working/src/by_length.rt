@@ -18,7 +18,8 @@ pub fn run_by_length(
     answers: &mut [u32],
     holders: &mut [u32],
 ) -> Ran
-    ensures { λ r. ⌜ RunPromise (now (table .entry)) (now (list .entry)) (now (answers .entry)) (now (holders .entry)) (ranCode r) (ranCalls r) (now (answers .exit)) (now (table .exit)) (now (holders .exit)) ⌝ }
+    ensures { λ r. ⌜ RunPromise (now (table .entry)) (now (list .entry)) (now (answers .entry)) (now (holders .entry)) (ranCode r)
+        (ranCalls r) (now (answers .exit)) (now (table .exit)) (now (holders .exit)) ⌝ }
 {
     if list.len() < LONG_WORDS {
         return kernel::run(table, list, answers, holders);

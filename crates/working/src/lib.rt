@@ -58,7 +58,8 @@ fn run_on_rings(
     requires { ⌜ length (now list) ≤ 4096 ⌝ }
     requires { ⌜ 3 * length (split (now list)) ≤ length (now answers) ⌝ }
     requires { ⌜ length (now holders) ≡ machine.domains (now table) ⌝ }
-    ensures { λ k. ⌜ AllRun (now (table .entry)) (now (list .entry)) (now (answers .entry)) k (now (answers .exit)) (now (table .exit)) (now (holders .exit)) ⌝ }
+    ensures { λ k. ⌜ AllRun (now (table .entry)) (now (list .entry)) (now (answers .entry)) k (now (answers .exit)) (now (table .exit))
+        (now (holders .exit)) ⌝ }
 {
     let n = domains(table);
     let m = endpoints(table);
@@ -91,7 +92,8 @@ fn run_calls(table: &mut [u32], list: &[u32], answers: &mut [u32], holders: &mut
     requires { ⌜ length (now list) ≤ 4096 ⌝ }
     requires { ⌜ 3 * length (split (now list)) ≤ length (now answers) ⌝ }
     requires { ⌜ length (now holders) ≡ machine.domains (now table) ⌝ }
-    ensures { λ k. ⌜ AllRun (now (table .entry)) (now (list .entry)) (now (answers .entry)) k (now (answers .exit)) (now (table .exit)) (now (holders .exit)) ⌝ }
+    ensures { λ k. ⌜ AllRun (now (table .entry)) (now (list .entry)) (now (answers .entry)) k (now (answers .exit)) (now (table .exit))
+        (now (holders .exit)) ⌝ }
 {
     let mut words = [0u32; ENDPOINT_WORDS * ENDPOINT_PLACES];
     let end = ENDPOINT_WORDS * endpoints(table) as usize;
@@ -101,7 +103,8 @@ fn run_calls(table: &mut [u32], list: &[u32], answers: &mut [u32], holders: &mut
 // Runs a list of calls on any table, with any answer space and any words for the holders, and returns how the run ended. It keeps
 // the promise of `kernel::run`.
 pub fn run_working(table: &mut [u32], list: &[u32], answers: &mut [u32], holders: &mut [u32]) -> Ran
-    ensures { λ r. ⌜ RunPromise (now (table .entry)) (now (list .entry)) (now (answers .entry)) (now (holders .entry)) (ranCode r) (ranCalls r) (now (answers .exit)) (now (table .exit)) (now (holders .exit)) ⌝ }
+    ensures { λ r. ⌜ RunPromise (now (table .entry)) (now (list .entry)) (now (answers .entry)) (now (holders .entry)) (ranCode r)
+        (ranCalls r) (now (answers .exit)) (now (table .exit)) (now (holders .exit)) ⌝ }
 {
     let entered = enter(table, list, answers.len(), holders.len());
     if let Entered::Refused(refusal) = entered {

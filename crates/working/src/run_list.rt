@@ -26,7 +26,10 @@ pub fn run_list(
     requires { ⌜ RepresentsSome n m (now rows) (now rings) (now names) (now owned) (now holders) ⌝ }
     requires { ⌜ length (now list) ≤ 4096 ⌝ }
     requires { ⌜ 3 * length (split (now list)) ≤ length (now answers) ⌝ }
-    ensures { λ k. ⌜ ((t : List ℕ) → RepresentsTable n m (now (rows .entry)) (now (rings .entry)) (now (names .entry)) (now (owned .entry)) (now (holders .entry)) t → Left n m (now (names .entry)) (now (owned .entry)) t (now (list .entry)) (now (answers .entry)) k (now (rows .exit)) (now (rings .exit)) (now (answers .exit)) (now (holders .exit))) ⌝ }
+    ensures { λ k. ⌜ ((t : List ℕ)
+        → RepresentsTable n m (now (rows .entry)) (now (rings .entry)) (now (names .entry)) (now (owned .entry)) (now (holders .entry)) t
+        → Left n m (now (names .entry)) (now (owned .entry)) t (now (list .entry)) (now (answers .entry)) k (now (rows .exit))
+        (now (rings .exit)) (now (answers .exit)) (now (holders .exit))) ⌝ }
 {
     let mut calls: usize = 0;
     let mut i: usize = 0;

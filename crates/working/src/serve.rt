@@ -31,7 +31,9 @@ pub fn serve(
     first: u32,
     second: Second,
 ) -> Answer
-    ensures { λ a. ⌜ StateOutcome n m (now (rows .entry)) (now (rings .entry)) (namedIn m (now (names .entry)) (now (hints .entry))) (now (owned .entry)) (now (holders .entry)) first (decoded first second) (answerWords a) (now (rows .exit)) (now (rings .exit)) (now (holders .exit)) ⌝ }
+    ensures { λ a. ⌜ StateOutcome n m (now (rows .entry)) (now (rings .entry)) (namedIn m (now (names .entry)) (now (hints .entry)))
+        (now (owned .entry)) (now (holders .entry)) first (decoded first second) (answerWords a) (now (rows .exit)) (now (rings .exit))
+        (now (holders .exit)) ⌝ }
 {
     let call = decode(first, second);
     match call {

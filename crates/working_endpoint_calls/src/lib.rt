@@ -93,7 +93,9 @@ pub fn look_up(
     caller: u32,
     name: u32,
 ) -> Answer
-    ensures { λ a. ⌜ answerWords a ≡ answerFrom first [] [] [] (decidedBy n m (readingFrom [] [] (namedIn m (now (names .entry)) (now (hints .entry)))) (calls.LookUp caller name)) ⌝ }
+    ensures { λ a. ⌜ answerWords a
+        ≡ answerFrom first [] [] []
+        (decidedBy n m (readingFrom [] [] (namedIn m (now (names .entry)) (now (hints .entry)))) (calls.LookUp caller name)) ⌝ }
 {
     let range = of_caller(n, caller);
     if let Range::Outside(refused) = range {
@@ -108,7 +110,8 @@ pub fn look_up(
 
 // Returns the answer to a call of my endpoints.
 pub fn my_endpoints(n: u32, owned: &[u32; 16], first: u32, caller: u32) -> Answer
-    ensures { λ a. ⌜ answerWords a ≡ answerFrom first [] [] (now (owned .entry)) (decidedBy n 0 (readingFrom [] [] nobody) (calls.MyEndpoints caller)) ⌝ }
+    ensures { λ a. ⌜ answerWords a
+        ≡ answerFrom first [] [] (now (owned .entry)) (decidedBy n 0 (readingFrom [] [] nobody) (calls.MyEndpoints caller)) ⌝ }
 {
     let range = of_caller(n, caller);
     if let Range::Outside(refused) = range {
@@ -128,7 +131,8 @@ fn send_on(
     message: u32,
 ) -> Answer
     requires { ⌜ length (now ring) ≡ 12 ⌝ }
-    ensures { λ a. ⌜ RingOutcome (sendAccess (heldIn (now (rows .entry)) caller (ringOwner (now (ring .entry)))) e message) e first (now (ring .entry)) (answerWords a) (now (ring .exit)) ⌝ }
+    ensures { λ a. ⌜ RingOutcome (sendAccess (heldIn (now (rows .entry)) caller (ringOwner (now (ring .entry)))) e message) e first
+        (now (ring .entry)) (answerWords a) (now (ring .exit)) ⌝ }
 {
     let info = ring[3];
     let held = held(rows, caller, info / 256 % 256);
@@ -150,7 +154,8 @@ fn send_beyond(
     message: u32,
 ) -> Answer
     requires { ⌜ length (now rings) < 12 * e + 12 ⌝ }
-    ensures { λ a. ⌜ RingsOutcome (sendAccess (heldIn (now (rows .entry)) caller (ringOwner (ringAt (now (rings .entry)) e))) e message) first (now (rings .entry)) (answerWords a) (now (rings .entry)) ⌝ }
+    ensures { λ a. ⌜ RingsOutcome (sendAccess (heldIn (now (rows .entry)) caller (ringOwner (ringAt (now (rings .entry)) e))) e message)
+        first (now (rings .entry)) (answerWords a) (now (rings .entry)) ⌝ }
 {
     let read = word(rings, ENDPOINT_WORDS * e as usize + 3);
     let held = held(rows, caller, read / 256 % 256);
@@ -172,7 +177,9 @@ pub fn send(
     e: u32,
     message: u32,
 ) -> Answer
-    ensures { λ a. ⌜ RingsOutcome (decidedBy n m (readingFrom (now (rows .entry)) (now (rings .entry)) nobody) (calls.Send caller e message)) first (now (rings .entry)) (answerWords a) (now (rings .exit)) ⌝ }
+    ensures { λ a. ⌜ RingsOutcome
+        (decidedBy n m (readingFrom (now (rows .entry)) (now (rings .entry)) nobody) (calls.Send caller e message)) first
+        (now (rings .entry)) (answerWords a) (now (rings .exit)) ⌝ }
 {
     let range = of_endpoint(n, m, caller, e);
     if let Range::Outside(refused) = range {
@@ -189,7 +196,8 @@ pub fn send(
 // Receives from the endpoint of the ring and returns the answer. The owner and the count are read from the ring's own words.
 fn receive_on(ring: &mut [u32], first: u32, caller: u32, e: u32) -> Answer
     requires { ⌜ length (now ring) ≡ 12 ⌝ }
-    ensures { λ a. ⌜ RingOutcome (receiveAccess caller (ringOwner (now (ring .entry))) (count (now (ring .entry))) e) e first (now (ring .entry)) (answerWords a) (now (ring .exit)) ⌝ }
+    ensures { λ a. ⌜ RingOutcome (receiveAccess caller (ringOwner (now (ring .entry))) (count (now (ring .entry))) e) e first
+        (now (ring .entry)) (answerWords a) (now (ring .exit)) ⌝ }
 {
     let count = ring[1];
     let info = ring[3];
@@ -204,7 +212,9 @@ fn receive_on(ring: &mut [u32], first: u32, caller: u32, e: u32) -> Answer
 // Returns the answer to a receive where words of the endpoint's ring are missing. It shows no message.
 fn receive_beyond(rings: &[u32], first: u32, caller: u32, e: u32) -> Answer
     requires { ⌜ length (now rings) < 12 * e + 12 ⌝ }
-    ensures { λ a. ⌜ RingsOutcome (receiveAccess caller (ringOwner (ringAt (now (rings .entry)) e)) (count (ringAt (now (rings .entry)) e)) e) first (now (rings .entry)) (answerWords a) (now (rings .entry)) ⌝ }
+    ensures { λ a. ⌜ RingsOutcome
+        (receiveAccess caller (ringOwner (ringAt (now (rings .entry)) e)) (count (ringAt (now (rings .entry)) e)) e) first
+        (now (rings .entry)) (answerWords a) (now (rings .entry)) ⌝ }
 {
     let start = ENDPOINT_WORDS * e as usize;
     let count = word(rings, start + 1);
@@ -218,7 +228,8 @@ fn receive_beyond(rings: &[u32], first: u32, caller: u32, e: u32) -> Answer
 
 // Receives from an endpoint and returns the answer.
 pub fn receive(n: u32, m: u32, rings: &mut [u32], first: u32, caller: u32, e: u32) -> Answer
-    ensures { λ a. ⌜ RingsOutcome (decidedBy n m (readingFrom [] (now (rings .entry)) nobody) (calls.Receive caller e)) first (now (rings .entry)) (answerWords a) (now (rings .exit)) ⌝ }
+    ensures { λ a. ⌜ RingsOutcome (decidedBy n m (readingFrom [] (now (rings .entry)) nobody) (calls.Receive caller e)) first
+        (now (rings .entry)) (answerWords a) (now (rings .exit)) ⌝ }
 {
     let range = of_endpoint(n, m, caller, e);
     if let Range::Outside(refused) = range {

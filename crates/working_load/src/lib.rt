@@ -26,7 +26,9 @@ fn has_queues(n: u32, m: u32, size: usize, lent: usize) -> bool
 // Loads the rings from the table's queues. They stay as they are where m is over 32, the table is too short, or their length isn't
 // twelve words for each endpoint.
 pub fn load_rings(table: &[u32], n: u32, m: u32, rings: &mut [u32])
-    ensures { λ _. ⌜ now (rings .exit) ≡ cond (hasQueues (n % 256) m (length (now (table .entry))) (length (now (rings .entry)))) (ringsOf (n % 256) m (now (table .entry))) (now (rings .entry)) ⌝ }
+    ensures { λ _. ⌜ now (rings .exit)
+        ≡ cond (hasQueues (n % 256) m (length (now (table .entry))) (length (now (rings .entry))))
+        (ringsOf (n % 256) m (now (table .entry))) (now (rings .entry)) ⌝ }
 {
     if !has_queues(n, m, table.len(), rings.len()) {
         return;
@@ -45,7 +47,9 @@ pub fn load_rings(table: &[u32], n: u32, m: u32, rings: &mut [u32])
 // Stores the rings to the table's queues. The table stays as it is where m is over 32, it is too short, or the rings' length isn't
 // twelve words for each endpoint.
 pub fn store_rings(rings: &[u32], n: u32, m: u32, table: &mut [u32])
-    ensures { λ _. ⌜ now (table .exit) ≡ cond (hasQueues (n % 256) m (length (now (table .entry))) (length (now (rings .entry)))) (storedQueues (n % 256) m (now (rings .entry)) (now (table .entry))) (now (table .entry)) ⌝ }
+    ensures { λ _. ⌜ now (table .exit)
+        ≡ cond (hasQueues (n % 256) m (length (now (table .entry))) (length (now (rings .entry))))
+        (storedQueues (n % 256) m (now (rings .entry)) (now (table .entry))) (now (table .entry)) ⌝ }
 {
     if !has_queues(n, m, table.len(), rings.len()) {
         return;

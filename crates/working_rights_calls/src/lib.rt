@@ -40,7 +40,8 @@ fn bits(rows: &[[u8; 16]; 16], holder: u32, from: u32) -> u32
 
 // Returns the answer to a call of my rights: the caller's row, eight targets to a word.
 pub fn my_rights(n: u32, rows: &[[u8; 16]; 16], first: u32, caller: u32) -> Answer
-    ensures { λ a. ⌜ answerWords a ≡ answerFrom first (now (rows .entry)) [] [] (decidedBy n 0 (readingFrom [] [] nobody) (calls.MyRights caller)) ⌝ }
+    ensures { λ a. ⌜ answerWords a
+        ≡ answerFrom first (now (rows .entry)) [] [] (decidedBy n 0 (readingFrom [] [] nobody) (calls.MyRights caller)) ⌝ }
 {
     let range = of_caller(n, caller);
     if let Range::Outside(refused) = range {
@@ -71,7 +72,9 @@ pub fn grant(
     recipient: u32,
     given: u32,
 ) -> Answer
-    ensures { λ a. ⌜ RightsOutcome (decidedBy n 0 (readingFrom (now (rows .entry)) [] nobody) (calls.Grant caller target recipient given)) first (now (rows .entry)) (now (holders .entry)) (answerWords a) (now (rows .exit)) (now (holders .exit)) ⌝ }
+    ensures { λ a. ⌜ RightsOutcome
+        (decidedBy n 0 (readingFrom (now (rows .entry)) [] nobody) (calls.Grant caller target recipient given)) first
+        (now (rows .entry)) (now (holders .entry)) (answerWords a) (now (rows .exit)) (now (holders .exit)) ⌝ }
 {
     let range = of_grant(n, caller, target, recipient, given);
     if let Range::Outside(refused) = range {
@@ -99,7 +102,8 @@ pub fn remove(
     target: u32,
     given: u32,
 ) -> Answer
-    ensures { λ a. ⌜ RightsOutcome (decidedBy n 0 (readingFrom (now (rows .entry)) [] nobody) (calls.Remove caller target given)) first (now (rows .entry)) (now (holders .entry)) (answerWords a) (now (rows .exit)) (now (holders .exit)) ⌝ }
+    ensures { λ a. ⌜ RightsOutcome (decidedBy n 0 (readingFrom (now (rows .entry)) [] nobody) (calls.Remove caller target given)) first
+        (now (rows .entry)) (now (holders .entry)) (answerWords a) (now (rows .exit)) (now (holders .exit)) ⌝ }
 {
     let range = of_remove(n, caller, target, given);
     if let Range::Outside(refused) = range {
@@ -126,7 +130,8 @@ pub fn revoke(
     holder: u32,
     given: u32,
 ) -> Answer
-    ensures { λ a. ⌜ RightsOutcome (decidedBy n 0 (readingFrom (now (rows .entry)) [] nobody) (calls.Revoke caller target holder given)) first (now (rows .entry)) (now (holders .entry)) (answerWords a) (now (rows .exit)) (now (holders .exit)) ⌝ }
+    ensures { λ a. ⌜ RightsOutcome (decidedBy n 0 (readingFrom (now (rows .entry)) [] nobody) (calls.Revoke caller target holder given))
+        first (now (rows .entry)) (now (holders .entry)) (answerWords a) (now (rows .exit)) (now (holders .exit)) ⌝ }
 {
     let range = of_grant(n, caller, target, holder, given);
     if let Range::Outside(refused) = range {

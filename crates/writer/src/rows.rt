@@ -159,7 +159,9 @@ fn measure(rows: &[u32]) -> Measured
 fn put_all(rows: &[u32], list: &mut [u32])
     requires { ⌜ allFit (rowsHandedIn (now rows)) ≡ true ⌝ }
     requires { ⌜ length (written (rowsHandedIn (now rows))) ≤ length (now list) ⌝ }
-    ensures { λ _. ⌜ now (list .exit) ≡ written (rowsHandedIn (now (rows .entry))) ++ drop (length (written (rowsHandedIn (now (rows .entry))))) (now (list .entry)) ⌝ }
+    ensures { λ _. ⌜ now (list .exit)
+        ≡ written (rowsHandedIn (now (rows .entry)))
+        ++ drop (length (written (rowsHandedIn (now (rows .entry))))) (now (list .entry)) ⌝ }
 {
     let mut from: usize = 0;
     let mut at: usize = 0;
@@ -175,7 +177,8 @@ fn put_all(rows: &[u32], list: &mut [u32])
 // writes no word. A bad call among all rows comes before too many words. Whether there are more than 4,096 rows isn't tested by
 // itself: each needs at least one word.
 pub fn write_rows(rows: &[u32], list: &mut [u32]) -> Written
-    ensures { λ r. ⌜ WritePromise (rowsHandedIn (now (rows .entry))) (length (rowsHandedIn (now (rows .entry)))) (now (list .entry)) (writtenCode r) (writtenNumber r) (now (list .exit)) ⌝ }
+    ensures { λ r. ⌜ WritePromise (rowsHandedIn (now (rows .entry))) (length (rowsHandedIn (now (rows .entry)))) (now (list .entry))
+        (writtenCode r) (writtenNumber r) (now (list .exit)) ⌝ }
 {
     let measured = measure(rows);
     match measured {
