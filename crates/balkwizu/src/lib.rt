@@ -83,9 +83,9 @@ pub extern "C" fn balkwizu_who_reaches(holders: &[u32], domain: u32) -> u32
 pub extern "C" fn balkwizu_component(table: &[u32], domain: u32) -> u32
     ensures { λ r. ⌜ ComponentReported (now (table .entry)) domain (r % 65536) (r / 65536) ⌝ }
 {
-    let told = components::component_of(table, domain);
-    let code = told.code();
-    let members = told.members();
+    let component = components::component_of(table, domain);
+    let code = component.code();
+    let members = component.members();
     code + 65536 * members
 }
 
@@ -123,8 +123,8 @@ pub extern "C" fn balkwizu_repair(table: &mut [u32], changes: &mut [u32]) -> u32
 pub extern "C" fn balkwizu_potential(table: &[u32], actors: u32, rights: &mut [u32]) -> u32
     ensures { λ r. ⌜ PotentialReported (now (table .entry)) actors (now (rights .entry)) r (now (rights .exit)) ⌝ }
 {
-    let told = potential::potential_of(table, actors, rights);
-    told.code()
+    let filled = potential::potential_of(table, actors, rights);
+    filled.code()
 }
 
 // Returns a number in 16 bits: one above 65,535 is returned as 65,535.
@@ -151,6 +151,6 @@ pub extern "C" fn balkwizu_write(calls: &[u32], list: &mut [u32]) -> u32
     let written = writer::rows::write_rows(calls, list);
     let code = written.code();
     let number = written.number();
-    let told = in_16_bits(number);
-    code + 65536 * told
+    let shown = in_16_bits(number);
+    code + 65536 * shown
 }

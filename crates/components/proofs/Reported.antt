@@ -22,26 +22,26 @@ use Rattle.components.specs.declared.Component.the-variants.{Of, BadTabl
 
 module _ (t : List ℕ) (d : ℕ) where
   -- a table that is refused by its code
-  pub told-refused : (code : ℕ) → code ≡ tableCode t → (code ≡ 0 → ⊥) → ComponentReported t d code 0
+  pub reported-refused : (code : ℕ) → code ≡ tableCode t → (code ≡ 0 → ⊥) → ComponentReported t d code 0
   unfolding reportedMembers reportedCode
-  told-refused code e n =
+  reported-refused code e n =
       let bad = ne-eqb (tableCode t) 0 (λ none. n (e ∙ none)) in
       record { sameCode = rw bad e; sameMembers = rw (bad, bad) }
 
   module _ (a : Accepted t) where
     -- an index that is no domain's
-    pub told-none : domains t ≤ d → ComponentReported t d 32 0
+    pub reported-none : domains t ≤ d → ComponentReported t d 32 0
     unfolding reportedMembers reportedCode
-    told-none l = record { sameCode = rw (a, le-ltb d (domains t) l); sameMembers = rw (a, le-ltb d (domains t) l) }
+    reported-none l = record { sameCode = rw (a, le-ltb d (domains t) l); sameMembers = rw (a, le-ltb d (domains t) l) }
 
-    pub told : d < domains t → (members : ℕ) → members ≡ component t d → ComponentReported t d 0 members
+    pub reported : d < domains t → (members : ℕ) → members ≡ component t d → ComponentReported t d 0 members
     unfolding reportedMembers reportedCode
-    told l members e = record { sameCode = rw (a, lt-ltb d (domains t) l); sameMembers = rw (a, lt-ltb d (domains t) l) e }
+    reported l members e = record { sameCode = rw (a, lt-ltb d (domains t) l); sameMembers = rw (a, lt-ltb d (domains t) l) e }
 
   -- where the code is 0 the table is accepted and d is a domain
-  told-of : reportedCode t d ≡ 0 → Accepted t × (d < domains t)
+  reported-of : reportedCode t d ≡ 0 → Accepted t × (d < domains t)
   unfolding reportedCode
-  told-of =
+  reported-of =
       cond-elim (λ n. n ≡ 0 → Accepted t × (d < domains t)) (eqb (tableCode t) 0)
       (λ a.
       cond-elim (λ n. n ≡ 0 → Accepted t × (d < domains t)) (ltb d (domains t))
@@ -55,7 +55,7 @@ module _ (t : List ℕ) (d : ℕ) where
   members-small =
       cond-elim (λ n. n < 65536) (eqb (reportedCode t d) 0)
       (λ e.
-      let (a, l) = told-of (eqb-true _ _ e) in
+      let (a, l) = reported-of (eqb-true _ _ e) in
       lt-of-lt-of-le (relation-lt (domains t) (joined t) d l) (pow-mono (accepted-counts t a .1)))
       (λ _. omega arith)
 

@@ -54,13 +54,13 @@ module _ (ws : List ℕ) (d : ℕ) where
 
   -- ---- what is reported
 
-  pub told-nothing : false ≡ askable ws d → ReachReported ws d 32 0
+  pub reported-nothing : false ≡ askable ws d → ReachReported ws d 32 0
   unfolding askCode asked
-  told-nothing h = record { sameCode = rw (← h); sameSet = rw (← h) }
+  reported-nothing h = record { sameCode = rw (← h); sameSet = rw (← h) }
 
-  pub told : true ≡ askable ws d → (set : ℕ) → set ≡ closed ws (2 ^ d) → ReachReported ws d 0 set
+  pub reported : true ≡ askable ws d → (set : ℕ) → set ≡ closed ws (2 ^ d) → ReachReported ws d 0 set
   unfolding askCode asked
-  told h set e = record { sameCode = rw (← h); sameSet = rw (← h) e }
+  reported h set e = record { sameCode = rw (← h); sameSet = rw (← h) e }
 
 -- an answer's code is small
 pub code-small : (a : Asked) → askedCode a ≤ 32

@@ -67,9 +67,9 @@ step-served t c holders a t′ kept e served =
     }
 
 -- ---- a run, by the result of its entry
-module _ (t ws : List ℕ) (size lent : ℕ) (x : Entered) (told : enteredCode x ≡ entryCode t ws size lent) (is : x ≡ entered.Runs) where
+module _ (t ws : List ℕ) (size lent : ℕ) (x : Entered) (reported : enteredCode x ≡ entryCode t ws size lent) (is : x ≡ entered.Runs) where
   runs : Runs t ws size lent
-  runs = sym (sym (ap enteredCode is) ∙ told)
+  runs = sym (sym (ap enteredCode is) ∙ reported)
 
   -- what the calls of a list need
   pub may-run : Accepted t × (length ws ≤ longestList × (3 * length (split ws) ≤ size × (lent ≡ domains t)))
@@ -96,8 +96,8 @@ pub promise-entered : (t ws space holders : List ℕ) (x : Entered) (r : EntryRe
     → enteredCode x ≡ entryCode t ws (length space) (length holders)
     → x ≡ entered.Refused r
     → RunPromise t ws space holders (entryRefusalCode r) 0 space t holders
-promise-entered t ws space holders x r told is =
-    promise-refused t ws space holders (entryRefusalCode r) (sym (ap enteredCode is) ∙ told) (entry-refusal-code r)
+promise-entered t ws space holders x r reported is =
+    promise-refused t ws space holders (entryRefusalCode r) (sym (ap enteredCode is) ∙ reported) (entry-refusal-code r)
 
 -- and so does code that runs the calls where it doesn't.
 pub promise-all-run : (t ws space holders : List ℕ) (x : Entered)
@@ -106,5 +106,5 @@ pub promise-all-run : (t ws space holders : List ℕ) (x : Entered)
     → (k : ℕ) (answers end kept : List ℕ)
     → AllRun t ws space k answers end kept
     → RunPromise t ws space holders 0 k answers end kept
-promise-all-run t ws space holders x told is k answers end kept all =
-    promise-ran t ws space holders k answers end kept (runs t ws (length space) (length holders) x told is) (all .count) (all .answers) (all .table) (all .holders)
+promise-all-run t ws space holders x reported is k answers end kept all =
+    promise-ran t ws space holders k answers end kept (runs t ws (length space) (length holders) x reported is) (all .count) (all .answers) (all .table) (all .holders)

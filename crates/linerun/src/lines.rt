@@ -31,16 +31,16 @@ fn call_lines(answers: &[u32], from: usize, to: usize, out: &mut [u8], start: us
 }
 
 // Writes the lines from `line` on and before `next`, from the buffer's front on, and returns how many bytes they have.
-fn put_lines(told: Head, answers: &[u32], line: usize, next: usize, out: &mut [u8]) -> usize
-    requires { ⌜ (line < next) × (next ≤ told .calls + 1) × (told .calls ≤ 4096) ⌝ }
-    requires { ⌜ 3 * told .calls ≤ length (now answers) ⌝ }
+fn put_lines(head: Head, answers: &[u32], line: usize, next: usize, out: &mut [u8]) -> usize
+    requires { ⌜ (line < next) × (next ≤ head .calls + 1) × (head .calls ≤ 4096) ⌝ }
+    requires { ⌜ 3 * head .calls ≤ length (now answers) ⌝ }
     requires { ⌜ mostBytes (next - line) ≤ length (now out) ⌝ }
-    ensures { λ r. ⌜ Writes 0 (linesBetween (told .calls) (told .code) (now (answers .entry)) line next) (now (out .entry)) r
+    ensures { λ r. ⌜ Writes 0 (linesBetween (head .calls) (head .code) (now (answers .entry)) line next) (now (out .entry)) r
         (now (out .exit)) ⌝ }
     ensures { λ r. ⌜ r ≤ mostBytes (next - line) ⌝ }
 {
     if line == 0 {
-        let first_end = first_line(told.calls, told.code, out, 0);
+        let first_end = first_line(head.calls, head.code, out, 0);
         return call_lines(answers, 0, next - 1, out, first_end);
     }
     call_lines(answers, line - 1, next - 1, out, 0)
@@ -49,19 +49,19 @@ fn put_lines(told: Head, answers: &[u32], line: usize, next: usize, out: &mut [u
 // Returns the same lines as the part of the lent buffer that they fill. What is printed before `line`, with these lines after it,
 // is what is printed before `next`.
 pub fn lines_between<'a>(
-    told: Head,
+    head: Head,
     answers: &[u32],
     line: usize,
     next: usize,
     out: &'a mut [u8],
 ) -> &'a [u8]
-    requires { ⌜ (line < next) × (next ≤ told .calls + 1) × (told .calls ≤ 4096) ⌝ }
-    requires { ⌜ 3 * told .calls ≤ length (now answers) ⌝ }
+    requires { ⌜ (line < next) × (next ≤ head .calls + 1) × (head .calls ≤ 4096) ⌝ }
+    requires { ⌜ 3 * head .calls ≤ length (now answers) ⌝ }
     requires { ⌜ mostBytes (next - line) ≤ length (now out) ⌝ }
-    ensures { λ r. ⌜ printedBefore (told .calls) (told .code) (now (answers .entry)) line ++ now r
-        ≡ printedBefore (told .calls) (told .code) (now (answers .entry)) next ⌝ }
+    ensures { λ r. ⌜ printedBefore (head .calls) (head .code) (now (answers .entry)) line ++ now r
+        ≡ printedBefore (head .calls) (head .code) (now (answers .entry)) next ⌝ }
 {
-    let printed = put_lines(told, answers, line, next, out);
+    let printed = put_lines(head, answers, line, next, out);
     let lines = &out[..];
     &lines[0..printed]
 }

@@ -56,13 +56,13 @@ fn main() {
     let read = read_input(&mut input);
     // three words for each call of the longest list
     let mut answers = [0u32; MOST_ANSWER_WORDS];
-    let told = answer_input(&input, read, &mut answers);
-    let all = told.calls + 1;
+    let head = answer_input(&input, read, &mut answers);
+    let all = head.calls + 1;
     let mut out = [0u8; LINES_BYTES];
     let mut line: usize = 0;
     while line < all {
         let next = next_line(line, all);
-        let lines = lines_between(told, &answers, line, next, &mut out);
+        let lines = lines_between(head, &answers, line, next, &mut out);
         // a program has no exit status to give, so lines that can't be written are reported on standard error
         if !io::write_all(STDOUT_FILENO, lines) {
             io::write_all(STDERR_FILENO, b"linerun: not all lines could be written\n");

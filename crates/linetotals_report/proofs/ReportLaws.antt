@@ -86,9 +86,9 @@ module _ {t : List ℕ} {lists : List (List ℕ)} {tally : Tally} {start end : L
 -- ---- the lists of a table
 
 -- what is reported of lists that were run from any table
-pub told : {t : List ℕ} {ran : declared.Lists} {end starts ends : List ℕ} (x : ListsRan t ran end) → starts ≡ wordsBelow 32 (λ e. waiting (endpoint t e))
+pub reported : {t : List ℕ} {ran : declared.Lists} {end starts ends : List ℕ} (x : ListsRan t ran end) → starts ≡ wordsBelow 32 (λ e. waiting (endpoint t e))
     → ends ≡ wordsBelow 32 (λ e. waiting (endpoint end e)) → CountedLines t (listsAfter t (x .bytes) .lists) (ran .tally) starts ends
-told x starts ends = record { tallyIs = x .tallyIs; startIs = starts; endIs = rw (x .tableIs) at ends }
+reported x starts ends = record { tallyIs = x .tallyIs; startIs = starts; endIs = rw (x .tableIs) at ends }
 
 module _ {t : List ℕ} {ran : declared.Lists} {end : List ℕ} (x : ListsRan t ran end) where
   at-all : Accepted t → ran .endpoints ≡ endpoints t

@@ -21,7 +21,7 @@ use Rattle.machine.specs.Machine.{Decision, decide, effect, after, step,
 use Rattle.machine.specs.Machine.{Decision.refused}
 use Rattle.machine.specs.Run.{run, answers}
 use Rattle.machine.specs.Counts.{isSend, isReceive, doneOn, countDone, messagesFrom, messagesTo, receivesFrom, sendsTo, pushesOut, fullSends, messages}
-use Rattle.machine.specs.Counts.{Gone, Gone.told, Gone.pushed, messageOf, takenOf, countPushed, gone}
+use Rattle.machine.specs.Counts.{Gone, Gone.taken, Gone.pushed, messageOf, takenOf, countPushed, gone}
 use Rattle.machine.specs.MachineClaims.{EveryRunAnswered, EveryRunCountsConserved, EveryRunFifoOrder}
 use Rattle.machine.proofs.Table as table
 use Rattle.machine.proofs.Table.{Sized}
@@ -36,7 +36,7 @@ use Rattle.machine.proofs.Queue as queue
 -- what leaves q by its front by the call, followed by what leaves later
 abbrev leaving : Bool → Bool → List ℕ → List Gone → List Gone
 leaving sends receives q later =
-    cond (sends && not (hasSpace q)) (pushed (oldest q) ∷ later) (cond receives (told (oldest q) ∷ later) later)
+    cond (sends && not (hasSpace q)) (pushed (oldest q) ∷ later) (cond receives (taken (oldest q) ∷ later) later)
 
 record Served (sends receives : Bool) (message shown : ℕ) (q q′ : List ℕ) : Type 0 where
   balance : cond sends 1 0 + waiting q ≡ cond receives 1 0 + cond (sends && not (hasSpace q)) 1 0 + waiting q′
@@ -196,7 +196,7 @@ counts-conserved t (c ∷ cs) rest a e l =
     }
 
 -- one more is pushed out, received, or neither
-pushed-more : (pushes receives : Bool) (m n : ℕ) (out : List Gone) → n ≡ countPushed out → cond pushes 1 0 + n ≡ countPushed (cond pushes (pushed m ∷ out) (cond receives (told m ∷ out) out))
+pushed-more : (pushes receives : Bool) (m n : ℕ) (out : List Gone) → n ≡ countPushed out → cond pushes 1 0 + n ≡ countPushed (cond pushes (pushed m ∷ out) (cond receives (taken m ∷ out) out))
 unfolding countPushed
 pushed-more true receives m n out p = ap (λ (k : ℕ). 1 + k) p
 pushed-more false true m n out p = omega arith

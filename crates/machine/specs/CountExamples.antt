@@ -7,7 +7,7 @@ use mathlib.Core.List.{List, [], _∷_}
 use Rattle.machine.specs.Table.{endpoint}
 use Rattle.machine.specs.Call.{Call, split}
 use Rattle.machine.specs.Run.{run, answers}
-use Rattle.machine.specs.Counts.{sentTo, receivedFrom, fullSends, messagesFrom, messagesTo, Gone, Gone.told, Gone.pushed, gone, messages}
+use Rattle.machine.specs.Counts.{sentTo, receivedFrom, fullSends, messagesFrom, messagesTo, Gone, Gone.taken, Gone.pushed, gone, messages}
 use Rattle.machine.specs.Examples.{T}
 
 -- what is counted at an endpoint over calls run from a table
@@ -65,7 +65,7 @@ CountRowHolds =
       full = 2;
       inwards = 5 ∷ 6 ∷ 7 ∷ [];
       outwards = 7 ∷ [];
-      front = pushed 5 ∷ pushed 6 ∷ told 7 ∷ [];
+      front = pushed 5 ∷ pushed 6 ∷ taken 7 ∷ [];
       left = [];
     })
     × (counted 0 T (split sends)
@@ -75,6 +75,6 @@ CountRowHolds =
       full = 2;
       inwards = 1 ∷ 2 ∷ 3 ∷ 4 ∷ 8 ∷ [];
       outwards = 2 ∷ [];
-      front = pushed 1 ∷ told 2 ∷ pushed 3 ∷ [];
+      front = pushed 1 ∷ taken 2 ∷ pushed 3 ∷ [];
       left = 4 ∷ 8 ∷ [];
     })

@@ -89,24 +89,24 @@ fullSends e t (c ∷ cs) = cond (pushesOut e t c) 1 0 + fullSends e (step t c) c
 
 -- A message that left a queue by its front: a receive returned it, or a send to the full queue pushed it out.
 pub data Gone : Type 0 where
-  told : (message : ℕ) → Gone
+  taken : (message : ℕ) → Gone
   pushed : (message : ℕ) → Gone
 
 -- the message, either way
 unfoldable pub messageOf : Gone → ℕ
-messageOf (told m) = m
+messageOf (taken m) = m
 messageOf (pushed m) = m
 
 -- those that receives returned, in order
 unfoldable pub takenOf : List Gone → List ℕ
 takenOf [] = []
-takenOf (told m ∷ out) = m ∷ takenOf out
+takenOf (taken m ∷ out) = m ∷ takenOf out
 takenOf (pushed m ∷ out) = takenOf out
 
 -- how many were pushed out
 unfoldable pub countPushed : List Gone → ℕ
 countPushed [] = 0
-countPushed (told m ∷ out) = countPushed out
+countPushed (taken m ∷ out) = countPushed out
 countPushed (pushed m ∷ out) = 1 + countPushed out
 
 -- what left e's queue by its front, in order: at each receive and at each send that found it full, its oldest message then
@@ -115,7 +115,7 @@ gone e t [] = []
 gone e t (c ∷ cs) =
     let later = gone e (step t c) cs in
     cond (pushesOut e t c) (pushed (oldest (endpoint t e)) ∷ later)
-    (cond (receivesFrom e t c) (told (oldest (endpoint t e)) ∷ later) later)
+    (cond (receivesFrom e t c) (taken (oldest (endpoint t e)) ∷ later) later)
 
 -- the messages that wait in an endpoint's twelve words, oldest first
 unfoldable pub messages : List ℕ → List ℕ

@@ -13,17 +13,17 @@ use Rattle.potential.specs.Reported.{reportedCode, reportedRights, Poten
 
 module _ (t : List ℕ) (s : ℕ) (space : List ℕ) where
   -- a table that is refused by its code
-  pub told-refused : (code : ℕ) → code ≡ tableCode t → (code ≡ 0 → ⊥) → PotentialReported t s space code space
+  pub reported-refused : (code : ℕ) → code ≡ tableCode t → (code ≡ 0 → ⊥) → PotentialReported t s space code space
   unfolding reportedCode reportedRights
-  told-refused code e n =
+  reported-refused code e n =
       let bad = ne-eqb (tableCode t) 0 (λ none. n (e ∙ none)) in
       record { sameCode = rw bad e; sameRights = rw (bad, bad) }
 
   module _ (a : Accepted t) (n : ℕ) (e : n ≡ domains t) where
     -- other than n × n words
-    pub told-space : (length space ≡ n * n → ⊥) → PotentialReported t s space 6 space
+    pub reported-space : (length space ≡ n * n → ⊥) → PotentialReported t s space 6 space
     unfolding reportedCode reportedRights
-    told-space other =
+    reported-space other =
         let differs = ne-eqb (length space) (domains t * domains t) (λ same. other (same ∙ sym (ap₂ _*_ e e))) in
         record { sameCode = rw (a, differs); sameRights = rw (a, differs) }
 
@@ -32,15 +32,15 @@ module _ (t : List ℕ) (s : ℕ) (space : List ℕ) where
       same = eq-eqb _ _ (fits ∙ ap₂ _*_ e e)
 
       -- a set with a bit at or above n
-      pub told-not-domains : sets ≤ s → PotentialReported t s space 32 space
+      pub reported-not-domains : sets ≤ s → PotentialReported t s space 32 space
       unfolding reportedCode reportedRights
-      told-not-domains l =
+      reported-not-domains l =
           let more = le-ltb s (2 ^ domains t) (subst (λ k. k ≤ s) (all ∙ ap (2 ^_) e) l) in
           record { sameCode = rw (a, same, more); sameRights = rw (a, same, more) }
 
-      pub told : s < sets → (filled left : List ℕ) → filled ≡ matrixOf t → left ≡ settled (enough n) n s filled → PotentialReported t s space 0 left
+      pub reported : s < sets → (filled left : List ℕ) → filled ≡ matrixOf t → left ≡ settled (enough n) n s filled → PotentialReported t s space 0 left
       unfolding reportedCode reportedRights potential
-      told l filled left start made =
+      reported l filled left start made =
           let few = lt-ltb s (2 ^ domains t) (subst (λ k. s < k) (all ∙ ap (2 ^_) e) l) in
           record {
             sameCode = rw (a, same, few);

@@ -34,8 +34,8 @@ module _ (t list : List ℕ) where
     unfolding alteredCount
     count-is = counted ∙ ap (λ (x : List ℕ). length (differing t x)) mends
 
-    told-length : length (altered t) ≡ 2 * count
-    told-length = rw count-is (altered-length t)
+    reported-length : length (altered t) ≡ 2 * count
+    reported-length = rw count-is (altered-length t)
 
     pub count-fits : count ≤ 641
     count-fits = omega (arith, count-is, altered-few t, mendable-small t can)
@@ -43,22 +43,22 @@ module _ (t list : List ℕ) where
     pub list-too-short : length list < 2 * count → RepairPromise t list 34 0 t list
     unfolding repair repairCode refusal
     list-too-short l =
-        let short = lt-ltb (length list) (length (altered t)) (rw told-length l) in
+        let short = lt-ltb (length list) (length (altered t)) (rw reported-length l) in
         record { sameCode = rw (can, short); sameCount = rw (can, short); sameTable = rw (can, short); sameList = rw (can, short) }
 
     module _ (l : 2 * count ≤ length list) where
       -- there is room for the pairs
       pub room : length (changes t new) ≤ length list
       unfolding altered
-      room = rw (mends, told-length) l
+      room = rw (mends, reported-length) l
 
-      pub done : (end told : List ℕ)
+      pub done : (end reported : List ℕ)
           → end ≡ new
-          → told ≡ changes t new ++ drop (length (changes t new)) list
-          → RepairPromise t list 0 count end told
+          → reported ≡ changes t new ++ drop (length (changes t new)) list
+          → RepairPromise t list 0 count end reported
       unfolding repair repairCode repaired altered
-      done end told wrote tells =
-          let enough = le-ltb (length list) (length (altered t)) (rw told-length l) in
+      done end reported wrote tells =
+          let enough = le-ltb (length list) (length (altered t)) (rw reported-length l) in
           record {
             sameCode = rw (can, enough);
             sameCount = rw (can, enough) count-is;

@@ -104,11 +104,11 @@ pub record Replacing (t new list₀ table list : List ℕ) (at i : ℕ) : Type 0
   pub copied : Copied t new table i
   pub size : length list ≡ length list₀
   pub place : at ≡ 2 * length (numbersBelow i (differsAt t new))
-  pub told : list ≡ changePairs t (numbersBelow i (differsAt t new)) ++ drop at list₀
+  pub reported : list ≡ changePairs t (numbersBelow i (differsAt t new)) ++ drop at list₀
 
 pub replacing-start : (t new list : List ℕ) → Replacing t new list t list 0 0
 unfolding numbersBelow changePairs
-replacing-start t new list = record { copied = copied-start t new; size = refl; place = refl; told = refl }
+replacing-start t new list = record { copied = copied-start t new; size = refl; place = refl; reported = refl }
 
 -- there are no more pairs so far than words
 pub replacing-few : {t new list₀ table list : List ℕ} {at i : ℕ} → Replacing t new list₀ table list at i → at ≤ 2 * i
@@ -159,7 +159,7 @@ module _ {t new list₀ table list : List ℕ} {at i : ℕ} (r : Replacing t new
           copied = rw wrote (copied-next (r .copied) same within);
           size = ap length tells ∙ simp length-set (r .size);
           place = next ∙ next-place;
-          told =
+          reported =
               tells
               ∙ ap (λ (k : ℕ). set (set list at i) k (getD table i 0)) (add-one at)
               ∙ sets-eq (i ∷ getD table i 0 ∷ []) list at (pair-fits room)
@@ -175,12 +175,12 @@ module _ {t new list₀ table list : List ℕ} {at i : ℕ} (r : Replacing t new
         long = pairs-length t (numbersBelow i (differsAt t new)) ∙ sym (r .place)
 
         front : take at list ≡ done
-        front = ap (take at) (r .told) ∙ take-at done (drop at list₀) at long
+        front = ap (take at) (r .reported) ∙ take-at done (drop at list₀) at long
 
         behind : drop (at + 2) list ≡ drop (at + 2) list₀
         behind =
             sym (drop-drop 2 at list)
-            ∙ ap (drop 2) (ap (drop at) (r .told) ∙ drop-at done (drop at list₀) at long)
+            ∙ ap (drop 2) (ap (drop at) (r .reported) ∙ drop-at done (drop at list₀) at long)
             ∙ drop-drop 2 at list₀
 
   pub replacing-same : getD table i 0 ≡ getD new i 0
@@ -195,7 +195,7 @@ module _ {t new list₀ table list : List ℕ} {at i : ℕ} (r : Replacing t new
         copied = rw wrote (copied-same (r .copied) same within (sym (copied-read (r .copied) same within) ∙ e));
         size = ap length tells ∙ r .size;
         place = rw none (next ∙ r .place);
-        told = rw (none, next) (tells ∙ r .told);
+        reported = rw (none, next) (tells ∙ r .reported);
       }
 
 pub replacing-end : {t new list₀ table list : List ℕ} {at i : ℕ} → Replacing t new list₀ table list at i → length new ≡ length t → length t ≤ i
@@ -203,5 +203,5 @@ pub replacing-end : {t new list₀ table list : List ℕ} {at i : ℕ} → Repla
 unfolding changes differing
 replacing-end {t} {new} {list₀} {table} {list} {at} {i} r same l =
     let all : i ≡ length t = le-antisymm (omega (arith, r .copied .within)) l in
-    let told : changePairs t (numbersBelow i (differsAt t new)) ≡ changePairs t (numbersBelow (length t) (differsAt t new)) = ap (λ (k : ℕ). changePairs t (numbersBelow k (differsAt t new))) all in
-    (copied-end (r .copied) same (omega arith), r .told ∙ ap₂ (λ (x : List ℕ) (k : ℕ). x ++ drop k list₀) told (r .place ∙ sym (pairs-length t (numbersBelow i (differsAt t new))) ∙ ap length told))
+    let reported : changePairs t (numbersBelow i (differsAt t new)) ≡ changePairs t (numbersBelow (length t) (differsAt t new)) = ap (λ (k : ℕ). changePairs t (numbersBelow k (differsAt t new))) all in
+    (copied-end (r .copied) same (omega arith), r .reported ∙ ap₂ (λ (x : List ℕ) (k : ℕ). x ++ drop k list₀) reported (r .place ∙ sym (pairs-length t (numbersBelow i (differsAt t new))) ∙ ap length reported))

@@ -23,7 +23,7 @@ use Rattle.repair_theory.proofs.Outcomes.{altered-length, repair-elim}
 
 -- the outcome that was promised
 abbrev outcomeOf : {t list : List ℕ} → PromisedRepair t list → RepairOutcome
-outcomeOf r = record { code = r .code; count = r .count; table = r .end; list = r .told }
+outcomeOf r = record { code = r .code; count = r .count; table = r .end; list = r .reported }
 
 -- what holds of a repaired table and of a refusal holds of what was promised
 promised : (t list : List ℕ) (P : RepairOutcome → Type 0)

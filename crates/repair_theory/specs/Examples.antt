@@ -22,8 +22,8 @@ EveryRow (r ∷ rs) = (repair (r .table) (r .list) ≡ r .leaves) × EveryRow rs
 
 -- the table t with n words altered becomes end, and the pairs reported are at the front of a list of twenty sevens
 abbrev pub mends : List ℕ → ℕ → List ℕ → List ℕ → List ℕ → Row
-mends t n end told rest =
-    record { table = t; list = replicate 20 7; leaves = record { code = 0; count = n; table = end; list = told ++ rest } }
+mends t n end reported rest =
+    record { table = t; list = replicate 20 7; leaves = record { code = 0; count = n; table = end; list = reported ++ rest } }
 
 -- a refusal by a code leaves the table t and the list
 abbrev pub refuses : ℕ → List ℕ → List ℕ → Row

@@ -49,8 +49,8 @@ repair t list =
 
 -- What is promised of whoever repairs the table t with the lent words list: the code and the count of words altered that it
 -- answers, and the table and the lent words that it leaves.
-pub record RepairPromise (t list : List ℕ) (code count : ℕ) (end told : List ℕ) : Type 0 where
+pub record RepairPromise (t list : List ℕ) (code count : ℕ) (end reported : List ℕ) : Type 0 where
   pub sameCode : code ≡ repair t list .code
   pub sameCount : count ≡ repair t list .count
   pub sameTable : end ≡ repair t list .table
-  pub sameList : told ≡ repair t list .list
+  pub sameList : reported ≡ repair t list .list

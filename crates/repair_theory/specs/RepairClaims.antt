@@ -14,8 +14,8 @@ pub record PromisedRepair (t list : List ℕ) : Type 0 where
   pub code : ℕ
   pub count : ℕ
   pub end : List ℕ
-  pub told : List ℕ
-  pub kept : RepairPromise t list code count end told
+  pub reported : List ℕ
+  pub kept : RepairPromise t list code count end reported
 
 -- What results passes the check.
 abbrev pub EveryRepairAccepted : Type 0
@@ -26,14 +26,14 @@ abbrev pub EveryRefusalAltersNothing : Type 0
 EveryRefusalAltersNothing =
     (t list : List ℕ) (r : PromisedRepair t list)
     → (r .code ≡ 0 → ⊥)
-    → (r .count ≡ 0) × (r .end ≡ t) × (r .told ≡ list)
+    → (r .count ≡ 0) × (r .end ≡ t) × (r .reported ≡ list)
 
 -- A sound table stays and yields an empty list.
 abbrev pub EverySoundTableStays : Type 0
 EverySoundTableStays =
     (t list : List ℕ) (r : PromisedRepair t list)
     → Accepted t
-    → (r .code ≡ 0) × (r .count ≡ 0) × (r .end ≡ t) × (r .told ≡ list)
+    → (r .code ≡ 0) × (r .count ≡ 0) × (r .end ≡ t) × (r .reported ≡ list)
 
 -- No holder has a right at the end that its word didn't show before, read by its bits or in any other way.
 abbrev pub EveryRepairAddsNoRight : Type 0
@@ -53,15 +53,15 @@ pub record ReportsChanges (old new list : List ℕ) (count : ℕ) : Type 0 where
   pub every : (i : ℕ) → (getD new i 0 ≡ getD old i 0 → ⊥) → (j : ℕ) × (j < count) × (getD list (2 * j) 0 ≡ i)
 
 -- The pairs at the front of the list report exactly the words that were altered, and the words after them stay.
-pub record ReportedExactly (t end list told : List ℕ) (count : ℕ) : Type 0 where
-  pub pairs : ReportsChanges t end told count
-  pub past : drop (2 * count) told ≡ drop (2 * count) list
-  pub size : length told ≡ length list
+pub record ReportedExactly (t end list reported : List ℕ) (count : ℕ) : Type 0 where
+  pub pairs : ReportsChanges t end reported count
+  pub past : drop (2 * count) reported ≡ drop (2 * count) list
+  pub size : length reported ≡ length list
 
 abbrev pub EveryRepairReportedExactly : Type 0
 EveryRepairReportedExactly =
-    (t list : List ℕ) (r : PromisedRepair t list) → ReportedExactly t (r .end) list (r .told) (r .count)
+    (t list : List ℕ) (r : PromisedRepair t list) → ReportedExactly t (r .end) list (r .reported) (r .count)
 
 -- The old table can be restored: the pairs put back into the table that was left give the table as it was.
 abbrev pub EveryRepairPutBack : Type 0
-EveryRepairPutBack = (t list : List ℕ) (r : PromisedRepair t list) → putBack (r .end) (take (2 * r .count) (r .told)) ≡ t
+EveryRepairPutBack = (t list : List ℕ) (r : PromisedRepair t list) → putBack (r .end) (take (2 * r .count) (r .reported)) ≡ t

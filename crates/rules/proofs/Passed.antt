@@ -19,20 +19,20 @@ IsDone x = OneOf (1 ∷ 2 ∷ 3 ∷ 4 ∷ 5 ∷ []) (tagOf the-type x)
 
 pub not-refused : (x : Decision) (k : ℕ) → IsDone x → decisionOf x ≡ machine.refused k → ⊥
 unfolding decisionOf
-not-refused (Refused r) k told e = miss (1 ∷ 2 ∷ 3 ∷ 4 ∷ 5 ∷ []) 0 tt told
-not-refused (Sends i j) k told e = let z : _≡_ {A = ℕ} 0 1 = cc in omega arith
-not-refused (Receives i) k told e = let z : _≡_ {A = ℕ} 0 1 = cc in omega arith
-not-refused (Grants g h r) k told e = let z : _≡_ {A = ℕ} 0 1 = cc in omega arith
-not-refused (Removes g u r) k told e = let z : _≡_ {A = ℕ} 0 1 = cc in omega arith
-not-refused (Revokes g h r) k told e = let z : _≡_ {A = ℕ} 0 1 = cc in omega arith
+not-refused (Refused r) k reported e = miss (1 ∷ 2 ∷ 3 ∷ 4 ∷ 5 ∷ []) 0 tt reported
+not-refused (Sends i j) k reported e = let z : _≡_ {A = ℕ} 0 1 = cc in omega arith
+not-refused (Receives i) k reported e = let z : _≡_ {A = ℕ} 0 1 = cc in omega arith
+not-refused (Grants g h r) k reported e = let z : _≡_ {A = ℕ} 0 1 = cc in omega arith
+not-refused (Removes g u r) k reported e = let z : _≡_ {A = ℕ} 0 1 = cc in omega arith
+not-refused (Revokes g h r) k reported e = let z : _≡_ {A = ℕ} 0 1 = cc in omega arith
 
 pub passed : (x : Decision) (b : Bool) (k : ℕ) (next : machine.Decision) → IsDone x → decisionOf x ≡ place b k next → decisionOf x ≡ next
 unfolding place
-passed x true k next told e = absurd (not-refused x k told e)
-passed x false k next told e = e
+passed x true k next reported e = absurd (not-refused x k reported e)
+passed x false k next reported e = e
 
 -- and the place's condition is false
 pub clear : (x : Decision) (b : Bool) (k : ℕ) (next : machine.Decision) → IsDone x → decisionOf x ≡ place b k next → b ≡ false
 unfolding place
-clear x true k next told e = absurd (not-refused x k told e)
-clear x false k next told e = refl
+clear x true k next reported e = absurd (not-refused x k reported e)
+clear x false k next reported e = refl

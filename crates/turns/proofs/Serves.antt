@@ -56,7 +56,7 @@ module _ {t ws space : List ℕ} {d : ℕ} (m : MayServe t ws space d) where
       → StepPromise t (oldest-call ws d) holders (Answered a) t′ kept
       → TurnPromise t ws holders space 0 1 t′ ws′ kept space′
   unfolding servedBy tableAfter holdersAfterTurn spaceAfter
-  serve-answered holders a t′ kept few ws′ space′ width left told p =
+  serve-answered holders a t′ kept few ws′ space′ width left reported p =
       let e = served-code holders in
       let fine = eq-eqb (stepEntryCode t (length holders)) 0 (sym (p .code)) in
       let it = oldest-turn t ws d (m .size) (m .next) in
@@ -68,7 +68,7 @@ module _ {t ws space : List ℕ} {d : ℕ} (m : MayServe t ws space d) where
         sameHolders = rw (e, fine, it) (p .sameHolders ∙ ap (λ (b : Bool). cond b (holdersOf (machine.step t (oldest-call ws d))) holders) fine);
         answer =
             rw (e, fine, it)
-            (told ∙ ap (λ (xs : List ℕ). xs ++ drop 3 space) (p .words ∙ ap (λ (b : Bool). cond b (machine.answer t (oldest-call ws d)) []) fine));
+            (reported ∙ ap (λ (xs : List ℕ). xs ++ drop 3 space) (p .words ∙ ap (λ (b : Bool). cond b (machine.answer t (oldest-call ws d)) []) fine));
       }
 
 -- a turn that serves nobody changes nothing

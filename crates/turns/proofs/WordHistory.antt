@@ -213,17 +213,17 @@ from-the-beginning t hs p =
     let ws = replicate {A = ℕ} (stateLength (domains t)) 0 in
     let l = first t in
     let es = map eventOf hs in
-    let told = subst (λ (s : Turns). MatchesHistory (withTurns t s) ws hs) (begins (stateLength (domains t))) (every-word-history t ws hs (length-replicate {A = ℕ} (stateLength (domains t)) 0) p) in
+    let reported = subst (λ (s : Turns). MatchesHistory (withTurns t s) ws hs) (begins (stateLength (domains t))) (every-word-history t ws hs (length-replicate {A = ℕ} (stateLength (domains t)) 0) p) in
     let one = as-one-list l es in
     record {
-      tells = told;
-      answers = told .answers ∙ one .answers;
-      holders = told .holders ∙ one .holders;
-      table = told .table ∙ one .table;
+      tells = reported;
+      answers = reported .answers ∙ one .answers;
+      holders = reported .holders ∙ one .holders;
+      table = reported .table ∙ one .table;
       noninterference =
           λ a.
-          subst₂ (λ (xs end : List ℕ). Noninterference t (served (turnsOf l es)) xs end) (sym (told .answers)) (sym (told .table)) (history-noninterference l es a);
+          subst₂ (λ (xs end : List ℕ). Noninterference t (served (turnsOf l es)) xs end) (sym (reported .answers)) (sym (reported .table)) (history-noninterference l es a);
       order =
           λ d.
-          ap (λ (s : Turns). servedOf d (turnsOf l es) ++ split (s .pending d)) (told .turns) ∙ in-order l es d;
+          ap (λ (s : Turns). servedOf d (turnsOf l es) ++ split (s .pending d)) (reported .turns) ∙ in-order l es d;
     }

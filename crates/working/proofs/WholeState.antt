@@ -93,31 +93,31 @@ module _ (n m w : ℕ) (rows : List (List ℕ)) (rings : List ℕ) (named : ℕ 
       → words ≡ answerFrom w rows₁ rings₁ owned₁ (decidedBy n m reading call)
       → StateOutcome n m rows rings named owned holders w call words rows rings holders
   unfolding reading
-  quiet-served rows₁ rings₁ owned₁ words call row told =
+  quiet-served rows₁ rings₁ owned₁ words call row reported =
       let q = decided-elim (Quiet rows₁ rings₁ owned₁) (quiet-refused rows₁ rings₁ owned₁) n m reading call row in
-      record { answer = told ∙ q .same; rowsLeft = q .rowsStay; ringsLeft = q .ringsStay; noted = q .holdersStay }
+      record { answer = reported ∙ q .same; rowsLeft = q .rowsStay; ringsLeft = q .ringsStay; noted = q .holdersStay }
 
   module _ (words : List ℕ) (u : ℕ) where
     pub served-refused : (k : Refusal) → words ≡ answerWord (one w) (code (refusedNumbers n u k (machine.refused (numberOf k)))) ∷ 0 ∷ 0 ∷ [] → StateOutcome n m rows rings named owned holders w (Refused u k) words rows rings holders
     unfolding callNumbers accessBy reading answerFrom firstFrom secondFrom code
-    served-refused k told =
+    served-refused k reported =
         quiet-served [] [] [] words (Refused u k) tt
-        (told ∙ decided-elim (λ (d : Decision). answerWord (one w) (code d) ∷ 0 ∷ 0 ∷ [] ≡ answerFrom w [] [] [] d) (λ _. refl) n m reading (Refused u k) tt)
+        (reported ∙ decided-elim (λ (d : Decision). answerWord (one w) (code d) ∷ 0 ∷ 0 ∷ [] ≡ answerFrom w [] [] [] d) (λ _. refl) n m reading (Refused u k) tt)
 
     pub served-look-up : (x : ℕ) → words ≡ answerFrom w [] [] [] (decidedBy n m (readingFrom [] [] named) (LookUp u x)) → StateOutcome n m rows rings named owned holders w (LookUp u x) words rows rings holders
     unfolding callNumbers accessBy reading answerFrom firstFrom secondFrom code effectFrom rowsAfter ringsAfter holdersAfter
-    served-look-up x told =
-        quiet-served [] [] [] words (LookUp u x) (λ e. record { same = refl; rowsStay = refl; ringsStay = refl; holdersStay = refl }) told
+    served-look-up x reported =
+        quiet-served [] [] [] words (LookUp u x) (λ e. record { same = refl; rowsStay = refl; ringsStay = refl; holdersStay = refl }) reported
 
     pub served-endpoints : words ≡ answerFrom w [] [] owned (decidedBy n 0 (readingFrom [] [] nobody) (MyEndpoints u)) → StateOutcome n m rows rings named owned holders w (MyEndpoints u) words rows rings holders
     unfolding callNumbers accessBy reading answerFrom firstFrom secondFrom code effectFrom rowsAfter ringsAfter holdersAfter
-    served-endpoints told =
-        quiet-served [] [] owned words (MyEndpoints u) (record { same = refl; rowsStay = refl; ringsStay = refl; holdersStay = refl }) told
+    served-endpoints reported =
+        quiet-served [] [] owned words (MyEndpoints u) (record { same = refl; rowsStay = refl; ringsStay = refl; holdersStay = refl }) reported
 
     pub served-rights : words ≡ answerFrom w rows [] [] (decidedBy n 0 (readingFrom [] [] nobody) (MyRights u)) → StateOutcome n m rows rings named owned holders w (MyRights u) words rows rings holders
     unfolding callNumbers accessBy reading answerFrom firstFrom secondFrom code effectFrom rowsAfter ringsAfter holdersAfter
-    served-rights told =
-        quiet-served rows [] [] words (MyRights u) (record { same = refl; rowsStay = refl; ringsStay = refl; holdersStay = refl }) told
+    served-rights reported =
+        quiet-served rows [] [] words (MyRights u) (record { same = refl; rowsStay = refl; ringsStay = refl; holdersStay = refl }) reported
 
   -- a call on a queue
   record OnQueue (x : Decision) : Type 0 where

@@ -13,17 +13,17 @@ module _ (m : ℕ) (names hints : List ℕ) (x e : ℕ) (b : Bool) (is : e ≡ g
   h : ℕ
   h = getD hints (hintPlace x) 0
 
-  told : (ltb h m && eqb (getD names (h % 32) 0) x) ≡ b
+  reported : (ltb h m && eqb (getD names (h % 32) 0) x) ≡ b
   unfolding h
-  told = sym (test ∙ ap (λ (z : ℕ). ltb z m && eqb (getD names (z % 32) 0) x) is)
+  reported = sym (test ∙ ap (λ (z : ℕ). ltb z m && eqb (getD names (z % 32) 0) x) is)
 
   chosen : Bool → Option ℕ
   chosen c = cond c (some h) (firstBelow m (λ i. eqb (getD names (i % 32) 0) x))
 
   pub by-hint : b ≡ true → some e ≡ namedIn m names hints x
   unfolding namedIn h chosen
-  by-hint it = ap some is ∙ sym (ap chosen (told ∙ it))
+  by-hint it = ap some is ∙ sym (ap chosen (reported ∙ it))
 
   pub by-search : b ≡ false → firstBelow m (λ i. eqb (getD names (i % 32) 0) x) ≡ namedIn m names hints x
   unfolding namedIn h chosen
-  by-search it = sym (ap chosen (told ∙ it))
+  by-search it = sym (ap chosen (reported ∙ it))

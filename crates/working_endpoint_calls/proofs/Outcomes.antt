@@ -15,9 +15,9 @@ use Rattle.working_endpoint_calls.proofs.Parts.{lent, back, same-back}
 module _ (d : Decision) (w : ℕ) (rings words : List ℕ) where
   pub queue-refused : (k : ℕ) → machine.refused k ≡ d → words ≡ answerWord (one w) k ∷ 0 ∷ 0 ∷ [] → RingsOutcome d w rings words rings
   unfolding ringsAfter effectFrom
-  queue-refused k is told =
+  queue-refused k is reported =
       record {
-        answer = refused-answer d k w [] rings [] words is told;
+        answer = refused-answer d k w [] rings [] words is reported;
         left = subst (λ (x : Decision). rings ≡ ringsAfter rings (effectFrom [] rings x)) is refl;
       }
 
@@ -28,8 +28,8 @@ module _ (d : Decision) (w : ℕ) (rings words : List ℕ) where
       → rings′ ≡ withRing rings e (ofTwelve (ringAt rings e) (ringSent (ringAt rings e) message) (ringAt rings e))
       → RingsOutcome d w rings words rings′
   unfolding answerFrom firstFrom secondFrom code ringsAfter effectFrom
-  queue-sent e message rings′ is told left =
-      subst (λ (x : Decision). RingsOutcome x w rings words rings′) is (record { answer = told; left = left })
+  queue-sent e message rings′ is reported left =
+      subst (λ (x : Decision). RingsOutcome x w rings words rings′) is (record { answer = reported; left = left })
 
   pub queue-received :
       (e x y : ℕ) (rings′ : List ℕ)
@@ -40,17 +40,17 @@ module _ (d : Decision) (w : ℕ) (rings words : List ℕ) where
       → rings′ ≡ withRing rings e (ofTwelve (ringAt rings e) (ringTake (ringAt rings e)) (ringAt rings e))
       → RingsOutcome d w rings words rings′
   unfolding answerFrom firstFrom secondFrom code ringsAfter effectFrom
-  queue-received e x y rings′ is told message lost left =
+  queue-received e x y rings′ is reported message lost left =
       subst (λ (v : Decision). RingsOutcome v w rings words rings′) is
-      (record { answer = told ∙ ap₂ (λ (i j : ℕ). answerWord (one w) 0 ∷ i ∷ j ∷ []) message lost; left = left })
+      (record { answer = reported ∙ ap₂ (λ (i j : ℕ). answerWord (one w) 0 ∷ i ∷ j ∷ []) message lost; left = left })
 
 -- the same of a ring alone
 module _ (d : Decision) (e w : ℕ) (r words : List ℕ) where
   pub ring-refused : (k : ℕ) → machine.refused k ≡ d → words ≡ answerWord (one w) k ∷ 0 ∷ 0 ∷ [] → RingOutcome d e w r words r
-  ring-refused k is told =
+  ring-refused k is reported =
       record {
         among = λ rings at. subst (λ (x : List ℕ). RingsOutcome d w rings words x) (sym (same-back rings e) ∙ ap (withRing rings e) at)
-            (queue-refused d w rings words k is told);
+            (queue-refused d w rings words k is reported);
       }
 
   pub ring-sent :
@@ -59,9 +59,9 @@ module _ (d : Decision) (e w : ℕ) (r words : List ℕ) where
       → words ≡ answerWord (one w) 0 ∷ 0 ∷ 0 ∷ []
       → r′ ≡ ofTwelve r (ringSent r message) r
       → RingOutcome d e w r words r′
-  ring-sent message r′ is told left =
+  ring-sent message r′ is reported left =
       record {
-        among = λ rings at. queue-sent d w rings words e message (withRing rings e r′) is told
+        among = λ rings at. queue-sent d w rings words e message (withRing rings e r′) is reported
             (ap (withRing rings e) (left ∙ ap (λ (x : List ℕ). ofTwelve x (ringSent x message) x) (sym at)));
       }
 
@@ -73,9 +73,9 @@ module _ (d : Decision) (e w : ℕ) (r words : List ℕ) where
       → y ≡ ofTwelve r (lostCount r) 0
       → r′ ≡ ofTwelve r (ringTake r) r
       → RingOutcome d e w r words r′
-  ring-received x y r′ is told message lost left =
+  ring-received x y r′ is reported message lost left =
       record {
-        among = λ rings at. queue-received d w rings words e x y (withRing rings e r′) is told
+        among = λ rings at. queue-received d w rings words e x y (withRing rings e r′) is reported
             (message ∙ ap (λ (v : List ℕ). ofTwelve v (messageAt v 0) 0) (sym at))
             (lost ∙ ap (λ (v : List ℕ). ofTwelve v (lostCount v) 0) (sym at))
             (ap (withRing rings e) (left ∙ ap (λ (v : List ℕ). ofTwelve v (ringTake v) v) (sym at)));
@@ -102,7 +102,7 @@ pub looked-up :
     → words ≡ answerWord (one w) 0 ∷ e ∷ 0 ∷ []
     → words ≡ answerFrom w rows rings owned d
 unfolding answerFrom firstFrom secondFrom code
-looked-up e d w rows rings owned words is told = subst (λ (v : Decision). words ≡ answerFrom w rows rings owned v) is told
+looked-up e d w rows rings owned words is reported = subst (λ (v : Decision). words ≡ answerFrom w rows rings owned v) is reported
 
 -- the endpoints that a domain owns
 pub listed :
@@ -111,4 +111,4 @@ pub listed :
     → words ≡ answerWord (one w) 0 ∷ getD owned (u % 16) 0 ∷ 0 ∷ []
     → words ≡ answerFrom w rows rings owned d
 unfolding answerFrom firstFrom secondFrom code
-listed u d w rows rings owned words is told = subst (λ (v : Decision). words ≡ answerFrom w rows rings owned v) is told
+listed u d w rows rings owned words is reported = subst (λ (v : Decision). words ≡ answerFrom w rows rings owned v) is reported

@@ -21,26 +21,26 @@ pub listed :
     → y ≡ rowBits rows u 8
     → words ≡ answerFrom w rows rings owned d
 unfolding answerFrom firstFrom secondFrom code
-listed u d w x y rows rings owned words is told low high =
+listed u d w x y rows rings owned words is reported low high =
     subst (λ (v : Decision). words ≡ answerFrom w rows rings owned v) is
-    (told ∙ ap₂ (λ (i j : ℕ). answerWord (one w) 0 ∷ i ∷ j ∷ []) low high)
+    (reported ∙ ap₂ (λ (i j : ℕ). answerWord (one w) 0 ∷ i ∷ j ∷ []) low high)
 
 module _ (d : Decision) (w : ℕ) (rows : List (List ℕ)) (holders words : List ℕ) where
   pub rights-refused : (k : ℕ) → machine.refused k ≡ d → words ≡ answerWord (one w) k ∷ 0 ∷ 0 ∷ [] → RightsOutcome d w rows holders words rows holders
   unfolding rowsAfter holdersAfter effectFrom
-  rights-refused k is told =
+  rights-refused k is reported =
       record {
-        answer = refused-answer d k w rows [] [] words is told;
+        answer = refused-answer d k w rows [] [] words is reported;
         left = subst (λ (x : Decision). rows ≡ rowsAfter rows (effectFrom rows [] x)) is refl;
         noted = subst (λ (x : Decision). holders ≡ holdersAfter holders (effectFrom rows [] x)) is refl;
       }
 
   -- a row is altered, whichever of the calls did it
-  module _ (told : words ≡ answerWord (one w) 0 ∷ 0 ∷ 0 ∷ []) (h g s : ℕ) (rows′ : List (List ℕ)) (holders′ : List ℕ) (left : rows′ ≡ rowsAfter rows (newRights h g s)) (noted : holders′ ≡ holdersAfter holders (newRights h g s)) where
+  module _ (reported : words ≡ answerWord (one w) 0 ∷ 0 ∷ 0 ∷ []) (h g s : ℕ) (rows′ : List (List ℕ)) (holders′ : List ℕ) (left : rows′ ≡ rowsAfter rows (newRights h g s)) (noted : holders′ ≡ holdersAfter holders (newRights h g s)) where
     altered : (x : Decision) → x ≡ d → answerWord (one w) 0 ∷ 0 ∷ 0 ∷ [] ≡ answerFrom w rows [] [] x → newRights h g s ≡ effectFrom rows [] x → RightsOutcome d w rows holders words rows′ holders′
     altered x is plain same =
         subst (λ (v : Decision). RightsOutcome v w rows holders words rows′ holders′) is
-        (record { answer = told ∙ plain; left = left ∙ ap (rowsAfter rows) same; noted = noted ∙ ap (holdersAfter holders) same })
+        (record { answer = reported ∙ plain; left = left ∙ ap (rowsAfter rows) same; noted = noted ∙ ap (holdersAfter holders) same })
 
     pub granted : (r : ℕ) → machine.grants g h r ≡ d → s ≡ adds (heldIn rows h g) r → RightsOutcome d w rows holders words rows′ holders′
     unfolding answerFrom firstFrom secondFrom code effectFrom

@@ -14,5 +14,5 @@ pub refused-answer :
     → words ≡ answerWord (one w) k ∷ 0 ∷ 0 ∷ []
     → words ≡ answerFrom w rows rings owned d
 unfolding answerFrom firstFrom secondFrom code
-refused-answer d k w rows rings owned words is told =
-    subst (λ (x : Decision). words ≡ answerFrom w rows rings owned x) is told
+refused-answer d k w rows rings owned words is reported =
+    subst (λ (x : Decision). words ≡ answerFrom w rows rings owned x) is reported

@@ -105,7 +105,7 @@ written-as-it-came ws list h short room =
 pub rows-read-back : RowsReadBack
 rows-read-back rows list code number end p zero =
     let few = words-few (rowsHandedIn rows) (length (rowsHandedIn rows)) list (sym (p .sameCode) ∙ zero) in
-    let told : writingRows rows list .number ≤ 65535 = omega (arith, few) in
+    let reported : writingRows rows list .number ≤ 65535 = omega (arith, few) in
     written-reads-back (rowsHandedIn rows) (length (rowsHandedIn rows)) list code number end
-    (record { sameCode = p .sameCode; sameNumber = p .sameNumber ∙ min-eq-left told; sameWords = p .sameWords })
+    (record { sameCode = p .sameCode; sameNumber = p .sameNumber ∙ min-eq-left reported; sameWords = p .sameWords })
     zero

@@ -25,12 +25,12 @@ returns c =
     let p = wrote .write-rows .ensures in
     let code = c .before .before .code in
     let number = c .before .number in
-    let told = c .in-16-bits in
+    let shown = c .in-16-bits in
     record {
-      sameCode = sym (low (code .result) (told .result) (small c)) ∙ code .ensures ∙ p .sameCode;
+      sameCode = sym (low (code .result) (shown .result) (small c)) ∙ code .ensures ∙ p .sameCode;
       sameNumber =
-          sym (high (code .result) (told .result) (small c))
-          ∙ told .ensures
+          sym (high (code .result) (shown .result) (small c))
+          ∙ shown .ensures
           ∙ ap (λ (n : ℕ). min n 65535) (number .ensures ∙ p .sameNumber);
       sameWords = p .sameWords;
     }

@@ -7,7 +7,7 @@ use Rattle.machine.specs.Check.{Accepted}
 use Rattle.machine.proofs.Accepted.{accepted-counts}
 use Rattle.table_check.specs.Checked.{checkedCode}
 use Rattle.table_check.proofs.Refusals.{refusal-code}
-use Rattle.components.proofs.Reported.{told-refused, told-none, told}
+use Rattle.components.proofs.Reported.{reported-refused, reported-none, reported}
 use Rattle.components.proofs.component_of.Statement.{statement}
 use Rattle.components.proofs.component_of.Tie as tie
 
@@ -21,7 +21,7 @@ returns : tie.Need-returns
 returns c =
     let check = c .before .before .before in
     let code = sym (ap checkedCode (c .before .checked .given .1)) ∙ check .check .ensures in
-    told-refused _ _ _ code (refusal-code (c .before .checked .given .0 .0))
+    reported-refused _ _ _ code (refusal-code (c .before .checked .given .0 .0))
 
 enum-told : tie.Need-enum-told
 enum-told c = search needs
@@ -34,7 +34,7 @@ domains-requires c κs = search needs
 
 returns-2 : tie.Need-returns-2
 returns-2 c =
-    told-none _ _ (accepted (c .before .before)) (omega (arith, c .before .domains .ensures, c .if1 .taken))
+    reported-none _ _ (accepted (c .before .before)) (omega (arith, c .before .domains .ensures, c .if1 .taken))
 
 members-requires : tie.Need-members-requires
 members-requires c κs =
@@ -45,7 +45,7 @@ members-requires c κs =
 returns-3 : tie.Need-returns-3
 returns-3 c =
     let test = c .before in
-    told _ _ (accepted (test .before .before)) (omega (arith, test .before .domains .ensures, test .if1 .left)) _ (c .members .ensures)
+    reported _ _ (accepted (test .before .before)) (omega (arith, test .before .domains .ensures, test .if1 .left)) _ (c .members .ensures)
 
 pub component-of-spec : {M : Type 1} → statement M
 component-of-spec =

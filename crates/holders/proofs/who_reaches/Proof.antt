@@ -6,7 +6,7 @@ use borrow.Author.Needs.{needs}
 use Rattle.reachability.specs.Closure.{closed}
 use Rattle.reachability.proofs.Bits.{bit-is}
 use Rattle.holders_theory.proofs.Reported.{askable-parts}
-use Rattle.holders.proofs.Reported.{told-nothing, told}
+use Rattle.holders.proofs.Reported.{reported-nothing, reported}
 use Rattle.holders.proofs.who_reaches.Statement.{statement}
 use Rattle.holders.proofs.who_reaches.Tie as tie
 
@@ -14,7 +14,7 @@ askable-requires : tie.Need-askable-requires
 askable-requires c κs = search needs
 
 returns : tie.Need-returns
-returns c = told-nothing _ _ (sym (not-true _ (c .if1 .taken)) ∙ c .before .askable .ensures)
+returns c = reported-nothing _ _ (sym (not-true _ (c .if1 .taken)) ∙ c .before .askable .ensures)
 
 bit-requires : tie.Need-bit-requires
 bit-requires c κs = search needs
@@ -28,7 +28,7 @@ returns-2 c =
     let asked = sym (not-false _ (test .if1 .left)) ∙ test .before .askable .ensures in
     let (few, _, below) = askable-parts _ _ (sym asked) in
     let alone = bit-is (omega (arith, few, below)) (c .before .bit .ensures) in
-    told _ _ asked _ (c .closure .ensures ∙ ap (closed (test .before .before .before .args .words .now)) alone)
+    reported _ _ asked _ (c .closure .ensures ∙ ap (closed (test .before .before .before .args .words .now)) alone)
 
 pub who-reaches-spec : {M : Type 1} → statement M
 who-reaches-spec =

@@ -43,8 +43,8 @@ has-space-requires c κs = search needs
 
 returns-3 : tie.Need-returns-3
 returns-3 c =
-    let told = c .before .before in
-    sym (code-space _ _ _ _ (told .before .before .before .if1 .left) (accepted told)
+    let reported = c .before .before in
+    sym (code-space _ _ _ _ (reported .before .before .before .if1 .left) (accepted reported)
     (ltb-true _ _ (not-false _ (sym (c .before .has-space .ensures) ∙ not-true _ (c .if2 .taken)))))
 
 one-a-domain-requires : tie.Need-one-a-domain-requires
@@ -53,17 +53,17 @@ one-a-domain-requires c κs = tt
 returns-4 : tie.Need-returns-4
 returns-4 c =
     let lent = c .before in
-    let told = lent .before .before .before in
+    let reported = lent .before .before .before in
     sym
-    (code-holders _ _ _ _ (told .before .before .before .if1 .left) (accepted told) (enough (lent .before))
+    (code-holders _ _ _ _ (reported .before .before .before .if1 .left) (accepted reported) (enough (lent .before))
     ∙ holders-unfit _ _ (eqb-false _ _ (sym (lent .one-a-domain .ensures) ∙ not-true _ (c .if3 .taken))))
 
 returns-5 : tie.Need-returns-5
 returns-5 c =
     let lent = c .before in
-    let told = lent .before .before .before in
+    let reported = lent .before .before .before in
     sym
-    (code-holders _ _ _ _ (told .before .before .before .if1 .left) (accepted told) (enough (lent .before))
+    (code-holders _ _ _ _ (reported .before .before .before .if1 .left) (accepted reported) (enough (lent .before))
     ∙ holders-fit _ _ (eqb-true _ _ (sym (lent .one-a-domain .ensures) ∙ not-false _ (c .if3 .left))))
 
 pub enter-spec : {M : Type 1} → statement M

@@ -31,10 +31,10 @@ returns c =
     let start = c .before .before .before .before .before .before .before in
     let input = start .args .input .now in
     let read = start .args .read in
-    let told = answered .result in
+    let head = answered .result in
     let lines = sym (answered .ensures .lines (start .pre .1 .1)) ∙ ap (λ k. report (take k input)) (sub-zero (read .have)) in (
       omega (arith, answered .ensures .few),
-      prints (take (read .have) input) (read .ended) (start .pre .1 .0) (sym (all-printed (told .calls) (told .code) _) ∙ lines),
+      prints (take (read .have) input) (read .ended) (start .pre .1 .0) (sym (all-printed (head .calls) (head .code) _) ∙ lines),
     )
 
 pub answer-input-spec : {M : Type 1} → statement M

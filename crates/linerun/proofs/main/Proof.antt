@@ -10,10 +10,10 @@ use Rattle.linerun.proofs.main.Statement.{statement}
 use Rattle.linerun.proofs.main.Tie as tie
 
 abbrev Inv-loop : tie.InvT-loop
-Inv-loop answers told all out₀ line₀ t10 out line = (line ≤ all) × (length out ≡ 16924)
+Inv-loop answers head all out₀ line₀ t10 out line = (line ≤ all) × (length out ≡ 16924)
 
 abbrev μ-loop : tie.MeasureT-loop
-μ-loop answers told all out₀ line₀ t10 out line = all - line
+μ-loop answers head all out₀ line₀ t10 out line = all - line
 
 slice-aggregate-read-input : tie.Need-slice-aggregate-read-input Inv-loop μ-loop
 slice-aggregate-read-input c = refl

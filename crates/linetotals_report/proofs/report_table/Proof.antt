@@ -3,18 +3,18 @@ use native.Mathlib.Omega.{arith}
 use Rattle.text.proofs.WriteLaws.{then}
 use Rattle.linetotals_text.proofs.LineLaws.{length-lastLine}
 use Rattle.linetotals_run.specs.Ran.{listsAfter}
-use Rattle.linetotals_report.proofs.ReportLaws.{CountedLines, told, counted, few-endpoints, sheet-is}
+use Rattle.linetotals_report.proofs.ReportLaws.{CountedLines, reported, counted, few-endpoints, sheet-is}
 use borrow.Author.Needs.{needs}
 use Rattle.linetotals_report.proofs.report_table.Statement.{statement}
 use Rattle.linetotals_report.proofs.report_table.Tie as tie
 
 -- what was counted, and what waited
-told-of : (c : tie.After-waiting-counts2) → let ran = c .before .before .before .before in
+reported-of : (c : tie.After-waiting-counts2) → let ran = c .before .before .before .before in
     CountedLines (ran .before .before .before .before .before .before .args .table .now) (listsAfter (ran .before .before .before .before .before .before .args .table .now) (ran .run-lists .ensures .bytes) .lists)
     (ran .run-lists .result .tally) (ran .before .before .waiting-counts .result) (c .waiting-counts2 .result)
-told-of c =
+reported-of c =
     let ran = c .before .before .before .before in
-    told (ran .run-lists .ensures) (ran .before .before .waiting-counts .ensures) (c .waiting-counts2 .ensures)
+    reported (ran .run-lists .ensures) (ran .before .before .waiting-counts .ensures) (c .waiting-counts2 .ensures)
 
 waiting-counts-requires : tie.Need-waiting-counts-requires
 waiting-counts-requires c κs = search needs
@@ -43,7 +43,7 @@ slice-aggregate-endpoint-lines-5 c = search needs
 endpoint-lines-requires : tie.Need-endpoint-lines-requires
 endpoint-lines-requires c κs =
     let counts = c .before .before .before .before .before .before .before .before .before .before in
-    counted (told-of counts) _ (few-endpoints (counts .before .before .before .before .run-lists .ensures))
+    counted (reported-of counts) _ (few-endpoints (counts .before .before .before .before .run-lists .ensures))
 
 last-line-requires : tie.Need-last-line-requires
 last-line-requires c κs = search needs
@@ -63,7 +63,7 @@ returns c =
     record {
       bytes = ran .ensures .bytes;
       needed = ran .ensures .needed;
-      lines = rw (sheet-is (ran .ensures) (told-of counts)) at (then (lines .endpoint-lines .ensures .0) (last .last-line .ensures));
+      lines = rw (sheet-is (ran .ensures) (reported-of counts)) at (then (lines .endpoint-lines .ensures .0) (last .last-line .ensures));
       few =
           omega (
             arith,

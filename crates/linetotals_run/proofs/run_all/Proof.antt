@@ -109,10 +109,10 @@ same-length-4 c = omega arith
 
 returns-2 : tie.Need-returns-2 Inv-loop μ-loop
 returns-2 c =
-    let told = c .before .before .before .before .before in
-    let at-loop = told .before .before .before .before .before .loop in
+    let reported = c .before .before .before .before .before in
+    let at-loop = reported .before .before .before .before .before .loop in
     let read = c .before .before .read-list2 in
-    between-short (at-loop .inv .0) _ (follows told) (read .last .0) (read .result .got) (read .ensures .asked) (read .ensures .room) (c .if1 .taken) (omega (arith, at-loop .inv .8))
+    between-short (at-loop .inv .0) _ (follows reported) (read .last .0) (read .result .got) (read .ensures .asked) (read .ensures .room) (c .if1 .taken) (omega (arith, at-loop .inv .8))
 
 sub-add-words : tie.Need-sub-add-words Inv-loop μ-loop
 sub-add-words c = omega arith
@@ -132,13 +132,13 @@ slice-aggregate-add-words-2 c = omega arith
 add-words-requires : tie.Need-add-words-requires Inv-loop μ-loop
 add-words-requires c κs =
     let read = c .before .before .before .before .before .before .before .before in
-    let told = read .before .before .before in
-    let at-loop = told .before .before .before .before .before in
+    let reported = read .before .before .before in
+    let at-loop = reported .before .before .before .before .before in
     let start = at-loop .before .before .before .before .before .before .before in
     let still = still-accepted (at-loop .loop .inv .0) (start .pre .0) in
     record {
       accepted = still .0;
-      short = omega (arith, length-take (4 * told .next2 .given .0 .0 - 0) (read .read-list2 .last .0), few told);
+      short = omega (arith, length-take (4 * reported .next2 .given .0 .0 - 0) (read .read-list2 .last .0), few reported);
       words = omega (arith, at-loop .loop .inv .4);
       space = omega (arith, at-loop .loop .inv .5);
       perDomain = omega (arith, at-loop .loop .inv .2, start .pre .1, still .1);
@@ -155,11 +155,11 @@ loop-again c =
     let added = c .before .before .before .before .before .before in
     let else = added .before .before .before .before .before .before .before in
     let read = else .before .before in
-    let told = read .before .before .before in
-    let at-loop = told .before .before .before .before .before in
-    let same : 65536 - (at-loop .loop .count + 1) ≡ 65536 - at-loop .loop .count - 1 = omega (arith, few told) in
+    let reported = read .before .before .before in
+    let at-loop = reported .before .before .before .before .before in
+    let same : 65536 - (at-loop .loop .count + 1) ≡ 65536 - at-loop .loop .count - 1 = omega (arith, few reported) in
     let start = at-loop .before .before .before .before .before .before .before in (
-      rw same (between-next (at-loop .loop .inv .0) _ (follows told) (read .read-list2 .last .0) (read .read-list2 .result .got) (read .read-list2 .ensures .asked) (read .read-list2 .ensures .room) (else .if1 .left) (start .pre .0) (rw (sub-zero (4 * told .next2 .given .0 .0)) at (added .add-words .ensures))),
+      rw same (between-next (at-loop .loop .inv .0) _ (follows reported) (read .read-list2 .last .0) (read .read-list2 .result .got) (read .read-list2 .ensures .asked) (read .read-list2 .ensures .room) (else .if1 .left) (start .pre .0) (rw (sub-zero (4 * reported .next2 .given .0 .0)) at (added .add-words .ensures))),
       omega (arith, added .add-words .kept, at-loop .loop .inv .1),
       omega (arith, added .add-words .kept, at-loop .loop .inv .2),
       omega (arith, read .read-list2 .kept, at-loop .loop .inv .3),
@@ -167,7 +167,7 @@ loop-again c =
       omega (arith, added .add-words .kept, at-loop .loop .inv .5),
       else .if1 .left,
       omega (arith, read .read-list2 .ensures .room, read .read-list2 .kept, at-loop .loop .inv .3),
-      omega (arith, few told),
+      omega (arith, few reported),
     )
 
 pub run-all-spec : {M : Type 1} → statement M

@@ -11,7 +11,7 @@ use Rattle.table_check.specs.Checked.{checkedCode}
 use Rattle.table_check.proofs.Refusals.{refusal-code}
 use Rattle.potential_theory.specs.Closure.{Proper}
 use Rattle.potential_theory.proofs.Matrix.{matrix-proper}
-use Rattle.potential.proofs.Reported.{told-refused, told-space, told-not-domains, told}
+use Rattle.potential.proofs.Reported.{reported-refused, reported-space, reported-not-domains, reported}
 use Rattle.potential.proofs.potential_of.Statement.{statement}
 use Rattle.potential.proofs.potential_of.Tie as tie
 
@@ -25,7 +25,7 @@ returns : tie.Need-returns
 returns c =
     let check = c .before .before .before in
     let code = sym (ap checkedCode (c .before .checked .given .1)) ∙ check .check .ensures in
-    told-refused _ _ _ _ code (refusal-code (c .before .checked .given .0 .0))
+    reported-refused _ _ _ _ code (refusal-code (c .before .checked .given .0 .0))
 
 enum-told : tie.Need-enum-told
 enum-told c = search needs
@@ -50,7 +50,7 @@ mul-if1 : tie.Need-mul-if1
 mul-if1 c = omega (arith, mul-le-mul (few c) (few c))
 
 returns-2 : tie.Need-returns-2
-returns-2 c = told-space _ _ _ (accepted (c .before .before)) _ (c .before .domains .ensures) (c .if1 .taken)
+returns-2 c = reported-space _ _ _ (accepted (c .before .before)) _ (c .before .domains .ensures) (c .if1 .taken)
 
 power-requires : tie.Need-power-requires
 power-requires c κs = few (c .before)
@@ -59,7 +59,7 @@ returns-3 : tie.Need-returns-3
 returns-3 c =
     let space = c .before .before in
     let n = space .before in
-    told-not-domains _ _ _ (accepted (n .before)) _ (n .domains .ensures) (space .if1 .left) _ (c .before .power .ensures) (c .if2 .taken)
+    reported-not-domains _ _ _ (accepted (n .before)) _ (n .domains .ensures) (space .if1 .left) _ (c .before .power .ensures) (c .if2 .taken)
 
 fill-requires : tie.Need-fill-requires
 fill-requires c κs =
@@ -83,7 +83,7 @@ returns-4 c =
     let set = fill .before .before in
     let space = set .before .before in
     let n = space .before in
-    told _ _ _ (accepted (n .before)) _ (n .domains .ensures) (space .if1 .left) _ (set .before .power .ensures) (set .if2 .left) _ _ (fill .fill .ensures) (settle .settle .ensures)
+    reported _ _ _ (accepted (n .before)) _ (n .domains .ensures) (space .if1 .left) _ (set .before .power .ensures) (set .if2 .left) _ _ (fill .fill .ensures) (settle .settle .ensures)
 
 pub potential-of-spec : {M : Type 1} → statement M
 potential-of-spec =

@@ -65,10 +65,10 @@ returns-5 : tie.Need-returns-5
 returns-5 c =
     let add = c .before .before .before in
     let test = add .before .before in
-    let told = test .before .before .before .before .before .before in
+    let reported = test .before .before .before .before .before .before in
     let full = sym (add .add .ensures .0) ∙ not-true _ (c .if4 .taken) in
     hand-in-refused _ _ _ _ _
-    (hands-room _ _ _ _ (accepted told) (below (test .before .before .before .before)) (one (test .before .before)) (size test) full)
+    (hands-room _ _ _ _ (accepted reported) (below (test .before .before .before .before)) (one (test .before .before)) (size test) full)
     (λ z. omega arith) _
     (add .add .ensures .1 ∙ added-none _ _ _ full)
 
@@ -76,10 +76,10 @@ returns-6 : tie.Need-returns-6
 returns-6 c =
     let add = c .before .before .before in
     let test = add .before .before in
-    let told = test .before .before .before .before .before .before in
+    let reported = test .before .before .before .before .before .before in
     let room = sym (add .add .ensures .0) ∙ not-false _ (c .if4 .left) in
     hand-in-done _ _ _ _
-    (hands-fine _ _ _ _ (accepted told) (below (test .before .before .before .before)) (one (test .before .before)) (size test) room)
+    (hands-fine _ _ _ _ (accepted reported) (below (test .before .before .before .before)) (one (test .before .before)) (size test) room)
     _
     (add .add .ensures .1 ∙ added-there _ _ _ room)
 

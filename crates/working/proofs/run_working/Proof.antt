@@ -22,8 +22,8 @@ enum-told c = search needs
 
 run-calls-requires : tie.Need-run-calls-requires
 run-calls-requires c κs =
-    let told = c .before .before .before in
-    may-run _ _ _ _ _ (told .before .before .enter .ensures) (told .enum-told .given .1)
+    let reported = c .before .before .before in
+    may-run _ _ _ _ _ (reported .before .before .enter .ensures) (reported .enum-told .given .1)
 
 same-length-2 : tie.Need-same-length-2
 same-length-2 c = c .before .before .before .before .before .before .run-calls .kept .0
@@ -37,8 +37,8 @@ same-length-4 c = c .before .before .before .before .before .before .run-calls .
 returns-2 : tie.Need-returns-2
 returns-2 c =
     let call = c .before .before .before .before .before .before in
-    let told = call .before .before .before .before in
-    promise-all-run _ _ _ _ _ (told .before .before .enter .ensures) (told .enum-told .given .1) _ _ _ _ (call .run-calls .ensures)
+    let reported = call .before .before .before .before in
+    promise-all-run _ _ _ _ _ (reported .before .before .enter .ensures) (reported .enum-told .given .1) _ _ _ _ (call .run-calls .ensures)
 
 pub run-working-spec : {M : Type 1} → statement M
 run-working-spec =

@@ -45,9 +45,9 @@ same-length c = search needs
 returns-2 : tie.Need-returns-2
 unfolding callNumbers accessBy
 returns-2 c =
-    let told = c .before .before .before in
-    let a = told .before .before .before .before .args in
-    so-decided (receiveAccess (a .caller) (ringOwner (ringAt (a .rings .now) (a .e))) (count (ringAt (a .rings .now) (a .e))) (a .e)) _ _ _ _ _ (within _ (told .enum-told .given .1) (told .before .before .of-endpoint .ensures _)) (c .receive-beyond .ensures)
+    let reported = c .before .before .before in
+    let a = reported .before .before .before .before .args in
+    so-decided (receiveAccess (a .caller) (ringOwner (ringAt (a .rings .now) (a .e))) (count (ringAt (a .rings .now) (a .e))) (a .e)) _ _ _ _ _ (within _ (reported .enum-told .given .1) (reported .before .before .of-endpoint .ensures _)) (c .receive-beyond .ensures)
 
 mul-receive-on : tie.Need-mul-receive-on
 mul-receive-on c = search needs
@@ -71,10 +71,10 @@ returns-3 : tie.Need-returns-3
 unfolding callNumbers accessBy
 returns-3 c =
     let lend = c .before .before in
-    let told = lend .before .before .before in
-    let a = told .before .before .before .before .args in
+    let reported = lend .before .before .before in
+    let a = reported .before .before .before .before .args in
     ring-back (a .rings .now) (a .e) _ _ _ _ _
-    (ap (λ (r : List ℕ). receiveAccess (a .caller) (ringOwner r) (count r) (a .e)) (lent (a .rings .now) (a .e)) ∙ within _ (told .enum-told .given .1) (told .before .before .of-endpoint .ensures _))
+    (ap (λ (r : List ℕ). receiveAccess (a .caller) (ringOwner r) (count r) (a .e)) (lent (a .rings .now) (a .e)) ∙ within _ (reported .enum-told .given .1) (reported .before .before .of-endpoint .ensures _))
     (lend .receive-on .ensures)
 
 pub receive-spec : {M : Type 1} → statement M

@@ -58,9 +58,9 @@ unfolding receiveAccess
 returns-2 c =
     let s = c .before .before in
     let x = s .receive .result in
-    let told = c .before .match .keys2 in
+    let reported = c .before .match .keys2 in
     let past = s .before .before .before .before .pre in
-    queue-received _ _ _ _ _ _ _ _ (sym (passed x _ 19 _ told (passed x _ 18 _ told (s .receive .ensures))) ∙ reached s) (c .done .ensures) (nothing-shown _ _ _ past) (nothing-shown _ _ _ past) (not-put _ _ _ past)
+    queue-received _ _ _ _ _ _ _ _ (sym (passed x _ 19 _ reported (passed x _ 18 _ reported (s .receive .ensures))) ∙ reached s) (c .done .ensures) (nothing-shown _ _ _ past) (nothing-shown _ _ _ past) (not-put _ _ _ past)
 
 pub receive-beyond-spec : {M : Type 1} → statement M
 receive-beyond-spec =

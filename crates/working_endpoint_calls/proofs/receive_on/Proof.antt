@@ -51,9 +51,9 @@ returns-2 c =
     let take = c .before .before .before in
     let s = take .before .before .before in
     let x = s .receive .result in
-    let told = take .before .before .match .keys2 in
+    let reported = take .before .before .match .keys2 in
     let got = take .receive2 .ensures in
-    ring-received _ _ _ _ _ _ _ _ (sym (passed x _ 19 _ told (passed x _ 18 _ told (s .receive .ensures))) ∙ reached s) (c .done .ensures) (got .message) (got .lost) (got .left)
+    ring-received _ _ _ _ _ _ _ _ (sym (passed x _ 19 _ reported (passed x _ 18 _ reported (s .receive .ensures))) ∙ reached s) (c .done .ensures) (got .message) (got .lost) (got .left)
 
 pub receive-on-spec : {M : Type 1} → statement M
 receive-on-spec =

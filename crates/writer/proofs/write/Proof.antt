@@ -39,20 +39,20 @@ short c = sym (c .before .too-long .ensures) ∙ c .if1 .left
 
 returns : tie.Need-returns
 returns c =
-    let told = c .before .before .before in
-    too-long _ _ _ _ (counted told) (sym (c .before .too-long .ensures) ∙ c .if1 .taken)
+    let reported = c .before .before .before in
+    too-long _ _ _ _ (counted reported) (sym (c .before .too-long .ensures) ∙ c .if1 .taken)
 
 put-all-requires : tie.Need-put-all-requires
 put-all-requires c κs =
     let e = c .before in
-    let told = e .before .before .before in
-    let held = told .before .before .before in
+    let reported = e .before .before .before in
+    let held = reported .before .before .before in
     let a = held .before .before .args in
     let same = calls-are held in (
       small held,
       (
-        rw same (all-fit _ (a .count) (now (a .list)) _ (counted told)),
-        rw same (room _ (a .count) (now (a .list)) _ (counted told) (short e)),
+        rw same (all-fit _ (a .count) (now (a .list)) _ (counted reported)),
+        rw same (room _ (a .count) (now (a .list)) _ (counted reported) (short e)),
       ),
     )
 
@@ -63,9 +63,9 @@ returns-3 : tie.Need-returns-3
 returns-3 c =
     let wrote = c .before .before in
     let e = wrote .before .before in
-    let told = e .before .before .before in
-    let same = calls-are (told .before .before .before) in
-    done _ _ _ _ (counted told) (short e) _ (rw (← same) (wrote .put-all .ensures))
+    let reported = e .before .before .before in
+    let same = calls-are (reported .before .before .before) in
+    done _ _ _ _ (counted reported) (short e) _ (rw (← same) (wrote .put-all .ensures))
 
 pub write-spec : {M : Type 1} → statement M
 write-spec =

@@ -40,10 +40,10 @@ reached : (c : tie.After-find)
     lookUpPlaces (foundOf (c .find .result)) ≡ decideCall (a .table .now) (LookUp (a .caller) (a .name))
 unfolding callNumbers accessBy
 reached c =
-    let told = c .before in
-    let s = told .before .before .before .before in
+    let reported = c .before in
+    let s = reported .before .before .before .before in
     ap lookUpPlaces (c .find .ensures)
-    ∙ within _ (told .enum-told .given .1) (decided _ _ _ _ _ (s .pre .1 .0) (s .pre .1 .1) (told .before .before .of-caller .ensures))
+    ∙ within _ (reported .enum-told .given .1) (decided _ _ _ _ _ (s .pre .1 .0) (s .pre .1 .1) (reported .before .before .of-caller .ensures))
 
 enum-known-found : tie.Need-enum-known-found
 enum-known-found c = c .match2 .keys1

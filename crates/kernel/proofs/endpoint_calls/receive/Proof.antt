@@ -167,13 +167,13 @@ returns-3 c p =
     let take = c .before .before .before in
     let s = c .before .before .before .before .before .before .before .before in
     let x = s .receive .result in
-    let told = c .before .before .before .before .before .before .before .match2 .keys2 in
+    let reported = c .before .before .before .before .before .before .before .match2 .keys2 in
     let at = s .before .before .before in
     let start = at .before .before .before .before .before in
     let l = in-endpoint _ (at .before .enum-told .given .1) _ _ _ _ (at .before .before .before .of-endpoint .ensures) .1 in
-    let some : payload (getD (start .args .table .now) (at .endpoint-at .result + 2) 0) ≡ 0 → ⊥ = eqb-false _ _ (clear x _ 19 _ told (passed x _ 18 _ told (s .receive .ensures))) in
+    let some : payload (getD (start .args .table .now) (at .endpoint-at .result + 2) 0) ≡ 0 → ⊥ = eqb-false _ _ (clear x _ 19 _ reported (passed x _ 18 _ reported (s .receive .ensures))) in
     let fits = may-receive-from _ (start .pre .0) (start .args .e) (omega (arith, l, start .pre .1 .1)) (omega (arith, some, ap payload (read at 2 (omega arith)))) in
-    settled-received _ _ _ _ _ _ _ _ _ (sym (passed x _ 19 _ told (passed x _ 18 _ told (s .receive .ensures))) ∙ reached s) (c .done .ensures)
+    settled-received _ _ _ _ _ _ _ _ _ (sym (passed x _ 19 _ reported (passed x _ 18 _ reported (s .receive .ensures))) ∙ reached s) (c .done .ensures)
     (ap payload (read at 4 (omega arith)))
     (omega (arith, lost-kind at) ∙ ap payload (read at 3 (omega arith)))
     (received-back _ _ (start .pre .1 .0) _ _ (at .endpoint-at .ensures) _ fits (take .receive2 .ensures .1))

@@ -44,15 +44,15 @@ ranged c = in-grant _ (c .enum-told .given .1) _ _ _ _ _ (c .before .before .of-
 
 held-requires : tie.Need-held-requires
 held-requires c κs =
-    let told = c .before in
-    let s = told .before .before .before .before .before in
-    (s .pre .0, (s .pre .1, (ranged told .0, ranged told .1)))
+    let reported = c .before in
+    let s = reported .before .before .before .before .before in
+    (s .pre .0, (s .pre .1, (ranged reported .0, ranged reported .1)))
 
 held-requires-2 : tie.Need-held-requires-2
 held-requires-2 c κs =
-    let told = c .before .before .before in
-    let s = told .before .before .before .before .before in
-    (s .pre .0, (s .pre .1, (ranged told .0, ranged told .2)))
+    let reported = c .before .before .before in
+    let s = reported .before .before .before .before .before in
+    (s .pre .0, (s .pre .1, (ranged reported .0, ranged reported .2)))
 
 -- what was read, after the range tests, decides the call
 reached : (c : tie.After-grant)
@@ -60,12 +60,12 @@ reached : (c : tie.After-grant)
     decisionOf (c .grant .result) ≡ decideCall (a .table .now) (Grant (a .caller) (a .target) (a .recipient) (a .given))
 unfolding callNumbers accessBy
 reached c =
-    let told = c .before .before .before .before .before in
-    let s = told .before .before .before .before .before in
+    let reported = c .before .before .before .before .before in
+    let s = reported .before .before .before .before .before in
     let a = s .args in
     c .grant .ensures
     ∙ ap₂ (grantAccess (a .caller) (a .target) (a .recipient) (a .given)) (c .before .before .before .held .ensures) (c .before .held2 .ensures)
-    ∙ within _ (told .enum-told .given .1) (decided _ _ _ _ _ (s .pre .1) refl (told .before .before .of-grant .ensures))
+    ∙ within _ (reported .enum-told .given .1) (decided _ _ _ _ _ (s .pre .1) refl (reported .before .before .of-grant .ensures))
 
 grant-requires : tie.Need-grant-requires
 grant-requires c κs = tt
@@ -86,9 +86,9 @@ returns-2 c =
 
 held-requires-3 : tie.Need-held-requires-3
 held-requires-3 c κs =
-    let told = c .before .before .before .before .before .before .before in
-    let s = told .before .before .before .before .before in
-    (s .pre .0, (s .pre .1, (ranged told .2, ranged told .1)))
+    let reported = c .before .before .before .before .before .before .before in
+    let s = reported .before .before .before .before .before in
+    (s .pre .0, (s .pre .1, (ranged reported .2, ranged reported .1)))
 
 adds-requires : tie.Need-adds-requires
 adds-requires c κs = tt
@@ -101,9 +101,9 @@ added c = c .adds .ensures ∙ ap (λ (k : ℕ). adds k (c .before .before .befo
 
 alter-requires : tie.Need-alter-requires
 alter-requires c κs =
-    let told = c .before .before .before .before .before .before .before .before .before .before .before in
-    let s = told .before .before .before .before .before in
-    let in-range = ranged told in
+    let reported = c .before .before .before .before .before .before .before .before .before .before .before in
+    let s = reported .before .before .before .before .before in
+    let in-range = ranged reported in
     (s .pre .0, (s .pre .1, (in-range .2, (in-range .1, more-fits _ (s .pre .0) _ (s .pre .1) _ _ _ _ (in-range .2) (in-range .1) (in-range .3) (added (c .before .before))))))
 
 done-requires : tie.Need-done-requires
@@ -120,10 +120,10 @@ unfolding grantAccess
 returns-3 c =
     let s = c .before .before .before .before .before .before .before .before .before .before .before .before in
     let x = s .grant .result in
-    let told = c .before .before .before .before .before .before .before .before .before .before .before .match2 .keys2 in
+    let reported = c .before .before .before .before .before .before .before .before .before .before .before .match2 .keys2 in
     let made = c .before .before .before .before .before .alter .ensures in
     granted _ _ _ _ _ (c .done .ensures) _ _ _ _ _ (made .0) (made .1) _
-    (sym (passed x _ 23 _ told (passed x _ 22 _ told (s .grant .ensures))) ∙ reached s) (added (c .before .before .before .before .before .before .before .before))
+    (sym (passed x _ 23 _ reported (passed x _ 22 _ reported (s .grant .ensures))) ∙ reached s) (added (c .before .before .before .before .before .before .before .before))
 
 pub grant-spec : {M : Type 1} → statement M
 grant-spec =

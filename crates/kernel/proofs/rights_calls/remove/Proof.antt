@@ -42,9 +42,9 @@ ranged c = in-remove _ (c .enum-told .given .1) _ _ _ _ (c .before .before .of-r
 
 held-requires : tie.Need-held-requires
 held-requires c κs =
-    let told = c .before in
-    let s = told .before .before .before .before .before in
-    (s .pre .0, (s .pre .1, (ranged told .0, ranged told .1)))
+    let reported = c .before in
+    let s = reported .before .before .before .before .before in
+    (s .pre .0, (s .pre .1, (ranged reported .0, ranged reported .1)))
 
 -- what was read, after the range tests, decides the call
 reached : (c : tie.After-remove)
@@ -52,12 +52,12 @@ reached : (c : tie.After-remove)
     decisionOf (c .remove .result) ≡ decideCall (a .table .now) (Remove (a .caller) (a .target) (a .given))
 unfolding callNumbers accessBy
 reached c =
-    let told = c .before .before .before in
-    let s = told .before .before .before .before .before in
+    let reported = c .before .before .before in
+    let s = reported .before .before .before .before .before in
     let a = s .args in
     c .remove .ensures
     ∙ ap (removeAccess (a .caller) (a .target) (a .given)) (c .before .held .ensures)
-    ∙ within _ (told .enum-told .given .1) (decided _ _ _ _ _ (s .pre .1) refl (told .before .before .of-remove .ensures))
+    ∙ within _ (reported .enum-told .given .1) (decided _ _ _ _ _ (s .pre .1) refl (reported .before .before .of-remove .ensures))
 
 remove-requires : tie.Need-remove-requires
 remove-requires c κs = tt
@@ -87,9 +87,9 @@ left-over c = c .without .ensures ∙ ap (λ (k : ℕ). without k (c .before .be
 
 alter-requires : tie.Need-alter-requires
 alter-requires c κs =
-    let told = c .before .before .before .before .before .before .before in
-    let s = told .before .before .before .before .before in
-    let in-range = ranged told in
+    let reported = c .before .before .before .before .before .before .before in
+    let s = reported .before .before .before .before .before in
+    let in-range = ranged reported in
     (s .pre .0, (s .pre .1, (in-range .0, (in-range .1, less-fits _ (s .pre .0) _ (s .pre .1) _ _ _ _ (in-range .0) (in-range .1) (left-over (c .before .before))))))
 
 done-requires : tie.Need-done-requires
@@ -106,9 +106,9 @@ unfolding removeAccess
 returns-3 c =
     let s = c .before .before .before .before .before .before .before .before .before .before in
     let x = s .remove .result in
-    let told = c .before .before .before .before .before .before .before .before .before .match2 .keys2 in
+    let reported = c .before .before .before .before .before .before .before .before .before .match2 .keys2 in
     let made = c .before .before .before .before .before .alter .ensures in
-    removed _ _ _ _ _ (c .done .ensures) _ _ _ _ _ (made .0) (made .1) _ (sym (passed x _ 22 _ told (s .remove .ensures)) ∙ reached s) (left-over (c .before .before .before .before .before .before .before .before))
+    removed _ _ _ _ _ (c .done .ensures) _ _ _ _ _ (made .0) (made .1) _ (sym (passed x _ 22 _ reported (s .remove .ensures)) ∙ reached s) (left-over (c .before .before .before .before .before .before .before .before))
 
 pub remove-spec : {M : Type 1} → statement M
 remove-spec =

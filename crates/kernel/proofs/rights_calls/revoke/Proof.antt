@@ -44,15 +44,15 @@ ranged c = in-grant _ (c .enum-told .given .1) _ _ _ _ _ (c .before .before .of-
 
 held-requires : tie.Need-held-requires
 held-requires c κs =
-    let told = c .before in
-    let s = told .before .before .before .before .before in
-    (s .pre .0, (s .pre .1, (ranged told .0, ranged told .1)))
+    let reported = c .before in
+    let s = reported .before .before .before .before .before in
+    (s .pre .0, (s .pre .1, (ranged reported .0, ranged reported .1)))
 
 held-requires-2 : tie.Need-held-requires-2
 held-requires-2 c κs =
-    let told = c .before .before .before in
-    let s = told .before .before .before .before .before in
-    (s .pre .0, (s .pre .1, (ranged told .0, ranged told .2)))
+    let reported = c .before .before .before in
+    let s = reported .before .before .before .before .before in
+    (s .pre .0, (s .pre .1, (ranged reported .0, ranged reported .2)))
 
 -- what was read, after the range tests, decides the call
 reached : (c : tie.After-revoke)
@@ -60,12 +60,12 @@ reached : (c : tie.After-revoke)
     decisionOf (c .revoke .result) ≡ decideCall (a .table .now) (Revoke (a .caller) (a .target) (a .holder) (a .given))
 unfolding callNumbers accessBy
 reached c =
-    let told = c .before .before .before .before .before in
-    let s = told .before .before .before .before .before in
+    let reported = c .before .before .before .before .before in
+    let s = reported .before .before .before .before .before in
     let a = s .args in
     c .revoke .ensures
     ∙ ap₂ (revokeAccess (a .caller) (a .target) (a .holder) (a .given)) (c .before .before .before .held .ensures) (c .before .held2 .ensures)
-    ∙ within _ (told .enum-told .given .1) (decided _ _ _ _ _ (s .pre .1) refl (told .before .before .of-grant .ensures))
+    ∙ within _ (reported .enum-told .given .1) (decided _ _ _ _ _ (s .pre .1) refl (reported .before .before .of-grant .ensures))
 
 revoke-requires : tie.Need-revoke-requires
 revoke-requires c κs = tt
@@ -86,9 +86,9 @@ returns-2 c =
 
 held-requires-3 : tie.Need-held-requires-3
 held-requires-3 c κs =
-    let told = c .before .before .before .before .before .before .before in
-    let s = told .before .before .before .before .before in
-    (s .pre .0, (s .pre .1, (ranged told .2, ranged told .1)))
+    let reported = c .before .before .before .before .before .before .before in
+    let s = reported .before .before .before .before .before in
+    (s .pre .0, (s .pre .1, (ranged reported .2, ranged reported .1)))
 
 without-requires : tie.Need-without-requires
 without-requires c κs = tt
@@ -101,9 +101,9 @@ left-over c = c .without .ensures ∙ ap (λ (k : ℕ). without k (c .before .be
 
 alter-requires : tie.Need-alter-requires
 alter-requires c κs =
-    let told = c .before .before .before .before .before .before .before .before .before .before .before in
-    let s = told .before .before .before .before .before in
-    let in-range = ranged told in
+    let reported = c .before .before .before .before .before .before .before .before .before .before .before in
+    let s = reported .before .before .before .before .before in
+    let in-range = ranged reported in
     (s .pre .0, (s .pre .1, (in-range .2, (in-range .1, less-fits _ (s .pre .0) _ (s .pre .1) _ _ _ _ (in-range .2) (in-range .1) (left-over (c .before .before))))))
 
 done-requires : tie.Need-done-requires
@@ -120,10 +120,10 @@ unfolding revokeAccess
 returns-3 c =
     let s = c .before .before .before .before .before .before .before .before .before .before .before .before in
     let x = s .revoke .result in
-    let told = c .before .before .before .before .before .before .before .before .before .before .before .match2 .keys2 in
+    let reported = c .before .before .before .before .before .before .before .before .before .before .before .match2 .keys2 in
     let made = c .before .before .before .before .before .alter .ensures in
     revoked _ _ _ _ _ (c .done .ensures) _ _ _ _ _ (made .0) (made .1) _
-    (sym (passed x _ 23 _ told (passed x _ 22 _ told (s .revoke .ensures))) ∙ reached s) (left-over (c .before .before .before .before .before .before .before .before))
+    (sym (passed x _ 23 _ reported (passed x _ 22 _ reported (s .revoke .ensures))) ∙ reached s) (left-over (c .before .before .before .before .before .before .before .before))
 
 pub revoke-spec : {M : Type 1} → statement M
 revoke-spec =

@@ -26,14 +26,14 @@ returns : tie.Need-returns
 returns c =
     let put = c .before .before .before .before .put-lines in
     let start = c .before .before .before .before .before .before .before .before in
-    let told = start .args .told in
+    let head = start .args .head in
     let answers = start .args .answers .now in
     let line = start .args .line in
     let next = start .args .next in
-    let text = linesBetween (told .calls) (told .code) answers line next in
+    let text = linesBetween (head .calls) (head .code) answers line next in
     let whole = writes-part {text = text} (le-trans (put .ensures .1) (start .pre .1 .1)) (put .ensures .0) in
-    ap (λ l. printedBefore (told .calls) (told .code) answers line ++ l) whole
-    ∙ lines-join (told .calls) (told .code) answers line next (start .pre .0 .0)
+    ap (λ l. printedBefore (head .calls) (head .code) answers line ++ l) whole
+    ∙ lines-join (head .calls) (head .code) answers line next (start .pre .0 .0)
 
 pub lines-between-spec : {M : Type 1} → statement M
 lines-between-spec =

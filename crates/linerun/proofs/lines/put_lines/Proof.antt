@@ -39,8 +39,8 @@ call-lines-requires : tie.Need-call-lines-requires
 call-lines-requires c κs =
     let first = c .before .before .before .first-line in
     let start = c .before .before .before .before .before .before .before .before in
-    let told = start .args .told in
-    let short = length-firstLine (told .calls) (told .code) (omega arith) (omega arith) in
+    let head = start .args .head in
+    let short = length-firstLine (head .calls) (head .code) (omega arith) (omega arith) in
     ((omega arith, omega arith), (omega arith, omega (arith, first .ensures .place, writes-length (first .ensures), short)))
 
 same-length : tie.Need-same-length
@@ -53,8 +53,8 @@ returns c =
     let first = c .before .before .before .before .before .before .first-line in
     let tested = c .before .before .before .before .before .before .before .before in
     let start = tested .before .before .before in
-    let told = start .args .told in
-    let short = length-firstLine (told .calls) (told .code) (omega arith) (omega arith) in
+    let head = start .args .head in
+    let short = length-firstLine (head .calls) (head .code) (omega arith) (omega arith) in
     let none : start .args .line ≡ 0 = omega (arith, tested .if1 .taken) in (
       rw none (then (first .ensures) (rw (sub-zero (start .args .next - 1)) at (lines .ensures .0))),
       omega (arith, lines .ensures .1, first .ensures .place, short, none),
@@ -77,9 +77,9 @@ returns-2 c =
     let lines = c .before .before .call-lines2 in
     let tested = c .before .before .before .before in
     let start = tested .before .before .before in
-    let told = start .args .told in
+    let head = start .args .head in
     let some = positive (start .args .line) (tested .if1 .left) in (
-      rw (calls-alone (told .calls) (told .code) (start .args .answers .now) (start .args .line) (start .args .next) some) (lines .ensures .0),
+      rw (calls-alone (head .calls) (head .code) (start .args .answers .now) (start .args .line) (start .args .next) some) (lines .ensures .0),
       few-bytes (lines .result) (start .args .line) (start .args .next) some (lines .ensures .1),
     )
 

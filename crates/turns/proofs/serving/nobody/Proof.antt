@@ -26,8 +26,8 @@ returns-2 c = (turns-refused _ _ _ _ _ (turn-space _ _ _ (accepted (c .before)) 
 
 returns-3 : tie.Need-returns-3
 returns-3 c =
-    let told = c .before .before .before in
-    (turns-refused _ _ _ _ _ (turn-holders _ _ _ (accepted told) (omega (arith, c .before .before .if1 .left)) (λ same. c .if2 .taken (same ∙ sym (c .before .number .ensures)))) (λ z. omega arith), refl)
+    let reported = c .before .before .before in
+    (turns-refused _ _ _ _ _ (turn-holders _ _ _ (accepted reported) (omega (arith, c .before .before .if1 .left)) (λ same. c .if2 .taken (same ∙ sym (c .before .number .ensures)))) (λ z. omega arith), refl)
 
 -- nothing but the state can refuse
 fine : (c : tie.Else2) → (let a = c .before .before .before .before .before .before .before .args in 0 ≡ turnCode (a .table .now) (a .space) (a .lent))

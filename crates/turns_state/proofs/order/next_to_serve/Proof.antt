@@ -11,22 +11,22 @@ use Rattle.turns_state.proofs.order.next_to_serve.Statement.{statement}
 use Rattle.turns_state.proofs.order.next_to_serve.Tie as tie
 
 -- the count that was read is the table's
-told : (c : tie.After-number) → (let a = c .before .before .before .args in nextToServe (c .number .result) (now (a .state)) (a .space) ≡ nextToServe (domains (now (a .table))) (now (a .state)) (a .space))
-told c =
+reported : (c : tie.After-number) → (let a = c .before .before .before .args in nextToServe (c .number .result) (now (a .state)) (a .space) ≡ nextToServe (domains (now (a .table))) (now (a .state)) (a .space))
+reported c =
     let a = c .before .before .before .args in
     ap (λ (n : ℕ). nextToServe n (now (a .state)) (a .space)) (c .number .ensures)
 
 returns : tie.Need-returns
-returns c = sym (next-size _ _ _ (c .if1 .taken)) ∙ told (c .before)
+returns c = sym (next-size _ _ _ (c .if1 .taken)) ∙ reported (c .before)
 
 returns-2 : tie.Need-returns-2
-returns-2 c = sym (next-space _ _ _ (c .before .if1 .left) (c .if2 .taken)) ∙ told (c .before .before)
+returns-2 c = sym (next-space _ _ _ (c .before .if1 .left) (c .if2 .taken)) ∙ reported (c .before .before)
 
 returns-3 : tie.Need-returns-3
 returns-3 c =
     c .first-waiting .ensures
     ∙ sym (next-waiting _ _ _ (c .before .before .if1 .left) (omega (arith, c .before .if2 .left)))
-    ∙ told (c .before .before .before)
+    ∙ reported (c .before .before .before)
 
 pub next-to-serve-spec : {M : Type 1} → statement M
 next-to-serve-spec =

@@ -17,24 +17,24 @@ counted : (c : tie.After-measured2) → Words (c .measured2 .given .0 .0) ≡ me
 counted c = sym (c .measured2 .given .1) ∙ c .before .before .measure .ensures
 
 -- whether they are too long
-told : (c : tie.After-too-long)
+reported : (c : tie.After-too-long)
     → (let a = c .before .before .before .before .before .before .before .args in
     tooLong (length (rowsHandedIn (now (a .rows)))) (c .before .before .measured2 .given .0 .0) (length (now (a .list))) ≡ c .too-long .result)
-told c =
+reported c =
     let found = c .before .before in
     let a = found .before .before .before .before .before .args in
     let words = words-counted (rowsHandedIn (now (a .rows))) (length (rowsHandedIn (now (a .rows)))) (now (a .list)) _ (counted found) in
     sym (count-left-out (rowsHandedIn (now (a .rows))) _ _ words) ∙ sym (c .too-long .ensures)
 
 returns : tie.Need-returns
-returns c = too-long _ _ _ _ (counted (c .before .before .before)) (told (c .before) ∙ c .if1 .taken)
+returns c = too-long _ _ _ _ (counted (c .before .before .before)) (reported (c .before) ∙ c .if1 .taken)
 
 put-all-requires : tie.Need-put-all-requires
 put-all-requires c κs =
     let found = c .before .before .before .before in
     let a = found .before .before .before .before .before .args in
     let cs = rowsHandedIn (now (a .rows)) in
-    (all-fit cs (length cs) (now (a .list)) _ (counted found), room cs (length cs) (now (a .list)) _ (counted found) (told (c .before .before) ∙ c .before .if1 .left))
+    (all-fit cs (length cs) (now (a .list)) _ (counted found), room cs (length cs) (now (a .list)) _ (counted found) (reported (c .before .before) ∙ c .before .if1 .left))
 
 returns-2 : tie.Need-returns-2
 returns-2 c = unfit _ _ _ _ (sym (c .before .measured .given .1) ∙ c .before .before .before .measure .ensures)
@@ -43,7 +43,7 @@ returns-3 : tie.Need-returns-3
 returns-3 c =
     let wrote = c .before .before in
     let e = wrote .before .before in
-    done _ _ _ _ (counted (e .before .before .before)) (told (e .before) ∙ e .if1 .left) _ (wrote .put-all .ensures)
+    done _ _ _ _ (counted (e .before .before .before)) (reported (e .before) ∙ e .if1 .left) _ (wrote .put-all .ensures)
 
 pub write-rows-spec : {M : Type 1} → statement M
 write-rows-spec =
