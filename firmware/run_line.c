@@ -29,6 +29,11 @@ static void print_answer(uint32_t number, const uint32_t *answer)
 static void print_reach(uint32_t n, uint32_t domain)
 {
     uint32_t result = balkwizu_who_reaches(holders, n, domain);
+    uint32_t code = BALKWIZU_REACHES_CODE(result);
+    if (code != BALKWIZU_OK) {
+        printf("domain %u: %s\n", (unsigned)domain, code_meaning(code));
+        return;
+    }
     printf("domain %u is reached by", (unsigned)domain);
     for (uint32_t u = 0; u < n; u++)
         if (BALKWIZU_REACHES(result, u))
