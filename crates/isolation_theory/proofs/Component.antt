@@ -22,13 +22,13 @@ use Rattle.machine.specs.Trail.{GivenBy}
 use Rattle.machine.specs.DomainSet.{fromGroup}
 use Rattle.machine.specs.Purge.{view}
 use Rattle.machine.specs.SameParts.{Agree}
-use Rattle.machine.specs.Unwinding as unwinding
+use Rattle.unwinding.specs.Unwinding as unwinding
 use Rattle.machine.proofs.Bools.{and-left, and-right, and-intro, or-cases}
 use Rattle.machine.proofs.Right.{holds-bit, holds-any, any-nonzero}
 use Rattle.machine.proofs.Step.{stays-accepted}
 use Rattle.machine.proofs.Frame.{frame-refl}
 use Rattle.machine.proofs.Trail.{each-right}
-use Rattle.machine.proofs.Unwinding.{group-noninfluence}
+use Rattle.unwinding.proofs.Unwinding.{group-noninfluence}
 use Rattle.machine.proofs.Purge.{tables, observed}
 use Rattle.machine.proofs.Noninterference.{Alike, conditions, same-view}
 use Rattle.reachability.specs.Chain.{Chain.end, Chain.link, among}

@@ -19,11 +19,11 @@ use Rattle.machine.specs.Run as machine
 use Rattle.machine.specs.DomainSet.{member}
 use Rattle.machine.specs.Purge.{sources, answersOf, view}
 use Rattle.machine.specs.SameParts.{SameFrame, Agree}
-use Rattle.machine.specs.Unwinding as unwinding
+use Rattle.unwinding.specs.Unwinding as unwinding
 use Rattle.machine.proofs.Bools.{and-left, and-right}
 use Rattle.machine.proofs.Accepted.{accepted-sized, accepted-endpoint}
 use Rattle.machine.proofs.Table.{endpoint-length}
-use Rattle.machine.proofs.Unwinding.{nonleakage, same-sources}
+use Rattle.unwinding.proofs.Unwinding.{nonleakage, same-sources}
 use Rattle.machine.proofs.Purge.{tables, outputs-is, sources-is, observed}
 use Rattle.machine.proofs.Noninterference.{Alike, conditions, same-view}
 use Rattle.isolation_theory.specs.TwoLines.{TwoLines, AgreeOnSources, IsolationBetweenLines, IsolationBetweenRuns}

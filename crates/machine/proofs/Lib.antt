@@ -12,7 +12,6 @@ pub mod Right
 pub mod Step
 pub mod Queue
 pub mod Purge
-pub mod Unwinding
 pub mod Noninterference
 pub mod Trail
 pub mod Split

@@ -20,7 +20,7 @@ use Rattle.machine.specs.Influence.{reaches}
 use Rattle.machine.specs.Purge.{purge, answersOf, ownedBy, queuesOf, lostOf, view}
 use Rattle.machine.specs.SameParts.{SameFrame, SamePart, Agree}
 use Rattle.machine.specs.MachineClaims.{EveryRunNoninterference}
-use Rattle.machine.specs.Unwinding as unwinding
+use Rattle.unwinding.specs.Unwinding as unwinding
 use Rattle.machine.proofs.Bools.{and-left}
 use Rattle.machine.proofs.Below.{map-same}
 use Rattle.machine.proofs.Frame.{frame-refl, frame-sym, frame-trans}

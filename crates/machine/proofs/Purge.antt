@@ -16,8 +16,8 @@ use Rattle.machine.specs.Influence.{reaches, influences}
 use Rattle.machine.specs.DomainSet.{callerIn, calledBy}
 use Rattle.machine.specs.Purge.{reachesAny, joinedBy, sources, purge, answersOf}
 use Rattle.machine.specs.MachineClaims.{callerInfluences}
-use Rattle.machine.specs.Unwinding as unwinding
-use Rattle.machine.proofs.Unwinding as theory
+use Rattle.unwinding.specs.Unwinding as unwinding
+use Rattle.unwinding.proofs.Unwinding as theory
 
 -- The tables of n domains. A caller that is not below a table's n reaches nobody.
 abbrev pub tables : ℕ → unwinding.StateMachine

@@ -13,7 +13,6 @@ pub mod Influence
 pub mod Holders
 pub mod DomainSet
 pub mod Purge
-pub mod Unwinding
 pub mod Counts
 pub mod Trail
 pub mod RunClaims

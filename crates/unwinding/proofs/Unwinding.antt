@@ -9,12 +9,11 @@ use mathlib.Core.List.{List, [], _∷_, _++_}
 use mathlib.Core.Option.{Option, none, some}
 use lib.Dec.{eqb}
 use borrow.Author.Tests.{eqb-true, eq-eqb}
-use Rattle.machine.specs.DomainSet.{member, callerIn, calledBy, fromGroup}
-use Rattle.machine.specs.Unwinding.{StateMachine, run, outputs, reachesMember, withCaller, sources, ipurge, interferes}
-use Rattle.machine.specs.Unwinding.{Keeps, Keeps.done, Keeps.keep, Keeps.purged, Closed, groupCalls}
-use Rattle.machine.specs.Unwinding.{SameFor, Unwinding, SameForSources}
-use Rattle.machine.specs.Unwinding.{UnwindingTheorem, Noninfluence, Noninterference, Nonleakage, GroupNoninfluence, SameSources}
-use Rattle.machine.proofs.Bools.{or-right}
+use Rattle.unwinding.specs.DomainSet.{member, callerIn, calledBy, fromGroup}
+use Rattle.unwinding.specs.Unwinding.{StateMachine, run, outputs, reachesMember, withCaller, sources, ipurge, interferes}
+use Rattle.unwinding.specs.Unwinding.{Keeps, Keeps.done, Keeps.keep, Keeps.purged, Closed, groupCalls}
+use Rattle.unwinding.specs.Unwinding.{SameFor, Unwinding, SameForSources, ObservEquivalent}
+use Rattle.unwinding.specs.Unwinding.{UnwindingTheorem, Noninfluence, Noninterference, Nonleakage, GroupNoninfluence, SameSources}
 
 -- Tests.
 either : {P : Type 0} (b : Bool) → (b ≡ true → P) → (b ≡ false → P) → P
@@ -24,6 +23,10 @@ either false f g = g refl
 or-elim : {P : Type 0} (a b : Bool) → (a ≡ true → P) → (b ≡ true → P) → (a || b) ≡ true → P
 or-elim true b f g e = f refl
 or-elim false b f g e = g e
+
+or-right : (a b : Bool) → b ≡ true → (a || b) ≡ true
+or-right true b h = refl
+or-right false b h = h
 
 contra : (a b : Bool) → (a ≡ true → b ≡ true) → b ≡ false → a ≡ false
 contra true b f e = absurd (true≢false (sym (f refl) ∙ e))
@@ -333,43 +336,54 @@ module _
       (λ b. rw b (ap₂ _++_ (outputConsistent c (a .proper) p (called d (caller c) b) x) e))
       (λ b. rw b e)
 
-  pub unwinding : UnwindingTheorem M ok same
+  observed :
+      (d : ℕ) (s t : State) (cs ks : List Call)
+      → SameForSources M ok same d s cs t
+      → Keeps M d s cs ks
+      → ObservEquivalent M ok same d s cs t ks
   unfolding run outputs
-  unwinding d s t cs ks a done =
+  observed d s t cs ks a done =
       record { proper = a .proper; state = a .each d (in-sources M s [] d); answers = refl }
-  unwinding d s t cs ks a (keep c {cs = cs′} {ks = ks′} k) =
-      let next = unwinding d (step s c) (step t c) cs′ ks′ (agree-both c cs′ a) k in
+  observed d s t cs ks a (keep c {cs = cs′} {ks = ks′} k) =
+      let next = observed d (step s c) (step t c) cs′ ks′ (agree-both c cs′ a) k in
       record { proper = next .proper; state = next .state; answers = same-answers c a (next .answers) }
-  unwinding d s t cs ks a (purged c {cs = cs′} h k) =
-      let next = unwinding d (step s c) t cs′ ks (agree-purged c cs′ a h) k in
+  observed d s t cs ks a (purged c {cs = cs′} h k) =
+      let next = observed d (step s c) t cs′ ks (agree-purged c cs′ a h) k in
       let other = contra _ _ (called-in d (caller c) _ (in-sources M s (c ∷ cs′) d)) h in
       record { proper = next .proper; state = next .state; answers = rw other (next .answers) }
 
-  -- The cases.
-  pub same-sources : SameSources M ok same
+  sources-same :
+      (d : ℕ) (s t : State) (cs : List Call) → SameForSources M ok same d s cs t → sources M s cs d ≡ sources M t cs d
   unfolding sources
-  same-sources d s t [] a = refl
-  same-sources d s t (c ∷ cs) a =
+  sources-same d s t [] a = refl
+  sources-same d s t (c ∷ cs) a =
       same-joined M s t (caller c) (sources M (step s c) cs d)
       (λ u v m. let (p, x) = known-next c cs a v m in policyRespect u (a .proper) p x)
-      ∙ ap (withCaller M t (caller c)) (same-sources d (step s c) (step t c) cs (agree-both c cs a))
+      ∙ ap (withCaller M t (caller c)) (sources-same d (step s c) (step t c) cs (agree-both c cs a))
 
-  same-ipurge : (d : ℕ) (s t : State) (cs : List Call) → SameForSources M ok same d s cs t → ipurge M s cs d ≡ ipurge M t cs d
+  ipurge-same : (d : ℕ) (s t : State) (cs : List Call) → SameForSources M ok same d s cs t → ipurge M s cs d ≡ ipurge M t cs d
   unfolding ipurge
-  same-ipurge d s t [] a = refl
-  same-ipurge d s t (c ∷ cs) a =
+  ipurge-same d s t [] a = refl
+  ipurge-same d s t (c ∷ cs) a =
       ap₂ (λ vs ks. cond (callerIn (caller c) vs) (c ∷ ks) ks)
-      (same-sources d s t (c ∷ cs) a)
-      (same-ipurge d (step s c) (step t c) cs (agree-both c cs a))
+      (sources-same d s t (c ∷ cs) a)
+      (ipurge-same d (step s c) (step t c) cs (agree-both c cs a))
+
+module _ {M : StateMachine} {ok : M .State → M .State → Type 0} {same : ℕ → M .State → M .State → Type 0} where
+  pub unwinding : UnwindingTheorem M ok same
+  unwinding W = observed W
+
+  pub same-sources : SameSources M ok same
+  same-sources W = sources-same W
 
   pub noninfluence : Noninfluence M ok same
-  noninfluence d s t cs a = unwinding d s t cs _ a (rw (← same-ipurge d s t cs a) (keeps-ipurge M d s cs))
+  noninfluence W d s t cs a = observed W d s t cs _ a (rw (← ipurge-same W d s t cs a) (keeps-ipurge M d s cs))
 
   pub noninterference : Noninterference M ok same
-  noninterference d s cs p o = noninfluence d s s cs (record { domain = p; proper = o; each = λ v m. sameRefl o })
+  noninterference W d s cs p o = noninfluence W d s s cs (record { domain = p; proper = o; each = λ v m. W .sameRefl o })
 
   pub nonleakage : Nonleakage M ok same
-  nonleakage d s t cs a = unwinding d s t cs cs a (keeps-all M d s cs)
+  nonleakage W d s t cs a = observed W d s t cs cs a (keeps-all M d s cs)
 
   pub group-noninfluence : GroupNoninfluence M ok same
-  group-noninfluence group d s t cs a h k = unwinding d s t cs _ a (keeps-group M group d s cs h k)
+  group-noninfluence W group d s t cs a h k = observed W d s t cs _ a (keeps-group M group d s cs h k)

@@ -2,16 +2,16 @@
 -- names are CapFlow's (SM: run, interferes, sources, ipurge, the unwinding conditions), with additions: a call's answer is
 -- seen by its caller; the theorem is about every choice of purged calls and not about the ipurge alone; a caller need be no
 -- domain (`Domain`); and the states are those that are `ok`, a relation of the user's, in place of those that one first state
--- leads to. The conditions are about one call each. What follows from them is about lists of any length (proofs/Unwinding).
--- The machine of document 01 is one instance (proofs/Purge). Its modules cite this one by `unwinding.` alone, so that
--- document 01's run, sources and noninterference are those without a prefix.
+-- leads to. The conditions are about one call each. What follows from them is about lists of any length.
+-- The machine of document 01 is one instance (crates/machine/proofs/Purge). Its modules cite this one by `unwinding.` alone, so
+-- that document 01's run, sources and noninterference are those without a prefix.
 use Prim.Native.Nat.{ℕ}
 use mathlib.Core.Path.{_≡_}
 use mathlib.Core.Bool.{Bool, true, false, cond, _||_}
 use mathlib.Core.List.{List, [], _∷_, _++_}
 use mathlib.Core.Option.{Option, none, some}
 use lib.Dec.{eqb}
-use Rattle.machine.specs.DomainSet.{member, callerIn, calledBy, fromGroup}
+use Rattle.unwinding.specs.DomainSet.{member, callerIn, calledBy, fromGroup}
 
 -- A machine. Its domains are indices, and a set of domains is the list of its members.
 pub record StateMachine : Type 1 where
@@ -148,29 +148,29 @@ module _ (M : StateMachine) (ok : M .State → M .State → Type 0) (same : ℕ 
     pub state : same d (run M s cs) (run M t ks)
     pub answers : outputs M d s cs ≡ outputs M d t ks
 
-  -- The theorem, of a machine that meets the conditions: from states that look the same to every source of d, d sees the
-  -- same, whichever calls are purged whose callers are no sources.
+  -- The theorem: from states that look the same to every source of d, d sees the same, whichever calls are purged whose callers
+  -- are no sources.
   abbrev pub UnwindingTheorem : Type 0
   UnwindingTheorem =
-      (d : ℕ) (s t : State) (cs ks : List Call) → SameForSources d s cs t → Keeps M d s cs ks → ObservEquivalent d s cs t ks
+      Unwinding → (d : ℕ) (s t : State) (cs ks : List Call) → SameForSources d s cs t → Keeps M d s cs ks → ObservEquivalent d s cs t ks
 
-  -- Its cases, under the same conditions. First, the ipurge, computed on the second state.
+  -- Its cases. First, the ipurge, computed on the second state.
   abbrev pub Noninfluence : Type 0
-  Noninfluence = (d : ℕ) (s t : State) (cs : List Call) → SameForSources d s cs t → ObservEquivalent d s cs t (ipurge M t cs d)
+  Noninfluence = Unwinding → (d : ℕ) (s t : State) (cs : List Call) → SameForSources d s cs t → ObservEquivalent d s cs t (ipurge M t cs d)
 
   -- The ipurge, on one state.
   abbrev pub Noninterference : Type 0
   Noninterference =
-      (d : ℕ) (s : State) (cs : List Call) → Domain d → ok s s → ObservEquivalent d s cs s (ipurge M s cs d)
+      Unwinding → (d : ℕ) (s : State) (cs : List Call) → Domain d → ok s s → ObservEquivalent d s cs s (ipurge M s cs d)
 
   -- No call is purged.
   abbrev pub Nonleakage : Type 0
-  Nonleakage = (d : ℕ) (s t : State) (cs : List Call) → SameForSources d s cs t → ObservEquivalent d s cs t cs
+  Nonleakage = Unwinding → (d : ℕ) (s t : State) (cs : List Call) → SameForSources d s cs t → ObservEquivalent d s cs t cs
 
   -- Every call from outside a group is purged, where d is a member and no caller from outside ever reaches a member.
   abbrev pub GroupNoninfluence : Type 0
   GroupNoninfluence =
-      (group : ℕ → Bool) (d : ℕ) (s t : State) (cs : List Call)
+      Unwinding → (group : ℕ → Bool) (d : ℕ) (s t : State) (cs : List Call)
       → SameForSources d s cs t
       → group d ≡ true
       → Closed M (λ v. group v ≡ true) s cs
@@ -178,4 +178,4 @@ module _ (M : StateMachine) (ok : M .State → M .State → Type 0) (same : ℕ 
 
   -- The sources computed on the second state are the same.
   abbrev pub SameSources : Type 0
-  SameSources = (d : ℕ) (s t : State) (cs : List Call) → SameForSources d s cs t → sources M s cs d ≡ sources M t cs d
+  SameSources = Unwinding → (d : ℕ) (s t : State) (cs : List Call) → SameForSources d s cs t → sources M s cs d ≡ sources M t cs d
