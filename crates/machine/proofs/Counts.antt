@@ -202,17 +202,28 @@ pushed-more true receives m n out p = ap (λ (k : ℕ). 1 + k) p
 pushed-more false true m n out p = omega arith
 pushed-more false false m n out p = omega arith
 
+-- as many as sends found the queue full
+pushed-full : (e : ℕ) (t : List ℕ) (cs : List Call) → fullSends e t cs ≡ countPushed (gone e t cs)
+unfolding gone countPushed fullSends
+pushed-full e t [] = refl
+pushed-full e t (c ∷ cs) =
+    pushed-more (pushesOut e t c) (receivesFrom e t c) (oldest (endpoint t e)) _ (gone e (step t c) cs) (pushed-full e (step t c) cs)
+
 pub fifo-order : EveryRunFifoOrder
 unfolding run messagesFrom messagesTo gone takenOf countPushed fullSends pushesOut receivesFrom sendsTo doneOn answers answer answerTo
 fifo-order t [] rest a e l =
-    record { order = sym (append-nil (messages (endpoint t e))); received = refl; pushedOut = refl }
+    record {
+      order = sym (append-nil (messages (endpoint t e)));
+      received = refl;
+      pushedOut = omega (arith, queue.lost-small (endpoint t e));
+    }
 fifo-order t (c ∷ cs) rest a e l =
     let s = served t e c a l in
     let later = fifo-order (step t c) cs rest (stays-accepted t c a .accepted) e (still-below t c a e l) in
     record {
       order = s .order _ _ _ (later .order);
       received = s .shows _ _ (later .received);
-      pushedOut = pushed-more (pushesOut e t c) (receivesFrom e t c) (oldest (endpoint t e)) _ (gone e (step t c) cs) (later .pushedOut);
+      pushedOut = omega (arith, counts-conserved t (c ∷ cs) rest a e l .raised, pushed-full e t (c ∷ cs));
     }
 
 -- ---- the call total

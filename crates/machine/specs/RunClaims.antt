@@ -58,8 +58,8 @@ pub record CountsConserved (e : ℕ) (t : List ℕ) (cs : List Call) (answers en
 
 -- FIFO order: what left the queue of the endpoint e by its front, received or pushed out, followed by what waits at the end,
 -- is what waited at the start, followed by everything that was sent, in order. Those received are the ones that the answers
--- showed. As many were pushed out as sends found the queue full, each the oldest at its time.
+-- showed. As many were pushed out as the lost count rose, up to its largest.
 pub record FifoOrder (e : ℕ) (t : List ℕ) (cs : List Call) (answers end : List ℕ) : Type 0 where
   pub order : map messageOf (gone e t cs) ++ messages (endpoint end e) ≡ messages (endpoint t e) ++ messagesTo e cs answers
   pub received : messagesFrom e cs answers ≡ takenOf (gone e t cs)
-  pub pushedOut : fullSends e t cs ≡ countPushed (gone e t cs)
+  pub pushedOut : lost (endpoint end e) ≡ min (lost (endpoint t e) + countPushed (gone e t cs)) mostLost
