@@ -6,9 +6,11 @@ use mathlib.Core.Bool.{Bool, true, false, cond, not, _&&_, _||_}
 use mathlib.Core.List.{List}
 use lib.Dec.{eqb}
 use Rattle.machine.specs.Word.{kind, caller}
-use Rattle.machine.specs.Call.{Kind, callKind, kindOf, allZero, unusedFields, wantsSecond, hasSecond, wordPlaces}
+use Rattle.machine.specs.Call.{Kind, callKind, kindOf, allZero, unusedFields, wantsSecond, hasSecond}
 use Rattle.machine.specs.Call.{Kind.lookUp, Kind.send, Kind.receive, Kind.myEndpoints, Kind.myRights, Kind.grant, Kind.remove, Kind.revoke, Kind.stray, Kind.unknown}
-use Rattle.machine.specs.Machine.{Decision, Decision.refused, framed, places, decide}
+use Rattle.machine.specs.Machine.{Decision, Decision.refused, decide}
+use Rattle.machine.specs.Guards.{place, framed, places}
+use Rattle.machine.proofs.Places.{decide-places}
 use Rattle.calls.specs.Decode.{needsSecond, whole, ofKind, decoded}
 use Rattle.calls.specs.Split.{callOf}
 use Rattle.calls.specs.Decide.{knownCaller, refusedCall, decideCall}
@@ -49,7 +51,7 @@ module _ (t : List ℕ) (w : ℕ) (s : Second) where
       → wantsSecond (kind w) ≡ needsSecond k
       → decideCall t call ≡ knownCaller t (caller w) next
       → framed t (callOf w s) k next ≡ decideCall t (whole w s k call)
-  unfolding framed whole wordPlaces knownCaller decideCall refusedCall
+  unfolding framed place whole knownCaller decideCall refusedCall
   framed-whole k next call wants h =
       rw (first-of w s, wants)
       (go (not (allZero (unusedFields k w))) (needsSecond k && not (hasSecond (callOf w s))))
@@ -79,5 +81,5 @@ module _ (t : List ℕ) (w : ℕ) (s : Second) where
   by-kind revoke wants = rw (first-of w s) (framed-whole revoke _ _ wants refl)
 
 pub decided : (t : List ℕ) (w : ℕ) (s : Second) → decide t (callOf w s) ≡ decideCall t (decoded w s)
-unfolding decide callKind decoded
-decided t w s = rw (first-of w s) (by-kind t w s (kindOf (kind w)) (wants-second (kind w)))
+unfolding callKind decoded
+decided t w s = rw (decide-places t (callOf w s), first-of w s) (by-kind t w s (kindOf (kind w)) (wants-second (kind w)))

@@ -6,7 +6,8 @@ use mathlib.Core.Bool.{cond, not}
 use mathlib.Core.List.{List}
 use lib.Dec.{ltb}
 use Rattle.machine.specs.Table.{domains}
-use Rattle.machine.specs.Machine.{Decision, place, named, lookUpPlaces, sendPlaces, receivePlaces, grantPlaces, removePlaces, revokePlaces}
+use Rattle.machine.specs.Machine.{Decision, named}
+use Rattle.machine.specs.Guards.{place, lookUpPlaces, sendPlaces, receivePlaces, grantPlaces, removePlaces, revokePlaces}
 use Rattle.machine.specs.Machine.{Decision.refused, Decision.listsEndpoints, Decision.listsRights}
 use Rattle.calls.specs.Number.{numberOf}
 use Rattle.calls.specs.declared.Refusal.{Refusal}

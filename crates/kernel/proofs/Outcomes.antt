@@ -9,7 +9,8 @@ use Rattle.machine.specs.Table.{domains, rights, endpoint, setRights, setEndpoi
 use Rattle.machine.specs.Queue.{oldest, lost, sent, received}
 use Rattle.machine.specs.Call.{Call.one}
 use Rattle.machine.specs.Machine as machine
-use Rattle.machine.specs.Machine.{Decision, place, code, firstData, secondData, answerWord, answerTo, effect, after, ownedBits, rightsBits, Effect.newRights}
+use Rattle.machine.specs.Machine.{Decision, code, dataWords, answerWord, answerTo, effect, after, ownedBits, rightsBits, Effect.newRights}
+use Rattle.machine.specs.Guards.{place}
 use Rattle.calls.specs.Number.{numberOf}
 use Rattle.calls.specs.Decide.{knownCaller, refusedCall, decideCall}
 use Rattle.calls.specs.declared.Call.the-variants.{Refused}
@@ -20,7 +21,7 @@ use Rattle.kernel.specs.Outcome.{CallOutcome}
 
 module _ (t p : List ℕ) (w : ℕ) (d : Decision) (words : List ℕ) where
   pub settled-refused : (k : ℕ) → machine.refused k ≡ d → words ≡ answerWord (one w) k ∷ 0 ∷ 0 ∷ [] → CallOutcome t p w d words t p
-  unfolding answerTo code firstData secondData effect after holdersAfter
+  unfolding answerTo code dataWords effect after holdersAfter
   settled-refused k is said =
       subst (λ (x : Decision). CallOutcome t p w x words t p) is (record { answer = said; table = refl; holders = refl })
 
@@ -29,7 +30,7 @@ module _ (t p : List ℕ) (w : ℕ) (d : Decision) (words : List ℕ) where
       → words ≡ answerWord (one w) 0 ∷ 0 ∷ 0 ∷ []
       → t′ ≡ setEndpoint t e (sent (endpoint t e) message)
       → CallOutcome t p w d words t′ p
-  unfolding answerTo code firstData secondData effect after holdersAfter
+  unfolding answerTo code dataWords effect after holdersAfter
   settled-sent e message t′ is said left =
       subst (λ (x : Decision). CallOutcome t p w x words t′ p) is (record { answer = said; table = left; holders = refl })
 
@@ -40,7 +41,7 @@ module _ (t p : List ℕ) (w : ℕ) (d : Decision) (words : List ℕ) where
       → y ≡ lost (endpoint t e)
       → t′ ≡ setEndpoint t e (received (endpoint t e))
       → CallOutcome t p w d words t′ p
-  unfolding answerTo code firstData secondData effect after holdersAfter
+  unfolding answerTo code dataWords effect after holdersAfter
   settled-received e x y t′ is said message count left =
       subst (λ (v : Decision). CallOutcome t p w v words t′ p) is
       (record {
@@ -50,12 +51,12 @@ module _ (t p : List ℕ) (w : ℕ) (d : Decision) (words : List ℕ) where
       })
 
   pub settled-looked-up : (e : ℕ) → machine.lookedUp e ≡ d → words ≡ answerWord (one w) 0 ∷ e ∷ 0 ∷ [] → CallOutcome t p w d words t p
-  unfolding answerTo code firstData secondData effect after holdersAfter
+  unfolding answerTo code dataWords effect after holdersAfter
   settled-looked-up e is said =
       subst (λ (x : Decision). CallOutcome t p w x words t p) is (record { answer = said; table = refl; holders = refl })
 
   pub settled-endpoints : (u x : ℕ) → machine.listsEndpoints u ≡ d → words ≡ answerWord (one w) 0 ∷ x ∷ 0 ∷ [] → x ≡ ownedBits t u → CallOutcome t p w d words t p
-  unfolding answerTo code firstData secondData effect after holdersAfter
+  unfolding answerTo code dataWords effect after holdersAfter
   settled-endpoints u x is said same =
       subst (λ (v : Decision). CallOutcome t p w v words t p) is
       (record { answer = said ∙ ap (λ (k : ℕ). answerWord (one w) 0 ∷ k ∷ 0 ∷ []) same; table = refl; holders = refl })
@@ -66,7 +67,7 @@ module _ (t p : List ℕ) (w : ℕ) (d : Decision) (words : List ℕ) where
       → x ≡ rightsBits t u 0
       → y ≡ rightsBits t u 8
       → CallOutcome t p w d words t p
-  unfolding answerTo code firstData secondData effect after holdersAfter
+  unfolding answerTo code dataWords effect after holdersAfter
   settled-rights u x y is said low high =
       subst (λ (v : Decision). CallOutcome t p w v words t p) is
       (record { answer = said ∙ ap₂ (λ (i j : ℕ). answerWord (one w) 0 ∷ i ∷ j ∷ []) low high; table = refl; holders = refl })
@@ -80,15 +81,15 @@ module _ (t p : List ℕ) (w : ℕ) (d : Decision) (words : List ℕ) where
         (record { answer = said ∙ plain; table = left ∙ ap (after t) same; holders = kept ∙ ap (holdersAfter p) same })
 
     pub granted : (r : ℕ) → machine.grants g h r ≡ d → s ≡ adds (rights t h g) r → CallOutcome t p w d words t′ p′
-    unfolding answerTo code firstData secondData effect
+    unfolding answerTo code dataWords effect
     granted r is new = altered (machine.grants g h r) is refl (ap (newRights h g) new)
 
     pub removed : (r : ℕ) → machine.removes g h r ≡ d → s ≡ without (rights t h g) r → CallOutcome t p w d words t′ p′
-    unfolding answerTo code firstData secondData effect
+    unfolding answerTo code dataWords effect
     removed r is new = altered (machine.removes g h r) is refl (ap (newRights h g) new)
 
     pub revoked : (r : ℕ) → machine.revokes g h r ≡ d → s ≡ without (rights t h g) r → CallOutcome t p w d words t′ p′
-    unfolding answerTo code firstData secondData effect
+    unfolding answerTo code dataWords effect
     revoked r is new = altered (machine.revokes g h r) is refl (ap (newRights h g) new)
 
 -- refused without a table: 12 may come before the call's own code

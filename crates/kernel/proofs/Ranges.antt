@@ -13,7 +13,8 @@ use Rattle.machine.specs.Table.{domains, endpoints, rightsAt, endpointAt, right
 use Rattle.machine.specs.Queue.{owner}
 use Rattle.machine.specs.Check.{Accepted, identityOk, queueOk, endpointOk}
 use Rattle.machine.specs.Machine as machine
-use Rattle.machine.specs.Machine.{Decision, place}
+use Rattle.machine.specs.Machine.{Decision}
+use Rattle.machine.specs.Guards.{place}
 use Rattle.machine.proofs.Accepted.{accepted-sized, accepted-endpoint, info-of}
 use Rattle.machine.proofs.Bools.{and-left, and-right}
 use Rattle.machine.proofs.Queue.{sound-of}

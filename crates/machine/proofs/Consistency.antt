@@ -13,9 +13,10 @@ use Rattle.machine.specs.Right.{SEND, GRANT, REMOVE, REVOKE, holds, hasA
 use Rattle.machine.specs.Table.{domains, endpoints, rightsWord, rights, endpoint}
 use Rattle.machine.specs.Queue.{name, owner, waiting, lost, oldest}
 use Rattle.machine.specs.Check.{Accepted}
-use Rattle.machine.specs.Call.{Call, Kind, first, callKind, wordPlaces, secondPayload}
+use Rattle.machine.specs.Call.{Call, Kind, first, callKind, secondPayload}
 use Rattle.machine.specs.Call.{Kind.lookUp, Kind.send, Kind.receive, Kind.myEndpoints, Kind.myRights, Kind.grant, Kind.remove, Kind.revoke}
-use Rattle.machine.specs.Machine.{Decision, Decision.refused, place, maySend, named, lookUpPlaces, sendPlaces, receivePlaces, rightsPlaces, grantPlaces, revokePlaces, removePlaces, framed, places, decide, ownedBits, rightsBits, code, firstData, secondData, answerWord, answerTo, answer}
+use Rattle.machine.specs.Machine.{Decision, Decision.refused, maySend, named, decide, ownedBits, rightsBits, code, dataWords, answerWord, answerTo, answer}
+use Rattle.machine.specs.Guards.{place, lookUpPlaces, sendPlaces, receivePlaces, rightsPlaces, grantPlaces, revokePlaces, removePlaces, framed, places}
 use Rattle.machine.specs.Influence.{reaches, influences}
 use Rattle.machine.specs.SameParts.{SameFrame, SamePart}
 use Rattle.machine.specs.MachineClaims.{EveryCallAnswerDepends}
@@ -24,7 +25,9 @@ use Rattle.machine.proofs.Below.{first-same, sum-same}
 use Rattle.machine.proofs.Accepted.{accepted-owner}
 use Rattle.machine.proofs.Queue.{name-kept, owner-kept}
 use Rattle.machine.proofs.Frame.{whole, rightsOf-word}
-use Rattle.machine.proofs.Decide.{Known, kind-elim, calls-back, decide-elim}
+use Rattle.machine.proofs.KindCases.{kind-elim}
+use Rattle.machine.proofs.Places.{decide-places}
+use Rattle.machine.proofs.Decide.{Known, calls-back, decide-elim}
 
 -- equal tests and, where they pass, equal rests make equal places
 pub place-same : {b b′ : Bool} (n : ℕ) {x y : Decision} → b ≡ b′ → (b′ ≡ false → x ≡ y) → place b n x ≡ place b′ n y
@@ -67,8 +70,8 @@ module _ (s t : List ℕ) (f : SameFrame s t) where
     framed-same k i e n next =
         place-same 12 (ap (λ (m : ℕ). not (ltb u m)) (f .sameDomains))
         (λ below.
-        ap (wordPlaces k c (refused 13) (refused 14))
-        (next (record { calledBy = calls-back i c e n; below = ltb-true _ _ (not-false _ below) })))
+        place-same 13 refl
+        (λ _. place-same 14 refl (λ _. next (record { calledBy = calls-back i c e n; below = ltb-true _ _ (not-false _ below) }))))
 
     named-same : (x : ℕ) → named s x ≡ named t x
     unfolding named
@@ -135,9 +138,10 @@ module _ (s t : List ℕ) (f : SameFrame s t) where
 
     -- the decision on a call is the same on both tables
     pub decide-same : decide s c ≡ decide t c
-    unfolding decide places callKind
+    unfolding places callKind
     decide-same =
-        kind-elim (kind (first c)) (λ k. places s c k ≡ places t c k)
+        decide-places s c
+        ∙ kind-elim (kind (first c)) (λ k. places s c k ≡ places t c k)
         (λ e. framed-same lookUp 1 e refl (λ k. ap lookUpPlaces (named-same (secondPayload c))))
         (λ e. framed-same send 2 e refl (λ k. send-same k (fieldB (first c)) (secondPayload c)))
         (λ e. framed-same receive 3 e refl (λ k. receive-same k (fieldB (first c))))
@@ -148,6 +152,7 @@ module _ (s t : List ℕ) (f : SameFrame s t) where
         (λ e. framed-same revoke 8 e refl (λ k. revoke-same k (fieldA (first c)) (fieldB (first c)) (fieldC (first c))))
         (λ _. refl)
         refl
+        ∙ sym (decide-places t c)
 
     owned-bits-same : (v : ℕ) → ownedBits s v ≡ ownedBits t v
     unfolding ownedBits
@@ -165,7 +170,7 @@ module _ (s t : List ℕ) (f : SameFrame s t) where
 
     -- and so is its answer
     pub answer-same : answer s c ≡ answer t c
-    unfolding answer answerTo code firstData secondData
+    unfolding answer answerTo code dataWords
     answer-same =
         ap (answerTo s c) decide-same
         ∙ decide-elim t c (λ d. answerTo s c d ≡ answerTo t c d)

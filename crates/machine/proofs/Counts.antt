@@ -15,9 +15,9 @@ use Rattle.machine.specs.Word.{kind, mostPayload, fieldB, answerCode}
 use Rattle.machine.specs.Table.{domains, endpoints, endpoint, setEndpoint}
 use Rattle.machine.specs.Queue.{waiting, lost, oldest, mostLost, hasSpace, sent, received}
 use Rattle.machine.specs.Check.{endpointOk, Accepted}
-use Rattle.machine.specs.Call.{Call, Kind, first, kindOf, callKind, secondPayload}
+use Rattle.machine.specs.Call.{Call, Kind, kindNumber, oneOf, first, kindOf, callKind, secondPayload}
 use Rattle.machine.specs.Call.{Kind.lookUp, Kind.send, Kind.receive, Kind.myEndpoints, Kind.myRights, Kind.grant, Kind.remove, Kind.revoke}
-use Rattle.machine.specs.Machine.{Decision, decide, effect, after, step, code, firstData, answerWord, answerTo, answer}
+use Rattle.machine.specs.Machine.{Decision, decide, effect, after, step, code, dataWords, answerWord, answerTo, answer}
 use Rattle.machine.specs.Machine.{Decision.refused}
 use Rattle.machine.specs.Run.{run, answers}
 use Rattle.machine.specs.Counts.{isSend, isReceive, doneOn, countDone, messagesFrom, messagesTo, receivesFrom, sendsTo, pushesOut, fullSends, messages}
@@ -122,9 +122,9 @@ module _ (t : List ℕ) (e : ℕ) (c : Call) where
   -- what the call does to e's queue where the decision on it is d
   abbrev ServedBy : Decision → List ℕ → Type 0
   ServedBy d q′ =
-      Served (doneOn isSend e c (answerTo t c d)) (doneOn isReceive e c (answerTo t c d)) (secondPayload c) (firstData t d) (endpoint t e) q′
+      Served (doneOn isSend e c (answerTo t c d)) (doneOn isReceive e c (answerTo t c d)) (secondPayload c) (dataWords t d .0) (endpoint t e) q′
 
-  served-by : (d : Decision) (k : Kind) (here : Bool) {q′ : List ℕ} → callKind c ≡ k → eqb (fieldB (first c)) e ≡ here → code d ≡ 0 → Served (isSend k && here && true) (isReceive k && here && true) (secondPayload c) (firstData t d) (endpoint t e) q′ → ServedBy d q′
+  served-by : (d : Decision) (k : Kind) (here : Bool) {q′ : List ℕ} → callKind c ≡ k → eqb (fieldB (first c)) e ≡ here → code d ≡ 0 → Served (isSend k && here && true) (isReceive k && here && true) (secondPayload c) (dataWords t d .0) (endpoint t e) q′ → ServedBy d q′
   served-by d k here p q r s =
       let l : code d < 65536 = omega arith in
       rw (done-by d k here true p q l (eq-eqb _ _ r) isSend, done-by d k here true p q l (eq-eqb _ _ r) isReceive) s
@@ -141,12 +141,12 @@ module _ (t : List ℕ) (e : ℕ) (c : Call) where
     twelve f l = table.endpoint-length t sized f l
 
     -- twelve words are written to the endpoint of field B: e is served if it is that one
-    served-at : (d : Decision) (k : Kind) (w : List ℕ) → callKind c ≡ k → code d ≡ 0 → fieldB (first c) < endpoints t → length w ≡ 12 → Served (isSend k && true && true) (isReceive k && true && true) (secondPayload c) (firstData t d) (endpoint t (fieldB (first c))) w → ServedBy d (endpoint (setEndpoint t (fieldB (first c)) w) e)
+    served-at : (d : Decision) (k : Kind) (w : List ℕ) → callKind c ≡ k → code d ≡ 0 → fieldB (first c) < endpoints t → length w ≡ 12 → Served (isSend k && true && true) (isReceive k && true && true) (secondPayload c) (dataWords t d .0) (endpoint t (fieldB (first c))) w → ServedBy d (endpoint (setEndpoint t (fieldB (first c)) w) e)
     served-at d k w p r l long s =
         ⊎-elim
         (λ x.
         served-by d k true p (eq-eqb f e x) r
-        (subst (λ (i : ℕ). Served (isSend k && true && true) (isReceive k && true && true) (secondPayload c) (firstData t d) (endpoint t i) (endpoint (setEndpoint t f w) i)) x
+        (subst (λ (i : ℕ). Served (isSend k && true && true) (isReceive k && true && true) (secondPayload c) (dataWords t d .0) (endpoint t i) (endpoint (setEndpoint t f w) i)) x
         (rw (table.setEndpoint-same t sized f w l long) s)))
         (λ x.
         served-by d k false p (ne-eqb f e x) r
@@ -157,7 +157,7 @@ module _ (t : List ℕ) (e : ℕ) (c : Call) where
         f = fieldB (first c)
 
     served : ServedBy (decide t c) (endpoint (step t c) e)
-    unfolding step effect after code firstData kindOf isSend isReceive
+    unfolding step effect after code dataWords kindOf isSend isReceive oneOf kindNumber
     served =
         decide-elim t c (λ d. ServedBy d (endpoint (after t (effect t d)) e))
         (record {
@@ -210,7 +210,7 @@ pushed-full e t (c ∷ cs) =
     pushed-more (pushesOut e t c) (receivesFrom e t c) (oldest (endpoint t e)) _ (gone e (step t c) cs) (pushed-full e (step t c) cs)
 
 pub fifo-order : EveryRunFifoOrder
-unfolding run messagesFrom messagesTo gone takenOf countPushed fullSends pushesOut receivesFrom sendsTo doneOn answers answer answerTo
+unfolding run messagesFrom messagesTo gone takenOf countPushed pushesOut receivesFrom sendsTo doneOn answers answer answerTo
 fifo-order t [] rest a e l =
     record {
       order = sym (append-nil (messages (endpoint t e)));

@@ -13,39 +13,21 @@ use Rattle.machine.specs.Word.{kind, caller, fieldA, fieldB, fieldC}
 use Rattle.machine.specs.Right.{GRANT, REMOVE, REVOKE, allRights, isSet, holds}
 use Rattle.machine.specs.Table.{domains, endpoints, rights, endpoint}
 use Rattle.machine.specs.Queue.{owner, waiting}
-use Rattle.machine.specs.Call.{Call, Kind, first, kindOf, callKind, callerOf, wantsSecond, unusedFields, allZero, hasSecond, wordPlaces, secondPayload}
+use Rattle.machine.specs.Call.{Call, Kind, first, callKind, callerOf, secondPayload}
 use Rattle.machine.specs.Call.{Kind.lookUp, Kind.send, Kind.receive, Kind.myEndpoints, Kind.myRights, Kind.grant, Kind.remove, Kind.revoke, Kind.stray, Kind.unknown}
-use Rattle.machine.specs.Machine.{Decision, place, maySend, named, lookUpPlaces, sendPlaces, receivePlaces, rightsPlaces, grantPlaces, revokePlaces, removePlaces, framed, places, decide}
+use Rattle.machine.specs.Machine.{Decision, maySend, named, decide}
+use Rattle.machine.specs.Guards.{place, lookUpPlaces, sendPlaces, receivePlaces, rightsPlaces, grantPlaces, revokePlaces, removePlaces, framed, places}
 use Rattle.machine.specs.Machine.{Decision.refused, Decision.lookedUp, Decision.sends, Decision.receives, Decision.listsEndpoints, Decision.listsRights, Decision.grants, Decision.removes, Decision.revokes}
 use Rattle.machine.specs.Influence.{influences}
-use Rattle.machine.proofs.Bools.{and-left, and-right, cond-elim}
-
--- a kind is that of one of the eight calls, of a stray, or unknown
-pub kind-elim : (k : ℕ) (P : Kind → Type 0) → (k ≡ 1 → P lookUp) → (k ≡ 2 → P send) → (k ≡ 3 → P receive) → (k ≡ 4 → P myEndpoints) → (k ≡ 5 → P myRights) → (k ≡ 6 → P grant) → (k ≡ 7 → P remove) → (k ≡ 8 → P revoke) → (k ≡ 15 → P stray) → P unknown → P (kindOf k)
-unfolding kindOf
-kind-elim k P f1 f2 f3 f4 f5 f6 f7 f8 f15 f =
-    cond-elim P (eqb k 1) (λ e. f1 (eqb-true k 1 e))
-    (λ _. cond-elim P (eqb k 2) (λ e. f2 (eqb-true k 2 e))
-    (λ _. cond-elim P (eqb k 3) (λ e. f3 (eqb-true k 3 e))
-    (λ _. cond-elim P (eqb k 4) (λ e. f4 (eqb-true k 4 e))
-    (λ _. cond-elim P (eqb k 5) (λ e. f5 (eqb-true k 5 e))
-    (λ _. cond-elim P (eqb k 6) (λ e. f6 (eqb-true k 6 e))
-    (λ _. cond-elim P (eqb k 7) (λ e. f7 (eqb-true k 7 e))
-    (λ _. cond-elim P (eqb k 8) (λ e. f8 (eqb-true k 8 e))
-    (λ _. cond-elim P (eqb k 15) (λ e. f15 (eqb-true k 15 e)) (λ _. f)))))))))
+use Rattle.machine.proofs.Bools.{and-left, and-right}
+use Rattle.machine.proofs.KindCases.{kind-elim}
+use Rattle.machine.proofs.Places.{decide-places}
 
 -- a place refuses, or the next is tested
 pub place-elim : (P : Decision → Type 0) (b : Bool) (n : ℕ) {next : Decision} → P (refused n) → (b ≡ false → P next) → P (place b n next)
 unfolding place
 place-elim P true n r f = r
 place-elim P false n r f = f refl
-
--- one of the places 13 and 14 refuses, or the next is tested
-pub word-elim : {A : Type 0} (P : A → Type 0) (k : Kind) (c : Call) {x y z : A} → P x → P y → P z → P (wordPlaces k c x y z)
-unfolding wordPlaces
-word-elim P k c p q r =
-    cond-elim P (not (allZero (unusedFields k (first c)))) (λ _. p)
-    (λ _. cond-elim P (wantsSecond (kind (first c)) && not (hasSecond c)) (λ _. q) (λ _. r))
 
 -- a refusal's code is one of the paper's
 pub record Number (n : ℕ) : Type 0 where
@@ -86,8 +68,9 @@ module _ (t : List ℕ) (c : Call) (P : Decision → Type 0) (rows : Rows t c P)
   unfolding framed
   framed-elim k i e f next =
       place-elim P _ 12 (refuse 12 (omega arith) (omega arith))
-      (λ below. word-elim P k c (refuse 13 (omega arith) (omega arith)) (refuse 14 (omega arith) (omega arith))
-      (next (record { calledBy = calls-back i c e f; below = ltb-true _ _ (not-false _ below) })))
+      (λ below. place-elim P _ 13 (refuse 13 (omega arith) (omega arith))
+      (λ _. place-elim P _ 14 (refuse 14 (omega arith) (omega arith))
+      (λ _. next (record { calledBy = calls-back i c e f; below = ltb-true _ _ (not-false _ below) }))))
 
   lookUp-elim : Known t c → kind (first c) ≡ 1 → (o : Option ℕ) → named t (secondPayload c) ≡ o → P (lookUpPlaces o)
   unfolding lookUpPlaces
@@ -158,9 +141,10 @@ module _ (t : List ℕ) (c : Call) (P : Decision → Type 0) (rows : Rows t c P)
       mine = rights t (caller (first c)) (fieldA (first c))
 
   pub decide-elim : P (decide t c)
-  unfolding decide places callKind
+  unfolding places callKind
   decide-elim =
-      kind-elim (kind (first c)) (λ k. P (places t c k))
+      rw (decide-places t c)
+      (kind-elim (kind (first c)) (λ k. P (places t c k))
       (λ e. framed-elim lookUp 1 e refl (λ k. lookUp-elim k e (named t (secondPayload c)) refl))
       (λ e. framed-elim send 2 e refl (λ k. send-elim k e))
       (λ e. framed-elim receive 3 e refl (λ k. receive-elim k e))
@@ -170,4 +154,4 @@ module _ (t : List ℕ) (c : Call) (P : Decision → Type 0) (rows : Rows t c P)
       (λ e. framed-elim remove 7 e refl (λ k. remove-elim k e))
       (λ e. framed-elim revoke 8 e refl (λ k. revoke-elim k e))
       (λ _. refuse 10 (omega arith) (omega arith))
-      (refuse 11 (omega arith) (omega arith))
+      (refuse 11 (omega arith) (omega arith)))

@@ -23,13 +23,12 @@ unfolding allBelow numbersBelow firstBelow sumBelow wordsBelow bitsBelow
     check.slotWordOk check.identityOk check.queueOk check.endpointOk check.nameNew check.headerOk check.lengthOk
     check.rightsOk check.endpointsOk check.tableCode
     call.first call.wantsSecond call.pairs call.split call.kindOf call.callKind call.callerOf
-    call.unusedFields call.allZero call.hasSecond call.wordPlaces call.secondPayload
+    call.unusedFields call.allZero call.hasSecond call.secondPayload call.kindNumber call.oneOf
     queue.name queue.owner queue.capacity queue.waiting queue.lost queue.oldest queue.hasSpace queue.sendWithSpace
     queue.movedUp queue.received queue.sendToFull queue.sent
-    machine.place machine.maySend machine.named machine.lookUpPlaces machine.sendPlaces
-    machine.receivePlaces machine.rightsPlaces machine.grantPlaces machine.revokePlaces machine.removePlaces machine.framed machine.places machine.decide
-    machine.effect machine.after machine.step machine.ownedBits machine.rightsBits machine.code machine.firstData
-    machine.secondData machine.shownCaller machine.answerWord machine.answerTo machine.answer
+    machine.maySend machine.named machine.isNone machine.orZero machine.placesOf machine.firstRefusal machine.rowOf machine.decide
+    machine.effect machine.after machine.step machine.ownedBits machine.rightsBits machine.code machine.dataWords
+    machine.shownCaller machine.answerWord machine.answerTo machine.answer
     run answers
     «entry».holdersCode «entry».spaceCode «entry».entryCode «entry».refusal «entry».ran «entry».entry
     reaches influences holdersOf

@@ -4,6 +4,9 @@ pub mod Examples
 pub mod Bools
 pub mod Below
 pub mod Table
+pub mod KindCases
+pub mod Places
+pub mod Exactly
 pub mod Decide
 pub mod Accepted
 pub mod Frame

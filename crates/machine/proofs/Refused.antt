@@ -5,7 +5,7 @@ use Prim.Native.Nat.{ℕ, _*_}
 use lib.ListN.{length, take, drop}
 use lib.Seq.{drop-append-seam}
 use Rattle.machine.specs.Call.{Call}
-use Rattle.machine.specs.Machine.{Decision.refused, decide, step, code, firstData, secondData, answerWord, answerTo, answer}
+use Rattle.machine.specs.Machine.{Decision.refused, decide, step, code, dataWords, answerWord, answerTo, answer}
 use Rattle.machine.specs.Run.{run, answers}
 use Rattle.machine.specs.RunClaims.{RefusedHere}
 use Rattle.machine.specs.MachineClaims.{EveryRunRefusalChangesNothing}
@@ -26,7 +26,7 @@ module _ (t : List ℕ) (before : List Call) (c : Call) (later : List Call) (n :
       ∙ drop-append-seam (answers t before) _
 
   three : take 3 from-here ≡ answerWord c n ∷ 0 ∷ 0 ∷ []
-  unfolding from-here answers answer answerTo code firstData secondData
+  unfolding from-here answers answer answerTo code dataWords
   three = rw d
 
   without : run t (before ++ (c ∷ later)) ≡ run t (before ++ later)

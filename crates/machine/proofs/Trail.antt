@@ -12,12 +12,12 @@ use native.Mathlib.Omega.{arith}
 use borrow.Author.Tests.{eqb-true}
 use lib.Dec.{eqb}
 use lib.ListN.{drop, set}
-use Rattle.machine.specs.Word.{payload}
+use Rattle.machine.specs.Word.{fieldC, payload}
 use Rattle.machine.specs.Right.{SEND, GRANT, REMOVE, REVOKE, isSet, holds, adds, without}
 use Rattle.machine.specs.Table.{domains, rights, setRights, setEndpoint}
 use Rattle.machine.specs.Check.{Accepted}
-use Rattle.machine.specs.Call.{Call, Call.one, Call.two, callerOf, split}
-use Rattle.machine.specs.Machine.{Decision, removePlaces, decide, effect, after, step}
+use Rattle.machine.specs.Call.{Call, Call.one, Call.two, first, kindNumber, oneOf, callerOf, split}
+use Rattle.machine.specs.Machine.{Decision, placesOf, firstRefusal, rowOf, decide, effect, after, step}
 use Rattle.machine.specs.Influence.{influences}
 use Rattle.machine.specs.Machine.{Decision.grants, Decision.removes, Decision.revokes, Effect.newRights, Effect.newEndpoint}
 use Rattle.machine.specs.Run.{run}
@@ -209,17 +209,18 @@ all-or-nothing t c a seven =
     (call-in-order t c a)
 
 pub remove-of-one : EveryRemoveOfOne
-unfolding removePlaces isSet
-remove-of-one t u g r single =
+unfolding decide placesOf firstRefusal rowOf oneOf kindNumber isSet
+remove-of-one t c is single =
     ⊎-elim
-    (λ x.
-    ⊎-elim (λ is. same SEND (eqb-true r SEND is) refl) (λ is. same GRANT (eqb-true r GRANT is) refl)
-    (or-cases (eqb r SEND) (eqb r GRANT) x))
-    (λ is. same REMOVE (eqb-true r REMOVE is) refl)
+    (λ x. ⊎-elim (λ e. same SEND (eqb-true r SEND e) refl) (λ e. same GRANT (eqb-true r GRANT e) refl) (or-cases (eqb r SEND) (eqb r GRANT) x))
+    (λ e. same REMOVE (eqb-true r REMOVE e) refl)
     (or-cases (eqb r SEND || eqb r GRANT) (eqb r REMOVE) single)
   where
-    same : (k : ℕ) → r ≡ k → removePlaces t u g k ≡ removeOfOne t u g k → removePlaces t u g r ≡ removeOfOne t u g r
-    same k is e = rw is e
+    r : ℕ
+    r = fieldC (first c)
+
+    same : (k : ℕ) → r ≡ k → isSet k ≡ (eqb k SEND || eqb k GRANT || eqb k REMOVE) → decide t c ≡ removeOfOne t c
+    same k e s = rw (is, e, s)
 
 -- ---- along calls
 

@@ -1,5 +1,5 @@
 -- A call is its one or two words and nothing else. Here are the split of a list into calls, the kinds of call, and what the
--- places 10, 11, 13 and 14 test, which need no table (document 01, 'The calls' and 'Where each number is checked').
+-- places 13 and 14 test, which need no table (document 01, 'The calls' and 'Where each number is checked').
 use Prim.Native.Nat.{ℕ}
 use mathlib.Core.Bool.{Bool, true, false, cond, not, _&&_, _||_}
 use mathlib.Core.List.{List, [], _∷_}
@@ -35,6 +35,24 @@ split (w ∷ v ∷ ws) = cond (pairs w v) (two w v ∷ split ws) (one w ∷ spli
 -- the eight calls, a word of kind 15 that begins a call (document 01: a stray), and the unknown kinds
 pub data Kind : Type 0 where
   lookUp send receive myEndpoints myRights grant remove revoke stray unknown : Kind
+
+-- a kind by its number, for comparing; the unknown ones are 0
+unfoldable pub kindNumber : Kind → ℕ
+kindNumber lookUp = 1
+kindNumber send = 2
+kindNumber receive = 3
+kindNumber myEndpoints = 4
+kindNumber myRights = 5
+kindNumber grant = 6
+kindNumber remove = 7
+kindNumber revoke = 8
+kindNumber stray = 15
+kindNumber unknown = 0
+
+-- a kind is among some kinds
+unfoldable pub oneOf : Kind → List Kind → Bool
+oneOf k [] = false
+oneOf k (other ∷ others) = eqb (kindNumber k) (kindNumber other) || oneOf k others
 
 -- which of these a word of kind k begins
 unfoldable pub kindOf : ℕ → Kind
@@ -76,13 +94,6 @@ allZero (x ∷ xs) = eqb x 0 && allZero xs
 unfoldable pub hasSecond : Call → Bool
 hasSecond (one w) = false
 hasSecond (two w v) = true
-
--- The places 13 and 14, which test a call's own words alone, in their order: the result where a field that its kind doesn't
--- use isn't zero, where it needs a second word and has none, and where neither is so.
-unfoldable pub wordPlaces : {A : Type 0} → Kind → Call → A → A → A → A
-wordPlaces k c unusedField noSecondWord next =
-    cond (not (allZero (unusedFields k (first c)))) unusedField
-    (cond (wantsSecond (kind (first c)) && not (hasSecond c)) noSecondWord next)
 
 -- what a call's second word holds in bits 27–0: the name of a look up, the message of a send
 unfoldable pub secondPayload : Call → ℕ

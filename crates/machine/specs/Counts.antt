@@ -9,35 +9,16 @@ use lib.Dec.{eqb}
 use Rattle.machine.specs.Word.{payload, fieldB, answerCode}
 use Rattle.machine.specs.Table.{endpoint}
 use Rattle.machine.specs.Queue.{waiting, oldest, hasSpace}
-use Rattle.machine.specs.Call.{Call, Kind, first, callKind, secondPayload}
-use Rattle.machine.specs.Call.{Kind.lookUp, Kind.send, Kind.receive, Kind.myEndpoints, Kind.myRights, Kind.grant, Kind.remove, Kind.revoke, Kind.stray, Kind.unknown}
+use Rattle.machine.specs.Call.{Call, Kind, Kind.send, Kind.receive, first, callKind, oneOf, secondPayload}
 use Rattle.machine.specs.Machine.{step, answer}
 
 -- a kind is that of a send
 unfoldable pub isSend : Kind → Bool
-isSend lookUp = false
-isSend send = true
-isSend receive = false
-isSend myEndpoints = false
-isSend myRights = false
-isSend grant = false
-isSend remove = false
-isSend revoke = false
-isSend stray = false
-isSend unknown = false
+isSend k = oneOf k (send ∷ [])
 
 -- a kind is that of a receive
 unfoldable pub isReceive : Kind → Bool
-isReceive lookUp = false
-isReceive send = false
-isReceive receive = true
-isReceive myEndpoints = false
-isReceive myRights = false
-isReceive grant = false
-isReceive remove = false
-isReceive revoke = false
-isReceive stray = false
-isReceive unknown = false
+isReceive k = oneOf k (receive ∷ [])
 
 -- a call of a kind that passes a test, on the endpoint e, answered 0 by the first of the answers
 unfoldable pub doneOn : (Kind → Bool) → ℕ → Call → List ℕ → Bool

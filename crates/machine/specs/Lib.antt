@@ -7,6 +7,7 @@ pub mod Check
 pub mod Call
 pub mod Queue
 pub mod Machine
+pub mod Guards
 pub mod Run
 pub mod Entry
 pub mod Influence

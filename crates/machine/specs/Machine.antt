@@ -12,7 +12,7 @@ use Rattle.machine.specs.Right.{SEND, GRANT, REMOVE, REVOKE, isSet, hold
 use Rattle.machine.specs.Table.{domains, endpoints, rights, endpoint, setRights, setEndpoint}
 use Rattle.machine.specs.Influence.{influences}
 use Rattle.machine.specs.Queue.{name, owner, waiting, lost, oldest, sent, received}
-use Rattle.machine.specs.Call.{Call, Kind, first, callKind, wordPlaces, secondPayload}
+use Rattle.machine.specs.Call.{Call, Kind, first, callKind, oneOf, unusedFields, allZero, hasSecond, secondPayload}
 use Rattle.machine.specs.Call.{Kind.lookUp, Kind.send, Kind.receive, Kind.myEndpoints, Kind.myRights, Kind.grant, Kind.remove, Kind.revoke, Kind.stray, Kind.unknown}
 
 -- The decision on a call: a refusal by its code, or the call's row with what it needs.
@@ -27,11 +27,6 @@ pub data Decision : Type 0 where
   removes : (target u r : ℕ) → Decision
   revokes : (target holder r : ℕ) → Decision
 
--- a place of the paper's table: where its condition holds the call is refused by its code, else the next place is tested
-unfoldable pub place : Bool → ℕ → Decision → Decision
-place true code next = refused code
-place false code next = next
-
 -- u may send to the endpoint e: it has SEND on its owner, be that itself or another (document 02 (f))
 unfoldable pub maySend : List ℕ → ℕ → ℕ → Bool
 maySend t u e = holds (rights t u (owner (endpoint t e))) SEND
@@ -40,69 +35,68 @@ maySend t u e = holds (rights t u (owner (endpoint t e))) SEND
 unfoldable pub named : List ℕ → ℕ → Option ℕ
 named t x = firstBelow (endpoints t) (λ e. eqb (name (endpoint t e)) x)
 
--- place 15, and then the look up's row: the endpoint that has the name, if any
-unfoldable pub lookUpPlaces : Option ℕ → Decision
-lookUpPlaces none = refused 15
-lookUpPlaces (some e) = lookedUp e
+-- nothing was found
+unfoldable pub isNone : Option ℕ → Bool
+isNone none = true
+isNone (some e) = false
 
--- the places 16 and 17, and then the send's row: u sends a message to the endpoint e
-unfoldable pub sendPlaces : List ℕ → ℕ → ℕ → ℕ → Decision
-sendPlaces t u e message =
-    place (not (ltb e (endpoints t))) 16 (place (not (maySend t u e)) 17 (sends e message))
+-- what was found, or 0
+unfoldable pub orZero : Option ℕ → ℕ
+orZero none = 0
+orZero (some e) = e
 
--- the places 16, 18 and 19, and then the receive's row: u receives from the endpoint e
-unfoldable pub receivePlaces : List ℕ → ℕ → ℕ → Decision
-receivePlaces t u e =
-    place (not (ltb e (endpoints t))) 16
-    (place (not (eqb (owner (endpoint t e)) u)) 18 (place (eqb (waiting (endpoint t e)) 0) 19 (receives e)))
+-- every kind but a stray and the unknown ones
+abbrev pub calls : List Kind
+calls = lookUp ∷ send ∷ receive ∷ myEndpoints ∷ myRights ∷ grant ∷ remove ∷ revoke ∷ []
 
--- the places 20 to 23, and then the row, of a call by which u alters h's rights on the target g by the set r: place 22 tests
--- `may`, and place 23 whether u influences h
-unfoldable pub rightsPlaces : List ℕ → ℕ → ℕ → ℕ → ℕ → Bool → Decision → Decision
-rightsPlaces t u g h r may row =
-    place (not (ltb g (domains t) && ltb h (domains t))) 20
-    (place (not (isSet r)) 21 (place (not may) 22 (place (not (influences t u h)) 23 row)))
+-- The paper's table 'Where each number is checked' from 10 on, with document 02 (b), (f) and (i): the kinds of call that have the
+-- place, its code, and whether the call c is to be refused there.
+unfoldable pub placesOf : List ℕ → Call → List (List Kind × ℕ × Bool)
+placesOf t c =
+    let u = caller (first c) in
+    let a = fieldA (first c) in
+    let b = fieldB (first c) in
+    let r = fieldC (first c) in
+    (stray ∷ [], 10, true)
+    ∷ (unknown ∷ [], 11, true)
+    ∷ (calls, 12, not (ltb u (domains t)))
+    ∷ (calls, 13, not (allZero (unusedFields (callKind c) (first c))))
+    ∷ (lookUp ∷ send ∷ [], 14, not (hasSecond c))
+    ∷ (lookUp ∷ [], 15, isNone (named t (secondPayload c)))
+    ∷ (send ∷ receive ∷ [], 16, not (ltb b (endpoints t)))
+    ∷ (send ∷ [], 17, not (maySend t u b))
+    ∷ (receive ∷ [], 18, not (eqb (owner (endpoint t b)) u))
+    ∷ (receive ∷ [], 19, eqb (waiting (endpoint t b)) 0)
+    ∷ (grant ∷ revoke ∷ [], 20, not (ltb a (domains t) && ltb b (domains t)))
+    ∷ (remove ∷ [], 20, not (ltb a (domains t)))
+    ∷ (grant ∷ remove ∷ revoke ∷ [], 21, not (isSet r))
+    ∷ (grant ∷ [], 22, not (holds (rights t u a) GRANT && holds (rights t u a) r))
+    ∷ (remove ∷ [], 22, not (holds (rights t u a) REMOVE && holds (rights t u a) r))
+    ∷ (revoke ∷ [], 22, not (holds (rights t u a) REVOKE))
+    ∷ (grant ∷ revoke ∷ [], 23, not (influences t u b))
+    ∷ []
 
--- a grant: u gives the rights r on the target g, which it must hold, to the recipient h
-unfoldable pub grantPlaces : List ℕ → ℕ → ℕ → ℕ → ℕ → Decision
-grantPlaces t u g h r =
-    rightsPlaces t u g h r (holds (rights t u g) GRANT && holds (rights t u g) r) (grants g h r)
+-- the first of the places that the kind has and that refuses, or else the row
+unfoldable pub firstRefusal : Kind → List (List Kind × ℕ × Bool) → Decision → Decision
+firstRefusal k [] row = row
+firstRefusal k (p ∷ ps) row = cond (oneOf k (p .0) && p .2) (refused (p .1)) (firstRefusal k ps row)
 
--- a revoke (document 02 (i)): u clears the rights r on the target g from the holder h's, whatever h holds
-unfoldable pub revokePlaces : List ℕ → ℕ → ℕ → ℕ → ℕ → Decision
-revokePlaces t u g h r = rightsPlaces t u g h r (holds (rights t u g) REVOKE) (revokes g h r)
-
--- the places 20 to 22, and then the remove's row: u clears the rights r, all of which it must hold, from its own on the target g
--- (document 02 (b))
-unfoldable pub removePlaces : List ℕ → ℕ → ℕ → ℕ → Decision
-removePlaces t u g r =
-    place (not (ltb g (domains t))) 20 (place (not (isSet r)) 21
-    (place (not (holds (rights t u g) REMOVE && holds (rights t u g) r)) 22 (removes g u r)))
-
--- the places 12, 13 and 14, which every known kind has, and then the kind's own
-unfoldable pub framed : List ℕ → Call → Kind → Decision → Decision
-framed t c k next =
-    place (not (ltb (caller (first c)) (domains t))) 12
-    (wordPlaces k c (refused 13) (refused 14) next)
-
--- every place of a call's kind, in the paper's order
-unfoldable pub places : List ℕ → Call → Kind → Decision
-places t c stray = refused 10
-places t c unknown = refused 11
-places t c lookUp = framed t c lookUp (lookUpPlaces (named t (secondPayload c)))
-places t c send = framed t c send (sendPlaces t (caller (first c)) (fieldB (first c)) (secondPayload c))
-places t c receive = framed t c receive (receivePlaces t (caller (first c)) (fieldB (first c)))
-places t c myEndpoints = framed t c myEndpoints (listsEndpoints (caller (first c)))
-places t c myRights = framed t c myRights (listsRights (caller (first c)))
-places t c grant =
-    framed t c grant (grantPlaces t (caller (first c)) (fieldA (first c)) (fieldB (first c)) (fieldC (first c)))
-places t c remove = framed t c remove (removePlaces t (caller (first c)) (fieldA (first c)) (fieldC (first c)))
-places t c revoke =
-    framed t c revoke (revokePlaces t (caller (first c)) (fieldA (first c)) (fieldB (first c)) (fieldC (first c)))
+-- the row of a call of kind k; a stray and a call of unknown kind have none
+unfoldable pub rowOf : List ℕ → Call → Kind → Decision
+rowOf t c lookUp = lookedUp (orZero (named t (secondPayload c)))
+rowOf t c send = sends (fieldB (first c)) (secondPayload c)
+rowOf t c receive = receives (fieldB (first c))
+rowOf t c myEndpoints = listsEndpoints (caller (first c))
+rowOf t c myRights = listsRights (caller (first c))
+rowOf t c grant = grants (fieldA (first c)) (fieldB (first c)) (fieldC (first c))
+rowOf t c remove = removes (fieldA (first c)) (caller (first c)) (fieldC (first c))
+rowOf t c revoke = revokes (fieldA (first c)) (fieldB (first c)) (fieldC (first c))
+rowOf t c stray = refused 10
+rowOf t c unknown = refused 11
 
 -- the decision on a call on the table t
 unfoldable pub decide : List ℕ → Call → Decision
-decide t c = places t c (callKind c)
+decide t c = firstRefusal (callKind c) (placesOf t c) (rowOf t c (callKind c))
 
 -- What a decision alters: nothing, one rights word, or one endpoint's twelve words.
 pub data Effect : Type 0 where
@@ -152,29 +146,17 @@ code (grants g h r) = 0
 code (removes g u r) = 0
 code (revokes g h r) = 0
 
--- the first data word of the answer to a decision on the table t, zero where its row names none
-unfoldable pub firstData : List ℕ → Decision → ℕ
-firstData t (refused n) = 0
-firstData t (lookedUp e) = e
-firstData t (sends e message) = 0
-firstData t (receives e) = oldest (endpoint t e)
-firstData t (listsEndpoints u) = ownedBits t u
-firstData t (listsRights u) = rightsBits t u 0
-firstData t (grants g h r) = 0
-firstData t (removes g u r) = 0
-firstData t (revokes g h r) = 0
-
--- and the second
-unfoldable pub secondData : List ℕ → Decision → ℕ
-secondData t (refused n) = 0
-secondData t (lookedUp e) = 0
-secondData t (sends e message) = 0
-secondData t (receives e) = lost (endpoint t e)
-secondData t (listsEndpoints u) = 0
-secondData t (listsRights u) = rightsBits t u 8
-secondData t (grants g h r) = 0
-secondData t (removes g u r) = 0
-secondData t (revokes g h r) = 0
+-- the two data words of the answer to a decision on the table t, zero where its row names none
+unfoldable pub dataWords : List ℕ → Decision → ℕ × ℕ
+dataWords t (refused n) = (0, 0)
+dataWords t (lookedUp e) = (e, 0)
+dataWords t (sends e message) = (0, 0)
+dataWords t (receives e) = (oldest (endpoint t e), lost (endpoint t e))
+dataWords t (listsEndpoints u) = (ownedBits t u, 0)
+dataWords t (listsRights u) = (rightsBits t u 0, rightsBits t u 8)
+dataWords t (grants g h r) = (0, 0)
+dataWords t (removes g u r) = (0, 0)
+dataWords t (revokes g h r) = (0, 0)
 
 -- the caller that an answer shows: as found, and 0 for a stray
 unfoldable pub shownCaller : Call → ℕ
@@ -186,7 +168,7 @@ answerWord c n = kind (first c) * 268435456 + shownCaller c * 4194304 + n
 
 -- a call's three answer words
 unfoldable pub answerTo : List ℕ → Call → Decision → List ℕ
-answerTo t c d = answerWord c (code d) ∷ firstData t d ∷ secondData t d ∷ []
+answerTo t c d = answerWord c (code d) ∷ dataWords t d .0 ∷ dataWords t d .1 ∷ []
 
 -- the answer to a call on the table t
 unfoldable pub answer : List ℕ → Call → List ℕ

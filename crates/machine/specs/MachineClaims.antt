@@ -5,7 +5,7 @@ use Prim.Native.Nat.{ℕ, _*_, _<_, _≤_, _^_}
 use mathlib.Core.Path.{_≡_}
 use mathlib.Core.Bool.{Bool, true, false, not, _&&_, _||_}
 use mathlib.Core.Logic.{_⊎_}
-use mathlib.Core.List.{List, _++_}
+use mathlib.Core.List.{List, [], _∷_, _++_}
 use mathlib.Core.Option.{Option, none, some}
 use lib.Dec.{eqb, ltb}
 use lib.ListN.{length}
@@ -13,8 +13,8 @@ use Rattle.machine.specs.Word.{kind, caller, fieldA, fieldC}
 use Rattle.machine.specs.Right.{SEND, GRANT, REMOVE, holds}
 use Rattle.machine.specs.Table.{domains, endpoints, rights}
 use Rattle.machine.specs.Check.{Accepted}
-use Rattle.machine.specs.Call.{Call, first, callerOf}
-use Rattle.machine.specs.Machine.{Decision, place, removePlaces, decide, step, answer, Decision.refused, Decision.removes}
+use Rattle.machine.specs.Call.{Call, Kind, Kind.remove, first, callKind, oneOf, callerOf, unusedFields, allZero}
+use Rattle.machine.specs.Machine.{Decision, placesOf, firstRefusal, rowOf, decide, step, answer, Decision.refused, Decision.removes}
 use Rattle.machine.specs.Run.{run, answers}
 use Rattle.machine.specs.Influence.{influences}
 use Rattle.machine.specs.SameParts.{SameFrame, SamePart}
@@ -22,6 +22,31 @@ use Rattle.machine.specs.Trail.{GivenBy, RemovedBy, RevokedBy}
 use Rattle.machine.specs.RunClaims.{RefusalChangesNothing, Noninterference, RightsProvenance, CountsConserved, FifoOrder}
 
 -- ---- one call
+
+-- no place that the kind k has refuses
+unfoldable pub noneRefuses : Kind → List (List Kind × ℕ × Bool) → Bool
+noneRefuses k [] = true
+noneRefuses k (p ∷ ps) = not (oneOf k (p .0) && p .2) && noneRefuses k ps
+
+-- Of the places ps that the kind k has, the first that refuses has the code n.
+pub record RefusesFirst (k : Kind) (n : ℕ) (ps : List (List Kind × ℕ × Bool)) : Type 0 where
+  pub before : List (List Kind × ℕ × Bool)
+  pub kinds : List Kind
+  pub later : List (List Kind × ℕ × Bool)
+  pub among : ps ≡ before ++ ((kinds, n, true) ∷ later)
+  pub has : oneOf k kinds ≡ true
+  pub earlier : noneRefuses k before ≡ true
+
+-- A call is refused by a code exactly where the first place that refuses has it, and does its row exactly where none refuses.
+pub record RefusedExactly (t : List ℕ) (c : Call) : Type 0 where
+  pub condition : (n : ℕ) → decide t c ≡ refused n → RefusesFirst (callKind c) n (placesOf t c)
+  pub refusal : (n : ℕ) → RefusesFirst (callKind c) n (placesOf t c) → decide t c ≡ refused n
+  pub row : noneRefuses (callKind c) (placesOf t c) ≡ true → decide t c ≡ rowOf t c (callKind c)
+  pub passed : ((n : ℕ) → decide t c ≡ refused n → ⊥) → noneRefuses (callKind c) (placesOf t c) ≡ true
+
+-- "Each refusal under its own condition and under no other" (document 01, demand 2), on any table.
+abbrev pub EveryCallRefusedExactly : Type 0
+EveryCallRefusedExactly = (t : List ℕ) (c : Call) → RefusedExactly t c
 
 -- A table t′ that results from t is accepted, with the same unchanging parts.
 pub record StaysAccepted (t t′ : List ℕ) : Type 0 where
@@ -93,19 +118,27 @@ AllOrNothing t c t′ = AllRemoved (caller (first c)) (fieldA (first c)) (fieldC
 abbrev pub EveryRemoveAllOrNothing : Type 0
 EveryRemoveAllOrNothing = (t : List ℕ) (c : Call) → Accepted t → kind (first c) ≡ 7 → AllOrNothing t c (step t c)
 
--- the places 20 to 22 of a remove as document 01 has them, where it takes one right
-abbrev pub removeOfOne : List ℕ → ℕ → ℕ → ℕ → Decision
-removeOfOne t u g r =
-    place (not (ltb g (domains t))) 20
-    (place (not (eqb r SEND || eqb r GRANT || eqb r REMOVE)) 21
-    (place (not (holds (rights t u g) REMOVE && holds (rights t u g) r)) 22 (removes g u r)))
+-- the decision on a remove as document 01 has it, where it takes one right
+abbrev pub removeOfOne : List ℕ → Call → Decision
+removeOfOne t c =
+    let u = caller (first c) in
+    let g = fieldA (first c) in
+    let r = fieldC (first c) in
+    firstRefusal remove
+    ((remove ∷ [], 12, not (ltb u (domains t)))
+    ∷ (remove ∷ [], 13, not (allZero (unusedFields remove (first c))))
+    ∷ (remove ∷ [], 20, not (ltb g (domains t)))
+    ∷ (remove ∷ [], 21, not (eqb r SEND || eqb r GRANT || eqb r REMOVE))
+    ∷ (remove ∷ [], 22, not (holds (rights t u g) REMOVE && holds (rights t u g) r))
+    ∷ [])
+    (removes g u r)
 
 -- A remove of one right has the same decision as in document 01 (document 02 (b)), on any table.
 abbrev pub EveryRemoveOfOne : Type 0
 EveryRemoveOfOne =
-    (t : List ℕ) (u g r : ℕ)
-    → (eqb r SEND || eqb r GRANT || eqb r REMOVE) ≡ true
-    → removePlaces t u g r ≡ removeOfOne t u g r
+    (t : List ℕ) (c : Call) → callKind c ≡ remove
+    → (eqb (fieldC (first c)) SEND || eqb (fieldC (first c)) GRANT || eqb (fieldC (first c)) REMOVE) ≡ true
+    → decide t c ≡ removeOfOne t c
 
 -- ---- calls of any number, run from an accepted table; the words rest may follow the answers, as in a larger answer space
 

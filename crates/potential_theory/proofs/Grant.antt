@@ -13,8 +13,10 @@ use Rattle.machine.specs.Word.{kind, payload, caller, fieldA, fieldB, fieldC}
 use Rattle.machine.specs.Right.{GRANT, allRights, isSet, holds, adds, hasAny}
 use Rattle.machine.specs.Table.{domains, rights, setRights}
 use Rattle.machine.specs.Check.{Accepted}
-use Rattle.machine.specs.Call.{Call.one, first, kindOf, callKind, callerOf, split, wantsSecond, pairs, unusedFields, allZero, hasSecond, wordPlaces}
-use Rattle.machine.specs.Machine.{place, rightsPlaces, grantPlaces, framed, places, decide, effect, after, step, code, Decision.grants}
+use Rattle.machine.specs.Call.{Call.one, first, kindOf, callKind, callerOf, split, wantsSecond, pairs, unusedFields, allZero, hasSecond}
+use Rattle.machine.specs.Machine.{decide, effect, after, step, code, Decision.grants}
+use Rattle.machine.proofs.Places.{decide-places}
+use Rattle.machine.specs.Guards.{place, rightsPlaces, grantPlaces, framed, places}
 use Rattle.machine.specs.Influence.{reaches, influences}
 use Rattle.machine.proofs.Bools.{and-intro, or-right}
 use Rattle.machine.proofs.Split.{split-last, split-one}
@@ -68,9 +70,9 @@ module _ (t : List ℕ) (u h g r w : ℕ) (is : kind w ≡ 6) (by : caller w ≡
       → holds (rights t u g) r ≡ true
       → influences t u h ≡ true
       → decide t (one w) ≡ grants g h r
-  unfolding decide callKind first kindOf places framed place wordPlaces unusedFields allZero wantsSecond hasSecond grantPlaces rightsPlaces
+  unfolding callKind first kindOf places framed place unusedFields allZero wantsSecond hasSecond grantPlaces rightsPlaces
   grant-decided target recipient given lu lh lg set may all toward =
-      rw (is, by, target, recipient, given, lt-ltb u (domains t) lu, lt-ltb g (domains t) lg, lt-ltb h (domains t) lh, set, may, all, toward, is)
+      rw (decide-places t (one w), is, by, target, recipient, given, lt-ltb u (domains t) lu, lt-ltb g (domains t) lg, lt-ltb h (domains t) lh, set, may, all, toward, is)
 
 -- ---- on an accepted table
 

@@ -3,7 +3,8 @@
 use mathlib.Core.Path.{_≡_, sym, ap, _∙_}
 use mathlib.Core.Bool.{Bool, true, false}
 use Prim.Native.Nat.{ℕ}
-use Rattle.machine.specs.Machine.{Decision, Decision.refused, place}
+use Rattle.machine.specs.Machine.{Decision, Decision.refused}
+use Rattle.machine.specs.Guards.{place}
 use Rattle.calls.specs.Number.{numberOf}
 use Rattle.calls.specs.declared.Refusal.{Refusal}
 use Rattle.rules.specs.declared.range.Range.{Range}

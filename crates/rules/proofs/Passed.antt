@@ -7,7 +7,7 @@ use native.Mathlib.Omega.{arith}
 use types.Run.{OneOf, miss}
 use denote.Enum.Declared.{tagOf}
 use Rattle.machine.specs.Machine as machine
-use Rattle.machine.specs.Machine.{place}
+use Rattle.machine.specs.Guards.{place}
 use Rattle.rules.specs.Decision.{decisionOf}
 use Rattle.rules.specs.declared.Decision.{Decision}
 use Rattle.rules.specs.declared.Decision.the-variants.{Refused, Sends, Receives, Grants, Removes, Revokes}

@@ -6,6 +6,7 @@ use Prim.Native.Nat.{ℕ}
 use Rattle.machine.specs.Table.{domains, endpoints, rights, endpoint}
 use Rattle.machine.specs.Queue.{owner, waiting}
 use Rattle.machine.specs.Machine as machine
+use Rattle.machine.specs.Guards as guards
 use Rattle.machine.specs.Machine.{Decision, maySend, named}
 use Rattle.machine.specs.Influence.{influences, reaches}
 use Rattle.calls.specs.Decide.{knownCaller, refusedCall, decideCall}
@@ -26,7 +27,7 @@ readingOf t =
     }
 
 pub decide-places : (t : List ℕ) (call : Call) → decidedBy (domains t) (endpoints t) (readingOf t) call ≡ decideCall t call
-unfolding callNumbers accessBy decideCall callerNumber knownCaller refusedNumbers refusedCall endpointNumbers grantNumbers removeNumbers sendAccess receiveAccess grantAccess revokeAccess removeAccess maySend influences reaches machine.sendPlaces machine.receivePlaces machine.rightsPlaces machine.grantPlaces machine.revokePlaces machine.removePlaces
+unfolding callNumbers accessBy decideCall callerNumber knownCaller refusedNumbers refusedCall endpointNumbers grantNumbers removeNumbers sendAccess receiveAccess grantAccess revokeAccess removeAccess maySend influences reaches guards.sendPlaces guards.receivePlaces guards.rightsPlaces guards.grantPlaces guards.revokePlaces guards.removePlaces
 decide-places t (Refused u r) = refl
 decide-places t (LookUp u x) = refl
 decide-places t (Send u e message) = refl

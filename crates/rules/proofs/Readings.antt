@@ -6,7 +6,8 @@ use Prim.Native.Nat.{ℕ, _<_}
 use lib.Dec.{ltb}
 use borrow.Author.Tests.{ltb-true, not-false}
 use Rattle.machine.specs.Right.{isSet}
-use Rattle.machine.specs.Machine.{Decision, place, lookUpPlaces}
+use Rattle.machine.specs.Machine.{Decision}
+use Rattle.machine.specs.Guards.{place, lookUpPlaces}
 use Rattle.machine.proofs.Bools.{and-left, and-right}
 use Rattle.calls.specs.declared.Call.the-variants.{LookUp, Send, Receive, MyEndpoints, MyRights, Grant, Remove, Revoke, Refused}
 use Rattle.rules.specs.Range.{callerNumber, endpointNumbers, grantNumbers, removeNumbers, callNumbers}

@@ -5,7 +5,8 @@ use mathlib.Core.Bool.{not, _&&_, _||_}
 use mathlib.Core.Option.{Option, none, some}
 use lib.Dec.{eqb}
 use Rattle.machine.specs.Right.{SEND, GRANT, REMOVE, REVOKE, holds, hasAny}
-use Rattle.machine.specs.Machine.{Decision, place, lookUpPlaces}
+use Rattle.machine.specs.Machine.{Decision}
+use Rattle.machine.specs.Guards.{place, lookUpPlaces}
 use Rattle.machine.specs.Machine.{Decision.refused, Decision.sends, Decision.receives, Decision.listsEndpoints, Decision.listsRights, Decision.grants, Decision.removes, Decision.revokes}
 use Rattle.calls.specs.Number.{numberOf}
 use Rattle.calls.specs.declared.Call.{Call}

@@ -4,7 +4,8 @@ use Prim.Native.Nat.{ℕ}
 use mathlib.Core.Bool.{cond, not, _&&_}
 use lib.Dec.{ltb}
 use Rattle.machine.specs.Right.{isSet}
-use Rattle.machine.specs.Machine.{Decision, Decision.refused, place}
+use Rattle.machine.specs.Machine.{Decision, Decision.refused}
+use Rattle.machine.specs.Guards.{place}
 use Rattle.calls.specs.Number.{numberOf}
 use Rattle.calls.specs.declared.Refusal.{Refusal}
 use Rattle.calls.specs.declared.Call.{Call}

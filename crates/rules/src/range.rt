@@ -6,7 +6,8 @@ use rights::Rights;
 ghost use mathlib.Core.Path.{_≡_};
 ghost use mathlib.Core.Bool.{not};
 ghost use Rattle.machine.specs.Right.{isSet};
-ghost use Rattle.machine.specs.Machine.{Decision, place};
+ghost use Rattle.machine.specs.Machine.{Decision};
+ghost use Rattle.machine.specs.Guards.{place};
 ghost use Rattle.calls.specs.Number.{numberOf};
 ghost use Rattle.rules.specs.Range.{followed, callerNumber, refusedNumbers, endpointNumbers, grantNumbers, removeNumbers};
 

@@ -13,11 +13,11 @@ use lib.ListN.{length, getD, take, drop, set, replicate, length-set, drop-of-len
 use lib.Seq.{take-suc-set, getD-set-same, getD-set-other, getD-drop, drop-drop, ext-getD}
 use Rattle.machine.specs.Word.{kind, fieldB, answerCode}
 use Rattle.machine.specs.Below.{wordsBelow}
-use Rattle.machine.specs.Call.{Call, Kind, first, split, kindOf, callKind}
+use Rattle.machine.specs.Call.{Call, Kind, first, split, kindNumber, oneOf, kindOf, callKind}
 use Rattle.machine.specs.Counts.{isSend, isReceive, doneOn, countDone}
 use Rattle.machine.proofs.Below.{words-length, words-at}
 use Rattle.machine.proofs.Table.{equal-either}
-use Rattle.machine.proofs.Decide.{kind-elim}
+use Rattle.machine.proofs.KindCases.{kind-elim}
 use Rattle.machine.proofs.Split.{split-few}
 use Rattle.totals_theory.proofs.TotalsLaws.{done-few}
 use Rattle.calls.specs.Split.{callOf, secondAt, widthOf}
@@ -117,7 +117,7 @@ counting-end {is} {list} {answers} {counts} {at} {i} x past =
 
 -- a send is of kind 2, and a receive of kind 3
 pub sends-are : Numbered isSend 2
-unfolding isSend kindOf
+unfolding isSend oneOf kindNumber kindOf
 sends-are j =
     ⊎-elim (λ same. rw same)
     (λ other.
@@ -127,7 +127,7 @@ sends-are j =
     (equal-either j 2)
 
 pub receives-are : Numbered isReceive 3
-unfolding isReceive kindOf
+unfolding isReceive oneOf kindNumber kindOf
 receives-are j =
     ⊎-elim (λ same. rw same)
     (λ other.

@@ -7,7 +7,8 @@ use Prim.Native.Nat.{ℕ}
 use lib.Dec.{ltb}
 use Rattle.machine.specs.Call.{Call.one}
 use Rattle.machine.specs.Machine as machine
-use Rattle.machine.specs.Machine.{Decision, lookUpPlaces, code, answerWord}
+use Rattle.machine.specs.Machine.{Decision, code, answerWord}
+use Rattle.machine.specs.Guards.{lookUpPlaces}
 use Rattle.machine.proofs.Decide.{place-elim}
 use Rattle.machine.proofs.Bools.{cond-elim}
 use Rattle.calls.specs.Number.{numberOf}

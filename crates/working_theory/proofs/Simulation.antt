@@ -18,7 +18,7 @@ use Rattle.machine.specs.Queue.{owner, oldest, sent, received}
 use Rattle.machine.specs.Below.{sumBelow}
 use Rattle.machine.specs.Check.{Accepted}
 use Rattle.machine.specs.Call.{Call, Call.one, first, secondPayload}
-use Rattle.machine.specs.Machine.{Decision, decide, effect, after, step, ownedBits, rightsBits, code, firstData, secondData, shownCaller, answerWord, answerTo, answer}
+use Rattle.machine.specs.Machine.{Decision, decide, effect, after, step, ownedBits, rightsBits, code, dataWords, shownCaller, answerWord, answerTo, answer}
 use Rattle.machine.specs.Holders.{holdersOf}
 use Rattle.machine.proofs.Accepted.{accepted-sized, accepted-counts, accepted-endpoint, info-of}
 use Rattle.machine.proofs.Below.{sum-same}
@@ -49,13 +49,13 @@ use Rattle.working_theory.proofs.Reading.{decided-same}
 -- the words of an answer, by its data
 answer-words :
     (w : ℕ) (s : Second) (rows : List (List ℕ)) (rings owned t : List ℕ) (d : Decision)
-    → firstFrom rows rings owned d ≡ firstData t d
-    → secondFrom rows rings d ≡ secondData t d
+    → firstFrom rows rings owned d ≡ dataWords t d .0
+    → secondFrom rows rings d ≡ dataWords t d .1
     → answerFrom w rows rings owned d ≡ answerTo t (callOf w s) d
 unfolding answerFrom answerTo answerWord shownCaller first
 answer-words w s rows rings owned t d p q = ap₂ (λ (x y : ℕ). answerWord (one w) (code d) ∷ x ∷ y ∷ []) p q ∙ by-first s
   where
-    by-first : (s : Second) → answerWord (one w) (code d) ∷ firstData t d ∷ secondData t d ∷ [] ≡ answerTo t (callOf w s) d
+    by-first : (s : Second) → answerWord (one w) (code d) ∷ dataWords t d .0 ∷ dataWords t d .1 ∷ [] ≡ answerTo t (callOf w s) d
     by-first Nothing = refl
     by-first (Word v) = refl
 
@@ -97,7 +97,7 @@ module _ (n m : ℕ) (rows : List (List ℕ)) (rings names owned t : List ℕ) (
   same-held h g lh lg = x .rights .same h g (below-n h lh) (below-n g lg)
 
   answer-along : (w : ℕ) (s : Second) → answerFrom w rows rings owned (decide t (callOf w s)) ≡ answer t (callOf w s)
-  unfolding answer firstFrom secondFrom firstData secondData oldest
+  unfolding answer firstFrom secondFrom dataWords oldest
   answer-along w s =
       let c = callOf w s in
       decide-elim t c (λ d. answerFrom w rows rings owned d ≡ answerTo t c d)

@@ -14,7 +14,7 @@ use Rattle.machine.specs.Call.{Kind, pairs, split, wantsSecond, unusedFields, a
 use Rattle.machine.specs.Call.{Kind.lookUp, Kind.send, Kind.receive, Kind.myEndpoints, Kind.myRights, Kind.grant, Kind.remove, Kind.revoke}
 use Rattle.machine.proofs.Bools.{and-left, and-right, and-intro}
 use Rattle.machine.proofs.Split.{split-last, split-one, split-two}
-use Rattle.machine.proofs.Decide.{kind-elim}
+use Rattle.machine.proofs.KindCases.{kind-elim}
 use Rattle.calls.specs.Split.{callOf}
 use Rattle.calls.specs.declared.split.Second.{Second}
 use Rattle.calls.specs.declared.split.Second.the-variants.{Nothing, Word}

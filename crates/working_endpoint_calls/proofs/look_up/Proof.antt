@@ -1,7 +1,7 @@
 -- `look_up` meets its contract: refused with code 12, or decided by what has the name. Assumes nothing.
 use mathlib.Core.Path.{_≡_, sym, ap, _∙_}
 use mathlib.Core.List.{[]}
-use Rattle.machine.specs.Machine.{lookUpPlaces}
+use Rattle.machine.specs.Guards.{lookUpPlaces}
 use Rattle.calls.specs.declared.Call.the-variants.{LookUp}
 use Rattle.rules.specs.Range.{callNumbers}
 use Rattle.rules.specs.Access.{foundOf, accessBy, decidedBy}

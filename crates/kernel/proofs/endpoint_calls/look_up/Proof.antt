@@ -1,6 +1,6 @@
 -- `endpoint_calls::look_up` meets its contract: 12, and then the endpoint that has the name. Assumes nothing.
 use mathlib.Core.Path.{_≡_, sym, ap, _∙_}
-use Rattle.machine.specs.Machine.{lookUpPlaces}
+use Rattle.machine.specs.Guards.{lookUpPlaces}
 use Rattle.calls.specs.Decide.{decideCall}
 use Rattle.calls.specs.declared.Call.the-variants.{LookUp}
 use Rattle.rules.specs.Range.{callNumbers}

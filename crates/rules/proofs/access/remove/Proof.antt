@@ -1,6 +1,6 @@
 -- `access::remove` meets its contract: its one place is 22. Assumes nothing.
 use mathlib.Core.Path.{sym}
-use Rattle.machine.specs.Machine.{place}
+use Rattle.machine.specs.Guards.{place}
 use Rattle.rules.specs.Decision.{decisionOf}
 use Rattle.rules.specs.Access.{removeAccess}
 use Rattle.rules.proofs.access.remove.Statement.{statement}

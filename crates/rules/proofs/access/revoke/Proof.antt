@@ -1,6 +1,6 @@
 -- `access::revoke` meets its contract: 22, and then 23. Assumes nothing.
 use mathlib.Core.Path.{sym}
-use Rattle.machine.specs.Machine.{place}
+use Rattle.machine.specs.Guards.{place}
 use Rattle.rules.specs.Decision.{decisionOf}
 use Rattle.rules.specs.Access.{revokeAccess}
 use Rattle.rules.proofs.access.revoke.Statement.{statement}

@@ -1,6 +1,6 @@
 -- `access::send` meets its contract: its one place is 17. Assumes nothing.
 use mathlib.Core.Path.{sym}
-use Rattle.machine.specs.Machine.{place}
+use Rattle.machine.specs.Guards.{place}
 use Rattle.rules.specs.Decision.{decisionOf}
 use Rattle.rules.specs.Access.{sendAccess}
 use Rattle.rules.proofs.access.send.Statement.{statement}

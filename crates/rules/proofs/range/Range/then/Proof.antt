@@ -1,5 +1,5 @@
 -- `Range::then` meets its contract: a refusal stays, and otherwise the test decides. Assumes nothing.
-use Rattle.machine.specs.Machine.{place}
+use Rattle.machine.specs.Guards.{place}
 use Rattle.rules.specs.Range.{followed}
 use Rattle.rules.proofs.range.Range.then.Statement.{statement}
 use Rattle.rules.proofs.range.Range.then.Tie as tie
