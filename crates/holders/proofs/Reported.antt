@@ -15,6 +15,7 @@ use Rattle.holders.specs.declared.Asked.{Asked}
 use Rattle.holders.specs.declared.Asked.the-variants.{Reach, NotAskable}
 use Rattle.holders_theory.specs.Asked.{bitsWithin, askable, askCode, asked, ReachReported}
 use Rattle.holders.specs.Asked.{askedCode}
+use Rattle.holders_theory.proofs.Reported.{reports}
 pub use Rattle.holders_theory.proofs.Reported.{asked-small}
 
 -- ---- when words can be asked
@@ -56,11 +57,11 @@ module _ (ws : List ℕ) (d : ℕ) where
 
   pub reported-nothing : false ≡ askable ws d → ReachReported ws d 32 0
   unfolding askCode asked
-  reported-nothing h = record { sameCode = rw (← h); sameSet = rw (← h) }
+  reported-nothing h = reports ws d 32 0 (rw (← h)) (rw (← h))
 
   pub reported : true ≡ askable ws d → (set : ℕ) → set ≡ closed ws (2 ^ d) → ReachReported ws d 0 set
   unfolding askCode asked
-  reported h set e = record { sameCode = rw (← h); sameSet = rw (← h) e }
+  reported h set e = reports ws d 0 set (rw (← h)) (rw (← h) e)
 
 -- an answer's code is small
 pub code-small : (a : Asked) → askedCode a ≤ 32

@@ -3,4 +3,5 @@ pub mod OneBit
 pub mod Filled
 pub mod Kept
 pub mod Reported
+pub mod EveryCall
 pub mod Examples

@@ -1,6 +1,6 @@
 -- What is reported of who can reach a domain, and that it is exactly the chains (specs/Asked, specs/Claims). Assumes nothing.
-use mathlib.Core.Path.{_≡_, sym, ap, subst, _∙_}
-use mathlib.Core.Bool.{true, _&&_, and-true}
+use mathlib.Core.Path.{_≡_, refl, sym, ap, subst, _∙_}
+use mathlib.Core.Bool.{Bool, true, false, cond, _&&_, and-true}
 use mathlib.Core.List.{List}
 use Prim.Native.Nat.{ℕ, _^_, _<_, _≤_}
 use native.Mathlib.Decide.{decLt}
@@ -27,7 +27,7 @@ use Rattle.reachability.specs.Chain.{Chain, linked, linkWords}
 use Rattle.reachability.proofs.Bits.{bit-own, bit-other}
 use Rattle.reachability.proofs.Bounds.{closed-lt}
 use Rattle.reachability.proofs.Chain.{closed-exactly, relation-closed-exactly}
-use Rattle.holders_theory.specs.Asked.{bitsWithin, askable, askCode, asked}
+use Rattle.holders_theory.specs.Asked.{bitsWithin, askable, askCode, asked, ReachReported}
 use Rattle.holders_theory.specs.Claims.{HoldersSay, AskedExactly, AskedNow, AskedAfterRun}
 use Rattle.holders_theory.proofs.Filled.{holders-length}
 
@@ -71,6 +71,20 @@ unfolding asked
 asked-exactly ws d u h =
     rw h
     (λ m. let (v, own, c) = closed-exactly ws (2 ^ d) u .0 m in subst (λ v. Chain (linked ws) v u) (bit-other d v own) c, λ c. closed-exactly ws (2 ^ d) u .1 (d, bit-own d, c))
+
+-- what the words report has exactly the chains
+pub reports : (ws : List ℕ) (d code set : ℕ) → code ≡ askCode ws d → set ≡ asked ws d → ReachReported ws d code set
+unfolding askCode
+reports ws d code set sameCode sameSet =
+    record {
+      sameCode = sameCode;
+      sameSet = sameSet;
+      exactly = λ e u. rw sameSet (asked-exactly ws d u (fine (askable ws d) (sym sameCode ∙ e)));
+    }
+  where
+    fine : (b : Bool) → _≡_ {A = ℕ} (cond b 0 32) 0 → b ≡ true
+    fine true e = refl
+    fine false e = absurd (omega arith)
 
 -- the holders of an accepted table can be asked about each of its domains
 holders-askable : (t : List ℕ) (d : ℕ) → Accepted t → d < domains t → askable (holdersOf t) d ≡ true

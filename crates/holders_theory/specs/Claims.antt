@@ -5,18 +5,19 @@ use mathlib.Core.Path.{_≡_}
 use mathlib.Core.Bool.{true}
 use mathlib.Core.Logic.{_↔_}
 use mathlib.Core.List.{List}
-use lib.ListN.{getD, take}
+use lib.ListN.{length, getD, take}
 use Rattle.machine.specs.Below.{hasBit}
 use Rattle.machine.specs.Table.{domains}
 use Rattle.machine.specs.Check.{Accepted}
-use Rattle.machine.specs.Call.{Call}
+use Rattle.machine.specs.Call.{Call, split}
 use Rattle.machine.specs.Machine.{decide, effect, step}
 use Rattle.machine.specs.Run.{run}
+use Rattle.machine.specs.Entry.{Runs}
 use Rattle.machine.specs.Influence.{reaches}
 use Rattle.machine.specs.Holders.{holdersOf}
 use Rattle.machine.specs.Promise.{RunPromise}
 use Rattle.reachability.specs.Chain.{Chain, linked, among}
-use Rattle.holders_theory.specs.Noted.{holdersAfter, holdersAfterCalls}
+use Rattle.holders_theory.specs.Noted.{holdersAfter, holdersAfterCalls, firstWords}
 use Rattle.holders_theory.specs.Asked.{askable, askCode, asked}
 
 -- Bit h of word g of a table's holders says whether h has any right on g.
@@ -33,6 +34,24 @@ HoldersKeptAlong =
     (t : List ℕ) (cs : List Call) (k : ℕ)
     → Accepted t
     → holdersAfterCalls (holdersOf t) t (take k cs) ≡ holdersOf (run t (take k cs))
+
+-- The holders after the first k calls of the list ws, from the table t: noted call by call, they are those of the table then. A
+-- run of these calls alone, lent so many words as answer space and for the holders, isn't refused, and leaves them and that table.
+pub record HoldersAfterCalls (t ws : List ℕ) (size lent k : ℕ) : Type 0 where
+  pub noted : holdersAfterCalls (holdersOf t) t (take k (split ws)) ≡ holdersOf (run t (take k (split ws)))
+  pub runs : Runs t (firstWords k ws) size lent
+  pub left :
+      (space holders : List ℕ) (calls : ℕ) (answers end kept : List ℕ)
+      → RunPromise t (firstWords k ws) space holders 0 calls answers end kept
+      → (kept ≡ holdersOf (run t (take k (split ws)))) × (end ≡ run t (take k (split ws)))
+
+-- "From the start of a list that runs, and after every call", of every list that a run of the kernel ran: after its first k calls,
+-- for any k.
+abbrev pub HoldersAfterEveryCall : Type 0
+HoldersAfterEveryCall =
+    (t ws space holders : List ℕ) (calls : ℕ) (answers end kept : List ℕ) (k : ℕ)
+    → RunPromise t ws space holders 0 calls answers end kept
+    → HoldersAfterCalls t ws (length space) (length holders) k
 
 -- Of any words that can be asked, the set holds exactly those that have a chain in these words, d itself among them.
 abbrev pub AskedExactly : Type 0

@@ -7,3 +7,4 @@ pub mod Ranges
 pub mod Outcomes
 pub mod OutcomeLaws
 pub mod LastToFirst
+pub mod AskedAfterStep

@@ -1,5 +1,6 @@
 -- What the contracts of crate kernel cite.
 pub mod Step
+pub mod AskedAfterStep
 pub mod Outcome
 pub mod Run
 pub mod Entered

@@ -7,6 +7,7 @@ use Rattle.isolation_theory.specs.Component as isolation-theory-component
 use Rattle.isolation_theory.specs.ComponentExamples as isolation-theory-component-examples
 use Rattle.isolation_theory.specs.LineExamples as isolation-theory-line-examples
 use Rattle.isolation_theory.specs.TwoLines as isolation-theory-two-lines
+use Rattle.kernel.specs.AskedAfterStep as kernel-asked-after-step
 use Rattle.linerun_report.specs.Examples as linerun-report-examples
 use Rattle.linerun_report.specs.Report as linerun-report-report
 use Rattle.linetotals_input.specs.Examples as linetotals-input-examples
@@ -207,6 +208,9 @@ pub record Promises : Type 0 where
   -- Noted from the start of a list on, the words are the holders of the table after each of its calls: after the first k, for
   -- any k.
   pub H-kept-along : holders-theory-claims.HoldersKeptAlong
+  -- "From the start of a list that runs, and after every call": after the first k calls of a list that ran, for any k, the words
+  -- noted so far are the holders of the table then, and a run of these calls alone runs and leaves them.
+  pub H-after-every-call : holders-theory-claims.HoldersAfterEveryCall
   -- Of any words that can be asked, the set holds exactly those that have a chain in these words, d itself among them.
   pub H-asked-exactly : holders-theory-claims.AskedExactly
   -- The holders of an accepted table can be asked about each of its domains: the set holds exactly those that have a chain of
@@ -215,6 +219,9 @@ pub record Promises : Type 0 where
   -- The holders that a run left can be asked about each domain: the set holds exactly those that have a chain of rights to it in
   -- the table that the run left.
   pub H-asked-after-run : holders-theory-claims.AskedAfterRun
+  -- The holders that a single call left are those of the table that it left: the set holds exactly those that have a chain of
+  -- rights to the domain in that table.
+  pub H-asked-after-step : kernel-asked-after-step.AskedAfterStep
   -- The closure of the set s holds exactly those that have a chain to a member of s, whatever the words and the set.
   pub H-closed-exactly : reachability-chain.ClosedExactly
   -- For any relation below n, the closure of d alone holds exactly those that have a chain to d.

@@ -1,4 +1,5 @@
 -- `hold` meets its contract: each field is a theorem of the crate that states the claim. Assumes nothing.
+use Rattle.holders_theory.proofs.EveryCall as holders-theory-every-call-proofs
 use Rattle.holders_theory.proofs.Examples as holders-theory-examples-proofs
 use Rattle.holders_theory.proofs.Kept as holders-theory-kept-proofs
 use Rattle.holders_theory.proofs.Reported as holders-theory-reported-proofs
@@ -12,6 +13,7 @@ use Rattle.linerun_report.proofs.ReportLaws as linerun-report-report-laws-proof
 use Rattle.linetotals_input.proofs.Examples as linetotals-input-examples-proofs
 use Rattle.linetotals_theory.proofs.Examples as linetotals-theory-examples-proofs
 use Rattle.linetotals_theory.proofs.SheetLaws as linetotals-theory-sheet-laws-proofs
+use Rattle.kernel.proofs.AskedAfterStep as kernel-asked-after-step-proofs
 use Rattle.machine.proofs.Consistency as machine-consistency-proofs
 use Rattle.machine.proofs.Counts as machine-counts-proofs
 use Rattle.machine.proofs.Examples as machine-examples-proofs
@@ -127,9 +129,11 @@ returns c =
       H-say = holders-theory-reported-proofs.holders-say;
       H-kept = holders-theory-kept-proofs.holders-kept;
       H-kept-along = holders-theory-kept-proofs.holders-kept-along;
+      H-after-every-call = holders-theory-every-call-proofs.holders-after-every-call;
       H-asked-exactly = holders-theory-reported-proofs.asked-exactly;
       H-asked-now = holders-theory-reported-proofs.asked-now;
       H-asked-after-run = holders-theory-reported-proofs.asked-after-run;
+      H-asked-after-step = kernel-asked-after-step-proofs.asked-after-step;
       H-closed-exactly = reachability-chain-proofs.closed-exactly;
       H-relation-closed-exactly = reachability-chain-proofs.relation-closed-exactly;
       H-closure-rows = reachability-examples-proofs.every-closure-row;
