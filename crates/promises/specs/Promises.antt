@@ -85,10 +85,10 @@ pub record Promises : Type 0 where
   -- ---- Document 01, demands 1 and 2: a refusal is by its number and changes nothing
   -- What the entry leaves keeps the promise of a run, and so does what is stated by the entry, as the report of linerun.
   pub D-entry-keeps : machine-promise.EveryEntryKeeps
-  -- A refused call, wherever in a list, alters no table word, is answered with its number and two zero words, and the table at the
   -- "Each refusal under its own condition and under no other": a call is refused by a code exactly where the first place of its
   -- kind that refuses, in the order of the paper's table, has it, and does its row exactly where none refuses.
   pub D-refused-exactly : machine-machine-claims.EveryCallRefusedExactly
+  -- A refused call, wherever in a list, alters no table word, is answered with its number and two zero words, and the table at the
   -- end is that of a run without it.
   pub D-refusals : machine-machine-claims.EveryRunRefusalChangesNothing
   -- ---- Document 01, "Influence": what a call may alter, and what its answer may depend on

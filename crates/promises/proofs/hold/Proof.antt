@@ -16,9 +16,9 @@ use Rattle.linetotals_theory.proofs.SheetLaws as linetotals-theory-sheet-laws-p
 use Rattle.kernel.proofs.AskedAfterStep as kernel-asked-after-step-proofs
 use Rattle.machine.proofs.Consistency as machine-consistency-proofs
 use Rattle.machine.proofs.Counts as machine-counts-proofs
+use Rattle.machine.proofs.Exactly as machine-exactly-proofs
 use Rattle.machine.proofs.Examples as machine-examples-proofs
 use Rattle.machine.proofs.Noninterference as machine-noninterference-proofs
-use Rattle.machine.proofs.Exactly as machine-exactly-proofs
 use Rattle.machine.proofs.Promise as machine-promise-proofs
 use Rattle.machine.proofs.Refused as machine-refused-proofs
 use Rattle.machine.proofs.Step as machine-step-proofs
@@ -77,9 +77,9 @@ returns c =
       D-bytes-same-code = table-check-bytes-laws-proofs.same-code;
       D-bytes-left-over = table-check-bytes-laws-proofs.left-over;
       D-entry-keeps = machine-promise-proofs.promise-kept;
+      D-refused-exactly = machine-exactly-proofs.refused-exactly;
       D-refusals = machine-refused-proofs.refusal-changes-nothing;
       I-stays-accepted = machine-step-proofs.stays-accepted;
-      D-refused-exactly = machine-exactly-proofs.refused-exactly;
       I-run-stays-accepted = machine-step-proofs.run-accepted;
       I-alters-only = machine-step-proofs.alters-only;
       I-answer-depends = machine-consistency-proofs.answer-depends;
