@@ -4,27 +4,12 @@ use mathlib.Core.Path.{_≡_, _∙_}
 use mathlib.Core.Bool.{true, false, and-false}
 use mathlib.Core.List.{List, [], _∷_, append-assoc}
 use native.Mathlib.Numerals.{add-one}
-use native.Mathlib.Omega.{arith}
 use borrow.Author.Tests.{le-leb, lt-leb}
 use lib.ListN.{length, take, set}
 use lib.Seq.{sets-eq}
 use Rattle.calls.specs.declared.Call.{Call}
-use Rattle.calls.specs.declared.Call.the-variants.{LookUp, Send, Receive, MyEndpoints, MyRights, Grant, Remove, Revoke, Refused}
-use Rattle.writer_theory.specs.Words.{fieldsOf, fits, encodedWords}
+use Rattle.writer_theory.specs.Words.{fits, encodedWords}
 use Rattle.call_encode.specs.Put.{pasted, putAt}
-
--- a kind has four bits
-pub kind-small : (c : Call) → fieldsOf c .kind < 16
-unfolding fieldsOf
-kind-small (LookUp u x) = omega arith
-kind-small (Send u e m) = omega arith
-kind-small (Receive u e) = omega arith
-kind-small (MyEndpoints u) = omega arith
-kind-small (MyRights u) = omega arith
-kind-small (Grant u g h r) = omega arith
-kind-small (Remove u g r) = omega arith
-kind-small (Revoke u g h r) = omega arith
-kind-small (Refused u r) = omega arith
 
 module _ (ws : List ℕ) (at : ℕ) (c : Call) where
   pub put-unfit : fits c ≡ false → putAt ws at c ≡ ws

@@ -149,8 +149,17 @@ pub record Promises : Type 0 where
   pub W-written-as-it-came : writer-theory-list-claims.WrittenAsItCame
   -- A call needs at least one word, so more than 4,096 calls are more than 4,096 words.
   pub W-each-wants-a-word : writer-theory-list-claims.EachWantsAWord
-  -- Of rows: where the code is 0, decoding as many words as the answer says gives the calls of the rows.
+  -- No table refuses a written call by 10, 11, 13 or 14, of calls that are passed as values or as rows.
+  pub W-no-table-refuses : writer-theory-list-claims.NoTableRefuses
+  -- So where a list that was written runs, the answer to each of its calls has another code than these.
+  pub W-no-run-refuses : writer-theory-list-claims.NoRunRefuses
+  -- Of rows: where the code is 0, decoding as many words as the answer says gives the calls of the rows, and the rows of these are
+  -- the ones that were passed.
   pub W-rows-read-back : writer-theory-list-claims.RowsReadBack
+  -- Two different lists of rows that are written never give the same words.
+  pub W-rows-different-words : writer-theory-list-claims.RowsDifferentWords
+  -- A list that is read as calls past the four is written as it came by the rows of these calls, each word of which has 32 bits.
+  pub W-rows-written-as-it-came : writer-theory-list-claims.RowsWrittenAsItCame
   -- Calls, the lent words, and the whole outcome.
   pub W-rows : writer-theory-examples.EveryRow writer-theory-examples.rows
   -- Each call that cannot be written is refused by 30 as the third of four, and no word is written.

@@ -11,8 +11,22 @@ use lib.ListN.{length}
 use Rattle.machine.specs.Word.{kind, payload, caller, fieldA, fieldB, fieldC, word}
 use Rattle.machine.specs.Call.{wantsSecond}
 use Rattle.calls.specs.declared.Call.{Call}
+use Rattle.calls.specs.declared.Call.the-variants.{LookUp, Send, Receive, MyEndpoints, MyRights, Grant, Remove, Revoke, Refused}
 use Rattle.writer_theory.specs.declared.Fields.{Fields}
 use Rattle.writer_theory.specs.Words.{fieldsOf, withinBits, firstWord, fieldWords, encodedWords}
+
+-- a kind has four bits
+pub kind-small : (c : Call) → fieldsOf c .kind < 16
+unfolding fieldsOf
+kind-small (LookUp u x) = omega arith
+kind-small (Send u e m) = omega arith
+kind-small (Receive u e) = omega arith
+kind-small (MyEndpoints u) = omega arith
+kind-small (MyRights u) = omega arith
+kind-small (Grant u g h r) = omega arith
+kind-small (Remove u g r) = omega arith
+kind-small (Revoke u g h r) = omega arith
+kind-small (Refused u r) = omega arith
 
 -- the fields are within their bits
 pub record Bounds (f : Fields) : Type 0 where

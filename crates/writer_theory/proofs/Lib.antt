@@ -3,5 +3,7 @@ pub mod FieldWords
 pub mod Reading
 pub mod Writing
 pub mod ListClaims
+pub mod Rows
+pub mod NoneRefused
 pub mod Examples
 pub mod RowExamples

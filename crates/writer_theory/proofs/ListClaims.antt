@@ -1,10 +1,9 @@
--- The claims hold of code that keeps the promise (specs/ListClaims). Assumes nothing.
+-- What is claimed of the outcome of writing calls (specs/ListClaims). Assumes nothing.
 use Prim.Native.Nat.{ℕ, _+_, _≤_}
-use mathlib.Core.Path.{_≡_, refl, sym, ap, ap₂, _∙_}
+use mathlib.Core.Path.{_≡_, refl, ap, _∙_}
 use mathlib.Core.Bool.{Bool, true, false, cond, _&&_}
 use mathlib.Core.List.{List, [], _∷_}
 use mathlib.Core.Option.{Option, none, some}
-use native.Mathlib.Nat.{min-eq-left}
 use native.Mathlib.Omega.{arith}
 use borrow.Author.Tests.{le-ltb, ltb-false, eqb-false}
 use lib.Dec.{ltb}
@@ -20,9 +19,8 @@ use Rattle.writer_theory.specs.Claims.{decodedCalls, readFrom}
 use Rattle.writer_theory.proofs.FieldWords.{one-or-two}
 use Rattle.writer_theory.proofs.Reading.{reads-back}
 use Rattle.writer_theory.proofs.Writing.{writes-back}
-use Rattle.writer_theory.specs.Write.{unfitFrom, firstUnfit, tooLong, WriteOutcome, wordsPut, afterUnfit, writing}
-use Rattle.writer_theory.specs.Rows.{rowsHandedIn, writingRows}
-use Rattle.writer_theory.specs.ListClaims.{WrittenReadsBack, WrittenAsItCame, EachWantsAWord, RowsReadBack}
+use Rattle.writer_theory.specs.Write.{unfitFrom, firstUnfit, tooLong, WriteOutcome, wordsWritten, wordsPut, afterUnfit, writing}
+use Rattle.writer_theory.specs.ListClaims.{WrittenReadsBack, WrittenAsItCame, EachWantsAWord}
 
 -- where no call is found unfit, all fit
 pub none-unfit : (i : ℕ) (cs : List Call) → unfitFrom i cs ≡ none → allFit cs ≡ true
@@ -63,11 +61,17 @@ words-few cs count list = go (firstUnfit cs)
     go none e = put e
     go (some i) e = absurd (eqb-false 30 0 refl e)
 
-pub written-reads-back : WrittenReadsBack
+-- where the code is 0 all calls fit, and their words are the ones written
+pub written-all : (cs : List Call) (count : ℕ) (list : List ℕ) → writing cs count list .code ≡ 0
+    → (allFit cs ≡ true) × (wordsWritten (writing cs count list) ≡ written cs)
 unfolding firstUnfit writing
-written-reads-back cs count list code number end p zero =
-    let whole = written-whole (firstUnfit cs) count (written cs) list (sym (p .sameCode) ∙ zero) in
-    ap readFrom (ap₂ take (p .sameNumber) (p .sameWords) ∙ whole .1) ∙ reads-back cs (none-unfit 0 cs (whole .0))
+written-all cs count list zero =
+    let whole = written-whole (firstUnfit cs) count (written cs) list zero in
+    (none-unfit 0 cs (whole .0), whole .1)
+
+pub written-reads-back : WrittenReadsBack
+written-reads-back cs count list zero =
+    let (fit, words) = written-all cs count list zero in ap readFrom words ∙ reads-back cs fit
 
 -- where all fit, no call is found unfit
 all-fit : (i : ℕ) (cs : List Call) → allFit cs ≡ true → unfitFrom i cs ≡ none
@@ -98,14 +102,3 @@ written-as-it-came ws list h short room =
       le-ltb longestList (length ws) short,
       le-ltb (length list) (length ws) room,
     )
-
--- ---- rows
-
--- a count of words that a list may have is returned as it is
-pub rows-read-back : RowsReadBack
-rows-read-back rows list code number end p zero =
-    let few = words-few (rowsHandedIn rows) (length (rowsHandedIn rows)) list (sym (p .sameCode) ∙ zero) in
-    let reported : writingRows rows list .number ≤ 65535 = omega (arith, few) in
-    written-reads-back (rowsHandedIn rows) (length (rowsHandedIn rows)) list code number end
-    (record { sameCode = p .sameCode; sameNumber = p .sameNumber ∙ min-eq-left reported; sameWords = p .sameWords })
-    zero

@@ -3,7 +3,7 @@
 use mathlib.Core.Path.{_≡_}
 use Prim.Native.Nat.{ℕ, _+_, min}
 use mathlib.Core.Bool.{cond, _&&_}
-use mathlib.Core.List.{List, [], _∷_}
+use mathlib.Core.List.{List, [], _∷_, _++_}
 use lib.Dec.{eqb, ltb}
 use lib.ListN.{length, getD}
 use Rattle.machine.specs.Call as machine
@@ -11,6 +11,7 @@ use Rattle.machine.specs.Call.{Kind.lookUp, Kind.send, Kind.receive, Kind.myEnd
 use Rattle.calls.specs.declared.Call.{Call}
 use Rattle.calls.specs.declared.Call.the-variants.{LookUp, Send, Receive, MyEndpoints, MyRights, Grant, Remove, Revoke, Refused}
 use Rattle.calls.specs.declared.Refusal.the-variants.{UnknownKind}
+use Rattle.writer_theory.specs.Words.{fieldsOf}
 use Rattle.writer_theory.specs.Write.{WriteOutcome, writing}
 
 -- what represents a row that is no call: a refused one
@@ -52,6 +53,18 @@ rowsHandedIn (k ∷ (u ∷ [])) = noCall ∷ []
 rowsHandedIn (k ∷ (u ∷ (a ∷ []))) = noCall ∷ []
 rowsHandedIn (k ∷ (u ∷ (a ∷ (b ∷ [])))) = noCall ∷ []
 rowsHandedIn (k ∷ (u ∷ (a ∷ (b ∷ (c ∷ ws))))) = rowCall k u a b c ∷ rowsHandedIn ws
+
+-- the row of a call: its kind, its caller, A, B, and C or, where the kind wants a second word, what that holds; a refused call
+-- has a row that is no call
+unfoldable pub rowOf : Call → List ℕ
+rowOf c =
+    let f = fieldsOf c in
+    f .kind ∷ f .caller ∷ f .a ∷ f .b ∷ cond (machine.wantsSecond (f .kind)) (f .second) (f .c) ∷ []
+
+-- the rows of some calls, one after the other
+unfoldable pub rowsOf : List Call → List ℕ
+rowsOf [] = []
+rowsOf (c ∷ cs) = rowOf c ++ rowsOf cs
 
 -- the writing of the calls of the rows: all of them are there
 abbrev pub writingRows : List ℕ → List ℕ → WriteOutcome

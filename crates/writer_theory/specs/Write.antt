@@ -6,7 +6,7 @@ use mathlib.Core.Bool.{Bool, cond, _||_}
 use mathlib.Core.List.{List, [], _∷_, _++_}
 use mathlib.Core.Option.{Option, none, some}
 use lib.Dec.{ltb}
-use lib.ListN.{length, drop}
+use lib.ListN.{length, take, drop}
 use Rattle.machine.specs.Entry.{longestList}
 use Rattle.calls.specs.declared.Call.{Call}
 use Rattle.writer_theory.specs.Words.{fits, written}
@@ -29,6 +29,10 @@ pub record WriteOutcome : Type 0 where
   pub code : ℕ
   pub number : ℕ
   pub list : List ℕ
+
+-- the words that an outcome says are written: so many at the start of the lent ones
+abbrev pub wordsWritten : WriteOutcome → List ℕ
+wordsWritten o = take (o .number) (o .list)
 
 -- a refusal writes no word
 abbrev pub refusal : ℕ → ℕ → List ℕ → WriteOutcome

@@ -9,8 +9,9 @@ use denote.Ref.{now}
 use lib.ListN.{length}
 use Rattle.writer_theory.specs.declared.Fields.{Fields}
 use Rattle.writer_theory.specs.Words.{fits, encodedWords, withinBits, fieldWords}
+use Rattle.writer_theory.proofs.FieldWords.{kind-small}
 use Rattle.call_encode.specs.Put.{pasted}
-use Rattle.call_encode.proofs.Putting.{kind-small, put-unfit, put-past, put-there}
+use Rattle.call_encode.proofs.Putting.{put-unfit, put-past, put-there}
 use Rattle.call_encode.proofs.put.Statement.{statement}
 use Rattle.call_encode.proofs.put.Tie as tie
 

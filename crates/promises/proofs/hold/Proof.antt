@@ -57,8 +57,10 @@ use Rattle.working_theory.proofs.Simulation as working-theory-simulation-proofs
 use Rattle.working_theory.proofs.TwoRuns as working-theory-two-runs-proofs
 use Rattle.writer_theory.proofs.Examples as writer-theory-examples-proofs
 use Rattle.writer_theory.proofs.ListClaims as writer-theory-list-claims-proofs
+use Rattle.writer_theory.proofs.NoneRefused as writer-theory-none-refused-proofs
 use Rattle.writer_theory.proofs.Reading as writer-theory-reading-proofs
 use Rattle.writer_theory.proofs.RowExamples as writer-theory-row-examples-proofs
+use Rattle.writer_theory.proofs.Rows as writer-theory-rows-proofs
 use Rattle.writer_theory.proofs.Writing as writer-theory-writing-proofs
 use Rattle.promises.proofs.hold.Statement.{statement}
 use Rattle.promises.proofs.hold.Tie as tie
@@ -103,7 +105,11 @@ returns c =
       W-written-reads-back = writer-theory-list-claims-proofs.written-reads-back;
       W-written-as-it-came = writer-theory-list-claims-proofs.written-as-it-came;
       W-each-wants-a-word = writer-theory-list-claims-proofs.each-wants-a-word;
-      W-rows-read-back = writer-theory-list-claims-proofs.rows-read-back;
+      W-no-table-refuses = writer-theory-none-refused-proofs.no-table-refuses;
+      W-no-run-refuses = writer-theory-none-refused-proofs.no-run-refuses;
+      W-rows-read-back = writer-theory-rows-proofs.rows-read-back;
+      W-rows-different-words = writer-theory-rows-proofs.rows-different-words;
+      W-rows-written-as-it-came = writer-theory-rows-proofs.rows-written-as-it-came;
       W-rows = writer-theory-examples-proofs.every-row;
       W-bad-calls = writer-theory-examples-proofs.every-bad-call;
       W-five-words = writer-theory-row-examples-proofs.every-row;
