@@ -34,7 +34,7 @@ static const struct {
 };
 static size_t in_use; /* the one of the three that runs are made by */
 
-static void is(const char *what, uint32_t found, uint32_t wanted)
+static void is(const char *what, uint64_t found, uint64_t wanted)
 {
     compared++;
     if (found == wanted)
@@ -46,6 +46,7 @@ static void is(const char *what, uint32_t found, uint32_t wanted)
 
 /* Compares and names a value by the text of its expression. */
 #define IS(found, wanted) is(#found, BALKWIZU_WORD(found), BALKWIZU_WORD(wanted))
+#define IS_LONG(found, wanted) is(#found, found, wanted) /* 64 bits */
 
 static void put_table_t(void)
 {
@@ -463,7 +464,7 @@ static const uint32_t calls_of_l[][BALKWIZU_CALL_COLUMNS] = {
     { BALKWIZU_KIND_MY_ENDPOINTS, 2, 0, 0, 0 },
 };
 
-static uint32_t write_l(size_t columns, size_t space)
+static uint64_t write_l(size_t columns, size_t space)
 {
     memset(list, 0x77, sizeof list);
     return balkwizu_write((const uint32_t *)calls_of_l, columns, list, space);
@@ -473,24 +474,24 @@ static void list_l_written(void)
 {
     size_t columns = sizeof calls_of_l / sizeof *calls_of_l[0];
     IS(BALKWIZU_CALL_COLUMNS, 5);
-    uint32_t result = write_l(columns, 12);
+    uint64_t result = write_l(columns, 12);
     IS(BALKWIZU_WRITE_CODE(result), BALKWIZU_OK);
-    IS(BALKWIZU_WRITE_NUMBER(result), 11);
+    IS_LONG(BALKWIZU_WRITE_NUMBER(result), 11);
     for (size_t i = 0; i < 11; i++)
         IS(list[i], example_list[i < 9 ? i : i + 1]); /* the stray is word 9 */
     IS(list[11], 0x77777777);
-    IS(write_l(columns, 11), 0x000B0000);
-    IS(write_l(columns, 10), BALKWIZU_WRITTEN_TOO_LONG);
+    IS_LONG(write_l(columns, 11), 11);
+    IS_LONG(write_l(columns, 10), 4097);
     IS(list[0], 0x77777777);
-    IS(write_l(columns - 1, 10), 0x0007001E); /* four words left over: 30, not 31 */
+    IS_LONG(write_l(columns - 1, 10), 4098 + 7); /* four words left over: 30, not 31 */
     IS(list[0], 0x77777777);
-    IS(write_l(0, 0), 0);
+    IS_LONG(write_l(0, 0), 0);
     IS(BALKWIZU_BAD_CALL, 30);
     IS(BALKWIZU_WRITTEN_TOO_LONG, 31);
 }
 
-/* One call in columns: the code, and its words where it is written. */
-static uint32_t write_one(uint32_t kind, uint32_t caller, uint32_t a, uint32_t b,
+/* One call in columns: the result, and its words where it is written. */
+static uint64_t write_one(uint32_t kind, uint32_t caller, uint32_t a, uint32_t b,
                           uint32_t last)
 {
     const uint32_t call[BALKWIZU_CALL_COLUMNS] = { kind, caller, a, b, last };
@@ -499,22 +500,48 @@ static uint32_t write_one(uint32_t kind, uint32_t caller, uint32_t a, uint32_t b
 
 static void calls_written(void)
 {
-    IS(write_one(BALKWIZU_KIND_LOOK_UP, 63, 0, 0, 0x0FFFFFFF), 0x00020000);
+    IS_LONG(write_one(BALKWIZU_KIND_LOOK_UP, 63, 0, 0, 0x0FFFFFFF), 2);
     IS(list[0], BALKWIZU_LOOK_UP(63));
     IS(list[1], BALKWIZU_SECOND(0x0FFFFFFF));
-    IS(write_one(BALKWIZU_KIND_REMOVE, 1, 2, 0, BALKWIZU_RIGHT_REMOVE), 0x00010000);
+    IS_LONG(write_one(BALKWIZU_KIND_REMOVE, 1, 2, 0, BALKWIZU_RIGHT_REMOVE), 1);
     IS(list[0], 0x70420004); /* P11 */
-    IS(write_one(BALKWIZU_KIND_REVOKE, 63, 63, 255, 255), 0x00010000);
+    IS_LONG(write_one(BALKWIZU_KIND_REVOKE, 63, 63, 255, 255), 1);
     IS(list[0], 0x8FFFFFFF);
-    IS(write_one(BALKWIZU_KIND_MY_RIGHTS, 64, 0, 0, 0), BALKWIZU_BAD_CALL);
-    IS(write_one(BALKWIZU_KIND_GRANT, 0, 64, 0, 1), BALKWIZU_BAD_CALL);
-    IS(write_one(BALKWIZU_KIND_RECEIVE, 0, 0, 256, 0), BALKWIZU_BAD_CALL);
-    IS(write_one(BALKWIZU_KIND_SEND, 0, 0, 0, 0x10000000), BALKWIZU_BAD_CALL);
-    IS(write_one(BALKWIZU_KIND_RECEIVE, 0, 0, 0, 1), BALKWIZU_BAD_CALL);
-    IS(write_one(BALKWIZU_KIND_SECOND, 0, 0, 0, 0), BALKWIZU_BAD_CALL);
-    IS(write_one(0, 0, 0, 0, 0), BALKWIZU_BAD_CALL);
-    IS(write_one(9, 0, 0, 0, 0), BALKWIZU_BAD_CALL);
+    IS_LONG(write_one(BALKWIZU_KIND_MY_RIGHTS, 64, 0, 0, 0), 4098);
+    IS_LONG(write_one(BALKWIZU_KIND_GRANT, 0, 64, 0, 1), 4098);
+    IS_LONG(write_one(BALKWIZU_KIND_RECEIVE, 0, 0, 256, 0), 4098);
+    IS_LONG(write_one(BALKWIZU_KIND_SEND, 0, 0, 0, 0x10000000), 4098);
+    IS_LONG(write_one(BALKWIZU_KIND_RECEIVE, 0, 0, 0, 1), 4098);
+    IS_LONG(write_one(BALKWIZU_KIND_SECOND, 0, 0, 0, 0), 4098);
+    IS_LONG(write_one(0, 0, 0, 0, 0), 4098);
+    IS_LONG(write_one(9, 0, 0, 0, 0), 4098);
     IS(list[0], 0x8FFFFFFF); /* as the last that was written left it */
+}
+
+/* What is written, taken apart on both sides of each limit. */
+static void results_written(void)
+{
+    static const uint64_t results[][3] = {
+        { 0, 0, 0 }, { 1, 0, 1 }, { 4095, 0, 4095 }, { 4096, 0, 4096 },
+        { 4097, 31, 0 }, { 4098, 30, 0 }, { 4099, 30, 1 }, { 69633, 30, 65535 },
+        { 69634, 30, 65536 }, { UINT64_MAX, 30, UINT64_MAX - 4098 },
+    };
+    for (size_t i = 0; i < WORDS(results); i++) {
+        IS_LONG(balkwizu_write_code(results[i][0]), results[i][1]);
+        IS_LONG(balkwizu_write_number(results[i][0]), results[i][2]);
+    }
+}
+
+/* A bad call behind 65,536 good ones. */
+static void bad_call_above_65535(void)
+{
+    static uint32_t calls[65537][BALKWIZU_CALL_COLUMNS];
+    for (size_t i = 0; i < WORDS(calls); i++)
+        calls[i][0] = BALKWIZU_KIND_MY_RIGHTS;
+    size_t columns = WORDS(calls) * BALKWIZU_CALL_COLUMNS;
+    IS_LONG(balkwizu_write(calls[0], columns, list, WORDS(list)), 4097);
+    calls[65536][1] = 64;
+    IS_LONG(balkwizu_write(calls[0], columns, list, WORDS(list)), 4098 + 65536);
 }
 
 /* Turns on T, which has three domains: a state of 52 words. */
@@ -632,8 +659,6 @@ static void whole_fields(void)
         IS(balkwizu_answer_rights(answer, target), target);
     IS(BALKWIZU_RUN_CODE(0xFFFFFFFF), 65535);
     IS(BALKWIZU_RUN_CALLS(0xFFFFFFFF), 65535);
-    IS(BALKWIZU_WRITE_CODE(0xFFFFFFFF), 65535);
-    IS(BALKWIZU_WRITE_NUMBER(0xFFFFFFFF), 65535);
     IS(balkwizu_table_domains(sizes), 255);
     IS(balkwizu_table_endpoints(sizes), 255);
     IS(balkwizu_table_rights(words, 0, 0), 0x0FFFFFFF);
@@ -680,6 +705,8 @@ int main(void)
     repair_of_t();
     list_l_written();
     calls_written();
+    results_written();
+    bad_call_above_65535();
     words_of_turns();
     turns_of_t();
     turns_refused();

@@ -22,8 +22,9 @@ struct call {
    what is given pushed there. Flags of the processor are set from just before the call
    instruction to just behind it, where the trap flag is cleared; what that writes stands
    where the return address does, so that no word is used but by the call itself. In
-   struct call the function stands at 0 and what is given from 8 on. */
-uint32_t call_on_stack(const struct call *call, uint64_t *top, uint64_t flags);
+   struct call the function stands at 0 and what is given from 8 on. Of what is returned
+   a function of 32 bits has set the low half alone. */
+uint64_t call_on_stack(const struct call *call, uint64_t *top, uint64_t flags);
 
 __asm__(".text\n"
         ".globl call_on_stack\n"

@@ -89,7 +89,7 @@ static void make_state(void)
 }
 
 /* The bytes of stack below top that one call takes; result is what it returns. */
-static size_t bytes_taken(const struct call *call, uint32_t *result)
+static size_t bytes_taken(const struct call *call, uint64_t *result)
 {
     size_t lowest = 0;
     for (size_t i = 0; i < STACK_WORDS; i++)
@@ -103,9 +103,8 @@ static size_t bytes_taken(const struct call *call, uint32_t *result)
 }
 
 /* Prints what a call took: 0 where all is well. */
-static int say(const char *name, size_t bytes, size_t most, uint32_t result)
+static int say(const char *name, size_t bytes, size_t most, uint32_t code)
 {
-    uint32_t code = BALKWIZU_RUN_CODE(result); /* the check's is in the same bits */
     printf("%s: %zu bytes of stack, %zu allowed, code %u\n", name, bytes, most,
            (unsigned)code);
     return code != BALKWIZU_OK || bytes > most;
@@ -114,16 +113,26 @@ static int say(const char *name, size_t bytes, size_t most, uint32_t result)
 /* Measures a call and prints what it took: 0 where all is well. */
 static int tell(const char *name, const struct call *call, size_t most)
 {
-    uint32_t result;
+    uint64_t result;
     bytes_taken(call, &result);
     size_t bytes = bytes_taken(call, &result);
-    return say(name, bytes, most, result);
+    /* The check's code is in the same bits. */
+    return say(name, bytes, most, BALKWIZU_RUN_CODE(result));
+}
+
+/* The same of the function that writes a list. */
+static int tell_write(const char *name, const struct call *call, size_t most)
+{
+    uint64_t result;
+    bytes_taken(call, &result);
+    size_t bytes = bytes_taken(call, &result);
+    return say(name, bytes, most, BALKWIZU_WRITE_CODE(result));
 }
 
 /* The same of a function that answers no code. */
 static int tell_plain(const char *name, const struct call *call, size_t most)
 {
-    uint32_t no_code;
+    uint64_t no_code;
     bytes_taken(call, &no_code);
     size_t bytes = bytes_taken(call, &no_code);
     return say(name, bytes, most, BALKWIZU_OK);
@@ -135,7 +144,8 @@ static int tell_turn(const struct call *turn)
 {
     const uint32_t *calls_of_last = list + 17 * (DOMAINS - 1);
     size_t most = 0;
-    uint32_t refused = BALKWIZU_OK, result;
+    uint32_t refused = BALKWIZU_OK;
+    uint64_t result;
     for (size_t i = 0; i <= 17; i++) {
         const uint32_t *words = calls_of_last + i;
         int two = i < 16 && words[1] >> 28 == BALKWIZU_KIND_SECOND;
@@ -207,7 +217,7 @@ int main(void)
     failed |= tell("balkwizu_component", &component, BALKWIZU_COMPONENT_STACK_BYTES);
     failed |= tell("balkwizu_potential", &potential, BALKWIZU_POTENTIAL_STACK_BYTES);
     failed |= tell("balkwizu_repair", &repair, BALKWIZU_REPAIR_STACK_BYTES);
-    failed |= tell("balkwizu_write", &write, BALKWIZU_WRITE_STACK_BYTES);
+    failed |= tell_write("balkwizu_write", &write, BALKWIZU_WRITE_STACK_BYTES);
     failed |= tell_turns();
     failed |= tell("balkwizu_run_working", &run_working,
                    BALKWIZU_RUN_WORKING_STACK_BYTES);

@@ -764,9 +764,28 @@ uint32_t balkwizu_repair(uint32_t *table, size_t table_len,
  */
 #define BALKWIZU_CALL_COLUMNS 5
 
-/* What balkwizu_write returns, taken apart. */
-#define BALKWIZU_WRITE_CODE(result) (BALKWIZU_WORD(result) & 0xFFFFu)
-#define BALKWIZU_WRITE_NUMBER(result) (BALKWIZU_WORD(result) >> 16)
+/* What balkwizu_write returns, taken apart: the code, and the number that goes with it.
+ * Each calls a function, so that its argument is evaluated once. */
+#define BALKWIZU_WRITE_CODE(result) (balkwizu_write_code(result))
+#define BALKWIZU_WRITE_NUMBER(result) (balkwizu_write_number(result))
+
+static inline uint32_t balkwizu_write_code(uint64_t result)
+{
+    if (result <= BALKWIZU_LIST_WORDS_MAX)
+        return BALKWIZU_OK;
+    if (result == BALKWIZU_LIST_WORDS_MAX + 1)
+        return BALKWIZU_WRITTEN_TOO_LONG;
+    return BALKWIZU_BAD_CALL;
+}
+
+static inline uint64_t balkwizu_write_number(uint64_t result)
+{
+    if (result <= BALKWIZU_LIST_WORDS_MAX)
+        return result;
+    if (result == BALKWIZU_LIST_WORDS_MAX + 1)
+        return 0;
+    return result - (BALKWIZU_LIST_WORDS_MAX + 2);
+}
 
 /*
  * Writes a list out of calls, in words that a run takes apart into the same calls:
@@ -775,16 +794,16 @@ uint32_t balkwizu_repair(uint32_t *table, size_t table_len,
  * bits, endpoint, recipient, holder and rights 8, name and message 28, and what a
  * run says of a number within them is the run's.
  *
- * Returns two numbers in one word: the code in bits 15-0 (BALKWIZU_WRITE_CODE), and
- * a number in bits 31-16 (BALKWIZU_WRITE_NUMBER).
- *   0   BALKWIZU_OK: so many words are written at the front of the list. Words
- *       behind them are untouched.
- *   30  BALKWIZU_BAD_CALL: the call of this number, from 0, is the first that has a
- *       kind which isn't one, a column not 0 that it doesn't use, or a field that
- *       exceeds its bits. Fewer than five words at the end are such a call too. All
- *       calls are looked at, however many; a number above 65,535 is told as 65,535.
- *   31  BALKWIZU_WRITTEN_TOO_LONG: every call can be written, but their words would
- *       be more than 4,096 or than list_len. The number is 0.
+ * Returns a code (BALKWIZU_WRITE_CODE) and a number (BALKWIZU_WRITE_NUMBER) in one
+ * number of 64 bits.
+ *   up to 4,096  BALKWIZU_OK, 0: so many words are written at the front of the list.
+ *                Words after them are untouched.
+ *   4,097        BALKWIZU_WRITTEN_TOO_LONG, 31: every call can be written, but their
+ *                words would be more than 4,096 or than list_len. The number is 0.
+ *   4,098 + k    BALKWIZU_BAD_CALL, 30: the call of the number k, from 0, is the first
+ *                that has a kind which isn't one, a column not 0 that it doesn't use,
+ *                or a field that exceeds its bits. Fewer than five words at the end
+ *                are such a call too. All calls are looked at, however many.
  * With 30 and 31 no word of the list was written. The calls are never written.
  *
  * The caller's duties:
@@ -803,13 +822,13 @@ uint32_t balkwizu_repair(uint32_t *table, size_t table_len,
  *         BALKWIZU_KIND_RECEIVE, 1, 0, 0, 0,
  *     };
  *     static uint32_t list[BALKWIZU_LIST_WORDS_MAX];
- *     uint32_t result = balkwizu_write(calls, 2 * BALKWIZU_CALL_COLUMNS,
+ *     uint64_t result = balkwizu_write(calls, 2 * BALKWIZU_CALL_COLUMNS,
  *                                      list, BALKWIZU_LIST_WORDS_MAX);
  *     assert(BALKWIZU_WRITE_CODE(result) == BALKWIZU_OK);
  *     assert(BALKWIZU_WRITE_NUMBER(result) == 3);
  *     assert(list[0] == BALKWIZU_SEND(0, 0) && list[1] == BALKWIZU_SECOND(5));
  */
-uint32_t balkwizu_write(const uint32_t *calls, size_t calls_len,
+uint64_t balkwizu_write(const uint32_t *calls, size_t calls_len,
                         uint32_t *list, size_t list_len);
 
 /*

@@ -858,7 +858,7 @@ fn any_calls_go_both_ways() {
     for words in [1, 300, 4096] {
         let calls = values_of_words(&mut rng, words);
         let mut list = vec![0; words];
-        assert_eq!(reference::write(&calls, &mut list), (0, words as u32));
+        assert_eq!(reference::write(&calls, &mut list), (0, words));
         let lines: Vec<String> = reference::cut(&list)
             .iter()
             .map(|call| hex(&call.words()) + "\n")

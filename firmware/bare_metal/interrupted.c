@@ -46,8 +46,9 @@ static struct lent {
     uint32_t calls[2 * BALKWIZU_CALL_COLUMNS];
 } lent, wanted;
 
-/* What a function returns: a code in bits 15-0, which is to be 0, a number, or nothing. */
-enum returns { CODE, NUMBER, NOTHING };
+/* What a function returns: a code in bits 15-0, which is to be 0, the result of writing a
+ * list, a number, or nothing. */
+enum returns { CODE, WRITTEN, NUMBER, NOTHING };
 
 /* One of the kernel's functions by its name, with what it is called with. */
 struct tried {
@@ -145,13 +146,28 @@ static const struct tried all[] = {
     CALL(CODE, balkwizu_component, WORDS(lent.table), DOMAINS - 1),
     CALL(CODE, balkwizu_potential, WORDS(lent.table), 5, WORDS(lent.rights)),
     CALL(CODE, balkwizu_repair, WORDS(lent.worn), WORDS(lent.changes)),
-    CALL(CODE, balkwizu_write, WORDS(lent.calls), WORDS(lent.written)),
+    CALL(WRITTEN, balkwizu_write, WORDS(lent.calls), WORDS(lent.written)),
     CALL(NOTHING, balkwizu_turns_begin, WORDS(lent.state)),
     CALL(CODE, balkwizu_hand_in, WORDS(lent.table), WORDS(lent.state), 3,
          (uintptr_t)(lent.list + 7), 1),
     CALL(CODE, balkwizu_turn, WORDS(lent.table), WORDS(lent.state), WORDS(lent.holders),
          (uintptr_t)lent.answers, BALKWIZU_ANSWER_WORDS),
 };
+
+/* What a call returns, made with these flags: the result of writing is of 64 bits. */
+static uint64_t returned(const struct tried *tried, uint64_t flags)
+{
+    uint64_t result = call_on_stack(&tried->call, stack + STACK_WORDS, flags);
+    return tried->returns == WRITTEN ? result : BALKWIZU_WORD(result);
+}
+
+/* Whether a result says that the call was refused. */
+static int is_refused(const struct tried *tried, uint64_t result)
+{
+    if (tried->returns == WRITTEN)
+        return BALKWIZU_WRITE_CODE(result) != BALKWIZU_OK;
+    return tried->returns == CODE && BALKWIZU_RUN_CODE(result) != BALKWIZU_OK;
+}
 
 /* In a process of its own, since a call that is disturbed may fault or not end: 0 where
  * it comes to the same with interrupts as without. */
@@ -160,14 +176,14 @@ static int try(const struct tried *tried)
     const struct rlimit limit = { LIMIT_SECONDS, LIMIT_SECONDS + 1 };
     setrlimit(RLIMIT_CPU, &limit);
     make_lent();
-    uint32_t result = call_on_stack(&tried->call, stack + STACK_WORDS, 0);
+    uint64_t result = returned(tried, 0);
     wanted = lent;
     make_lent();
     begin_interrupts();
-    uint32_t interrupted = call_on_stack(&tried->call, stack + STACK_WORDS, TRAP_FLAG);
+    uint64_t interrupted = returned(tried, TRAP_FLAG);
     int same = (tried->returns == NOTHING || interrupted == result)
                && memcmp(&lent, &wanted, sizeof lent) == 0;
-    int refused = tried->returns == CODE && BALKWIZU_RUN_CODE(result) != BALKWIZU_OK;
+    int refused = is_refused(tried, result);
     printf("%s: %lu interrupts, %s%s\n", tried->name, interrupts,
            same ? "as without" : "not as without", refused ? ", refused" : "");
     fflush(stdout);

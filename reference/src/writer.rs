@@ -32,9 +32,6 @@ pub enum Value {
 /// caller, A, B, and C or, for a look up and a send, the second word's content.
 pub const COLUMNS: usize = 5;
 
-/// The largest number of a call that is answered where calls are handed in as words.
-pub const CALL_NUMBER_MAX: u32 = 65_535;
-
 /// Whether a call can be written: it is no refused one, and each of its fields is
 /// within its bits.
 pub fn fits(call: &Value) -> bool {
@@ -55,35 +52,33 @@ fn has_two_words(kind: u32) -> bool {
 /// Writes a list: (0, the number of words written), leaving the space past them; or,
 /// writing none, (30, the number of the first call that doesn't fit), or else (31, 0)
 /// where the words would pass 4,096 or the space.
-pub fn write(calls: &[Value], space: &mut [u32]) -> (u32, u32) {
+pub fn write(calls: &[Value], space: &mut [u32]) -> (u32, usize) {
     let each: Vec<Option<Vec<u32>>> = calls.iter().map(words).collect();
     put(&each, space)
 }
 
 /// The same for calls that are handed in as plain words, five for each. Five words
-/// that are no call, or fewer at the end, count as a refused call. The number of a
-/// call that doesn't fit is answered as at most 65,535.
-pub fn write_columns(columns: &[u32], space: &mut [u32]) -> (u32, u32) {
+/// that are no call, or fewer at the end, count as a refused call.
+pub fn write_columns(columns: &[u32], space: &mut [u32]) -> (u32, usize) {
     let each: Vec<Option<Vec<u32>>> = columns
         .chunks(COLUMNS)
         .map(|five| from_columns(five).and_then(|call| words(&call)))
         .collect();
-    let (code, number) = put(&each, space);
-    (code, number.min(CALL_NUMBER_MAX))
+    put(&each, space)
 }
 
 /// Puts the words of each call into the space, where none of them has no words and
 /// all of them have room.
-fn put(each: &[Option<Vec<u32>>], space: &mut [u32]) -> (u32, u32) {
+fn put(each: &[Option<Vec<u32>>], space: &mut [u32]) -> (u32, usize) {
     if let Some(number) = each.iter().position(Option::is_none) {
-        return (30, number as u32);
+        return (30, number);
     }
     let words: Vec<u32> = each.iter().flatten().flatten().copied().collect();
     if words.len() > LIST_WORDS_MAX || words.len() > space.len() {
         return (31, 0);
     }
     space[..words.len()].copy_from_slice(&words);
-    (0, words.len() as u32)
+    (0, words.len())
 }
 
 /// The one or two words of a call that fits, none of one that doesn't.

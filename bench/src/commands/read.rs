@@ -104,7 +104,7 @@ fn told_refused(list: &[u32], values: &[Value], names: &Names) -> String {
 fn as_it_came(list: &[u32], calls: &[[u32; COLUMNS]]) -> Result<(), String> {
     let mut written = vec![0; list.len()];
     let answer = PROVED_WRITER(&calls.concat(), &mut written);
-    match answer == (0, list.len() as u32) && written == list {
+    match answer == (0, list.len()) && written == list {
         true => Ok(()),
         false => Err(format!(
             "the calls that were read are written otherwise, with {} and {}",

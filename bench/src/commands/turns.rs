@@ -116,7 +116,7 @@ fn event_of(happens: &Happens) -> Result<(Event, u32), String> {
                     .too_large()
                     .unwrap_or_else(|| meaning(code).to_string()));
             }
-            words.truncate(count as usize);
+            words.truncate(count);
             words
         }
     };

@@ -109,13 +109,13 @@ fn written(typed: &[Typed]) -> Result<Vec<u32>, Refusal> {
     let (code, number) = PROVED_WRITER(&columns, &mut list);
     match code {
         0 => {
-            list.truncate(number as usize);
+            list.truncate(number);
             Ok(list)
         }
         30 => {
             let why = typed
                 .iter()
-                .skip(number as usize)
+                .skip(number)
                 .find_map(|call| Some(format!("line {}: {}", call.line, call.too_large()?)));
             Err((code, why.expect("a field exceeds its bits")))
         }

@@ -6,7 +6,7 @@ use reference::calls::{LIST_WORDS_MAX, MY_RIGHTS};
 use reference::entry::ANSWER_WORDS;
 use reference::generate::{columns, value_too_large, values_of_words, writing, Rng, Writing};
 use reference::words::{bits, hex};
-use reference::writer::{to_columns, CALL_NUMBER_MAX, COLUMNS};
+use reference::writer::{to_columns, COLUMNS};
 use reference::{read, write, write_columns, Value};
 
 use crate::cases::random::rng_for;
@@ -19,6 +19,9 @@ use crate::line::explain::{counted, meaning};
 
 /// The codes by which the reader refuses a call whatever the table.
 const READER_CODES: [u32; 4] = [10, 11, 13, 14];
+
+/// A number of 16 bits at its largest: what is above it must be told as it is.
+const ABOVE: usize = 65_535;
 
 /// What lists came to.
 #[derive(Default)]
@@ -58,7 +61,6 @@ impl Counted for Met {
 
 impl Met {
     fn add(&mut self, calls: &[u32], space: usize, (code, number): Written) {
-        let number = number as usize;
         match code {
             0 => {
                 self.written += 1;
@@ -69,7 +71,7 @@ impl Met {
                 self.bad_call += 1;
                 self.left_over += u64::from(number == calls.len() / COLUMNS);
                 self.behind_4096 += u64::from(number == LIST_WORDS_MAX);
-                self.above_65535 += u64::from(number == CALL_NUMBER_MAX as usize);
+                self.above_65535 += u64::from(number > ABOVE);
             }
             _ => {
                 self.too_long += 1;
@@ -184,7 +186,7 @@ fn in_rows(calls: &[u32]) -> String {
 fn list_to_write(seed: u64, number: u64) -> Drawn {
     let rng = &mut rng_for(seed.rotate_left(32), number);
     let values = match (number % 500, number % 100) {
-        (499, _) => one_word_calls(rng, CALL_NUMBER_MAX as usize + 2, true),
+        (499, _) => one_word_calls(rng, ABOVE + 2, true),
         (_, 20) => one_word_calls(rng, LIST_WORDS_MAX + 1, true),
         (_, 40) => one_word_calls(rng, LIST_WORDS_MAX + 1, false),
         (_, 60) => values_of_words(rng, LIST_WORDS_MAX),
@@ -243,10 +245,10 @@ fn compare(writer: Writer, drawn: &Drawn) -> Result<Written, String> {
         return Ok(answer);
     }
     let mut wanted = drawn.space.clone();
-    let (code, number) = write(&drawn.values, &mut wanted);
-    let wanted_answer = (code, number.min(CALL_NUMBER_MAX));
+    let wanted_answer = write(&drawn.values, &mut wanted);
     same(&drawn.space, (answer, &left), (wanted_answer, &wanted))?;
-    if code == 0 && read(&left[..number as usize]) != drawn.values {
+    let (code, number) = answer;
+    if code == 0 && read(&left[..number]) != drawn.values {
         return Err("the words are read as other calls".to_string());
     }
     Ok(answer)
@@ -302,7 +304,7 @@ pub fn read_as_answered(writer: Writer, list: &[u32], answers: &[u32]) -> Result
         let columns: Vec<u32> = calls.iter().filter_map(to_columns).flatten().collect();
         let mut space = vec![0; list.len()];
         let answer = writer(&columns, &mut space);
-        if answer != (0, list.len() as u32) || space != list {
+        if answer != (0, list.len()) || space != list {
             return Err(format!(
                 "the list is read and written as {}, with {} and {}",
                 hex(&space),
@@ -341,7 +343,7 @@ mod tests {
     fn a_writer_that_answers_otherwise_is_found() {
         let told = first_difference(|calls, list| {
             let (code, number) = PROVED_WRITER(calls, list);
-            (code, number + u32::from(code == 30))
+            (code, number + usize::from(code == 30))
         });
         assert!(told.starts_with("DIFFERENCE in list "), "{told}");
         assert!(told.contains("the writer answers 30 with "), "{told}");
@@ -353,7 +355,7 @@ mod tests {
         let told = first_difference(|calls, list| {
             let (code, number) = PROVED_WRITER(calls, list);
             if code == 0 {
-                list[number as usize..].fill(0);
+                list[number..].fill(0);
             }
             (code, number)
         });

@@ -7,6 +7,7 @@
 //! lent parts of which one is written never overlap, and nobody else writes
 //! them. So every wrapper is safe.
 
+use reference::calls::LIST_WORDS_MAX;
 use reference::words::bits;
 use reference::Call;
 
@@ -321,7 +322,7 @@ pub fn repair(table: &mut [u32], changes: &mut [u32]) -> (u32, u32) {
 
 /// What a writer of lists answers: the code, and the number of words that it wrote or
 /// that of the first call that it can't write.
-pub type Written = (u32, u32);
+pub type Written = (u32, usize);
 
 /// Writes the words of calls into a list; the calls are five words each.
 pub type Writer = fn(calls: &[u32], list: &mut [u32]) -> Written;
@@ -334,14 +335,24 @@ pub const PROVED_WRITER: Writer = |calls, list| {
             calls_len: usize,
             list: *mut u32,
             list_len: usize,
-        ) -> u32;
+        ) -> u64;
     }
     // SAFETY: two slices, each valid for its length and aligned; the one that is written
     // is borrowed alone.
-    let told =
+    let result =
         unsafe { balkwizu_write(calls.as_ptr(), calls.len(), list.as_mut_ptr(), list.len()) };
-    (bits(told, 15, 0), bits(told, 31, 16))
+    written(result)
 };
+
+/// The code and the number of what the proved writer returns: up to 4,096 as many words
+/// are written, 4,097 is code 31, and 4,098 + k is code 30 of the call k.
+fn written(result: u64) -> Written {
+    match result as usize {
+        words @ 0..=LIST_WORDS_MAX => (0, words),
+        4097 => (31, 0),
+        bad => (30, bad - 4098),
+    }
+}
 
 /// A send of a message to an endpoint's words, and a receive from them: whether it
 /// was done, or the words stayed as they were.

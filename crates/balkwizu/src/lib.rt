@@ -3,10 +3,11 @@
 mod layouts;
 mod release;
 
+use writer::Written;
 ghost use mathlib.Core.Path.{_≡_};
-ghost use Prim.Native.Nat.{_/_, _%_, min};
+ghost use Prim.Native.Nat.{_/_, _%_};
 ghost use Rattle.machine.specs.Promise.{RunPromise};
-ghost use Rattle.writer.specs.Rows.{RowsPromise};
+ghost use Rattle.writer.specs.Rows.{writingRows, outcomeOf};
 ghost use Rattle.holders.specs.Asked.{ReachReported};
 ghost use Rattle.components.specs.Reported.{ComponentReported};
 ghost use Rattle.table_check_bytes.specs.Bytes.{bytesCode};
@@ -127,30 +128,23 @@ pub extern "C" fn balkwizu_potential(table: &[u32], actors: u32, rights: &mut [u
     filled.code()
 }
 
-// Returns a number in 16 bits: one above 65,535 is returned as 65,535.
-fn in_16_bits(number: usize) -> u32
-    ensures { λ r. ⌜ r ≡ min number 65535 ⌝ }
-{
-    if number < 65535 { number as u32 } else { 65535 }
-}
-
 // Encodes a call list from five words a call: its kind, its caller, A, B, and C or, for a look up and a send, what the second word
 // holds. A column that a call doesn't use is 0. No table is read.
-// Returns the code in the low 16 bits: 0; 30 where a row is no call or has a field that exceeds its bits; else 31 where the words
-// would exceed 4,096 or the list. The high 16 bits are the count of words written for 0, the index of the first such row for 30,
-// counted from 0 and returned as 65,535 where it is above, and 0 for 31.
-// Where the code is 0 the words are at the front of the list, and those past them are left as they were. Where it isn't, no word is
-// written.
+// Returns one number. Up to 4,096 is code 0: so many words are written. 4,097 is code 31: every row can be written, but the words
+// would exceed 4,096 or the list. 4,098 + k is code 30: the row of index k, counted from 0, is the first that is no call or has a
+// field that exceeds its bits.
+// With code 0 the words are at the front of the list, and those past them are left as they were. Else no word is written.
 // Total: accepts arbitrary words in slices of any length. Fewer than five words at the end are a row that is no call. Calls and
 // list may not overlap.
-// C: uint32_t balkwizu_write(const uint32_t *calls, size_t calls_len, uint32_t *list, size_t list_len)
+// C: uint64_t balkwizu_write(const uint32_t *calls, size_t calls_len, uint32_t *list, size_t list_len)
 #[no_mangle]
-pub extern "C" fn balkwizu_write(calls: &[u32], list: &mut [u32]) -> u32
-    ensures { λ r. ⌜ RowsPromise (now (calls .entry)) (now (list .entry)) (r % 65536) (r / 65536) (now (list .exit)) ⌝ }
+pub extern "C" fn balkwizu_write(calls: &[u32], list: &mut [u32]) -> u64
+    ensures { λ r. ⌜ outcomeOf r (now (list .exit)) ≡ writingRows (now (calls .entry)) (now (list .entry)) ⌝ }
 {
     let written = writer::rows::write_rows(calls, list);
-    let code = written.code();
-    let number = written.number();
-    let shown = in_16_bits(number);
-    code + 65536 * shown
+    match written {
+        Written::Done(words) => words as u64,
+        Written::TooLong => 4097,
+        Written::BadCall(index) => 4098 + index as u64,
+    }
 }

@@ -53,6 +53,7 @@ use Rattle.working_theory.specs.TwoRuns as working-theory-two-runs
 use Rattle.writer_theory.specs.Claims as writer-theory-claims
 use Rattle.writer_theory.specs.Examples as writer-theory-examples
 use Rattle.writer_theory.specs.ListClaims as writer-theory-list-claims
+use Rattle.writer_theory.specs.Result as writer-theory-result
 use Rattle.writer_theory.specs.RowExamples as writer-theory-row-examples
 
 pub record Promises : Type 0 where
@@ -160,6 +161,8 @@ pub record Promises : Type 0 where
   pub W-rows-different-words : writer-theory-list-claims.RowsDifferentWords
   -- A list that is read as calls past the four is written as it came by the rows of these calls, each word of which has 32 bits.
   pub W-rows-written-as-it-came : writer-theory-list-claims.RowsWrittenAsItCame
+  -- Results in one number, and the code and the number that each says.
+  pub W-results : writer-theory-result.EveryResult
   -- Calls, the lent words, and the whole outcome.
   pub W-rows : writer-theory-examples.EveryRow writer-theory-examples.rows
   -- Each call that cannot be written is refused by 30 as the third of four, and no word is written.

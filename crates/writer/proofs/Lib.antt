@@ -4,3 +4,4 @@ pub mod Outcomes
 pub mod ByKind
 pub mod RowAt
 pub mod Rounds
+pub mod OneNumber

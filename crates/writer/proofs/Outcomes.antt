@@ -1,14 +1,14 @@
 -- The result of writing, by what the code finds: each result is the one that is due (writer_theory: specs/Write).
 -- Assumes nothing.
-use Prim.Native.Nat.{ℕ, min, _<_, _≤_}
-use mathlib.Core.Path.{_≡_, refl, sym, ap, _∙_}
+use Prim.Native.Nat.{ℕ, min, _≤_}
+use mathlib.Core.Path.{_≡_, refl, sym, ap, ap₂, _∙_}
 use mathlib.Core.Bool.{true, false, _||_}
 use mathlib.Core.List.{List, _++_}
 use mathlib.Core.Option.{Option, none, some}
 use native.Mathlib.Nat.{min-eq-left, min-eq-right}
 use native.Mathlib.Decide.{decLe}
 use native.Mathlib.Omega.{arith}
-use borrow.Author.Tests.{lt-ltb, ltb-false}
+use borrow.Author.Tests.{ltb-false}
 use lib.Dec.{ltb}
 use lib.ListN.{length, take, drop}
 use lib.Seq.{take-all}
@@ -16,11 +16,8 @@ use Rattle.machine.specs.Entry.{longestList}
 use Rattle.machine.proofs.Bools.{or-none-right}
 use Rattle.calls.specs.declared.Call.{Call}
 use Rattle.writer_theory.specs.Words.{allFit, written}
-use Rattle.writer.specs.declared.Written.{Written}
-use Rattle.writer.specs.declared.Written.the-variants.{Done, BadCall, TooLong}
 use Rattle.writer.specs.declared.Measured.the-variants.{Words, Unfit}
-use Rattle.writer_theory.specs.Write.{firstUnfit, tooLong, wordsPut, writing, WritePromise}
-use Rattle.writer.specs.Answer.{writtenCode}
+use Rattle.writer_theory.specs.Write.{firstUnfit, tooLong, WriteOutcome, refusal, wordsPut, writing}
 use Rattle.writer.specs.FirstPass.{found, measured}
 use Rattle.writer_theory.proofs.ListClaims.{none-unfit}
 
@@ -36,6 +33,10 @@ held-calls calls count long = go (decLe count 4096)
         ∙ take-all 4096 calls (omega arith)
         ∙ sym (take-all count calls (omega arith))
 
+-- an outcome with code 0
+abbrev put : ℕ → List ℕ → WriteOutcome
+put n ws = record { code = 0; number = n; list = ws }
+
 -- the cases of what was found
 found-unfit : (o : Option ℕ) (words i : ℕ) → Unfit i ≡ found o words → o ≡ some i
 found-unfit none words i e = let z : _≡_ {A = ℕ} 0 1 = cc in absurd (omega arith)
@@ -47,21 +48,17 @@ found-none (some j) words w e = let z : _≡_ {A = ℕ} 0 1 = cc in absurd (omeg
 
 module _ (cs : List Call) (count : ℕ) (list : List ℕ) where
   -- a call that can't be written
-  pub first-unfit : (i : ℕ) → firstUnfit cs ≡ some i → WritePromise cs count list 30 i list
+  first-unfit : (i : ℕ) → firstUnfit cs ≡ some i → refusal 30 i list ≡ writing cs count list
   unfolding writing
-  first-unfit i first = record { sameCode = rw first; sameNumber = rw first; sameWords = rw first }
+  first-unfit i first = rw first
 
   -- too many calls or words
-  pub refused-long : firstUnfit cs ≡ none → tooLong count (length (written cs)) (length list) ≡ true → WritePromise cs count list 31 0 list
+  refused-long : firstUnfit cs ≡ none → tooLong count (length (written cs)) (length list) ≡ true → refusal 31 0 list ≡ writing cs count list
   unfolding writing wordsPut
-  refused-long first long = record { sameCode = rw (first, long); sameNumber = rw (first, long); sameWords = rw (first, long) }
-
-  pub too-many : firstUnfit cs ≡ none → longestList < count → WritePromise cs count list 31 0 list
-  unfolding tooLong
-  too-many first h = refused-long first (rw (lt-ltb longestList count h))
+  refused-long first long = rw (first, long)
 
   -- ---- by what the first pass found
-  pub unfit : (i : ℕ) → Unfit i ≡ measured cs → WritePromise cs count list 30 i list
+  pub unfit : (i : ℕ) → Unfit i ≡ measured cs → refusal 30 i list ≡ writing cs count list
   unfolding measured
   unfit i e = first-unfit i (found-unfit (firstUnfit cs) _ i e)
 
@@ -78,7 +75,7 @@ module _ (cs : List Call) (count : ℕ) (list : List ℕ) where
     pub words-counted : words ≡ length (written cs)
     words-counted = none-found .1
 
-    pub too-long : tooLong count words (length list) ≡ true → WritePromise cs count list 31 0 list
+    pub too-long : tooLong count words (length list) ≡ true → refusal 31 0 list ≡ writing cs count list
     too-long h = refused-long (none-found .0) (rw (← words-counted) h)
 
     module _ (h : tooLong count words (length list) ≡ false) where
@@ -89,15 +86,10 @@ module _ (cs : List Call) (count : ℕ) (list : List ℕ) where
           rw (← words-counted)
           (ltb-false (length list) words (or-none-right (ltb longestList count || ltb longestList words) (ltb (length list) words) h))
 
-      pub done : (end : List ℕ) → end ≡ written cs ++ drop (length (written cs)) list → WritePromise cs count list 0 words end
+      pub done : (end : List ℕ) → end ≡ written cs ++ drop (length (written cs)) list
+          → put words end ≡ writing cs count list
       unfolding writing wordsPut
       done end wrote =
           let first = none-found .0 in
           let short : tooLong count (length (written cs)) (length list) ≡ false = rw (← words-counted) h in
-          record { sameCode = rw (first, short); sameNumber = rw (first, short) words-counted; sameWords = rw (first, short) wrote }
-
--- the largest code
-pub code-small : (w : Written) → writtenCode w ≤ 31
-code-small (Done words) = omega arith
-code-small (BadCall i) = omega arith
-code-small TooLong = omega arith
+          rw (first, short) (ap₂ (λ (n : ℕ) (ws : List ℕ). put n ws) words-counted wrote)

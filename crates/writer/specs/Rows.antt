@@ -1,2 +1,3 @@
--- For callers: what is promised of code that writes the calls of rows (document 02, (c)).
-pub use Rattle.writer_theory.specs.Rows.{RowsPromise}
+-- For callers: the writing of the calls of rows, and the outcome that a result in one number says (document 02, (c)).
+pub use Rattle.writer_theory.specs.Rows.{writingRows}
+pub use Rattle.writer_theory.specs.Result.{outcomeOf}

@@ -14,8 +14,8 @@ ghost use mathlib.Core.List.{_++_};
 ghost use Prim.Native.Nat.{_≤_, min};
 ghost use lib.ListN.{length, take, drop};
 ghost use Rattle.writer_theory.specs.Words.{allFit, written};
-ghost use Rattle.writer_theory.specs.Write.{tooLong, WritePromise};
-ghost use Rattle.writer.specs.Answer.{writtenCode, writtenNumber};
+ghost use Rattle.writer_theory.specs.Write.{tooLong, writing};
+ghost use Rattle.writer.specs.Answer.{writtenCode, writtenNumber, answered};
 ghost use Rattle.writer.specs.FirstPass.{measured};
 
 // The result of writing.
@@ -117,7 +117,7 @@ pub fn too_long(count: usize, words: usize, size: usize) -> bool
 // writes no word. A count above 4,096 asks for calls that aren't there: 31, but 30 if one of those that are there is bad. The
 // array is 80 KB, and is passed by value.
 pub fn write(calls: [Call; LONGEST_LIST], count: usize, list: &mut [u32]) -> Written
-    ensures { λ r. ⌜ WritePromise (take count calls) count (now (list .entry)) (writtenCode r) (writtenNumber r) (now (list .exit)) ⌝ }
+    ensures { λ r. ⌜ answered r (now (list .exit)) ≡ writing (take count calls) count (now (list .entry)) ⌝ }
 {
     let n = held(count);
     let measured = measure(calls, n);

@@ -22,10 +22,9 @@ ghost use mathlib.Core.List.{_++_};
 ghost use Prim.Native.Nat.{_<_, _≤_};
 ghost use lib.ListN.{length, drop};
 ghost use Rattle.writer_theory.specs.Words.{allFit, written};
-ghost use Rattle.writer.specs.Answer.{writtenCode, writtenNumber};
-ghost use Rattle.writer_theory.specs.Write.{WritePromise};
+ghost use Rattle.writer.specs.Answer.{answered};
 ghost use Rattle.writer.specs.FirstPass.{measured};
-ghost use Rattle.writer_theory.specs.Rows.{whereZero, rowCall, callAt, rowsHandedIn};
+ghost use Rattle.writer_theory.specs.Rows.{whereZero, rowCall, callAt, rowsHandedIn, writingRows};
 
 // Represents a row that is no call.
 const NO_CALL: Call = Call::Refused {
@@ -177,8 +176,7 @@ fn put_all(rows: &[u32], list: &mut [u32])
 // writes no word. A bad call among all rows comes before too many words. Whether there are more than 4,096 rows isn't tested by
 // itself: each needs at least one word.
 pub fn write_rows(rows: &[u32], list: &mut [u32]) -> Written
-    ensures { λ r. ⌜ WritePromise (rowsHandedIn (now (rows .entry))) (length (rowsHandedIn (now (rows .entry)))) (now (list .entry))
-        (writtenCode r) (writtenNumber r) (now (list .exit)) ⌝ }
+    ensures { λ r. ⌜ answered r (now (list .exit)) ≡ writingRows (now (rows .entry)) (now (list .entry)) ⌝ }
 {
     let measured = measure(rows);
     match measured {

@@ -5,5 +5,6 @@ pub mod Writing
 pub mod ListClaims
 pub mod Rows
 pub mod NoneRefused
+pub mod Result
 pub mod Examples
 pub mod RowExamples

@@ -3,6 +3,7 @@ pub mod Words
 pub mod Claims
 pub mod Write
 pub mod Rows
+pub mod Result
 pub mod ListClaims
 pub mod Examples
 pub mod RowExamples

@@ -1,7 +1,6 @@
 -- Calls as plain words, as C passes them: five words a call, here a row. They are its kind, its caller, A, B, and C or, for a
 -- look up and a send, what the second word holds (document 02, (c)).
-use mathlib.Core.Path.{_≡_}
-use Prim.Native.Nat.{ℕ, _+_, min}
+use Prim.Native.Nat.{ℕ, _+_}
 use mathlib.Core.Bool.{cond, _&&_}
 use mathlib.Core.List.{List, [], _∷_, _++_}
 use lib.Dec.{eqb, ltb}
@@ -69,10 +68,3 @@ rowsOf (c ∷ cs) = rowOf c ++ rowsOf cs
 -- the writing of the calls of the rows: all of them are there
 abbrev pub writingRows : List ℕ → List ℕ → WriteOutcome
 writingRows rows list = writing (rowsHandedIn rows) (length (rowsHandedIn rows)) list
-
--- What is promised of code that writes the calls of rows into the words list and answers in 16 bits each: a number that doesn't
--- fit there is answered as 65,535, the largest that does.
-pub record RowsPromise (rows list : List ℕ) (code number : ℕ) (end : List ℕ) : Type 0 where
-  pub sameCode : code ≡ writingRows rows list .code
-  pub sameNumber : number ≡ min (writingRows rows list .number) 65535
-  pub sameWords : end ≡ writingRows rows list .list

@@ -1,7 +1,6 @@
 -- The writing of a list of calls: from arbitrary calls and lent words to the code, the number that goes with it, and every word
--- at the end (document 02, (c)).
+-- at the end (document 02, (c)). Code that writes promises that what it answers and leaves is this outcome.
 use Prim.Native.Nat.{ℕ, _+_}
-use mathlib.Core.Path.{_≡_}
 use mathlib.Core.Bool.{Bool, cond, _||_}
 use mathlib.Core.List.{List, [], _∷_, _++_}
 use mathlib.Core.Option.{Option, none, some}
@@ -53,10 +52,3 @@ afterUnfit (some i) count ws list = refusal 30 i list
 -- counted. For the others 31 is due, since each call needs at least one word.
 unfoldable pub writing : List Call → ℕ → List ℕ → WriteOutcome
 writing cs count list = afterUnfit (firstUnfit cs) count (written cs) list
-
--- What is promised of code that writes count calls, of which cs are there, into the words list: it answers a code and a number
--- and leaves the words as end.
-pub record WritePromise (cs : List Call) (count : ℕ) (list : List ℕ) (code number : ℕ) (end : List ℕ) : Type 0 where
-  pub sameCode : code ≡ writing cs count list .code
-  pub sameNumber : number ≡ writing cs count list .number
-  pub sameWords : end ≡ writing cs count list .list

@@ -96,12 +96,12 @@ fn expected_words(five: &[u32]) -> Option<Vec<u32>> {
 }
 
 /// What the writer must answer for columns, and the space that it must leave.
-fn expected(columns: &[u32], space: &[u32]) -> ((u32, u32), Vec<u32>) {
+fn expected(columns: &[u32], space: &[u32]) -> ((u32, usize), Vec<u32>) {
     let mut words = Vec::new();
     for (number, five) in columns.chunks(5).enumerate() {
         match expected_words(five) {
             Some(more) => words.extend(more),
-            None => return ((30, number.min(65_535) as u32), space.to_vec()),
+            None => return ((30, number), space.to_vec()),
         }
     }
     if words.len() > 4096 || words.len() > space.len() {
@@ -109,16 +109,16 @@ fn expected(columns: &[u32], space: &[u32]) -> ((u32, u32), Vec<u32>) {
     }
     let count = words.len();
     words.extend(&space[count..]);
-    ((0, count as u32), words)
+    ((0, count), words)
 }
 
 /// A writer's answer and the whole space after it.
-fn written(calls: &[Value], space: usize) -> ((u32, u32), Vec<u32>) {
+fn written(calls: &[Value], space: usize) -> ((u32, usize), Vec<u32>) {
     let mut left = vec![UNTOUCHED; space];
     (write(calls, &mut left), left)
 }
 
-fn written_columns(columns: &[u32], space: usize) -> ((u32, u32), Vec<u32>) {
+fn written_columns(columns: &[u32], space: usize) -> ((u32, usize), Vec<u32>) {
     let mut left = vec![UNTOUCHED; space];
     (write_columns(columns, &mut left), left)
 }
@@ -126,13 +126,13 @@ fn written_columns(columns: &[u32], space: usize) -> ((u32, u32), Vec<u32>) {
 /// Asserts that a list is written as some words, with space past them that stays.
 fn is_written(calls: &[Value], words: &[u32]) {
     let (answer, left) = written(calls, words.len() + 3);
-    assert_eq!(answer, (0, words.len() as u32), "{calls:?}");
+    assert_eq!(answer, (0, words.len()), "{calls:?}");
     assert_eq!(hex(&left[..words.len()]), hex(words), "{calls:?}");
     assert_eq!(left[words.len()..], [UNTOUCHED; 3], "{calls:?}");
 }
 
 /// Asserts that a list is refused and no word of the space is written.
-fn is_refused(calls: &[Value], space: usize, answer: (u32, u32)) {
+fn is_refused(calls: &[Value], space: usize, answer: (u32, usize)) {
     let refused = (answer, vec![UNTOUCHED; space]);
     assert_eq!(written(calls, space), refused);
 }
@@ -152,7 +152,7 @@ fn each_kind_is_written_and_read() {
         assert_eq!(to_columns(&call), Some(five));
         assert_eq!(from_columns(&five), Some(call));
         let answer = written_columns(&five, words.len());
-        assert_eq!(answer, ((0, words.len() as u32), words));
+        assert_eq!(answer, ((0, words.len()), words));
     }
     let calls = rows().map(|(call, ..)| call);
     let words = rows().map(|(_, _, words)| words).concat();
@@ -244,10 +244,7 @@ fn code_31_space_too_short() {
         is_written(&[call], &words);
         let all = [SEND, call];
         is_refused(&all, 1 + words.len(), (31, 0));
-        assert_eq!(
-            written(&all, 2 + words.len()).0,
-            (0, 2 + words.len() as u32)
-        );
+        assert_eq!(written(&all, 2 + words.len()).0, (0, 2 + words.len()));
     }
 }
 
@@ -358,7 +355,7 @@ fn what_is_read_is_written_as_it_came() {
         let calls = read(&list);
         match codes_of(&calls).iter().position(|&code| code != 0) {
             Some(number) => {
-                is_refused(&calls, list.len(), (30, number as u32));
+                is_refused(&calls, list.len(), (30, number));
                 refused += 1;
             }
             None => {
@@ -389,7 +386,7 @@ fn drawn_calls_are_written_and_read() {
         assert_eq!((code, number), answer, "seed {seed}");
         assert!(left == after, "seed {seed}");
         if code == 0 {
-            let list = &left[..number as usize];
+            let list = &left[..number];
             assert!(read(list) == calls, "seed {seed}");
             assert!(cut(list).iter().all(|call| form_code(call) == 0));
         }
@@ -464,7 +461,7 @@ fn columns_that_are_no_call() {
             let answer = if largest == 0 {
                 (30, 1)
             } else {
-                (0, 2 + u32::from(kind < 3))
+                (0, 2 + usize::from(kind < 3))
             };
             assert_eq!(
                 written_columns(&[good, five].concat(), 4).0,
@@ -480,11 +477,11 @@ fn columns_that_end_short() {
     let three = [[5, 9, 0, 0, 0], [2, 3, 0, 4, 5], [3, 6, 0, 7, 0]].concat();
     for length in 0..=three.len() {
         let (answer, left) = written_columns(&three[..length], 5);
-        let whole = (length / 5) as u32;
+        let whole = length / 5;
         let words = [0, 1, 3, 4][length / 5];
         let short = length % 5 != 0;
         assert_eq!(answer, if short { (30, whole) } else { (0, words) });
-        let written = if short { 0 } else { words as usize };
+        let written = if short { 0 } else { words };
         assert!(left[written..].iter().all(|&word| word == UNTOUCHED));
     }
     // Before 31, like any other.
@@ -492,8 +489,8 @@ fn columns_that_end_short() {
     assert_eq!(write_columns(&three, &mut []), (31, 0));
 }
 
-/// The first bad call is looked for past the 4,096th; its number is told as 65,535 at
-/// most. Only then are too many calls 31.
+/// The first bad call is looked for past the 4,096th, and its number is exact. Only then
+/// are too many calls 31.
 #[test]
 fn columns_of_many_calls() {
     let mut columns = [5, 9, 0, 0, 0].repeat(70_000);
@@ -502,16 +499,8 @@ fn columns_of_many_calls() {
         written_columns(&columns, 5000),
         ((31, 0), untouched.clone())
     );
-    for (place, number) in [
-        (69_999, 65_535),
-        (65_536, 65_535),
-        (65_535, 65_535),
-        (65_534, 65_534),
-        (4097, 4097),
-        (4096, 4096),
-        (4095, 4095),
-    ] {
-        columns[5 * place] = 9;
+    for number in [69_999, 65_536, 65_535, 65_534, 4097, 4096, 4095] {
+        columns[5 * number] = 9;
         let answer = written_columns(&columns, 5000);
         assert_eq!(answer, ((30, number), untouched.clone()));
     }

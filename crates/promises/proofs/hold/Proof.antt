@@ -59,6 +59,7 @@ use Rattle.writer_theory.proofs.Examples as writer-theory-examples-proofs
 use Rattle.writer_theory.proofs.ListClaims as writer-theory-list-claims-proofs
 use Rattle.writer_theory.proofs.NoneRefused as writer-theory-none-refused-proofs
 use Rattle.writer_theory.proofs.Reading as writer-theory-reading-proofs
+use Rattle.writer_theory.proofs.Result as writer-theory-result-proofs
 use Rattle.writer_theory.proofs.RowExamples as writer-theory-row-examples-proofs
 use Rattle.writer_theory.proofs.Rows as writer-theory-rows-proofs
 use Rattle.writer_theory.proofs.Writing as writer-theory-writing-proofs
@@ -110,6 +111,7 @@ returns c =
       W-rows-read-back = writer-theory-rows-proofs.rows-read-back;
       W-rows-different-words = writer-theory-rows-proofs.rows-different-words;
       W-rows-written-as-it-came = writer-theory-rows-proofs.rows-written-as-it-came;
+      W-results = writer-theory-result-proofs.every-result;
       W-rows = writer-theory-examples-proofs.every-row;
       W-bad-calls = writer-theory-examples-proofs.every-bad-call;
       W-five-words = writer-theory-row-examples-proofs.every-row;
