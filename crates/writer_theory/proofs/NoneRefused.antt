@@ -10,7 +10,7 @@ use Rattle.machine.specs.Word.{answerCode}
 use Rattle.machine.specs.Call as machine
 use Rattle.machine.specs.Call.{split}
 use Rattle.machine.specs.Machine.{Decision, named, decide, step, code, answerWord, answerTo, answer}
-use Rattle.machine.specs.Machine.{lookUpPlaces, sendPlaces, receivePlaces, rightsPlaces, grantPlaces, revokePlaces, removePlaces}
+use Rattle.machine.specs.Guards.{lookUpPlaces, sendPlaces, receivePlaces, rightsPlaces, grantPlaces, revokePlaces, removePlaces}
 use Rattle.machine.specs.Run.{answers}
 use Rattle.machine.specs.Entry.{Outcome, Runs, ran, entry}
 use Rattle.machine.proofs.Bools.{and-left, and-right}

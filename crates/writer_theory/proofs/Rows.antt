@@ -10,7 +10,7 @@ use lib.Dec.{eqb}
 use lib.ListN.{length, getD}
 use Rattle.machine.specs.Call.{Kind, kindOf, wantsSecond}
 use Rattle.machine.proofs.Bools.{and-left, and-right, cond-elim}
-use Rattle.machine.proofs.Decide.{kind-elim}
+use Rattle.machine.proofs.KindCases.{kind-elim}
 use Rattle.calls.specs.declared.Call.{Call}
 use Rattle.calls.specs.declared.Call.the-variants.{LookUp, Send, Receive, MyEndpoints, MyRights, Grant, Remove, Revoke, Refused}
 use Rattle.writer_theory.specs.Words.{fieldsOf, withinBits, fits, allFit}
