@@ -61,7 +61,7 @@ module _ (t : List ℕ) where
   turned u v h =
       ap₂ _&&_ (and-comm (ltb v (domains t)) (ltb u (domains t))) (or-comm (reaches t v u) (reaches t u v)) ∙ h
 
-  connected-back : {u v : ℕ} → Connected t u v → Connected t v u
+  pub connected-back : {u v : ℕ} → Connected t u v → Connected t v u
   connected-back end = end
   connected-back (link {u = a} {v = b} l c) = chain-trans (link (turned a b l) end) (connected-back c)
 
@@ -172,19 +172,29 @@ calls-from n set [] = refl
 calls-from n set (c ∷ cs) =
     ap (λ rest. cond (fromGroup (hasBit set) (callerOf c)) (c ∷ rest) rest) (calls-from n set cs)
 
-pub component-noninterference : EveryRunComponentNoninterference
-unfolding componentCalls
-component-noninterference t cs rest a d b =
+-- noninterference by any set that has d, and that no caller from outside reaches along the run
+pub set-noninterference :
+    (t : List ℕ) (cs : List Call) (rest : List ℕ) (d set : ℕ)
+    → Accepted t
+    → d < domains t
+    → hasBit set d ≡ true
+    → unwinding.Closed (tables (domains t)) (λ v. hasBit set v ≡ true) t cs
+    → view d cs (machine.answers t cs ++ rest) (machine.run t cs)
+    ≡ view d (callsFrom set cs) (machine.answers t (callsFrom set cs)) (machine.run t (callsFrom set cs))
+set-noninterference t cs rest d set a b own closed =
     let n = domains t in
     let self : Alike n t t = record { first = a; second = a; frame = frame-refl t; count = refl } in
     let alike : unwinding.SameForSources (tables n) (Alike n) Agree d t cs t = record { domain = b; proper = self; each = λ v m. conditions n .sameRefl self } in
-    let own = every-component t d d .1 end in
-    let closed = closed-along t d b t cs (start-within t a) in
-    let seen = observed (group-noninfluence (conditions n) (hasBit (component t d)) d t t cs alike own closed) in
+    let seen = observed (group-noninfluence (conditions n) (hasBit set) d t t cs alike own closed) in
     subst
     (λ ks. view d cs (machine.answers t cs ++ rest) (machine.run t cs) ≡ view d ks (machine.answers t ks) (machine.run t ks))
-    (calls-from n (component t d) cs)
+    (calls-from n set cs)
     (same-view (seen .proper) (seen .state) cs _ (machine.answers t cs ++ rest) _ (seen .answered rest))
+
+pub component-noninterference : EveryRunComponentNoninterference
+unfolding componentCalls
+component-noninterference t cs rest a d b =
+    set-noninterference t cs rest d (component t d) a b (every-component t d d .1 end) (closed-along t d b t cs (start-within t a))
 
 pub promised-component-noninterference : EveryPromisedRunComponentNoninterference
 promised-component-noninterference t ws p =

@@ -24,7 +24,7 @@ module _ (t : List ℕ) (s : ℕ) where
   abbrev n : ℕ
   n = domains t
 
-  potential-below : {h g k : ℕ} → Potential t s h g k → (h < n) × (g < n)
+  pub potential-below : {h g k : ℕ} → Potential t s h g k → (h < n) × (g < n)
   potential-below (held lh lg has) = (lh, lg)
   potential-below (given acts may reaches has) = (potential-below reaches .1, potential-below may .1)
 

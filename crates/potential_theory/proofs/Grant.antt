@@ -1,8 +1,8 @@
 -- A grant of all the rights that u has on g, as a call on a table: it is done, and adds them to h's (specs/Lists: grantWord). A
--- list of grants is split word by word. Assumes nothing.
+-- list of words that take no second is split word by word. Assumes nothing.
 use mathlib.Core.Path.{_≡_, refl, ap, _∙_}
 use mathlib.Core.Bool.{true, false}
-use mathlib.Core.List.{List, [], _∷_, map}
+use mathlib.Core.List.{List, [], _∷_, _++_, map}
 use mathlib.Core.Option.{some}
 use Prim.Native.Nat.{ℕ, _<_, _≤_}
 use native.Mathlib.Omega.{arith}
@@ -144,13 +144,22 @@ abbrev pub AllGrants : List ℕ → Type 0
 AllGrants [] = Unit {0}
 AllGrants (w ∷ ws) = (kind w ≡ 6) × AllGrants ws
 
--- no grant makes a call with the word after it
-alone : (w v : ℕ) → kind w ≡ 6 → pairs w v ≡ false
-unfolding pairs wantsSecond
-alone w v e = rw e
+-- no word makes a call with the word after it
+abbrev pub AllAlone : List ℕ → Type 0
+AllAlone [] = Unit {0}
+AllAlone (w ∷ ws) = (wantsSecond (kind w) ≡ false) × AllAlone ws
 
-pub split-grants : (ws : List ℕ) → AllGrants ws → split ws ≡ map one ws
-unfolding split
-split-grants [] all = refl
-split-grants (w ∷ []) all = split-last w
-split-grants (w ∷ (v ∷ ws)) all = split-one w v ws (alone w v (all .0)) ∙ ap (one w ∷_) (split-grants (v ∷ ws) (all .1))
+pub all-alone-append : (ws vs : List ℕ) → AllAlone ws → AllAlone vs → AllAlone (ws ++ vs)
+all-alone-append [] vs p q = q
+all-alone-append (w ∷ ws) vs p q = (p .0, all-alone-append ws vs (p .1) q)
+
+pub grants-alone : (ws : List ℕ) → AllGrants ws → AllAlone ws
+unfolding wantsSecond
+grants-alone [] all = tt
+grants-alone (w ∷ ws) all = (rw (all .0), grants-alone ws (all .1))
+
+pub split-alone : (ws : List ℕ) → AllAlone ws → split ws ≡ map one ws
+unfolding split pairs
+split-alone [] all = refl
+split-alone (w ∷ []) all = split-last w
+split-alone (w ∷ (v ∷ ws)) all = split-one w v ws (rw (all .0)) ∙ ap (one w ∷_) (split-alone (v ∷ ws) (all .1))

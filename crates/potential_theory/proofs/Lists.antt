@@ -9,7 +9,7 @@ use native.Mathlib.Nat.{mul-le-mul}
 use native.Mathlib.Omega.{arith}
 use lib.Dec.{eqb}
 use lib.ListN.{length}
-use Rattle.machine.specs.Right.{hasAny}
+use Rattle.machine.specs.Right.{allRights, hasAny}
 use Rattle.machine.specs.Table.{domains, rights}
 use Rattle.machine.specs.Check.{Accepted}
 use Rattle.machine.specs.Call.{Call.one, split}
@@ -24,7 +24,7 @@ use Rattle.potential_theory.specs.Closure.{matrixOf, potential, potentia
 use Rattle.potential_theory.specs.Lists.{potentialList}
 use Rattle.potential_theory.specs.Claims.{AllDoneBy, HasPotential, EveryPotentialListGivesAll, EveryPromisedRunGivesAll, EveryPotentialInComponent}
 use Rattle.potential_theory.proofs.Matrix.{proper-most, matrix-cell}
-use Rattle.potential_theory.proofs.Grant.{split-grants}
+use Rattle.potential_theory.proofs.Grant.{grants-alone, split-alone}
 use Rattle.potential_theory.proofs.Steps.{Shows, Ran}
 use Rattle.potential_theory.proofs.Exact.{start-within, potential-step}
 
@@ -32,7 +32,7 @@ module _ (t : List ℕ) (s : ℕ) (a : Accepted t) where
   abbrev n : ℕ
   n = domains t
 
-  list-ran : Ran n s (potential t s) t (potentialList t s)
+  pub list-ran : Ran n s (potential t s) t (potentialList t s)
   unfolding potential potentialList
   list-ran =
       let shows : Shows n (matrixOf t) t =
@@ -40,18 +40,22 @@ module _ (t : List ℕ) (s : ℕ) (a : Accepted t) where
       potential-step t s a .runs (matrixOf t) t (start-within t s a) shows
 
   list-cut : split (potentialList t s) ≡ map one (potentialList t s)
-  list-cut = split-grants (potentialList t s) (list-ran .grants)
+  list-cut = split-alone (potentialList t s) (grants-alone (potentialList t s) (list-ran .grants))
 
   -- each call adds something to the sum of the cells, which is at most allRights for each of sixteen times sixteen
-  list-few : length (potentialList t s) ≤ 4096
+  pub list-most : length (potentialList t s) ≤ n * n * allRights
   unfolding potential potentialList
-  list-few =
-      let few = accepted-counts t a .1 in
-      let cells : n * n ≤ 16 * 16 = mul-le-mul few few in
+  list-most =
       let step = potential-step t s a in
       let within = start-within t s a in
       let most = proper-most n (potential t s) (step .keeps (matrixOf t) within .proper) in
       omega (arith, step .grows (matrixOf t) within)
+
+  list-few : length (potentialList t s) ≤ 4096
+  list-few =
+      let few = accepted-counts t a .1 in
+      let cells : n * n ≤ 16 * 16 = mul-le-mul few few in
+      omega (arith, list-most)
 
   list-done : AllDoneBy s t (split (potentialList t s))
   list-done = rw list-cut (list-ran .done)

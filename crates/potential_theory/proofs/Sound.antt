@@ -29,7 +29,7 @@ use Rattle.potential_theory.proofs.Sets.{some-right}
 use Rattle.potential_theory.proofs.Exact.{every-potential-right}
 
 -- A table that results from t: accepted, with as many domains, and all its rights are potential in t.
-record Came (t : List ℕ) (s : ℕ) (x : List ℕ) : Type 0 where
+pub record Came (t : List ℕ) (s : ℕ) (x : List ℕ) : Type 0 where
   pub accepted : Accepted x
   pub count : domains x ≡ domains t
   pub only : (h g k : ℕ) → h < domains t → g < domains t → holds (rights x h g) (2 ^ k) ≡ true → Potential t s h g k
@@ -51,7 +51,7 @@ module _ (t : List ℕ) (s : ℕ) (x : List ℕ) (w : Came t s x) (c : Call)
       given (known u (by .calledBy) lu) (w .only u g 1 lu lg (by .mayGrant)) (w .only u h j lu lh right) has)
       (or-cases (eqb u h) (reaches x u h) (by .toward))
 
-  step-came : Came t s (step x c)
+  pub step-came : Came t s (step x c)
   step-came =
       let stays = stays-accepted x c (w .accepted) in
       record {
@@ -67,10 +67,10 @@ module _ (t : List ℕ) (s : ℕ) (x : List ℕ) (w : Came t s x) (c : Call)
 
 -- ---- any calls, however many
 
-start-came : (t : List ℕ) (s : ℕ) → Accepted t → Came t s t
+pub start-came : (t : List ℕ) (s : ℕ) → Accepted t → Came t s t
 start-came t s a = record { accepted = a; count = refl; only = λ h g k lh lg has. held lh lg has }
 
-run-came : (t : List ℕ) (s : ℕ) (x : List ℕ) (cs : List Call) → Came t s x → KnownCallersIn (domains t) s cs → Came t s (machine.run x cs)
+pub run-came : (t : List ℕ) (s : ℕ) (x : List ℕ) (cs : List Call) → Came t s x → KnownCallersIn (domains t) s cs → Came t s (machine.run x cs)
 unfolding machine.run
 run-came t s x [] w known = w
 run-came t s x (c ∷ cs) w known = run-came t s (step x c) cs (step-came t s x w c (known .0)) (known .1)
@@ -84,7 +84,7 @@ promised-run-within t ws p s known =
     subst (WithinPotential t s) (sym (ran-table t ws p)) (run-within t s (split ws) (ran-accepted t ws p) known)
 
 -- every known caller is a domain
-everyone-known : (t : List ℕ) (cs : List Call) → KnownCallersIn (domains t) (everyone t) cs
+pub everyone-known : (t : List ℕ) (cs : List Call) → KnownCallersIn (domains t) (everyone t) cs
 unfolding everyone
 everyone-known t [] = tt
 everyone-known t (c ∷ cs) = (λ u _ lu. bits-at (domains t) (λ _. true) u lu, everyone-known t cs)
@@ -97,7 +97,7 @@ promised-run-within-everyone t ws p = promised-run-within t ws p (everyone t) (e
 
 -- ---- what is potential afterwards
 
-came-back : (t : List ℕ) (s : ℕ) (x : List ℕ) → Came t s x → {h g k : ℕ} → Potential x s h g k → Potential t s h g k
+pub came-back : (t : List ℕ) (s : ℕ) (x : List ℕ) → Came t s x → {h g k : ℕ} → Potential x s h g k → Potential t s h g k
 came-back t s x w (held {h} {g} {k} lh lg has) =
     w .only h g k (subst (λ n. h < n) (w .count) lh) (subst (λ n. g < n) (w .count) lg) has
 came-back t s x w (given acts may reach has) =

@@ -47,7 +47,7 @@ pub record Step (n s : ℕ) (P Q : List ℕ → Type 0) (f calls : List ℕ → 
 
 -- ---- runs one after the other
 
-all-done-append : (s : ℕ) (t : List ℕ) (cs ds : List Call) → AllDoneBy s t cs → AllDoneBy s (run t cs) ds → AllDoneBy s t (cs ++ ds)
+pub all-done-append : (s : ℕ) (t : List ℕ) (cs ds : List Call) → AllDoneBy s t cs → AllDoneBy s (run t cs) ds → AllDoneBy s t (cs ++ ds)
 unfolding run
 all-done-append s t [] ds p q = q
 all-done-append s t (c ∷ cs) ds p q = (p .0, all-done-append s (step t c) cs ds (p .1) q)

@@ -1,10 +1,11 @@
 -- Laws of the bits of a number (specs/Below of the machine: hasBit).
 -- Assumes nothing.
 use mathlib.Core.Path.{_≡_, refl, sym, ap, ap₂, _∙_}
-use mathlib.Core.Bool.{true, false, _||_, false≢true}
+use mathlib.Core.Bool.{Bool, true, false, _||_, false≢true}
 use mathlib.Core.Logic.{⊎-elim}
 use Prim.Native.Nat.{ℕ, zero, suc, _/_, _%_, _^_, _<_}
 use native.Mathlib.Nat.{zero-div, div-one, pow-suc, mod-eq-of-lt}
+use native.Mathlib.Decide.{decLt}
 use native.Mathlib.Omega.{arith}
 use borrow.Author.Tests.{eqb-true, eqb-false}
 use lib.Arith.{bin-ind}
@@ -66,3 +67,26 @@ some-bit =
 
     next : (w : ℕ) → (k : ℕ) × (hasBit (w / 2) k ≡ true) → (k : ℕ) × (hasBit w k ≡ true)
     next w x = (suc (x .0), sym (bit-half w (x .0)) ∙ x .1)
+
+-- numbers with the same bits are equal
+bits-none : (w : ℕ) → ((u : ℕ) → hasBit w u ≡ false) → w ≡ 0
+bits-none w f = go (decLt 0 w)
+  where
+    go : Dec (0 < w) → w ≡ 0
+    go (yes l) = let (k, h) = some-bit w (λ e. omega arith) in absurd (false≢true (sym (f k) ∙ h))
+    go (no n) = omega arith
+
+same-half : (w v : ℕ) → eqb (w % 2) 1 ≡ eqb (v % 2) 1 → w / 2 ≡ v / 2 → w ≡ v
+same-half w v low high = go (eqb (v % 2) 1) refl
+  where
+    go : (b : Bool) → eqb (v % 2) 1 ≡ b → w ≡ v
+    go true e = omega (arith, eqb-true (v % 2) 1 e, eqb-true (w % 2) 1 (low ∙ e))
+    go false e = omega (arith, eqb-false (v % 2) 1 e, eqb-false (w % 2) 1 (low ∙ e))
+
+pub same-bits : (w v : ℕ) → ((u : ℕ) → hasBit w u ≡ hasBit v u) → w ≡ v
+same-bits =
+    bin-ind (λ w. (v : ℕ) → ((u : ℕ) → hasBit w u ≡ hasBit v u) → w ≡ v)
+    (λ v f. sym (bits-none v (λ u. sym (f u) ∙ bit-none u)))
+    (λ w ih v f.
+    same-half w v (sym (bit-zero w) ∙ f 0 ∙ bit-zero v)
+    (ih (v / 2) (λ u. bit-half w u ∙ f (suc u) ∙ sym (bit-half v u))))

@@ -225,6 +225,18 @@ module _ (ws : List ℕ) where
       (λ u v m l. absurd (false≢true (sym (none-at (length ws) (hasBit s) none v (linked-below u v l)) ∙ m))))
       (either (anyBelow (length ws) (hasBit s)))
 
+  -- the last round adds only those with a step to a member
+  last-widens : (k s : ℕ) → rounds (suc k) ws s ≡ widened ws (rounds k ws s)
+  unfolding rounds
+  last-widens zero s = refl
+  last-widens (suc k) s = last-widens k (widened ws s)
+
+  pub last-round :
+      (k s u : ℕ)
+      → hasBit (rounds (suc k) ws s) u ≡ true
+      → (hasBit (rounds k ws s) u ≡ true) ⊎ ((v : ℕ) × (hasBit (rounds k ws s) v ≡ true) × (linked ws u v ≡ true))
+  last-round k s u h = only (rounds k ws s) u (rw (last-widens k s) at h)
+
   -- those in the closure have a chain to a member,
   sound :
       (k s u : ℕ) → hasBit (rounds k ws s) u ≡ true → (d : ℕ) × (hasBit s d ≡ true) × Chain (linked ws) d u
@@ -267,7 +279,7 @@ module _ (n : ℕ) (r : ℕ → ℕ → Bool) where
       (λ l. bits-past n (λ u. r u v) u (ltb-false u n l) ∙ sym (ap (λ b. b && r u v) l))
       (either (ltb u n))
 
-  linked-words : (u v : ℕ) → linked (linkWords n r) u v ≡ among n r u v
+  pub linked-words : (u v : ℕ) → linked (linkWords n r) u v ≡ among n r u v
   unfolding linked among
   linked-words u v =
       ⊎-elim (λ l. ap (λ w. hasBit w u) (word-at v l) ∙ bit-in u v ∙ rw (l, and-true (ltb u n)))

@@ -4,4 +4,5 @@ pub mod Bits
 pub mod Chain
 pub mod Bounds
 pub mod Loops
+pub mod Words
 pub mod Examples

@@ -5,8 +5,8 @@ use Prim.Native.Nat.{_-_, _<_}
 use native.Mathlib.Omega.{arith}
 use borrow.Author.Needs.{needs}
 use Rattle.reachability.proofs.Bits.{bit-is}
+use Rattle.reachability.proofs.Words.{Gathered, gather-start, gather-room, gather-with, gather-without, gather-end}
 use Rattle.isolation_theory.specs.Component.{joined}
-use Rattle.components.proofs.Words.{Gathered, gather-start, gather-room, gather-with, gather-without, gather-end}
 use Rattle.components.proofs.connections.joined_word.Statement.{statement}
 use Rattle.components.proofs.connections.joined_word.Tie as tie
 

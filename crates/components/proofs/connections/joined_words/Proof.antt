@@ -4,8 +4,8 @@ use Prim.Native.Nat.{_-_}
 use borrow.Author.Needs.{needs}
 use Rattle.machine.specs.Below.{bitsBelow}
 use Rattle.reachability.specs.Chain.{linkWords}
+use Rattle.reachability.proofs.Words.{Filled, fill-start, fill-next, fill-end}
 use Rattle.isolation_theory.specs.Component.{joined}
-use Rattle.components.proofs.Words.{Filled, fill-start, fill-next, fill-end}
 use Rattle.components.proofs.connections.joined_words.Statement.{statement}
 use Rattle.components.proofs.connections.joined_words.Tie as tie
 
