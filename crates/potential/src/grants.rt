@@ -1,7 +1,7 @@
 // The closure of an access matrix under grants by the domains that act: rounds in which each gives all that it can, until one
 // adds nothing.
-use crate::matrix::cell_at;
 use crate::matrix::sum;
+use crate::places::cell_at;
 use rights::Rights;
 ghost use mathlib.Core.Path.{_≡_};
 ghost use Prim.Native.Nat.{_*_, _<_, _≤_};

@@ -2,6 +2,7 @@
 // in words lent for them. Total: accepts arbitrary words as a table, and any word as the set of those that act.
 mod grants;
 mod matrix;
+pub mod places;
 
 use grants::settle;
 use matrix::fill;

@@ -5,14 +5,7 @@ ghost use mathlib.Core.Path.{_≡_};
 ghost use Prim.Native.Nat.{_*_, _^_, _<_, _≤_};
 ghost use lib.ListN.{length};
 ghost use Rattle.machine.specs.Table.{domains};
-ghost use Rattle.potential_theory.specs.Closure.{cellAt, matrixOf, total};
-
-// Returns the index of the rights of a holder on a target.
-pub fn cell_at(n: u32, holder: u32, target: u32) -> usize
-    ensures { λ at. ⌜ at ≡ cellAt n holder target ⌝ }
-{
-    holder as usize * n as usize + target as usize
-}
+ghost use Rattle.potential_theory.specs.Closure.{matrixOf, total};
 
 // Returns the count of the sets of n domains.
 pub fn power(n: u32) -> u32
