@@ -3,6 +3,8 @@
 use mathlib.Core.List.{[], _∷_}
 use Rattle.holders_theory.specs.Claims as holders-theory-claims
 use Rattle.holders_theory.specs.Examples as holders-theory-examples
+use Rattle.influence_theory.specs.Claims as influence-theory-claims
+use Rattle.influence_theory.specs.Examples as influence-theory-examples
 use Rattle.isolation_theory.specs.Component as isolation-theory-component
 use Rattle.isolation_theory.specs.ComponentExamples as isolation-theory-component-examples
 use Rattle.isolation_theory.specs.LineExamples as isolation-theory-line-examples
@@ -282,6 +284,46 @@ pub record Promises : Type 0 where
   pub V-in-component : potential-theory-claims.EveryPotentialInComponent
   -- Tables, who acts, and the potential rights.
   pub V-rows : potential-theory-examples.EveryPotentialRow potential-theory-examples.potentialRows
+  -- ---- Who could ever influence whom
+  -- The computed set is exactly those that could influence d: d, and each that acts from which a chain of potential rights leads to
+  -- d, through others that act.
+  pub U-computed : influence-theory-claims.EveryCouldInfluence
+  -- It holds domains alone, so that a call of an unknown caller is purged.
+  pub U-of-domains : influence-theory-claims.EveryInfluenceOfDomains
+  -- Whatever calls are run, however many, refused or not: if their known callers are in s, each source of d is in the set.
+  pub U-sources-within : influence-theory-claims.EverySourceCouldInfluence
+  -- There is one list that makes all of them sources, of every domain at once, and it is computed.
+  pub U-list-makes-all : influence-theory-claims.EveryInfluenceListMakesAll
+  -- So u is a source of d over some list of calls by domains of s exactly where u is d or such a chain leads from it to d.
+  pub U-sources-exactly : influence-theory-claims.EverySourceExactly
+  -- Who could influence d after calls of s could do so before them.
+  pub U-nobody-new : influence-theory-claims.EveryRunNobodyNew
+  -- Purge every call whose caller could not influence d, strays too, and d sees the same.
+  pub U-noninterference : influence-theory-claims.EveryRunInfluenceNoninterference
+  -- The same of the words that the kernel left, for any list that runs.
+  pub U-run-noninterference : influence-theory-claims.EveryPromisedRunInfluenceNoninterference
+  -- With all domains as actors nothing is asked of the callers: of the machine,
+  pub U-everyone-noninterference : influence-theory-claims.EveryRunEveryoneNoninterference
+  -- and of the words that the kernel left, for any list that runs.
+  pub U-run-everyone-noninterference : influence-theory-claims.EveryPromisedRunEveryoneNoninterference
+  -- All domains as actors: each claim that asks where the callers are holds of any calls.
+  pub U-every-caller : influence-theory-claims.EveryCallerIsKnown
+  -- The same by any larger set, which has at least those that could influence d.
+  pub U-larger-set : influence-theory-claims.EveryLargerSetNoninterference
+  -- Connected components are such sets: the component of d has all that could influence d, whoever acts.
+  pub U-in-component : influence-theory-claims.EveryInfluenceInComponent
+  -- On two lines that agree on each that could influence d, as (g) asks of its sources, the set is the same,
+  pub U-lines-set : influence-theory-claims.EveryLinesSameInfluence
+  -- and d sees the same of any calls run from both.
+  pub U-lines : influence-theory-claims.EveryLinesInfluence
+  -- The same of the words that two runs of the kernel on one list left.
+  pub U-runs : influence-theory-claims.EveryRunsInfluence
+  -- Tables, who acts, and who could influence each domain; and, along six calls, who has a chain of rights to a domain in each table.
+  pub U-rows : influence-theory-examples.EveryInfluenceRow influence-theory-examples.influenceRows
+  -- The source sets along these six calls, what is kept and what the domain sees, and the same without the first three.
+  pub U-six-calls : machine-purge-examples.EveryPurgeRow influence-theory-examples.sixCallRows
+  -- Chains of rights in the tables along a run are not enough: who has none in any of them can still be seen at d.
+  pub U-chains-not-enough : influence-theory-examples.ChainsAreNotEnough
   -- ---- Document 02 (k): a damaged table is repaired, and no right is added
   -- Where word 0 and the length are right, each holder's rights word on each target and each endpoint is mended.
   pub K-each-part : repair-theory-claims.EachPartMended

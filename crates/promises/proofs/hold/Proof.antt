@@ -3,6 +3,12 @@ use Rattle.holders_theory.proofs.EveryCall as holders-theory-every-call-proofs
 use Rattle.holders_theory.proofs.Examples as holders-theory-examples-proofs
 use Rattle.holders_theory.proofs.Kept as holders-theory-kept-proofs
 use Rattle.holders_theory.proofs.Reported as holders-theory-reported-proofs
+use Rattle.influence_theory.proofs.Exact as influence-theory-exact-proofs
+use Rattle.influence_theory.proofs.Examples as influence-theory-examples-proofs
+use Rattle.influence_theory.proofs.Lists as influence-theory-lists-proofs
+use Rattle.influence_theory.proofs.Purged as influence-theory-purged-proofs
+use Rattle.influence_theory.proofs.Sound as influence-theory-sound-proofs
+use Rattle.influence_theory.proofs.TwoLines as influence-theory-two-lines-proofs
 use Rattle.isolation_theory.proofs.Component as isolation-theory-component-proofs
 use Rattle.isolation_theory.proofs.ComponentExamples as isolation-theory-component-examples-proofs
 use Rattle.isolation_theory.proofs.LineExamples as isolation-theory-line-examples-proofs
@@ -165,6 +171,25 @@ returns c =
       V-run-gives-all = potential-theory-lists-proofs.promised-run-gives-all;
       V-in-component = potential-theory-lists-proofs.potential-in-component;
       V-rows = potential-theory-examples-proofs.every-potential-row;
+      U-computed = influence-theory-exact-proofs.every-could-influence;
+      U-of-domains = influence-theory-exact-proofs.influence-of-domains;
+      U-sources-within = influence-theory-sound-proofs.source-could-influence;
+      U-list-makes-all = influence-theory-lists-proofs.makes-all;
+      U-sources-exactly = influence-theory-lists-proofs.source-exactly;
+      U-nobody-new = influence-theory-sound-proofs.nobody-new;
+      U-noninterference = influence-theory-purged-proofs.influence-noninterference;
+      U-run-noninterference = influence-theory-purged-proofs.promised-influence-noninterference;
+      U-everyone-noninterference = influence-theory-purged-proofs.everyone-noninterference;
+      U-run-everyone-noninterference = influence-theory-purged-proofs.promised-everyone-noninterference;
+      U-every-caller = influence-theory-purged-proofs.caller-is-known;
+      U-larger-set = influence-theory-purged-proofs.larger-set-noninterference;
+      U-in-component = influence-theory-exact-proofs.influence-in-component;
+      U-lines-set = influence-theory-two-lines-proofs.lines-same-influence;
+      U-lines = influence-theory-two-lines-proofs.lines-influence;
+      U-runs = influence-theory-two-lines-proofs.runs-influence;
+      U-rows = influence-theory-examples-proofs.every-influence-row;
+      U-six-calls = influence-theory-examples-proofs.every-six-call-row;
+      U-chains-not-enough = influence-theory-examples-proofs.chains-are-not-enough;
       K-each-part = repair-theory-claims-proofs.each-part-mended;
       K-mended-accepted = repair-theory-claims-proofs.mended-accepted;
       K-unmendable-refused = repair-theory-claims-proofs.unmendable-refused;
