@@ -638,8 +638,10 @@ uint32_t balkwizu_who_reaches(const uint32_t *holders, size_t holders_len,
  * The component of a domain in a table: two domains are joined when either has a
  * right on the other, and all that hang together with the domain by such joins,
  * however many, are its component, itself included. No list of calls ever lets a
- * domain influence one outside the component that it starts in, nor shows it
- * anything of one. Words are in the processor's own byte order. Nothing is written.
+ * domain influence one outside the component that it starts in. Without all the calls
+ * from outside it, a domain has the same answers, rights, queues and lost counts. This
+ * is about calls: a look up finds endpoints of other components too, by their names,
+ * which no call alters. Words are in the processor's own byte order. Nothing is written.
  *
  * Returns two things in one word: the code in bits 15-0 (BALKWIZU_COMPONENT_CODE),
  * and in bit 16 + u whether domain u is a member (BALKWIZU_COMPONENT_HAS).
