@@ -424,6 +424,29 @@ static void potential_of_t(void)
     IS(balkwizu_potential(table, 33, 8, rights, 8), BALKWIZU_TABLE_BAD_LENGTH);
 }
 
+/* On T nobody could influence 0 and 1 but these two, and all could influence 2; where 1
+ * doesn't act, 0 can't. */
+static uint32_t could_influence(size_t words, uint32_t actors, uint32_t domain)
+{
+    return balkwizu_could_influence(table, words, actors, domain);
+}
+
+static void influence_of_t(void)
+{
+    put_table_t();
+    IS(could_influence(EXAMPLE_TABLE_WORDS, 7, 2), 0x00070000);
+    uint32_t first = could_influence(EXAMPLE_TABLE_WORDS, 7, 0);
+    IS(BALKWIZU_INFLUENCE_CODE(first), BALKWIZU_OK);
+    IS(BALKWIZU_COULD_INFLUENCE(first, 0), 1);
+    IS(BALKWIZU_COULD_INFLUENCE(first, 1), 1);
+    IS(BALKWIZU_COULD_INFLUENCE(first, 2), 0);
+    IS(could_influence(EXAMPLE_TABLE_WORDS, 5, 2), 0x00040000);
+    IS(could_influence(EXAMPLE_TABLE_WORDS, 5, 1), 0x00030000);
+    IS(could_influence(EXAMPLE_TABLE_WORDS, 7, 3), BALKWIZU_NOT_A_DOMAIN);
+    IS(could_influence(EXAMPLE_TABLE_WORDS, 8, 2), BALKWIZU_NOT_A_DOMAIN);
+    IS(could_influence(33, 8, 3), BALKWIZU_TABLE_BAD_LENGTH);
+}
+
 /* T with a broken rights word and more waiting than there is room for, and T with a
  * broken name too. */
 static void repair_of_t(void)
@@ -702,6 +725,7 @@ int main(void)
     in_use = 0;
     components_of_t();
     potential_of_t();
+    influence_of_t();
     repair_of_t();
     list_l_written();
     calls_written();

@@ -206,6 +206,9 @@ int main(void)
                                     { (uintptr_t)table, BALKWIZU_TABLE_WORDS_MAX,
                                       (1u << DOMAINS) - 1, (uintptr_t)rights,
                                       DOMAINS * DOMAINS } };
+    const struct call could_influence = { (void (*)(void))balkwizu_could_influence,
+                                          { (uintptr_t)table, BALKWIZU_TABLE_WORDS_MAX,
+                                            (1u << DOMAINS) - 1, DOMAINS - 1 } };
     make_list();
     const struct call write = { (void (*)(void))balkwizu_write,
                                 { (uintptr_t)calls, make_calls(),
@@ -216,6 +219,8 @@ int main(void)
     failed |= tell_plain("balkwizu_version", &version, BALKWIZU_VERSION_STACK_BYTES);
     failed |= tell("balkwizu_component", &component, BALKWIZU_COMPONENT_STACK_BYTES);
     failed |= tell("balkwizu_potential", &potential, BALKWIZU_POTENTIAL_STACK_BYTES);
+    failed |= tell("balkwizu_could_influence", &could_influence,
+                   BALKWIZU_COULD_INFLUENCE_STACK_BYTES);
     failed |= tell("balkwizu_repair", &repair, BALKWIZU_REPAIR_STACK_BYTES);
     failed |= tell_write("balkwizu_write", &write, BALKWIZU_WRITE_STACK_BYTES);
     failed |= tell_turns();

@@ -78,7 +78,8 @@ extern "C" {
  *
  *   libbalkwizu.a
  *     balkwizu_component: general and xmm registers, aligned stack
- *     balkwizu_potential: general and xmm registers, aligned stack
+ *     balkwizu_could_influence: general and xmm registers, aligned stack
+ *     balkwizu_potential: general and xmm registers, aligned stack, unmarked jumps
  *     balkwizu_repair: general and xmm registers, aligned stack
  *     balkwizu_run: general and xmm registers, aligned stack, unmarked jumps
  *     balkwizu_run_by_length: general and xmm registers, aligned stack, unmarked jumps
@@ -99,6 +100,7 @@ extern "C" {
 #define BALKWIZU_COMPONENT_STACK_BYTES 1024
 #define BALKWIZU_REPAIR_STACK_BYTES 4096
 #define BALKWIZU_POTENTIAL_STACK_BYTES 1024
+#define BALKWIZU_COULD_INFLUENCE_STACK_BYTES 2304
 #define BALKWIZU_WRITE_STACK_BYTES 256
 #define BALKWIZU_WHO_REACHES_STACK_BYTES 256
 #define BALKWIZU_VERSION_STACK_BYTES 256
@@ -702,6 +704,52 @@ uint32_t balkwizu_component(const uint32_t *table, size_t table_len,
  */
 uint32_t balkwizu_potential(const uint32_t *table, size_t table_len,
                             uint32_t actors, uint32_t *rights, size_t rights_len);
+
+/* What balkwizu_could_influence returns, taken apart. */
+#define BALKWIZU_INFLUENCE_CODE(result) (BALKWIZU_WORD(result) & 0xFFFFu)
+#define BALKWIZU_COULD_INFLUENCE(result, domain)                               \
+    ((BALKWIZU_WORD(result) >> (16 + (domain))) & 1u)
+
+/*
+ * Who could ever influence a domain by any list of calls that only the actors make, of
+ * any length: the domain itself, and each actor from which a chain of rights that could
+ * come about (balkwizu_potential) leads to it, through other actors. Actors are a set of
+ * domains, bit u for domain u. For any list of their calls, the calls of those that are
+ * not reported can be left out: the domain has the same answers, rights, queues and lost
+ * counts without them. A chain of rights in a table doesn't say this, nor in each table
+ * along a list: rights are used, passed on and removed on the way.
+ *
+ * It is exact for the source set, by which influence along a list is defined: no list by
+ * actors makes another domain a source, and one list makes all that are reported
+ * sources. Not every source can show something: one that has REMOVE on the domain and no
+ * other right is reported too. Words are in the processor's own byte order. Nothing is
+ * written.
+ *
+ * Returns two things in one word: the code in bits 15-0 (BALKWIZU_INFLUENCE_CODE), and in
+ * bit 16 + u whether domain u could influence it (BALKWIZU_COULD_INFLUENCE).
+ *   0       BALKWIZU_OK
+ *   2 to 5  as balkwizu_table_check answers, for the table's words
+ *   32      BALKWIZU_NOT_A_DOMAIN: the domain isn't below n, or actors has a bit from
+ *           n on
+ * With 2 to 5 and 32 no domain is reported. The rights that could come about are
+ * computed on the stack, 1,024 bytes of it.
+ *
+ * The caller's duties:
+ *   - table points to table_len words that may be read, aligned to four bytes; it
+ *     isn't a null pointer, also where table_len is 0;
+ *   - nobody writes them during the call: no other core, interrupt or transfer.
+ *
+ * Example:
+ *
+ *     uint32_t everybody = 3; // both domains act
+ *     uint32_t result = balkwizu_could_influence(table, table_len, everybody, 1);
+ *     assert(BALKWIZU_INFLUENCE_CODE(result) == BALKWIZU_OK);
+ *     assert(BALKWIZU_COULD_INFLUENCE(result, 0) == 1);
+ *     result = balkwizu_could_influence(table, table_len, everybody, 0);
+ *     assert(BALKWIZU_COULD_INFLUENCE(result, 1) == 0); // by no list of calls
+ */
+uint32_t balkwizu_could_influence(const uint32_t *table, size_t table_len,
+                                  uint32_t actors, uint32_t domain);
 
 /* What balkwizu_repair returns, taken apart, and the most that it can ask for. */
 #define BALKWIZU_REPAIR_CODE(result) (BALKWIZU_WORD(result) & 0xFFFFu)

@@ -145,6 +145,7 @@ static const struct tried all[] = {
     CALL(CODE, balkwizu_who_reaches, WORDS(lent.holders), 0),
     CALL(CODE, balkwizu_component, WORDS(lent.table), DOMAINS - 1),
     CALL(CODE, balkwizu_potential, WORDS(lent.table), 5, WORDS(lent.rights)),
+    CALL(CODE, balkwizu_could_influence, WORDS(lent.table), 5, DOMAINS - 1),
     CALL(CODE, balkwizu_repair, WORDS(lent.worn), WORDS(lent.changes)),
     CALL(WRITTEN, balkwizu_write, WORDS(lent.calls), WORDS(lent.written)),
     CALL(NOTHING, balkwizu_turns_begin, WORDS(lent.state)),

@@ -13,6 +13,7 @@ ghost use Rattle.components.specs.Reported.{ComponentReported};
 ghost use Rattle.table_check_bytes.specs.Bytes.{bytesCode};
 ghost use Rattle.repair.specs.Repair.{RepairPromise};
 ghost use Rattle.potential.specs.Reported.{PotentialReported};
+ghost use Rattle.influence.specs.Reported.{InfluenceReported};
 
 // Checks a table before the kernel runs on it. Returns document 01's code, and the first check that fails decides:
 //   0  the table is accepted
@@ -126,6 +127,24 @@ pub extern "C" fn balkwizu_potential(table: &[u32], actors: u32, rights: &mut [u
 {
     let filled = potential::potential_of(table, actors, rights);
     filled.code()
+}
+
+// Returns who could ever influence a domain in a table where some domains act and the others do nothing: bit u of `actors` is set for
+// each domain u that acts. They are in the high 16 bits, bit 16 + u for the domain u: the domain itself, and each that acts from which
+// a chain of potential rights leads to it, through others that act. No list of their calls makes another a source of the domain, and
+// one list makes all of them sources.
+// The code is in the low 16 bits: 0, or 2 to 5 where the table is refused, or 32 where the domain isn't below n or actors has a bit
+// from n on. Where it is not 0 there are no domains.
+// Total: accepts arbitrary words in a slice of any length and any values as actors and domain, writes nothing and keeps nothing.
+// C: uint32_t balkwizu_could_influence(const uint32_t *table, size_t table_len, uint32_t actors, uint32_t domain)
+#[no_mangle]
+pub extern "C" fn balkwizu_could_influence(table: &[u32], actors: u32, domain: u32) -> u32
+    ensures { λ r. ⌜ InfluenceReported (now (table .entry)) actors domain (r % 65536) (r / 65536) ⌝ }
+{
+    let influence = influence::could_influence(table, actors, domain);
+    let code = influence.code();
+    let set = influence.set();
+    code + 65536 * set
 }
 
 // Encodes a call list from five words a call: its kind, its caller, A, B, and C or, for a look up and a send, what the second word
