@@ -14,8 +14,10 @@ use lib.ListN.{length, length-append}
 use Rattle.machine.specs.Below.{numbersBelow, hasBit}
 use Rattle.machine.specs.Word.{kind, caller, fieldA, fieldB, fieldC}
 use Rattle.machine.specs.Table.{domains}
-use Rattle.machine.specs.Call.{Call, Call.one, first, kindOf, callKind, callerOf, wantsSecond, unusedFields, allZero, hasSecond, wordPlaces}
-use Rattle.machine.specs.Machine.{place, framed, places, decide, effect, after, step, code, Decision.listsRights}
+use Rattle.machine.specs.Call.{Call, Call.one, first, kindOf, callKind, callerOf, wantsSecond, unusedFields, allZero, hasSecond}
+use Rattle.machine.specs.Machine.{decide, effect, after, step, code, Decision.listsRights}
+use Rattle.machine.specs.Guards.{place, framed, places}
+use Rattle.machine.proofs.Places.{decide-places}
 use Rattle.machine.specs.Influence.{reaches}
 use Rattle.machine.specs.DomainSet.{member}
 use Rattle.machine.specs.Purge.{reachesAny, joinedBy, sources}
@@ -97,8 +99,8 @@ module _ (u : ℕ) (small : u < 64) where
 
   module _ (t : List ℕ) (below : u < domains t) where
     ask-decided : decide t (one (askWord u)) ≡ listsRights u
-    unfolding decide callKind first kindOf places framed place wordPlaces unusedFields allZero wantsSecond hasSecond
-    ask-decided = rw (ask-kind, ask-by, ask-target, ask-second, ask-third, lt-ltb u (domains t) below, ask-kind)
+    unfolding callKind first kindOf places framed place unusedFields allZero wantsSecond hasSecond
+    ask-decided = rw (decide-places t (one (askWord u)), ask-kind, ask-by, ask-target, ask-second, ask-third, lt-ltb u (domains t) below, ask-kind)
 
     -- it is done, and alters nothing
     ask-done : (s : ℕ) → hasBit s u ≡ true → DoneBy s t (one (askWord u))

@@ -12,9 +12,9 @@ use Rattle.machine.specs.Check.{Accepted}
 use Rattle.machine.specs.Call.{Call}
 use Rattle.machine.specs.Machine.{step}
 use Rattle.machine.specs.Influence.{reaches}
-use Rattle.machine.specs.Unwinding as unwinding
+use Rattle.unwinding.specs.Unwinding as unwinding
 use Rattle.machine.proofs.Bools.{and-left, and-right}
-use Rattle.machine.proofs.Unwinding.{sources-closed}
+use Rattle.unwinding.proofs.Unwinding.{sources-closed}
 use Rattle.machine.proofs.Purge.{tables, sources-is}
 use Rattle.potential_theory.specs.Claims.{KnownCallersIn}
 use Rattle.potential_theory.proofs.Sets.{some-right}
