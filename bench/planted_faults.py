@@ -56,6 +56,8 @@ PANICS = "the separate machine panics"
 # Faults that no comparison with the kernel can show, by name, each with why. They
 # are caught by the tests of the separate implementation itself.
 UNSEEN = {
+    "could_influence_*": "who could influence a domain is compared with nothing yet",
+    "influence_list_*": "who could influence a domain is compared with nothing yet",
     "agree_*": "the second table of a pair of lines is drawn so that it agrees",
     "group_keeps_*": "a stray and a call of nobody alter nothing",
     "linerun_*": "linerun's reading: the fuzz runs the library",

@@ -24,7 +24,8 @@ SHOWN = {
 # The tests of the fault's own part are tried first, then those that draw little, which
 # take no time and catch most of the rest, then those of the other parts, then all.
 LITTLE = ["codes", "example", "rows", "queue", "influence", "linerun"]
-PARTS = ["writer", "repair", "holders", "potential", "totals", "turns", "turn_words"]
+PARTS = ["writer", "repair", "holders", "potential", "could_influence", "totals", "turns"]
+PARTS += ["turn_words"]
 
 
 def of(modules):

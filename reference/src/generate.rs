@@ -29,7 +29,10 @@ use crate::words::{content, to_bytes, word, CONTENT_MAX, EMPTY_SLOT};
 use crate::writer::{from_columns, to_columns, Value, COLUMNS};
 
 pub use events::{events, Event};
-pub use grants::{chained_table, list_by, potential_case, set_of_domains, PotentialCase};
+pub use grants::{
+    chained_table, influence_case, list_by, potential_case, set_of_domains, InfluenceCase,
+    PotentialCase,
+};
 pub use panel::{lent_panel, panel, panel_case, question, PanelCase};
 pub use sheet::{totals_input, Limits};
 pub use worn::{

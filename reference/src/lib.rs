@@ -21,6 +21,7 @@
 //! | [`holders`](mod@holders) | document 02, request (h): the panel's words, codes 6 and 32 |
 //! | [`repair`](mod@repair) | document 02, request (k): a table from a worn card, codes 33 and 34 |
 //! | [`potential`] | of no paper: the rights that some domains' calls could ever give |
+//! | [`could_influence`](mod@could_influence) | of no paper: who could be in the source set of a domain, code 32 |
 //! | [`totals`](mod@totals) | document 02, request (e): the end-of-shift sheet, codes 7, 2 to 5 and 1 |
 //! | [`turns`] | document 02, request (m): calls handed in one by one, codes 35 to 37 |
 //! | [`turn_words`] | what is kept between turns as words, which no paper lays out: code 99 |
@@ -31,6 +32,7 @@
 
 pub mod bytes;
 pub mod calls;
+pub mod could_influence;
 pub mod entry;
 pub mod example;
 pub mod generate;
@@ -52,6 +54,7 @@ pub mod writer;
 
 pub use bytes::check_bytes;
 pub use calls::{cut, Call};
+pub use could_influence::{could_influence, influence_list};
 pub use entry::run;
 pub use groups::{component, from_group};
 pub use holders::{holders, run_with_holders, step_with_holders, who_reaches};

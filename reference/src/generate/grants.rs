@@ -77,6 +77,35 @@ pub fn potential_case(rng: &mut Rng, max_n: usize, max_m: usize) -> PotentialCas
     }
 }
 
+/// What is asked of those who could influence a domain.
+#[derive(Debug, Clone, PartialEq, Eq)]
+pub struct InfluenceCase {
+    pub table: Vec<u32>,
+    /// The set of the domains that make calls.
+    pub actors: u32,
+    pub domain: u32,
+}
+
+/// Draws a question about those who could influence a domain, now and then one that is
+/// refused by 2 to 5 or 32.
+pub fn influence_case(rng: &mut Rng, max_n: usize, max_m: usize) -> InfluenceCase {
+    let PotentialCase { table, members, .. } = potential_case(rng, max_n, max_m);
+    let n = match check_table(&table) {
+        0 => domains(&table),
+        _ => rng.between(1, max_n),
+    };
+    let domain = match rng.below(16) {
+        0 => n as u32,
+        1 => rng.word(),
+        _ => rng.below(n) as u32,
+    };
+    InfluenceCase {
+        table,
+        actors: members,
+        domain,
+    }
+}
+
 /// A list of up to about `max_words` words for an accepted table, in which every known
 /// caller is a member; strays and unknown callers stand in it too. Many of its calls are
 /// grants.

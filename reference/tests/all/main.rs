@@ -7,13 +7,15 @@
 //! rules themselves; `writer` has rows for what is written and then round trips;
 //! `repair` has rows for what is broken and then worn tables; `holders` has rows for the
 //! panel's words and for chains of rights, and then drawn ones; `potential` has rows for
-//! what grants could ever give, and then both ways; `totals` has rows for the sheet and
+//! what grants could ever give, and then both ways; `could_influence` has rows for who
+//! could be in a source set, and then both ways; `totals` has rows for the sheet and
 //! its codes, and then drawn inputs; `turns` has rows for their order and for handing in,
 //! and `turn_words` for the words that they are kept in, each with drawn events behind
 //! them. The others are property tests over seeded random tables and
 //! lists; on failure they show the seed and the words.
 
 mod codes;
+mod could_influence;
 mod counts;
 mod example;
 mod generator;
