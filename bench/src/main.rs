@@ -77,7 +77,7 @@ const COMMANDS: [Command; 18] = [
     Command {
         name: "roads",
         given: "FILE",
-        purpose: "who has a road of rights to whom, now and ever",
+        purpose: "whose calls count for whom, in this list and ever",
         help: roads::HELP,
         act: roads::command,
     },

@@ -468,51 +468,71 @@ fn a_graph_is_written_that_other_tools_take() {
 }
 
 #[test]
-fn a_road_is_answered_by_a_sentence() {
+fn whether_calls_count_is_answered_by_the_first_line() {
     let line = ROADS;
-    let yes = printed(&["roads", line, "link", "drive-5"]);
+    let counts = printed(&["roads", line, "link", "drive-5"]);
     assert!(
-        yes.starts_with(
-            "Yes, domain 0 (link) has a road to domain 5 (drive-5) in this table: domain 0 (link) \
+        counts.starts_with(
+            "In this list: call 0 of domain 0 (link) counts for domain 5 (drive-5).\nIn this table \
+             a chain of rights leads from domain 0 (link) to domain 5 (drive-5): domain 0 (link) \
              has SEND on domain 1 (loader), domain 1 (loader) has GRANT and REMOVE on domain 5 \
-             (drive-5).\nNo call is needed for it to get one.\n"
+             (drive-5).\n"
         ),
-        "{yes}"
+        "{counts}"
     );
-    assert!(yes.contains("Kept for domain 5 (drive-5) are 1 of the 2 calls that domain 0 (link)"));
-    let joins = "kept: domain 2 (chute) comes into the set here by GRANT on domain 5 (drive-5)";
-    assert!(yes.contains(joins), "{yes}");
-    let could = printed(&["roads", line, "chute", "5"]);
+    let one = "Purged for domain 5 (drive-5) are 1 of the 2 calls that domain 0 (link) makes";
+    assert!(counts.contains(one), "{counts}");
+    let joins = "kept: domain 2 (chute) joins the source set here by GRANT on domain 5 (drive-5)";
+    assert!(counts.contains(joins), "{counts}");
+    let later = printed(&["roads", line, "chute", "5"]);
+    assert!(
+        later.starts_with(
+            "In this list: calls 3 and 4 of domain 2 (chute) count for domain 5 (drive-5).\nIn \
+             this table no chain of rights leads from domain 2 (chute) to domain 5 (drive-5); \
+             after call 2 one does: domain 2 (chute) has GRANT on domain 5 (drive-5).\n"
+        ),
+        "{later}"
+    );
+    let own = printed(&["roads", line, "5", "5"]);
+    assert!(own.starts_with("domain 5 (drive-5) is always in its own source set, without any"));
+}
+
+#[test]
+fn what_could_count_is_answered_by_the_calls_and_what_never_can_by_why() {
+    let line = ROADS;
+    let could = printed(&["roads", line, "drive-4", "drive-3"]);
     assert!(
         could.starts_with(
-            "No, domain 2 (chute) has no road to domain 5 (drive-5) in this table.\nIt could get \
-             one if domain 1 (loader) acts, by these calls:\n  domain 1 (loader) grants domain 2 \
-             (chute) GRANT and REMOVE on domain 5 (drive-5)\nThen "
+            "Not in this list, but it could: by these calls of domain 1 (loader), domain 2 (chute) \
+             and domain 4 (drive-4), which the proved kernel does, domain 4 (drive-4) is in the \
+             source set of domain 3 (drive-3):\n  domain 1 (loader) grants domain 2 (chute) SEND \
+             and GRANT on domain 2 (chute)\n  domain 2 (chute) grants domain 4 (drive-4) SEND and \
+             GRANT on domain 2 (chute)\n  domain 4 (drive-4) asks for its rights\n  domain 2 \
+             (chute) asks for its rights\nIn this table no chain of rights leads"
         ),
         "{could}"
     );
     let never = printed(&["roads", line, "5", "0"]);
-    let why = "all that it could ever have a road to is domain 2 (chute), domain 3 (drive-3) and \
-               domain 4 (drive-4).\n";
     assert!(
-        never.contains("\nIt can never get one") && never.contains(why),
+        never.starts_with(
+            "Never: whatever calls are made, by whomever, nothing that domain 5 (drive-5) does \
+             shows at domain 0 (link). This is proved.\nAll that it could ever have a chain of \
+             rights to is domain 2 (chute), domain 3 (drive-3) and domain 4 (drive-4).\n"
+        ),
         "{never}"
     );
     let apart = printed(&["roads", line, "panel", "drive-3"]);
+    let why = "proved.\nThe two are in connected components that no list can join.\n";
     assert!(
-        apart.contains("the two are in groups that no list can join.\n"),
+        apart.starts_with("Never: ") && apart.contains(why),
         "{apart}"
     );
-    assert!(apart.contains("Struck for domain 3 (drive-3) is all that domain 7 (panel) does"));
-    assert_eq!(
-        status(&["roads", line, "5", "0"]),
-        0,
-        "no road is an answer"
-    );
+    assert!(apart.contains("Purged for domain 3 (drive-3) is all that domain 7 (panel) does"));
+    assert_eq!(status(&["roads", line, "5", "0"]), 0, "it is an answer");
 }
 
 #[test]
-fn all_roads_are_told() {
+fn all_chains_and_source_sets_are_printed() {
     let input = file("roads.bin", &example());
     let all = printed(&["roads", &input]);
     let chain =
@@ -520,17 +540,16 @@ fn all_roads_are_told() {
                  2\n";
     assert!(all.contains(chain), "{all}");
     // Document 01, P12: four of the nine calls are struck for domain 1.
-    assert!(
-        all.contains("for domain 1, from its end back: 5 of 9 calls kept\n  at call 7: domain 0")
-    );
-    assert!(
-        all.contains("Roads that never come, whatever calls are made:\n  domain 2 to"),
-        "{all}"
-    );
+    let set = "Source set of domain 1 along the list, from its end back: 5 of 9 calls kept\n  at \
+               call 7: domain 0";
+    assert!(all.contains(set), "{all}");
+    let never = "Never, whatever calls are made: nothing that these do shows at\n  domain 2: ";
+    assert!(all.contains(never), "{all}");
+    assert!(!all.to_lowercase().contains("road"), "{all}");
 }
 
 #[test]
-fn what_roads_are_not_told_of_is_said() {
+fn what_cannot_be_answered_is_said() {
     let input = file("no-roads.bin", &example());
     for (line, why) in [
         (vec!["roads"], "no file is given"),

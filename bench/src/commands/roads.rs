@@ -1,4 +1,4 @@
-//! `bench roads`: who has a road of rights to whom, along a list and ever.
+//! `bench roads`: whose calls count for whom, in a list and ever, and by which rights.
 
 use std::ffi::OsString;
 use std::path::Path;
@@ -11,39 +11,45 @@ use crate::line::given::read_given;
 use crate::line::input::Input;
 use crate::line::names::Names;
 use crate::output::{self, say};
-use crate::pictures::roads::Told;
+use crate::pictures::chains::Asked;
 
 pub const HELP: &str = "\
 bench roads FILE [FROM TO] [--calls N]
 
-A road is a chain of rights, of any kind: FROM has one on some domain, that has
-one on the next, and so on to TO. Told are, of an input of linerun or a text
-that stands for one:
+Do the calls of FROM count for TO? A call counts for a domain where its caller
+is in the domain's source set: going from the end of the list back, the caller
+of a call joins it by any right that it has then on a member. All other calls
+are purged, and the domain has the same answers, rights, queues and lost counts
+without them. With FROM and TO, each a domain's number or its name in the text,
+the first line is one of these:
 
-  in the table     who has a road to whom, and the shortest one
-  along the list   the set for a domain, from the end of the list back: which
-                   calls are kept, and at which call and by which right their
-                   callers came into the set; all others are struck, and the
-                   domain sees the same without them
-  ever             who could come to a road, by whose calls, and who never can:
-                   that one's calls are struck in every list
+  In this list ...     calls of FROM count for TO, which ones, and whether any
+                       table of the run has a chain of rights from FROM to TO
+  Not in this list,    none does, but some would by other calls, which are
+  but it could ...     printed and which the proved kernel does
+  Never ...            no list, whoever makes its calls, has one that counts: so
+                       nothing that FROM does ever shows at TO. This is proved
 
-With FROM and TO, each a domain's number or its name in the text, the first
-lines answer for these two alone, and the calls that are kept for TO are told
-one by one. A word that is a number is taken as one.
+A chain of rights is of one table: FROM has one, of any kind, on some domain,
+that has one on the next, and so on to TO. Then come the chain in the table, and
+each call that is kept for TO, with when and by which right its caller joined. A
+word that is a number is taken as one. Without FROM and TO the same is printed
+of all domains: chains of rights in the table, source sets along the list, the
+chains that calls could ever give, and what never shows.
 
-  --calls N   tell N of these calls at most (default: all)
+  --calls N   print N of the calls that are kept at most (default: all)
 
-Who has a road, what could ever come about and what hangs together is answered
-by the proved functions. The roads themselves, and the sets along the list, are
-found here and held to these functions and to the separate machine.
+FILE is an input of linerun or a text that `bench words` takes. Who has a chain
+of rights, now or ever, and the connected components are the proved functions'.
+The chains themselves, and the source sets along the list, are found here and
+compared with these functions and with the reference implementation.
 
-Exit status: 0 told, also where there is no road; 1 the input or its table is
+Exit status: 0 answered, whatever the answer; 1 the input or its table is
 refused, with what is wrong, or what was found differs; 2 bad usage, or a file
 that can't be read.
 ";
 
-/// The command: whether it was told.
+/// The command: whether it was answered.
 pub fn command(line: &[OsString]) -> Result<bool, String> {
     let options = Options::parse(line, &["--calls"], &[])?;
     let (file, pair) = match options.files.as_slice() {
@@ -74,17 +80,17 @@ pub fn command(line: &[OsString]) -> Result<bool, String> {
         };
         Ok::<_, String>((found(from)?, found(to)?))
     });
-    Ok(told(&input, &given.names, pair.transpose()?, calls))
+    Ok(answer(&input, &given.names, pair.transpose()?, calls))
 }
 
-fn told(input: &Input, names: &Names, pair: Option<(usize, usize)>, calls: usize) -> bool {
-    let told = Told::of(input, names, calls).and_then(|told| match pair {
-        Some((from, to)) => told.pair(from, to),
-        None => told.everything(),
+fn answer(input: &Input, names: &Names, pair: Option<(usize, usize)>, calls: usize) -> bool {
+    let answer = Asked::of(input, names, calls).and_then(|asked| match pair {
+        Some((from, to)) => asked.pair(from, to),
+        None => asked.everything(),
     });
-    match &told {
+    match &answer {
         Ok(text) => output::write(text.as_bytes()),
         Err(differs) => say!("{differs}"),
     }
-    told.is_ok()
+    answer.is_ok()
 }

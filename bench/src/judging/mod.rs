@@ -5,6 +5,7 @@
 //! and their histories, what `linerun` prints, what was met in all, what is wrong cut down
 //! and told, how long it takes, by the length of a list too, and how many instructions.
 
+pub mod chains;
 pub mod checklist;
 pub mod compare;
 pub mod counts;
@@ -27,7 +28,6 @@ pub mod program_times;
 pub mod queues;
 pub mod repairs;
 pub mod report;
-pub mod roads;
 pub mod rows;
 pub mod runs;
 pub mod shrink;

@@ -1,12 +1,12 @@
-//! The domains of a table by what hangs together (document 02, request (j): groups), as
-//! the proved function tells it: no list of calls joins two of them.
+//! The connected components of a table (document 02, request (j): groups), as the proved
+//! function reports them: no list of calls joins two of them.
 
 use reference::table::domains;
 
 use crate::kernels::boundary::component;
 use crate::line::names::Names;
 
-/// The groups of an accepted table, each in order, the one with the lowest domain first.
+/// The components of an accepted table, each in order, the one with the lowest domain first.
 pub fn groups(table: &[u32]) -> Vec<Vec<usize>> {
     let n = domains(table);
     let mut groups: Vec<Vec<usize>> = Vec::new();
@@ -19,13 +19,16 @@ pub fn groups(table: &[u32]) -> Vec<Vec<usize>> {
     groups
 }
 
-/// A line that says which domains hang together.
+/// A line that says which domains are in one component.
 pub fn groups_in_words(table: &[u32], names: &Names) -> String {
     let groups = groups(table);
     let each: Vec<String> = groups.iter().map(|group| names.domain_row(group)).collect();
     match groups.len() {
-        1 => "Groups: all domains hang together\n".to_string(),
-        _ => format!("Groups that no list can join: {}\n", each.join(" | ")),
+        1 => "Connected components: one, of all domains\n".to_string(),
+        _ => format!(
+            "Connected components that no list can join: {}\n",
+            each.join(" | ")
+        ),
     }
 }
 
@@ -35,22 +38,22 @@ mod tests {
     use reference::example::TABLE_T;
 
     #[test]
-    fn what_hangs_together_is_told() {
+    fn connected_components_are_reported() {
         assert_eq!(groups(&TABLE_T), [[0, 1, 2]]);
         assert_eq!(
             groups_in_words(&TABLE_T, &Names::none()),
-            "Groups: all domains hang together\n"
+            "Connected components: one, of all domains\n"
         );
         let mut apart = TABLE_T;
         apart[6] = 0x2000_0000;
         assert_eq!(groups(&apart), [vec![0, 1], vec![2]]);
         assert_eq!(
             groups_in_words(&apart, &Names::none()),
-            "Groups that no list can join: 0 1 | 2\n"
+            "Connected components that no list can join: 0 1 | 2\n"
         );
         assert_eq!(
             groups_in_words(&apart, &Names::given("domain 2 drives")),
-            "Groups that no list can join: 0 1 | 2 (drives)\n"
+            "Connected components that no list can join: 0 1 | 2 (drives)\n"
         );
     }
 }
