@@ -1,8 +1,8 @@
 //! Lines 2, 3 and 4: answers and table, isolation, counts.
 
-use reference::calls::cut;
 use reference::table::{domains, endpoints, lost, waiting};
 use reference::words::CONTENT_MAX;
+use reference::{cut, members};
 
 use super::{each_run, Checklist, Found, Judged, Runs};
 use crate::cases::Case;
@@ -11,10 +11,9 @@ use crate::judging::checklist::shown;
 use crate::judging::compare::{difference, isolation, separate_run, Struck};
 use crate::judging::counts;
 use crate::judging::variants::Variant;
-use crate::kernels::lent::{Failure, Ran};
+use crate::kernels::lent::Ran;
 use crate::line::explain::counted;
 use crate::line::names::Names;
-use crate::pictures::reach::reach_in_words;
 
 /// So many domains are told by their names where each may have to be told for each.
 const DOMAINS_BY_NAME: usize = 6;
@@ -82,7 +81,7 @@ impl Checklist {
             in_order: "every domain sees the same without the calls struck for it",
             stands_on: vec![
                 struck_in_words(&list, &exercise, &self.names),
-                reach_at_the_end(runs.last(), &self.names),
+                sources_in_words(self.this_list(), &self.names),
             ],
             not_shown: shown::isolation(table, &exercise, of_list, &self.names),
             shown: exercise.iter().any(|struck| struck.by_domains != 0),
@@ -218,25 +217,20 @@ pub(super) fn count_difference(case: &Case, ran: &Ran) -> Result<(), String> {
     }
 }
 
-/// Who can reach each domain. A line may have some hundred domains to tell: names stand
-/// there where these are few.
-pub(super) fn reach_by_few_names(holders: &[u32], names: &Names) -> String {
-    match holders.len() > DOMAINS_BY_NAME {
-        true => reach_in_words(holders, &Names::none()),
-        false => reach_in_words(holders, names),
-    }
-}
-
-/// Who can reach each domain once the list that was handed in has run, by the words that
-/// the kernel left.
-fn reach_at_the_end(last: Option<&Result<Ran, Failure>>, names: &Names) -> String {
-    match last {
-        Some(Ok(ran)) => format!(
-            "by a chain of rights, at the end of this list: {}",
-            reach_by_few_names(&ran.holders, names)
-        ),
-        _ => "this list did not come to its end".to_string(),
-    }
+/// The source set of each domain over a list: whose calls count for it. A line may have
+/// some hundred of them to print: names are there where the domains are few.
+pub(super) fn sources_in_words(case: &Case, names: &Names) -> String {
+    let (n, calls, none) = (domains(&case.table), cut(&case.list), Names::none());
+    let names = if n > DOMAINS_BY_NAME { &none } else { names };
+    let each = (0..n).map(|domain| {
+        let set: Vec<usize> = members(&case.table, &calls, domain).into_iter().collect();
+        format!("{}: {}", names.domain(domain), names.domain_row(&set))
+    });
+    let each: Vec<String> = each.collect();
+    format!(
+        "source set of each domain over this list: {}",
+        each.join(", ")
+    )
 }
 
 /// The calls struck for each domain, those of other domains apart from those that are

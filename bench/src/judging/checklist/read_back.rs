@@ -9,8 +9,7 @@ use reference::table::{domains, endpoints};
 use reference::words::bits;
 
 use super::lines::{
-    count_difference, endpoint_counts, reach_by_few_names, same_size, struck_by_list,
-    word_difference,
+    count_difference, endpoint_counts, same_size, sources_in_words, struck_by_list, word_difference,
 };
 use super::{Found, Judged, Line, Verdicts};
 use crate::cases::Case;
@@ -178,10 +177,7 @@ impl ReadBack {
             in_order: "every domain sees the same without the calls struck for it",
             stands_on: vec![
                 struck_by_list(&struck, &self.names),
-                format!(
-                    "by a chain of rights, at the end of this list: {}",
-                    reach_by_few_names(&self.right.holders, &self.names)
-                ),
+                sources_in_words(&self.case, &self.names),
             ],
             not_shown: shown::isolation_by_list(&struck, &self.names),
             shown: struck.iter().any(|struck| struck.by_domains != 0),
@@ -267,6 +263,10 @@ mod tests {
             .any(|told| told.contains("11, 12, 13, 14, 15, 16, 18")));
         assert_eq!(answers.stands_on[0], "27 answer words and 34 table words");
         assert!(isolation.stands_on[0].contains("domain 0: 3, domain 1: 3, domain 2: 0"));
+        assert_eq!(
+            isolation.stands_on[1],
+            "source set of each domain over this list: domain 0: 0 1, domain 1: 0 1, domain 2: 0 1 2"
+        );
         assert_eq!(
             counts.stands_on[2],
             "endpoint 1: sent 2, received 1, lost 1, waiting 0 before and 0 after, lost count 1"

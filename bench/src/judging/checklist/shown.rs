@@ -114,7 +114,7 @@ pub fn isolation(
 
 /// Of line 3, by a list alone.
 pub fn isolation_by_list(list: &[Struck], names: &Names) -> NotShown {
-    let everyone = "each domain that calls reaches it, so nothing is struck";
+    let everyone = "each call of another domain counts for it, so nothing is struck";
     told(
         "by this list, isolation of domain",
         nothing_struck(list, names),
@@ -304,7 +304,7 @@ mod tests {
             &Names::none(),
         );
         assert!(told[0].starts_with("isolation of domain 1: every other domain has a right on it"));
-        assert!(told[1].starts_with("by this list, isolation of domain 0: each domain that calls"));
+        assert!(told[1].starts_with("by this list, isolation of domain 0: each call of another"));
         assert_eq!(
             isolation(&table, &[some, some], None, &Names::none()),
             NotShown::new()
