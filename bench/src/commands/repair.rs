@@ -4,6 +4,7 @@
 use std::ffi::OsString;
 use std::path::Path;
 
+use reference::grants_for;
 use reference::repair::PAIR_WORDS;
 use reference::table::{
     capacity, domains, endpoint_place, endpoint_words, endpoints, LOST, LOST_PLACE, WAITING,
@@ -14,12 +15,16 @@ use reference::words::{content, from_bytes, kind, to_bytes};
 use crate::args::Options;
 use crate::commands::refused::{self, Refusal};
 use crate::kernels::boundary::repair;
-use crate::line::explain::{counted, endpoint_in_words, meaning, place_in_words, table_fault};
+use crate::line::explain::{
+    counted, endpoint_in_words, meaning, place_in_words, rights_in_words, table_fault,
+};
 use crate::line::given::{read_given, Given};
 use crate::line::input::{read_at_most, read_once, shown, Input, INPUT_BYTES_MAX};
 use crate::line::names::Names;
 use crate::line::text;
 use crate::output::{may_write, may_write_both, say, write_file};
+use crate::pictures::chains::{actors, in_a_row};
+use crate::pictures::potential::could_hold;
 
 pub const HELP: &str = "\
 bench repair IN OUT [--image | --text] [--changes FILE]
@@ -213,14 +218,30 @@ fn rights_gone<'a>(
     places: &'a [usize],
     names: &'a Names,
 ) -> impl Iterator<Item = String> + 'a {
-    let n = domains(table);
+    let (n, could) = (domains(table), could_hold(table));
     let rights = places.iter().filter(move |&&place| place <= n * n);
     rights.map(move |place| {
-        let (holder, target) = (names.domain((place - 1) / n), names.domain((place - 1) % n));
+        let (holder, target) = ((place - 1) / n, (place - 1) % n);
         format!(
-            "{holder} has no right on {target} any more, whatever it had: who may, grants it anew"
+            "{} has no right on {} any more, whatever it had: {}",
+            names.domain(holder),
+            names.domain(target),
+            anew(table, (holder, target), could[place - 1], names)
         )
     })
+}
+
+/// Which rights of a holder on a target calls could give anew, and whose calls.
+fn anew(table: &[u32], (holder, target): (usize, usize), could: u32, names: &Names) -> String {
+    let everybody = !(!0 << domains(table));
+    match grants_for(table, everybody, holder, target, could) {
+        Some(list) if could != 0 => {
+            let by = actors(&list).into_iter().map(|actor| names.domain(actor));
+            let (set, by) = (rights_in_words(could), in_a_row(by.collect()));
+            format!("calls of {by} could give it {set}, and no list gives it more")
+        }
+        _ => "no list of calls gives it one, only another table does".to_string(),
+    }
 }
 
 fn queues_emptied<'a>(
@@ -303,8 +324,27 @@ mod tests {
         assert!(lines[1].starts_with("  word 6, the rights of domain 1 on domain 2: was 20000017"));
         assert!(lines[2].contains("endpoint 1's waiting count: was 50000001, is 50000000"));
         assert!(lines[4].contains("endpoint 1's message slot 0: was 70000005, is F0000000"));
-        assert!(lines[6].starts_with("  domain 1 has no right on domain 2 any more"));
+        assert_eq!(
+            lines[6],
+            "  domain 1 has no right on domain 2 any more, whatever it had: no list of calls gives \
+             it one, only another table does"
+        );
         assert!(lines[7].ends_with("1 message gone, its lost count of 3 begins at 0 again"));
+    }
+
+    /// What domain 0 had on domain 1 is gone, and domain 1 can give it what it has on 2.
+    #[test]
+    fn what_calls_could_give_anew_is_reported_with_whose() {
+        let broken = told(&[(3, 0x2000_0010)]);
+        let anew =
+            "  domain 0 has no right on domain 2 any more, whatever it had: calls of domain 1 \
+                    could give it SEND, GRANT and REMOVE, and no list gives it more";
+        assert!(broken.ends_with(anew), "{broken}");
+        let broken = told(&[(2, 0x2000_0010)]);
+        let gone =
+            "  domain 0 has no right on domain 1 any more, whatever it had: no list of calls \
+                    gives it one, only another table does";
+        assert!(broken.ends_with(gone), "{broken}");
     }
 
     #[test]
