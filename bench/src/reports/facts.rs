@@ -1,6 +1,7 @@
 //! The facts of a report, which the page and the JSON both tell.
 
 use reference::calls::cut;
+use reference::influence::tables_before;
 use reference::table::{capacity, domains, endpoints, lost, owner, rights_place, waiting};
 
 use crate::judging::checklist::Verdicts;
@@ -131,6 +132,12 @@ impl Report<'_> {
             .map(|place| cell((place / n, place % n)))
             .collect())
     }
+
+    /// The tables before each call of this list and after the last, by the reference
+    /// implementation's run.
+    pub fn tables(&self) -> Vec<Vec<u32>> {
+        tables_before(&self.line.table, &cut(&self.line.list))
+    }
 }
 
 #[cfg(test)]
@@ -144,8 +151,19 @@ pub mod tests {
         Checklist::new(kernel, &Input::example(), &Names::none(), 1).verdicts()
     }
 
-    /// What is made of a report with the verdicts, on a file whose name is hard to write.
+    /// What is made of a report with the verdicts on the worked example.
     pub fn with_report<T>(
+        verdicts: &Verdicts,
+        names: &Names,
+        make: impl FnOnce(&Report) -> T,
+    ) -> T {
+        with_report_on(&Input::example(), verdicts, names, make)
+    }
+
+    /// What is made of a report with the verdicts on a line, in a file whose name is hard to
+    /// write.
+    pub fn with_report_on<T>(
+        line: &Input,
         verdicts: &Verdicts,
         names: &Names,
         make: impl FnOnce(&Report) -> T,
@@ -156,7 +174,7 @@ pub mod tests {
                 file: "<script>\"&'".to_string(),
                 sha256: "00ff".repeat(16),
             },
-            line: &Input::example(),
+            line,
             names,
             judged: Judged::Kernel {
                 name: "balkwizu",

@@ -1,6 +1,6 @@
 //! The parts of a report's page.
 
-use reference::table::{domains, right, RIGHTS};
+use reference::table::{domains, right, rights_place, RIGHTS};
 use reference::words::{content, kind};
 
 use crate::judging::checklist::{Line, Verdicts};
@@ -247,24 +247,42 @@ fn cells_before(report: &Report) -> Vec<RightsCell> {
     words.map(cell).collect()
 }
 
-/// The rights that this list altered, in words.
+/// The rights that this list altered, in words, those too that are after it as before.
 fn altered(report: &Report, cells: &[RightsCell]) -> String {
-    let altered = cells.iter().filter(|cell| cell.before != cell.after);
-    let each: String = altered
-        .map(|cell| {
-            format!(
-                "<li>{} on {}: {} before, {} after</li>\n",
-                escaped(&report.names.domain(cell.holder)),
-                escaped(&report.names.domain(cell.target)),
+    let tables = report.tables();
+    let each = cells.iter().filter_map(|cell| {
+        let change = match cell.before == cell.after {
+            true => altered_between(&tables, cell)?,
+            false => format!(
+                "{} before, {} after",
                 held_in_words(cell.before),
                 held_in_words(cell.after)
-            )
-        })
-        .collect();
-    match each.is_empty() {
-        true => "<p>This list altered none.</p>\n".to_string(),
-        false => format!("<ul>\n{each}</ul>\n"),
+            ),
+        };
+        let holder = escaped(&report.names.domain(cell.holder));
+        let target = escaped(&report.names.domain(cell.target));
+        Some(format!("<li>{holder} on {target}: {change}</li>\n"))
+    });
+    match each.collect::<String>() {
+        none if none.is_empty() => "<p>This list altered none.</p>\n".to_string(),
+        each => format!("<ul>\n{each}</ul>\n"),
     }
+}
+
+/// What a holder has on a target before and after this list and what in between, where
+/// some call altered it, by the tables before each call.
+fn altered_between(tables: &[Vec<u32>], cell: &RightsCell) -> Option<String> {
+    let place = |table: &[u32]| rights_place(table, cell.holder, cell.target);
+    let words = tables.iter().map(|table| table[place(table)]);
+    let mut words: Vec<u32> = words.filter(|&word| word != cell.before).collect();
+    words.dedup();
+    let between: Vec<String> = words.into_iter().map(held_in_words).collect();
+    let before = held_in_words(cell.before);
+    let altered = !between.is_empty();
+    altered.then(|| {
+        let between = between.join(", then ");
+        format!("{before} before and after, {between} in between")
+    })
 }
 
 /// Whether a word is a set of rights, which a fault may leave otherwise.
@@ -331,9 +349,11 @@ pub fn signatures() -> String {
 #[cfg(test)]
 mod tests {
     use super::*;
+    use crate::judging::checklist::Checklist;
     use crate::kernels::boundary::{kernel, PROVED};
+    use crate::line::input::Input;
     use crate::line::names::Names;
-    use crate::reports::facts::tests::{verdicts, with_report};
+    use crate::reports::facts::tests::{verdicts, with_report, with_report_on};
     use crate::reports::page::page;
 
     fn has(page: &str, parts: &[&str]) {
@@ -377,6 +397,40 @@ mod tests {
             addresses,
             page.matches("xmlns=\"http://www.w3.org/2000/svg\"").count()
         );
+    }
+
+    /// Domain 1 grants domain 0 SEND on domain 2, which gives it up: the table is as before.
+    #[test]
+    fn rights_that_were_granted_and_given_up_are_reported() {
+        let line = |list: Vec<u32>| Input {
+            table: table_with_revoke(),
+            list,
+        };
+        let page_of = |line: &Input| {
+            let verdicts = Checklist::new(PROVED, line, &Names::none(), 1).verdicts();
+            with_report_on(line, &verdicts, &Names::none(), page)
+        };
+        let granted_and_revoked = line(vec![0x6042_0001, 0x8042_0001]);
+        let page = page_of(&granted_and_revoked);
+        has(
+            &page,
+            &["<li>domain 0 on domain 2: none before and after, SEND in between</li>"],
+        );
+        assert!(!page.contains("This list altered none."), "{page}");
+        let twice = line(vec![0x6042_0001, 0x6042_0003, 0x8042_0003]);
+        let both = "none before and after, SEND, then SEND and GRANT in between</li>";
+        has(&page_of(&twice), &[both]);
+        has(
+            &page_of(&line(vec![0x5000_0000])),
+            &["<p>This list altered none.</p>"],
+        );
+    }
+
+    /// The table of the worked example, where domain 1 has REVOKE on domain 2 too.
+    fn table_with_revoke() -> Vec<u32> {
+        let mut table = Input::example().table;
+        table[6] = 0x2000_000F;
+        table
     }
 
     #[test]
