@@ -27,10 +27,11 @@ pub fn in_words(input: &Input, names: &Names, left: Option<&Ran>, calls: usize) 
         let rights = rights_in_words(&left.table, names);
         let queues = queues_in_words(&left.table, names);
         let reach = reach_in_words(&left.holders, names);
-        format!("\nAfter the list\n\n{rights}Reached by a chain of rights: {reach}\n\n{queues}")
+        let reach = format!("Reached by a chain of rights in this table: {reach}\n");
+        format!("\nAfter the list\n\n{rights}{reach}\n{queues}")
     });
     format!(
-        "Table: {}, {}, {}\n\n{}{}Reached by a chain of rights: {}\n{}\n{}\n{}{}",
+        "Table: {}, {}, {}\n\n{}{}Reached by a chain of rights in this table: {}\n{}\n{}\n{}{}",
         counted(domains(table), "domain"),
         counted(endpoints(table), "endpoint"),
         counted(table.len(), "word"),
@@ -224,7 +225,7 @@ mod tests {
         assert_eq!(answers, wanted, "{told}");
         let after = told.split("After the list").nth(1).unwrap();
         assert!(after.contains("domain  0     .    S    S\n"), "{after}");
-        let reach = "chain of rights: domain 0 by 0 1, domain 1 by 0 1, domain 2 by 0 1 2\n";
+        let reach = "in this table: domain 0 by 0 1, domain 1 by 0 1, domain 2 by 0 1 2\n";
         assert!(after.contains(reach), "{after}");
         assert!(after.contains("0 of 1 waiting, 1 lost"), "{after}");
     }

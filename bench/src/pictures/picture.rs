@@ -97,7 +97,7 @@ impl Page<'_> {
     fn reach(&mut self, table: &[u32]) {
         let holders = holders_of(table);
         let height = PANEL_HEAD + ROW * holders.len() as f64 + 8.0;
-        let heading = "Who can reach a domain, by a chain of rights";
+        let heading = "Who can reach a domain, by a chain of rights in this table";
         let top = panel(
             &mut self.drawing,
             (MARGIN, self.y),
@@ -326,7 +326,7 @@ mod tests {
         assert_eq!(bent, 3, "three rights words are not empty");
         assert!(picture.contains("domain 0 sends 5 to endpoint 1"));
         assert!(picture.contains("name 18"));
-        assert!(picture.contains("Who can reach a domain, by a chain of rights"));
+        assert!(picture.contains("Who can reach a domain, by a chain of rights in this table"));
     }
 
     #[test]
