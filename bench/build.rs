@@ -45,6 +45,7 @@ const KERNEL: Archive = Archive {
         "balkwizu_component",
         "balkwizu_repair",
         "balkwizu_potential",
+        "balkwizu_could_influence",
         "balkwizu_write",
         "balkwizu_who_reaches",
         "balkwizu_version",

@@ -8,12 +8,12 @@ implementation with the faults in it, and with each of them switched on the same
 seeded fuzz must end with a reported difference between that and the kernel. What it
 says to see it again must show it with the kernel's working run too, and the same seeded
 steps must report the fault where it is one of a single call. A fault that shows only on
-words that no check accepts must be reported by the same seeded queues, one of a repair
-or of potential rights by the same seeded tables, one of turns by the same seeded
-histories, one of the writer by the fuzz's lists alone, and one of a set that leaves
-every view equal by the roads of an example. With none switched on all must pass. A
-panic, a run that doesn't end and a code never met are no reported difference, and
-none may be told as one that is right when it is tried by itself.
+words that no check accepts must be reported by the same seeded queues, one of a repair,
+of potential rights or of who could influence a domain by the same seeded tables, one of
+turns by the same seeded histories, one of the writer by the fuzz's lists alone, and one
+of a source set that leaves every view equal by `bench roads` on an example. With none
+switched on all must pass. A panic, a run that doesn't end and a code never met are no
+reported difference, and none may be told as one that is right when it is tried by itself.
 
     python3 bench/planted_faults.py            all faults
     python3 bench/planted_faults.py NAME...    some of them
@@ -56,8 +56,6 @@ PANICS = "the separate machine panics"
 # Faults that no comparison with the kernel can show, by name, each with why. They
 # are caught by the tests of the separate implementation itself.
 UNSEEN = {
-    "could_influence_*": "who could influence a domain is compared with nothing yet",
-    "influence_list_*": "who could influence a domain is compared with nothing yet",
     "agree_*": "the second table of a pair of lines is drawn so that it agrees",
     "group_keeps_*": "a stray and a call of nobody alter nothing",
     "linerun_*": "linerun's reading: the fuzz runs the library",
@@ -77,6 +75,8 @@ UNSEEN = {
 # caller's own right, and where everything is kept.
 BY_ANOTHER = {
     "columns_*": LISTS,
+    "could_influence_*": TABLES,
+    "influence_list_*": TABLES,
     "holders_of_the_caller_alone": STEP,
     "potential_*": TABLES,
     "purge_keeps_everything": ROADS,

@@ -3,10 +3,11 @@
 use std::ffi::OsString;
 
 use crate::commands::drawn::Drawn;
+use crate::judging::influences::{self, try_influences};
 use crate::judging::potentials::{self, try_potentials};
 use crate::judging::repairs::{self, try_repairs};
 use crate::judging::trying::Summary;
-use crate::kernels::boundary::{potential, repair};
+use crate::kernels::boundary::{could_influence, potential, repair};
 
 pub const HELP: &str = "\
 bench tables [--cases N] [--seed S] [--from K] [--time T]
@@ -16,7 +17,9 @@ the separate ones: repairs of worn tables, damaged by one bit, by runs of words
 as a worn card gives them, or in many words. What is repaired must pass the
 table's check, and the list of what was altered must put the old table back. And
 potential rights: lists by the actors must give nobody more, and a list is built
-for each table that gives them all.
+for each table that gives them all. And who could influence a domain: lists by
+the actors must have no other source, the domain must see the same without the
+calls of others, and a list is built for each table that has all sources.
 
   --cases N  tables to try (default 20,000)
   --seed S   the seed that they are drawn from (default 1)
@@ -34,16 +37,18 @@ bad usage.
 struct Met {
     repairs: repairs::Met,
     potentials: potentials::Met,
+    influences: influences::Met,
 }
 
 impl Summary for Met {
     fn in_words(&self) -> String {
         let (repairs, potentials) = (self.repairs.in_words(), self.potentials.in_words());
-        format!("{repairs}\n{potentials}")
+        format!("{repairs}\n{potentials}\n{}", self.influences.in_words())
     }
 
     fn missing(&self) -> Vec<String> {
-        [self.repairs.missing(), self.potentials.missing()].concat()
+        let (repairs, potentials) = (self.repairs.missing(), self.potentials.missing());
+        [repairs, potentials, self.influences.missing()].concat()
     }
 }
 
@@ -58,7 +63,8 @@ const TABLES: Drawn = Drawn {
 pub fn command(line: &[OsString]) -> Result<bool, String> {
     TABLES.command(line, |draws, met: &mut Met| {
         try_repairs(repair, draws, &mut met.repairs)?;
-        try_potentials(potential, draws, &mut met.potentials)
+        try_potentials(potential, draws, &mut met.potentials)?;
+        try_influences(could_influence, draws, &mut met.influences)
     })
 }
 

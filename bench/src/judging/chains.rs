@@ -5,13 +5,12 @@
 //! reference implementation, and a difference is reported.
 
 use reference::calls::{Call, MY_RIGHTS};
-use reference::entry::ANSWER_WORDS;
 use reference::table::{domains, rights};
 use reference::words::{bits, hex, word};
 use reference::{cut, grants_for_all, members, purge, sources, step};
 
-use crate::kernels::boundary::{component, potential, who_reaches, PROVED};
-use crate::kernels::lent::table_left;
+use crate::kernels::boundary::{component, could_influence, potential, who_reaches, PROVED};
+use crate::kernels::lent::{all_done, table_left};
 
 /// A right, or several, of one domain on another: a step of a chain.
 #[derive(Debug, Clone, Copy, PartialEq, Eq)]
@@ -43,11 +42,19 @@ impl Chains {
     /// set, where all act.
     pub fn ever(table: &[u32]) -> Result<Chains, String> {
         let n = domains(table);
-        let mut sets = vec![0; n * n];
-        match potential(table, !(!0 << n), &mut sets) {
-            0 => Chains::by(n, sets),
-            code => Err(format!("the potential rights are refused with {code}")),
+        let (everybody, mut sets) = (!(!0 << n), vec![0; n * n]);
+        let code = potential(table, everybody, &mut sets);
+        if code != 0 {
+            return Err(format!("the potential rights are refused with {code}"));
         }
+        let proved = (0..n as u32).map(|target| match could_influence(table, everybody, target) {
+            (0, set) => Ok(set),
+            (code, _) => Err(format!(
+                "who could influence domain {target} is refused with {code}"
+            )),
+        });
+        let proved: Result<Vec<u32>, String> = proved.collect();
+        proved.map(|proved| Chains { n, sets, proved })
     }
 
     fn by(n: usize, sets: Vec<u32>) -> Result<Chains, String> {
@@ -415,13 +422,8 @@ impl Run {
 /// That the proved kernel does each call of a list, and that by it one domain is in the
 /// source set of another.
 fn done_and_joined(table: &[u32], list: &[u32], from: usize, to: usize) -> Result<(), String> {
-    let calls = cut(list).len();
-    let (mut left, mut holders) = (table.to_vec(), vec![0; domains(table)]);
-    let mut answers = vec![0; ANSWER_WORDS * calls];
-    let ran = PROVED.run(&mut left, list, &mut answers, &mut holders);
-    let done = |answer: &[u32]| bits(answer[0], 15, 0) == 0;
     let joined = !Run::of(table, list)?.counting(from, to)?.is_empty();
-    match ran.code == 0 && answers.chunks_exact(ANSWER_WORDS).all(done) && joined {
+    match joined && all_done(&PROVED, table, list)? {
         true => Ok(()),
         false => Err(format!(
             "DIFFERENCE\n  domain {from} could be in the source set of domain {to}, and the list \
@@ -435,7 +437,6 @@ fn done_and_joined(table: &[u32], list: &[u32], from: usize, to: usize) -> Resul
 mod tests {
     use super::*;
     use crate::line::input::Input;
-    use reference::could_influence;
     use reference::example::TABLE_T;
     use reference::generate::{chained_table, list, walled_table, Rng};
 
@@ -583,7 +584,7 @@ mod tests {
             let list = list(&mut rng, &table, 12);
             let run = Run::of(&table, &list).unwrap();
             let (from, to) = (rng.below(n), rng.below(n));
-            let (_, could) = could_influence(&table, !(!0 << n), to as u32);
+            let (_, could) = reference::could_influence(&table, !(!0 << n), to as u32);
             let verdict = run.verdict(from, to).unwrap();
             let never = matches!(verdict, Verdict::Never { .. });
             assert_eq!(never, could >> from & 1 == 0, "table {number}");

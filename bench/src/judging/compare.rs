@@ -151,6 +151,20 @@ pub fn component_isolation(case: &Case, kernel: &Ran, domain: usize) -> Result<S
     without_struck(case, kernel, domain, &calls)
 }
 
+/// The same with every call purged whose caller isn't in a set of domains, as bits.
+pub fn influence_isolation(
+    case: &Case,
+    kernel: &Ran,
+    domain: usize,
+    set: u32,
+) -> Result<Struck, String> {
+    let member = |caller: u32| caller < 32 && set >> caller & 1 == 1;
+    let kept = |call: &Call| call.caller().is_some_and(member);
+    let calls = cut(&case.list).into_iter();
+    let calls: Vec<(Call, bool)> = calls.map(|call| (call, kept(&call))).collect();
+    without_struck(case, kernel, domain, &calls)
+}
+
 /// Compares what a domain sees of the kernel's run of all calls and of the separate
 /// machine's run of those that are kept.
 fn without_struck(

@@ -1,7 +1,7 @@
 //! What a kernel did, beside what it should have done: the comparison with the
 //! separate machine, the counts of the queues, the exercise made from a table and the
 //! variants of a line that are tried, the checklist, the random runs, table images,
-//! lists to be written, single calls, single queues, pairs of lines and components, turns
+//! lists to be written, single calls, single queues, pairs of lines and components, who could influence whom, turns
 //! and their histories, what `linerun` prints, what was met in all, what is wrong cut down
 //! and told, how long it takes, by the length of a list too, and how many instructions.
 
@@ -15,6 +15,7 @@ pub mod growth;
 pub mod histories;
 pub mod holders;
 pub mod images;
+pub mod influences;
 pub mod instructions;
 pub mod jobs;
 pub mod lengths;

@@ -294,6 +294,25 @@ pub fn potential(table: &[u32], actors: u32, rights: &mut [u32]) -> u32 {
     }
 }
 
+/// Who could influence a domain of a table where the actors alone make calls: the code, and
+/// those domains as bits.
+pub type CouldInfluence = fn(table: &[u32], actors: u32, domain: u32) -> (u32, u32);
+
+/// Who could influence a domain by the proved kernel.
+pub fn could_influence(table: &[u32], actors: u32, domain: u32) -> (u32, u32) {
+    extern "C" {
+        fn balkwizu_could_influence(
+            table: *const u32,
+            table_len: usize,
+            actors: u32,
+            domain: u32,
+        ) -> u32;
+    }
+    // SAFETY: a slice, valid for its length and aligned.
+    let answer = unsafe { balkwizu_could_influence(table.as_ptr(), table.len(), actors, domain) };
+    (bits(answer, 15, 0), bits(answer, 31, 16))
+}
+
 /// A repair of a table: its code, and how many words it altered, each of which has two in
 /// the list.
 pub type Repair = fn(table: &mut [u32], changes: &mut [u32]) -> (u32, u32);

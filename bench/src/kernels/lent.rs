@@ -7,6 +7,7 @@ use std::time::Duration;
 use reference::calls::cut;
 use reference::entry::ANSWER_WORDS;
 use reference::table::domains;
+use reference::words::bits;
 use reference::Call;
 
 use crate::cases::Case;
@@ -196,11 +197,26 @@ pub fn step_here(step: Step, case: &Case, call: &Call) -> Result<Ran, Failure> {
 /// The table that a kernel leaves of a list, lent as much as it needs; an error where it
 /// refuses the list.
 pub fn table_left(kernel: &Kernel, table: &[u32], list: &[u32]) -> Result<Vec<u32>, String> {
+    left_and_answers(kernel, table, list).map(|(left, _)| left)
+}
+
+/// Whether a kernel does each call of a list; an error where it refuses the list.
+pub fn all_done(kernel: &Kernel, table: &[u32], list: &[u32]) -> Result<bool, String> {
+    let (_, answers) = left_and_answers(kernel, table, list)?;
+    let done = |answer: &[u32]| bits(answer[0], 15, 0) == 0;
+    Ok(answers.chunks_exact(ANSWER_WORDS).all(done))
+}
+
+fn left_and_answers(
+    kernel: &Kernel,
+    table: &[u32],
+    list: &[u32],
+) -> Result<(Vec<u32>, Vec<u32>), String> {
     let mut left = table.to_vec();
     let mut answers = vec![0; ANSWER_WORDS * cut(list).len()];
     let mut holders = vec![0; domains(table)];
     match kernel.run(&mut left, list, &mut answers, &mut holders).code {
-        0 => Ok(left),
+        0 => Ok((left, answers)),
         code => Err(format!("the kernel refuses a list with {code}")),
     }
 }
