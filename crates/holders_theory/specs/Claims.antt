@@ -24,11 +24,11 @@ use Rattle.holders_theory.specs.Asked.{askable, askCode, asked}
 abbrev pub HoldersSay : Type 0
 HoldersSay = (t : List ℕ) (h g : ℕ) → h < domains t → g < domains t → hasBit (getD (holdersOf t) g 0) h ≡ reaches t h g
 
--- Noting what a call alters turns the holders of the table before it into those of the table after it, computed afresh.
+-- Noting what a call alters turns the holders of an accepted table before it into those of the table after it, computed afresh.
 abbrev pub HoldersKept : Type 0
 HoldersKept = (t : List ℕ) (c : Call) → Accepted t → holdersAfter (holdersOf t) (effect t (decide t c)) ≡ holdersOf (step t c)
 
--- Noted from the start of a list on, the words are the holders of the table after each of its calls: after the first k, for any k.
+-- Noted from an accepted table on, the words are the holders of the table after each of any calls: after the first k, for any k.
 abbrev pub HoldersKeptAlong : Type 0
 HoldersKeptAlong =
     (t : List ℕ) (cs : List Call) (k : ℕ)

@@ -140,7 +140,7 @@ lineRows =
     })
     ∷ []
 
--- The condition can be met by lines that differ.
+-- The condition is met for domain 0 by two lines, of which the first rows say what differs.
 abbrev pub ConditionMet : Type 0
 ConditionMet = TwoLines bareLine busyLine × AgreeOnSources 0 (split sharedList) bareLine busyLine
 
@@ -161,6 +161,6 @@ PartsAreNotEnough = RuleWith (λ d cs s t. (v : ℕ) → member v (sources s cs 
 abbrev pub OwnPartIsNotEnough : Type 0
 OwnPartIsNotEnough = RuleWith (λ d cs s t. Agree d s t) → ⊥
 
--- nor on the source set that is computed on the table at the end: rights that were used and then removed are missed.
+-- nor on the source set of the calls run from the table that they left.
 abbrev pub LastTableIsNotEnough : Type 0
 LastTableIsNotEnough = RuleWith (λ d cs s t. (v : ℕ) → member v (sources (run s cs) cs d) ≡ true → Agree v s t) → ⊥

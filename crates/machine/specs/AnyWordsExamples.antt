@@ -1,5 +1,5 @@
 -- Rows that pin the definitions on words that no check accepts: a word past the end reads as 0, a field is all of its bits, and a
--- send or a receive leaves what its row doesn't name. Worked out by hand. No run comes to such a table, since its entry refuses
+-- send or a receive leaves what its row doesn't name. Worked out by hand. No run is of such a table, since its entry refuses
 -- it: what a function does with such words is said by its own contract, and by these rows only where that cites the definition.
 use Prim.Native.Nat.{ℕ}
 use mathlib.Core.Path.{_≡_}

@@ -37,14 +37,15 @@ pub record RefusesFirst (k : Kind) (n : ℕ) (ps : List (List Kind × ℕ × Boo
   pub has : oneOf k kinds ≡ true
   pub earlier : noneRefuses k before ≡ true
 
--- A call is refused by a code exactly where the first place that refuses has it, and does its row exactly where none refuses.
+-- A call is refused by a code exactly where the first place that refuses has it; where none refuses the decision is its row, and
+-- where no code refuses it no place does.
 pub record RefusedExactly (t : List ℕ) (c : Call) : Type 0 where
   pub condition : (n : ℕ) → decide t c ≡ refused n → RefusesFirst (callKind c) n (placesOf t c)
   pub refusal : (n : ℕ) → RefusesFirst (callKind c) n (placesOf t c) → decide t c ≡ refused n
   pub row : noneRefuses (callKind c) (placesOf t c) ≡ true → decide t c ≡ rowOf t c (callKind c)
   pub passed : ((n : ℕ) → decide t c ≡ refused n → ⊥) → noneRefuses (callKind c) (placesOf t c) ≡ true
 
--- "Each refusal under its own condition and under no other" (document 01, demand 2), on any table.
+-- "The first failing place decides" (document 01, 'Where each number is checked'), on any table.
 abbrev pub EveryCallRefusedExactly : Type 0
 EveryCallRefusedExactly = (t : List ℕ) (c : Call) → RefusedExactly t c
 
@@ -142,7 +143,7 @@ EveryRemoveOfOne =
 
 -- ---- calls of any number, run from an accepted table; the words rest may follow the answers, as in a larger answer space
 
--- A run leaves an accepted table, with the same unchanging parts.
+-- A run from an accepted table leaves an accepted table, with the same unchanging parts.
 abbrev pub EveryRunStaysAccepted : Type 0
 EveryRunStaysAccepted = (t : List ℕ) (cs : List Call) → Accepted t → StaysAccepted t (run t cs)
 

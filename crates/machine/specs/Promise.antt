@@ -34,6 +34,6 @@ pub record RunPromise (t ws space holders : List ℕ) (code calls : ℕ) (answer
 abbrev pub Keeps : List ℕ → List ℕ → List ℕ → List ℕ → Outcome → Type 0
 Keeps t ws space holders o = RunPromise t ws space holders (o .code) (o .calls) (o .answers) (o .table) (o .holders)
 
--- The entry itself keeps the promise, and so does what is stated by it, as the report of linerun.
+-- The entry itself keeps the promise.
 abbrev pub EveryEntryKeeps : Type 0
 EveryEntryKeeps = (t ws space holders : List ℕ) → Keeps t ws space holders (entry t ws space holders)

@@ -22,7 +22,7 @@ use Rattle.potential_theory.specs.Lists.{potentialList}
 
 -- ---- what is computed
 
--- The computed rights are exactly the potential ones.
+-- The rights computed of an accepted table are exactly the potential ones.
 abbrev pub EveryPotentialRight : Type 0
 EveryPotentialRight =
     (t : List ℕ) (s : ℕ)
@@ -48,7 +48,8 @@ WithinPotential t s end =
     → holds (rights end h g) (2 ^ k) ≡ true
     → holds (potentialRights t s h g) (2 ^ k) ≡ true
 
--- Whatever calls are run, however many, refused or not: if their known callers are in s, they give only what is potential.
+-- Whatever calls are run from an accepted table, however many, refused or not: if their known callers are in s, they give only what
+-- is potential.
 abbrev pub EveryRunWithinPotential : Type 0
 EveryRunWithinPotential =
     (t : List ℕ) (s : ℕ) (cs : List Call)
@@ -65,14 +66,14 @@ EveryPromisedRunWithinPotential =
 unfoldable pub everyone : List ℕ → ℕ
 everyone t = bitsBelow (domains t) (λ _. true)
 
--- What all domains together can bring about bounds all calls whatsoever, and every list that the kernel runs.
+-- What all domains together can bring about bounds all calls whatsoever, run from an accepted table.
 abbrev pub EveryRunWithinEveryone : Type 0
 EveryRunWithinEveryone = (t : List ℕ) (cs : List Call) → Accepted t → WithinPotential t (everyone t) (machine.run t cs)
 
 abbrev pub EveryPromisedRunWithinEveryone : Type 0
 EveryPromisedRunWithinEveryone = (t ws : List ℕ) (p : PromisedRun t ws) → WithinPotential t (everyone t) (p .end)
 
--- Nothing new becomes possible: what is potential after calls of s was so before them.
+-- Nothing new becomes possible: what is potential after calls of s, run from an accepted table, was so before them.
 abbrev pub EveryRunNothingNew : Type 0
 EveryRunNothingNew =
     (t : List ℕ) (s : ℕ) (cs : List Call)
@@ -106,7 +107,7 @@ pub record GivesAll (t : List ℕ) (s : ℕ) (ws : List ℕ) : Type 0 where
   pub calls : AllDoneBy s t (split ws)
   pub gives : HasPotential t s (machine.run t (split ws))
 
--- There is one list that gives all of them, and it is computed.
+-- There is one list that gives all of them from an accepted table, and it is computed.
 abbrev pub EveryPotentialListGivesAll : Type 0
 EveryPotentialListGivesAll = (t : List ℕ) (s : ℕ) → Accepted t → GivesAll t s (potentialList t s)
 

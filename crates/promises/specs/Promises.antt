@@ -1,5 +1,7 @@
--- Everything that is claimed, on one page: a field for each closed claim of documents 01 and 02 and of our own, in the papers' order.
--- A field's type is the claim as its crate states it. What is claimed of the words that a function leaves is in its contract.
+-- What is claimed, on one page: a field for each closed claim in the specs of a crate, of documents 01 and 02 and of our own. The
+-- worked example is first, then come the sections of document 01 and the requests of document 02, in this order but for a few
+-- headings of our own. A field's type is the claim as its crate states it. What is claimed of the words that a function leaves is in
+-- its contract. Rows that only a crate's proofs state are not here.
 use mathlib.Core.List.{[], _∷_}
 use Rattle.holders_theory.specs.Claims as holders-theory-claims
 use Rattle.holders_theory.specs.Examples as holders-theory-examples
@@ -64,20 +66,20 @@ pub record Promises : Type 0 where
   pub D-rows : machine-examples.EveryRow machine-examples.rows
   -- ---- Document 01, "The table", "The calls" and "Where each number is checked": rows that pin what the worked example leaves
   -- open
-  -- Every code from 10 to 23 with its order, what each call answers, a table in which the caller, the target and the owner
-  -- differ, and the edges of the entry.
+  -- Every code from 10 to 23 with its order, what calls of the kinds 1 to 7 answer, a table in which the caller, the target and
+  -- the owner differ, and the edges of the entry.
   pub D-codes : machine-examples.EveryRow machine-code-examples.codeRows
-  -- The check of a table, word by word and bit by bit, and the order of its places.
+  -- The check of a table: rows for each kind of word, bits 27–16 of word 0 and of an info one by one, and the order of its places.
   pub D-tables : machine-table-examples.EveryTable machine-table-examples.tableRows
-  -- The fields of a call, bit by bit, which words make one call, which right each call requires, and a queue through all its
-  -- slots.
+  -- The fields of a call, of a look up bit by bit and of the others by their lowest and highest bit, which words make one call,
+  -- which right each call requires, and a queue through all its slots.
   pub D-fields : machine-examples.EveryRow machine-field-examples.fieldRows
-  -- What the definitions give for words that no check accepts.
+  -- Eight values that the definitions give for words that no check accepts.
   pub D-any-words : machine-any-words-examples.AnyWordsHold
   -- The counts and the order of messages of one list, of endpoint 1 and of endpoint 0.
   pub D-counts-row : machine-count-examples.CountRowHolds
   -- The smallest table, one with no endpoint and the largest; then the largest with its last rights word or its last slot wrong,
-  -- with the name of its last endpoint repeated, and with one domain or one endpoint more.
+  -- with the name of its last endpoint repeated; then 17 domains with no endpoint, and one domain with 33 endpoints.
   pub D-sizes : machine-table-examples.EveryTable (machine-limits-rows.sizeRows ∷ [])
   -- Calls at both ends of the largest table, every right there is, and a list that is one word too long.
   pub D-limits : machine-examples.EveryRow machine-limits-rows.boundRows
@@ -85,11 +87,11 @@ pub record Promises : Type 0 where
   pub D-bytes-same-code : table-check-bytes-bytes.SameCode
   -- Bytes left over after the last whole word get 3, unless the first word is broken.
   pub D-bytes-left-over : table-check-bytes-bytes.LeftOver
-  -- ---- Document 01, demands 1 and 2: a refusal is by its number and changes nothing
-  -- What the entry leaves keeps the promise of a run, and so does what is stated by the entry, as the report of linerun.
+  -- ---- Document 01, "Where each number is checked": a refusal is by its number and changes nothing
+  -- What the entry leaves keeps the promise of a run, for arbitrary words.
   pub D-entry-keeps : machine-promise.EveryEntryKeeps
-  -- "Each refusal under its own condition and under no other": a call is refused by a code exactly where the first place of its
-  -- kind that refuses, in the order of the paper's table, has it, and does its row exactly where none refuses.
+  -- "The first failing place decides": on any table, a call is refused by a code exactly where the first place of its kind that
+  -- refuses, in the order of the paper's table, has it, and where none refuses the decision is its row.
   pub D-refused-exactly : machine-machine-claims.EveryCallRefusedExactly
   -- A refused call, wherever in a list, alters no table word, is answered with its number and two zero words, and the table at the
   -- end is that of a run without it.
@@ -97,7 +99,7 @@ pub record Promises : Type 0 where
   -- ---- Document 01, "Influence": what a call may alter, and what its answer may depend on
   -- A call on an accepted table leaves an accepted table, with the same unchanging parts.
   pub I-stays-accepted : machine-machine-claims.EveryCallStaysAccepted
-  -- A run leaves an accepted table, with the same unchanging parts.
+  -- A run from an accepted table leaves an accepted table, with the same unchanging parts.
   pub I-run-stays-accepted : machine-machine-claims.EveryRunStaysAccepted
   -- "A call may alter only what belongs to domains its caller influences", on an accepted table.
   pub I-alters-only : machine-machine-claims.EveryCallAltersOnly
@@ -107,22 +109,24 @@ pub record Promises : Type 0 where
   -- Every right has a source, and none is lost except by its holder or by one that may revoke it, call by call: on an
   -- accepted table, for any two domains and each single right.
   pub I-each-right : machine-machine-claims.EveryCallEachRight
-  -- Every right at the end of a run has a source.
+  -- Every right at the end of a run from an accepted table has a source.
   pub I-rights-provenance : machine-machine-claims.EveryRunRightsProvenance
   -- ---- Document 01, noninterference: "The rule is one statement about a whole list, not one for each call"
-  -- Strike every call whose caller is not in d's source set, and d sees the same: its answers, rights, queues and lost counts.
+  -- From an accepted table: without every call whose caller is not in d's source set at that call, d sees the same: its answers,
+  -- rights, queues and lost counts.
   pub N-noninterference : machine-machine-claims.EveryRunNoninterference
-  -- Source sets and what d sees without the purged calls, in rows.
+  -- Source sets at each call, the calls that are kept, and what d sees of the whole run, in rows.
   pub N-purge-rows : machine-purge-examples.EveryPurgeRow machine-purge-examples.purgeRows
-  -- ---- Document 01, demand 4: call totals and lost counts are conserved by the queues
+  -- ---- Document 01, "Conditions of acceptance", 2: a kernel "inventing lost or call counts" is rejected
   -- Each call is answered by three words, on any table.
   pub C-answers : machine-machine-claims.EveryRunAnswered
-  -- The call totals and lost counts of every endpoint are conserved by its queue.
+  -- The call totals and lost counts of every endpoint are conserved by its queue, in a run from an accepted table.
   pub C-counts-conserved : machine-machine-claims.EveryRunCountsConserved
-  -- Every queue is first in, first out.
+  -- Every queue is first in, first out, in a run from an accepted table.
   pub C-fifo-order : machine-machine-claims.EveryRunFifoOrder
   -- ---- What a call reads
-  -- Two readings of a table that agree on what a call reads give one decision.
+  -- Two readings with the same rights among n domains, and the same owners, which are domains, and waiting counts of m endpoints, and
+  -- the same endpoint for each name give one decision on every call.
   pub R-same-decision : rules-readings.SameDecision
   -- ---- The program linerun
   -- Inputs and what linerun prints, byte for byte.
@@ -167,13 +171,13 @@ pub record Promises : Type 0 where
   pub W-results : writer-theory-result.EveryResult
   -- Calls, the lent words, and the whole outcome.
   pub W-rows : writer-theory-examples.EveryRow writer-theory-examples.rows
-  -- Each call that cannot be written is refused by 30 as the third of four, and no word is written.
+  -- Each of 22 calls that cannot be written is refused by 30 as the third of four, and no word is written.
   pub W-bad-calls : writer-theory-examples.EveryBadCall
   -- Rows of five words, the lent words, and the whole outcome.
   pub W-five-words : writer-theory-row-examples.EveryRow writer-theory-row-examples.writtenRows
   -- One call of each kind, with a value in every column that it uses; a value is passed as it is, whether it fits or not.
   pub W-each-kind : writer-theory-row-examples.EachKindHandedIn
-  -- Rows with an unknown kind, with a value in a column that their kind does not use, or too short are no calls.
+  -- 19 rows with an unknown kind, with a value in a column that their kind does not use, or too short are no calls.
   pub W-no-calls : writer-theory-row-examples.NoCallsHandedIn
   -- ---- Document 02 (d): a receive leaves the slots from the waiting count on, whatever they hold
   -- Of any twelve words with 1 to 8 waiting, the slots from the waiting count on stay.
@@ -188,7 +192,8 @@ pub record Promises : Type 0 where
   pub E-one-run : totals-theory-claims.OneRun
   -- The totals can be computed list by list.
   pub E-list-by-list : totals-theory-claims.ListByList
-  -- The tally that is kept list by list is that of all the lists.
+  -- From an accepted table, and of fewer than `mostAdded` lists: a list that is added and not refused makes the tally of the lists that
+  -- of one list more.
   pub E-tally : totals-add-tallied.EveryTallyListByList
   -- Lists and their totals.
   pub E-totals-rows : totals-theory-examples.EveryRow totals-theory-examples.rows
@@ -204,23 +209,22 @@ pub record Promises : Type 0 where
   -- The isolation rule between two runs of the kernel on one list: what it left on both lines looks the same to d, and the source
   -- set of d computed on the second table is the same too.
   pub G-runs : isolation-theory-two-lines.IsolationBetweenRuns
-  -- Pairs of lines, the condition on them, and what a domain sees.
+  -- Pairs of lines, and on each the source set of a domain and what it sees.
   pub G-rows : isolation-theory-line-examples.EveryLineRow isolation-theory-line-examples.lineRows
-  -- The condition can be met by lines that differ.
+  -- Two lines, of which the rows above say what differs, meet the condition for domain 0.
   pub G-condition-met : isolation-theory-line-examples.ConditionMet
   -- Equal parts of each member are not enough: without the rights held on a member the rule is false.
   pub G-parts-not-enough : isolation-theory-line-examples.PartsAreNotEnough
   -- Nor is it enough to agree on d alone,
   pub G-own-part-not-enough : isolation-theory-line-examples.OwnPartIsNotEnough
-  -- nor on the source set that is computed on the table at the end: rights that were used and then removed are missed.
+  -- nor on the source set of the calls run from the table that they left.
   pub G-last-table-not-enough : isolation-theory-line-examples.LastTableIsNotEnough
   -- ---- Document 02 (h): who can reach the drives right now
   -- Bit h of word g of a table's holders says whether h has any right on g.
   pub H-say : holders-theory-claims.HoldersSay
-  -- Noting what a call alters turns the holders of the table before it into those of the table after it, computed afresh.
+  -- Noting what a call alters turns the holders of an accepted table before it into those of the table after it, computed afresh.
   pub H-kept : holders-theory-claims.HoldersKept
-  -- Noted from the start of a list on, the words are the holders of the table after each of its calls: after the first k, for
-  -- any k.
+  -- Noted from an accepted table on, the words are the holders of the table after each of any calls: after the first k, for any k.
   pub H-kept-along : holders-theory-claims.HoldersKeptAlong
   -- "From the start of a list that runs, and after every call": after the first k calls of a list that ran, for any k, the words
   -- noted so far are the holders of the table then, and a run of these calls alone runs and leaves them.
@@ -253,9 +257,10 @@ pub record Promises : Type 0 where
   pub J-component : isolation-theory-component.EveryComponent
   -- A component holds domains alone, so that a call of an unknown caller is purged whatever the table.
   pub J-of-domains : isolation-theory-component.EveryComponentOfDomains
-  -- No run joins components: at its end no domain influences one outside the component that it had at the start.
+  -- No run from an accepted table joins components: at its end no domain influences one outside the component that it had at the
+  -- start.
   pub J-stay : isolation-theory-component.EveryRunComponentsStay
-  -- Strike every call whose caller is not in d's component, and d sees the same.
+  -- From an accepted table: without every call whose caller is not in d's component, d sees the same.
   pub J-noninterference : isolation-theory-component.EveryRunComponentNoninterference
   -- The same of the words that the kernel left, for any list that runs: no run joins components,
   pub J-run-stay : isolation-theory-component.EveryPromisedRunComponentsStay
@@ -264,23 +269,24 @@ pub record Promises : Type 0 where
   -- Tables and their components.
   pub J-rows : isolation-theory-component-examples.EveryComponentRow isolation-theory-component-examples.componentRows
   -- ---- Which rights any list could ever give
-  -- The computed rights are exactly the potential ones.
+  -- The rights computed of an accepted table are exactly the potential ones.
   pub V-exact : potential-theory-claims.EveryPotentialRight
-  -- Whatever calls are run, however many, refused or not: if their known callers are in s, they give only what is potential.
+  -- Whatever calls are run from an accepted table, however many, refused or not: if their known callers are in s, they give only
+  -- what is potential.
   pub V-run-within : potential-theory-claims.EveryRunWithinPotential
   -- The same of the words that the kernel left, for any list that runs.
   pub V-promised-run-within : potential-theory-claims.EveryPromisedRunWithinPotential
-  -- What all domains together can bring about bounds all calls whatsoever.
+  -- What all domains together can bring about bounds all calls whatsoever, run from an accepted table.
   pub V-run-within-everyone : potential-theory-claims.EveryRunWithinEveryone
   -- The same of the words that the kernel left, for any list that runs.
   pub V-promised-run-within-everyone : potential-theory-claims.EveryPromisedRunWithinEveryone
-  -- Nothing new becomes possible: what is potential after calls of s was so before them.
+  -- Nothing new becomes possible: what is potential after calls of s, run from an accepted table, was so before them.
   pub V-nothing-new : potential-theory-claims.EveryRunNothingNew
-  -- There is one list that gives all of them, and it is computed.
+  -- There is one list that gives all of them from an accepted table, and it is computed.
   pub V-list-gives-all : potential-theory-claims.EveryPotentialListGivesAll
   -- A run of that list by the kernel leaves them.
   pub V-run-gives-all : potential-theory-claims.EveryPromisedRunGivesAll
-  -- Outside its component nothing is potential for a domain, whoever acts.
+  -- Outside its component in an accepted table nothing is potential for a domain, whoever acts.
   pub V-in-component : potential-theory-claims.EveryPotentialInComponent
   -- Tables, who acts, and the potential rights.
   pub V-rows : potential-theory-examples.EveryPotentialRow potential-theory-examples.potentialRows
@@ -345,7 +351,8 @@ pub record Promises : Type 0 where
   pub K-refusal-alters-nothing : repair-theory-repair-claims.EveryRefusalAltersNothing
   -- A sound table stays and yields an empty list.
   pub K-sound-table-stays : repair-theory-repair-claims.EverySoundTableStays
-  -- No holder has a right at the end that its word didn't show before, read by its bits or in any other way.
+  -- No holder has a right at the end that its word didn't show before, read by its bits or in any other reading in which 20000000
+  -- shows none.
   pub K-repair-adds-no-right : repair-theory-repair-claims.EveryRepairAddsNoRight
   -- Only broken words, and the queue words of an endpoint with one, are altered.
   pub K-repair-only-broken : repair-theory-repair-claims.EveryRepairAltersOnlyBroken
@@ -356,16 +363,16 @@ pub record Promises : Type 0 where
   pub K-put-back : repair-theory-repair-claims.EveryRepairPutBack
   -- Sound tables stay and yield an empty list, one of them with every right there is.
   pub K-sound-rows : repair-theory-examples.EveryRow repair-theory-examples.soundRows
-  -- A broken rights word becomes 20000000, whatever its low bits: by its kind and by its bits, the first and the last.
+  -- Four tables with a broken rights word, by its kind or by its bits, the first and the last among them: it becomes 20000000.
   pub K-rights-rows : repair-theory-examples.EveryRow repair-theory-examples.rightsRows
-  -- An endpoint with a broken waiting, lost or slot word is emptied. Words that already are those of an empty queue are not
-  -- reported; a sound lost count that is not 0 is.
+  -- Tables whose endpoints have a broken waiting, lost or slot word: these are emptied. Words that already are those of an empty
+  -- queue are not reported; a sound lost count that is not 0 is.
   pub K-queue-rows : repair-theory-examples.EveryRow repair-theory-examples.queueRows
   -- The lent list longer than needed, of exactly two words for each altered word, and one word less.
   pub K-list-rows : repair-theory-examples.EveryRow repair-theory-examples.listRows
-  -- What is not mended is refused by 33: word 0, the length, a name, an info, and a name that repeats.
+  -- Tables that are refused by 33: for word 0, the length, a name, an info, or a name that repeats.
   pub K-frame-rows : repair-theory-examples.EveryRow repair-theory-examples.frameRows
-  -- Putting back takes the pairs in their order, and ignores a word that is left over.
+  -- Pairs that are put back in their order, and a word left over that is ignored.
   pub K-put-back-rows : repair-theory-examples.PutBackHolds
   -- ---- Document 02 (l): the working layout, with the same answers, the same holders and, stored, the same table words
   -- Two runs that keep the promise of a run from the same words, as `kernel::run` and `run_working` do by their contracts, leave
@@ -373,11 +380,11 @@ pub record Promises : Type 0 where
   pub L-same : working-theory-two-runs.BothGiveTheSame
   -- On a state that represents an accepted table, every call simulates the call on the table.
   pub L-simulates : working-theory-represents.CallsSimulate
-  -- A loaded state represents the table.
+  -- A state loaded from an accepted table represents it.
   pub L-loaded : working-load-claims.LoadedRepresents
-  -- A stored state is the table that it represents.
+  -- A state stored to an accepted table is the accepted table that it represents, where both have the same unchanging parts.
   pub L-stored : working-load-claims.StoreIsTable
-  -- Loaded rows represent the table's rights.
+  -- Rows loaded from an accepted table represent its rights.
   pub L-rights-loaded : rights-matrix-theory-claims.LoadedRights
   -- What is put into rows is held.
   pub L-rights-put : rights-matrix-theory-claims.PutIsHeld
@@ -387,16 +394,18 @@ pub record Promises : Type 0 where
   pub L-rights-row-loaded : rights-matrix-theory-examples.RowLoaded
   -- A row where domain 0's rights on 1 become 15 and are stored: the header and the word after the rights words stay.
   pub L-rights-row-stored : rights-matrix-theory-examples.RowStored
-  -- A loaded ring represents the queue.
+  -- A ring loaded from a queue in which at most 8 wait represents it.
   pub L-ring-loaded : ring-theory-claims.LoadedRingRepresents
-  -- A send, to a full queue too, and a receive leave a ring that represents what they leave of the queue.
+  -- Of twelve words with a capacity of 1 to 8: a send, to a full queue too, and a receive, where one waits, leave a ring that
+  -- represents what they leave of the queue.
   pub L-ring-simulates : ring-theory-claims.QueuesSimulate
-  -- A ring stored to words with the same name and info is the queue.
+  -- A ring that represents twelve words with a sound queue, stored to twelve words with the same name and info, gives these words.
   pub L-ring-stored : ring-theory-claims.StoreIsQueue
   -- Rings whose places wrap round and full rings: what a send, a receive, loading and storing make of them.
   pub L-ring-rows : ring-theory-examples.EveryRing ring-theory-examples.ringRows
   -- ---- Document 02 (m): turns
-  -- Served in time: the oldest pending call of a domain is served within n turns that aren't refused, whatever is handed in.
+  -- Served in time: while the table is an accepted one, the oldest pending call of a domain is served within n turns that aren't
+  -- refused, whatever is handed in.
   pub M-served-in-time : turns-theory-claims.ServedInTime
   -- As one list: the calls served, in order, have the answers, the table at the end and the holders after each call that the
   -- machine gives for them, however long the history, from arbitrary words as a table.
@@ -413,13 +422,13 @@ pub record Promises : Type 0 where
   pub M-refused : turns-theory-claims.RefusedChangesNothing
   -- The beginning is proper: each domain has at most 16 words pending, calls of its own, and an index that is no domain has none.
   pub M-begins-proper : turns-theory-claims.BeginsProper
-  -- A history from an accepted table leaves a proper state.
+  -- A history from an accepted table and a proper state leaves a proper state.
   pub M-stays-proper : turns-theory-claims.StaysProper
-  -- A turn serves a domain's own calls.
+  -- From an accepted table and a proper state, a turn serves a domain's own calls.
   pub M-serves-own : turns-theory-claims.ServesOwn
   -- Histories and which calls their turns serve.
   pub M-order-rows : turns-theory-examples.EveryTurnRow turns-theory-examples.turnRows
-  -- States and the calls that pend in them.
+  -- Seventeen words of one domain: the words that are pending, what appending and removing leave, the second word of the oldest call.
   pub M-pending-rows : turns-state-examples.EveryPendingRow turns-state-examples.pendingRows
   -- Words that are all 0, however many, represent the beginning.
   pub M-words-begin : turns-claims.Begins

@@ -35,7 +35,8 @@ EverySoundTableStays =
     → Accepted t
     → (r .code ≡ 0) × (r .count ≡ 0) × (r .end ≡ t) × (r .reported ≡ list)
 
--- No holder has a right at the end that its word didn't show before, read by its bits or in any other way.
+-- No holder has a right at the end that its word didn't show before, read by its bits or in any other reading in which 20000000
+-- shows none.
 abbrev pub EveryRepairAddsNoRight : Type 0
 EveryRepairAddsNoRight =
     (t list : List ℕ) (r : PromisedRepair t list) → AddsNoRight t (r .end) × AddsNoRightInAnyReading t (r .end)

@@ -20,7 +20,7 @@ pub record SameRights (n : ℕ) (rows : List (List ℕ)) (t : List ℕ) : Type 0
   pub same : (h g : ℕ) → h < n → g < n → heldIn rows h g ≡ rights t h g
   pub nothing : (h g : ℕ) → h < n → n ≤ g → g < 16 → heldIn rows h g ≡ 0
 
--- loaded rows represent the table's rights
+-- rows loaded from an accepted table represent its rights
 abbrev pub LoadedRights : Type 0
 LoadedRights = (t : List ℕ) → Accepted t → SameRights (domains t) (rowsOf (domains t) t) t
 

@@ -22,11 +22,12 @@ pub record RepresentsQueue (r q : List ℕ) : Type 0 where
   pub sameInfo : ring.info r ≡ getD q 1 0
   pub messages : (i : ℕ) → i < count r → messageAt r i ≡ payload (getD q (4 + i) 0)
 
--- a loaded ring represents the queue
+-- a ring loaded from a queue in which at most 8 wait represents it
 abbrev pub LoadedRingRepresents : Type 0
 LoadedRingRepresents = (q : List ℕ) → waiting q ≤ 8 → RepresentsQueue (ringOf q) q
 
--- A send, to a full queue too, and a receive leave a ring that represents what they leave of the queue.
+-- Of twelve words with a capacity of 1 to 8: a send, to a full queue too, and a receive, where one waits, leave a ring that
+-- represents what they leave of the queue.
 abbrev pub QueuesSimulate : Type 0
 QueuesSimulate =
     (q r : List ℕ)
@@ -37,7 +38,7 @@ QueuesSimulate =
     → ((message : ℕ) → message ≤ mostPayload → RepresentsQueue (ringSent r message) (sent q message))
     × (1 ≤ waiting q → RepresentsQueue (ringTake r) (received q))
 
--- a ring stored to words with the same name and info is the queue
+-- a ring that represents twelve words with a sound queue, stored to twelve words with the same name and info, gives these words
 abbrev pub StoreIsQueue : Type 0
 StoreIsQueue =
     (q₀ q r : List ℕ)

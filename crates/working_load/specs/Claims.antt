@@ -10,7 +10,7 @@ use Rattle.rights_matrix.specs.Rows.{rowsOf, storedRows}
 use Rattle.working_theory.specs.Represents.{Represents}
 use Rattle.working_load.specs.Layout.{ringsOf, storedQueues, namesOf, ownedOf}
 
--- a loaded state represents the table
+-- a state loaded from an accepted table represents it
 abbrev pub LoadedRepresents : Type 0
 LoadedRepresents =
     (t : List ℕ)
@@ -20,7 +20,7 @@ LoadedRepresents =
     (ownedOf (domains t) (endpoints t) t)
     t
 
--- a stored state is the table that it represents
+-- a state stored to an accepted table is the accepted table that it represents, where both have the same unchanging parts
 abbrev pub StoreIsTable : Type 0
 StoreIsTable =
     (t₀ t : List ℕ) (n m : ℕ) (rows : List (List ℕ)) (rings names owned : List ℕ)
