@@ -737,7 +737,7 @@ fn a_wrong_kernel_is_named_with_its_fault() {
 fn a_program_that_is_no_linerun_differs() {
     let line = ["linerun", "/bin/cat", "--cases", "3"];
     assert_eq!(status(&line), 1);
-    assert!(printed(&line).starts_with("DIFFERENCE in input 0 of seed 1"));
+    assert!(printed(&line).starts_with("DIFFERENCE in fixed input 0:"));
     let silent = printed(&["linerun", "/bin/true", "--cases", "3"]);
     assert!(silent.contains("it prints nothing"), "{silent}");
     let failing = printed(&["linerun", "/bin/false", "--cases", "3"]);

@@ -4,6 +4,7 @@
 use std::time::Duration;
 
 use reference::calls::LIST_WORDS_MAX;
+use reference::example::{LIST_L, TABLE_T};
 use reference::generate::{linerun_input, Rng};
 use reference::table::TABLE_WORDS_MAX;
 use reference::words::{from_bytes, to_bytes};
@@ -51,6 +52,48 @@ pub fn given(seed: u64, number: u64, time: Duration) -> Given {
     }
 }
 
+/// Inputs of every shape that reading can meet: the worked example cut after each of its
+/// bytes, bytes of every value left over after lists of many lengths, and length words with
+/// each bit turned and around the largest.
+pub fn fixed(time: Duration) -> Vec<Given> {
+    let whole = with_length(TABLE_T.len() as u32, &TABLE_T, &LIST_L);
+    let cut = (0..=whole.len()).map(|length| whole[..length].to_vec());
+    let bits = (0..32).map(|bit| TABLE_T.len() as u32 ^ 1 << bit);
+    let around = [0, 1, 33, 35, 640, 641, 642, 643, u32::MAX];
+    let lengths = bits.chain(around);
+    let lengths = lengths.map(|length| with_length(length, &TABLE_T, &LIST_L));
+    let feed = Feed {
+        parts: None,
+        held: false,
+        time,
+    };
+    let inputs = cut.chain(left_over()).chain(lengths);
+    inputs.map(|input| Given { input, feed }).collect()
+}
+
+fn with_length(length: u32, table: &[u32], list: &[u32]) -> Vec<u8> {
+    to_bytes(&[&[length], table, list].concat())
+}
+
+/// One to three bytes after lists of many lengths, every value of them: after lists of
+/// each length that is short or near the longest, and each value after another length.
+fn left_over() -> Vec<Vec<u8>> {
+    let near_the_limits = (0..=12).chain(4090..=4097);
+    let every_count = near_the_limits.flat_map(|length| (1..4).map(move |count| (length, count)));
+    let values = [0x00, 0x0A, 0x20, 0x7F, 0x80, 0xF0, 0xFF];
+    let by_turns = every_count
+        .enumerate()
+        .map(|(number, (length, count))| (length, count, values[number % values.len()]));
+    let each_value = (0..256).map(|value| (16 * value, 1 + value % 3, value as u8));
+    let all = by_turns.chain(each_value);
+    let with = |(words, count, value)| {
+        let list = vec![PLAIN_CALL; words];
+        let input = with_length(TABLE_T.len() as u32, &TABLE_T, &list);
+        [input, vec![value; count]].concat()
+    };
+    all.map(with).collect()
+}
+
 /// How many bytes of an input decide its answer, where that is due before the end: at
 /// a length word above 641, and at list word 4,097.
 pub fn due(input: &[u8]) -> Option<usize> {
@@ -90,6 +133,26 @@ pub fn apart(input: &[u8]) -> (&[u8], Vec<u32>, &[u8]) {
 #[cfg(test)]
 mod tests {
     use super::*;
+
+    #[test]
+    fn fixed_inputs_are_cut_in_words_and_have_every_byte_left_over() {
+        let inputs = fixed(Duration::from_secs(10));
+        let mut values = [false; 256];
+        for Given { input, .. } in &inputs {
+            let (_, list, left) = apart(input);
+            if !left.is_empty() && list.len() > 12 {
+                values[left[0] as usize] = true;
+            }
+        }
+        assert!(values.iter().all(|&met| met));
+        let lengths = [0, 4095, 4096, 4097];
+        let met = |length| {
+            inputs
+                .iter()
+                .any(|given| apart(&given.input).1.len() == length)
+        };
+        assert!(lengths.into_iter().all(met), "{}", inputs.len());
+    }
 
     #[test]
     fn what_is_held_open_has_what_decides_its_answer() {

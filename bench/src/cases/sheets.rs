@@ -5,11 +5,12 @@
 use std::io::Read;
 use std::time::Duration;
 
+use reference::example::{LIST_L, TABLE_T};
 use reference::generate::{totals_input, Limits};
 use reference::totals::LISTS_MAX;
 use reference::words::to_bytes;
 
-use crate::cases::inputs::Given;
+use crate::cases::inputs::{Given, PLAIN_CALL};
 use crate::cases::random::rng_for;
 use crate::cases::workloads::{workloads, Workload};
 use crate::kernels::program::Feed;
@@ -51,6 +52,85 @@ pub fn given(seed: u64, number: u64, time: Duration) -> Given {
         input,
         feed: Feed { parts, held, time },
     }
+}
+
+/// Inputs of every shape that reading and counting can meet: more than 65,536 sends,
+/// receives and losses at one endpoint, more than 100 lists, among them of exactly 4,096
+/// words, with a receive as the last one, a short input cut after each of its bytes, and length words with each bit turned.
+pub fn fixed(time: Duration) -> Vec<Given> {
+    let feed = Feed {
+        parts: None,
+        held: false,
+        time,
+    };
+    let mut inputs = vec![
+        of_lists(&vec![repeated(SENDS[0], 4096); 40]),
+        of_lists(&vec![repeated(SENDS[1], 4095); 52]),
+        of_lists(&many_lists()),
+        of_lists(&vec![repeated(SENDS[2], 4096); 110]),
+        of_lists(&vec![
+            [vec![PLAIN_CALL], repeated(SENDS[1], 4095)].concat();
+            3
+        ]),
+    ];
+    let few = [
+        LIST_L.to_vec(),
+        Vec::new(),
+        SENDS[1].to_vec(),
+        LIST_L.to_vec(),
+    ];
+    let short = of_lists(&few);
+    inputs.extend((0..=short.len()).map(|length| short[..length].to_vec()));
+    let second = 4 * (1 + COUNTED.len());
+    for bit in 0..32 {
+        for place in [0, second] {
+            let mut input = short.clone();
+            input[place + bit / 8] ^= 1 << (bit % 8);
+            inputs.push(input);
+        }
+    }
+    let given = inputs.into_iter().map(|input| Given { input, feed });
+    given.collect()
+}
+
+/// Table T with SEND for everyone on the owner of endpoint 1, which holds one message, and
+/// with its lost count near the top.
+const COUNTED: [u32; 34] = {
+    let mut table = TABLE_T;
+    table[3] = 0x2000_0001;
+    table[9] = 0x2000_0001;
+    table[25] = 0x6FFF_FFF0;
+    table
+};
+
+/// Sends to endpoint 1; a send and the receive of it; and a call of each kind.
+const SENDS: [&[u32]; 3] = [
+    &[0x2000_0100, 0xF000_0005],
+    &[0x2000_0100, 0xF000_0006, 0x3080_0100],
+    &LIST_L,
+];
+
+/// Calls repeated to so many words.
+fn repeated(calls: &[u32], words: usize) -> Vec<u32> {
+    calls.iter().copied().cycle().take(words).collect()
+}
+
+/// 130 lists of lengths that differ by turns, the longest and the empty one among them.
+fn many_lists() -> Vec<Vec<u32>> {
+    let lengths = [4096, 0, 1, 3, 4095, 2, 255, 256, 257, 4096, 1024, 64, 5];
+    let lists = (0..130).map(|number| repeated(SENDS[number % 3], lengths[number % lengths.len()]));
+    lists.collect()
+}
+
+/// The input of lists that run one after another.
+fn of_lists(lists: &[Vec<u32>]) -> Vec<u8> {
+    let mut words = vec![COUNTED.len() as u32];
+    words.extend(COUNTED);
+    for list in lists {
+        words.push(list.len() as u32);
+        words.extend(list);
+    }
+    to_bytes(&words)
 }
 
 /// As many lists as there can be, each with a send and a receive: to the end of the input,
@@ -130,6 +210,19 @@ mod tests {
                 assert_eq!(table, input.table, "{}", input.name);
             }
         }
+    }
+
+    #[test]
+    fn fixed_inputs_count_past_two_bytes_and_have_many_lists() {
+        let printed = fixed(Duration::from_secs(1)).into_iter().take(4);
+        let printed = printed.map(|given| reference::totals(&given.input));
+        let printed: Vec<String> = printed
+            .map(|text| String::from_utf8(text).unwrap())
+            .collect();
+        assert!(printed[0].contains("sent 81920 received 0 lost 81919 start 0 end 1\n"));
+        assert!(printed[1].contains("sent 70980 received 70980 lost 0"));
+        assert!(printed[2].ends_with("lists 130 code 0\n"), "{}", printed[2]);
+        assert!(printed[3].ends_with("lists 110 code 0\n"));
     }
 
     #[test]

@@ -11,7 +11,7 @@ use reference::check_table;
 use reference::words::from_bytes;
 
 use crate::args::Options;
-use crate::cases::inputs::{apart, due, given, Given};
+use crate::cases::inputs::{apart, due, fixed, given, Given};
 use crate::commands::compared::{none_differs, Met, Wanted};
 use crate::commands::drawn::{draws_of, TRIED};
 use crate::judging::printed::{difference, shorter};
@@ -19,6 +19,7 @@ use crate::judging::trying::Draws;
 use crate::kernels::program::{run, Feed};
 use crate::line::explain::counted;
 use crate::line::input::shown;
+use crate::output::say;
 
 pub const HELP: &str = "\
 bench linerun PROGRAM [--cases N] [--seed S] [--from K] [--time T]
@@ -27,12 +28,14 @@ bench linerun PROGRAM --speed [--rounds N]
 Runs PROGRAM, as target/bin/linerun, on random inputs and compares every byte
 that it prints with what the separate implementation prints: lists that run,
 tables that are refused, inputs that are cut short, that have bytes left over,
-and that are too long. Some are given byte by byte or in odd parts. Where the
-answer is due before the end, at a length word above 641 and at list word 4,097,
-the pipe is held open behind that, with up to three bytes more: the answer must
-come all the same. PROGRAM must end by itself with status 0 each time; it is
-stopped after T seconds on one input, or when it prints more than any list of
-calls is answered with.
+and that are too long. Before these come fixed ones: the worked example cut
+after each byte, bytes of every value left over after lists of many lengths, and
+length words with each bit turned. Some are given byte by byte or in odd parts.
+Where the answer is due before the end, at a length word above 641 and at list
+word 4,097, the pipe is held open after that, with up to three bytes more: the
+answer must come all the same. PROGRAM must end by itself with status 0 each
+time; it is stopped after T seconds on one input, or when it prints more than
+any list of calls is answered with; and it must write nothing to standard error.
 
   --cases N  inputs to try (default 2,000)
   --seed S   the seed that they are drawn from (default 1)
@@ -80,9 +83,24 @@ pub fn command(line: &[OsString]) -> Result<bool, String> {
     compare(program, &draws_of(&options, 2000)?)
 }
 
-/// Holds a program to the separate one.
+/// Holds a program to the separate one: on random inputs, and first on the fixed ones where
+/// the numbers start at 0.
 fn compare(program: &Path, draws: &Draws) -> Result<bool, String> {
     let mut met = Met::nothing();
+    let first = fixed(draws.limit).into_iter().enumerate();
+    for (number, Given { input, feed }) in first.filter(|_| draws.numbers.start == 0) {
+        let expected = reference::linerun(&input);
+        let ran = run(program, &input, feed)?;
+        add(&mut met, &input, feed, &expected);
+        if let Some(told) = difference(&ran, &expected) {
+            let words = shorter(program, &input, feed, &ran);
+            say!(
+                "DIFFERENCE in fixed input {number}:\n  {told}\n{}",
+                words.trim_end()
+            );
+            return Ok(false);
+        }
+    }
     let one = |number| {
         let Given { input, feed } = given(draws.seed, number, draws.limit);
         let expected = reference::linerun(&input);

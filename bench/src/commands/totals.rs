@@ -10,7 +10,7 @@ use reference::words::to_bytes;
 
 use crate::args::Options;
 use crate::cases::inputs::Given;
-use crate::cases::sheets::{given, most_lists};
+use crate::cases::sheets::{fixed, given, most_lists};
 use crate::commands::compared::{none_differs, Met, Wanted};
 use crate::commands::drawn::{draws_of, TRIED};
 use crate::commands::refused;
@@ -54,7 +54,10 @@ cut short. Some are given byte by byte or in odd parts. Where what is printed is
 due before the end (a refused table, a length word above 4,096, a byte behind
 the 65,536th list) the pipe is held open there: the sheet must come all the
 same. The first two inputs have 65,536 lists with a send and a receive each, one
-of them a length word more.
+of them a length word more. Then come fixed ones: more than 65,536 sends,
+receives and losses at one endpoint, more than 100 lists, some of exactly 4,096
+words, an input cut after each byte, and length words with each bit turned.
+PROGRAM must write nothing to standard error.
 
   --cases N  inputs to try (default 1,000)
   --seed S   the seed that they are drawn from (default 1)
@@ -123,13 +126,15 @@ pub fn command(line: &[OsString]) -> Result<bool, String> {
 }
 
 /// Holds a program to the separate one: on random inputs, and first on as many lists as
-/// there can be where the numbers start at 0.
+/// there can be and on the other fixed ones where the numbers start at 0.
 fn compare(program: &Path, draws: &Draws) -> Result<bool, String> {
     let mut met = Tally::new();
     if draws.numbers.start == 0 {
-        for input in most_lists(draws.limit) {
+        let most = most_lists(draws.limit).into_iter();
+        for (number, input) in most.chain(fixed(draws.limit)).enumerate() {
             if let Some(told) = met.differs(program, &input)? {
-                say!("DIFFERENCE in an input of 65,536 lists:\n  {told}");
+                let bytes = counted(input.input.len(), "byte");
+                say!("DIFFERENCE in fixed input {number}, {bytes}:\n  {told}");
                 return Ok(false);
             }
         }

@@ -14,20 +14,21 @@ use crate::line::text;
 /// How much of a line is shown.
 const SHOWN_MAX: usize = 120;
 
-/// What is wrong with what a program did: how it ended, and the first line that
-/// differs.
+/// What is wrong with what a program did: how it ended, the first line that differs, and
+/// anything that it writes to standard error.
 pub fn difference(ran: &Ran, expected: &[u8]) -> Option<String> {
     let fault = ran.end.fault();
     let line = line_difference(&ran.printed, expected);
-    let wrong: Vec<String> = fault.into_iter().chain(line).collect();
-    if wrong.is_empty() {
-        return None;
-    }
-    let said = ran.said.split(|&byte| byte == b'\n').next();
-    let said = said.filter(|line| !line.is_empty());
-    let said = said.map(|line| format!("on standard error it says: {}", shown(line)));
-    let told: Vec<String> = wrong.into_iter().chain(said).collect();
-    Some(told.join("\n  "))
+    let said = ran.said.split_inclusive(|&byte| byte == b'\n').next();
+    let said = said.map(|line| {
+        let line = line.strip_suffix(b"\n").unwrap_or(line);
+        format!(
+            "on standard error, where nothing should be, it says: {}",
+            shown(line)
+        )
+    });
+    let wrong: Vec<String> = fault.into_iter().chain(line).chain(said).collect();
+    (!wrong.is_empty()).then(|| wrong.join("\n  "))
 }
 
 /// The first line that differs.
@@ -117,21 +118,26 @@ mod tests {
     use reference::words::from_bytes;
 
     fn told(printed: &[u8], end: End, expected: &[u8]) -> Option<String> {
-        let ran = Ran {
+        difference(&ran(printed, b"\x1B[31mbad\nmore", end), expected)
+    }
+
+    fn ran(printed: &[u8], said: &[u8], end: End) -> Ran {
+        Ran {
             printed: printed.to_vec(),
-            said: b"\x1B[31mbad\nmore".to_vec(),
+            said: said.to_vec(),
             end,
-        };
-        difference(&ran, expected)
+        }
     }
 
     #[test]
     fn how_a_program_ends_is_compared_too() {
         let right = b"calls 0 code 7\n";
-        assert_eq!(told(right, End::Status(0), right), None);
+        assert_eq!(difference(&ran(right, b"", End::Status(0)), right), None);
+        let said = told(right, End::Status(0), right).unwrap();
+        assert!(said.starts_with("on standard error, where nothing should be"));
         let status = told(right, End::Status(3), right).unwrap();
         assert!(status.starts_with("it ended with status 3"), "{status}");
-        let said = "on standard error it says: \\x1b[31mbad";
+        let said = "on standard error, where nothing should be, it says: \\x1b[31mbad";
         assert!(status.ends_with(said), "{status}");
         let signal = told(b"", End::Signal(6), right).unwrap();
         assert!(signal.starts_with("it was ended by signal 6 (aborted)"));
