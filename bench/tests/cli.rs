@@ -15,9 +15,23 @@ use reference::words::{hex, to_bytes};
 fn bench(line: &[&str]) -> Output {
     Command::new(env!("CARGO_BIN_EXE_bench"))
         .args(line)
+        .args(without_campaign(line))
         .output()
         .expect("the program starts")
 }
+
+/// A kernel is commissioned without a campaign here, which takes its time.
+fn without_campaign(line: &[&str]) -> &'static [&'static str] {
+    match line {
+        ["commission", _, rest @ ..] if !rest.iter().any(|word| NO_CAMPAIGN.contains(word)) => {
+            &["--campaign", "0"]
+        }
+        _ => &[],
+    }
+}
+
+/// Options with which there is none, or another one.
+const NO_CAMPAIGN: [&str; 3] = ["--answers", "--left", "--campaign"];
 
 fn status(line: &[&str]) -> i32 {
     bench(line).status.code().expect("it ends by itself")
@@ -718,6 +732,28 @@ fn a_table_on_which_everything_can_be_shown_leaves_nothing_unshown() {
     let list = printed(&["commission", &input]);
     assert!(!list.contains("not shown"), "{list}");
     assert!(list.ends_with("summary: 4 passed, 0 failed\n"), "{list}");
+}
+
+#[test]
+fn the_drills_and_the_campaign_are_reported_with_their_tables() {
+    let input = file("drills.bin", &example());
+    let list = printed(&["commission", &input, "--campaign", "1"]);
+    for part in [
+        "    drills on this table, and tables of n 1, 2, 8, 9, 15 and 16 with m 0, 1, 31 and 32",
+        "    two refusals of one call at once: 53 pairs by 8 kinds; never both: 14 and 15 of kind 1",
+        "    a campaign of 1 s with seed 1: ",
+        "    what no run from outside can show: ",
+    ] {
+        assert!(list.contains(part), "{list}");
+    }
+    let passes = ["commission", &input, "--kernel", "wrong-size-domain-15"];
+    let list = printed(&passes);
+    assert!(list.contains("\nline 1 passed"), "{list}");
+    assert!(
+        list.contains("\nline 2 failed  answers and table: the fields of calls at "),
+        "{list}"
+    );
+    assert_eq!(status(&passes), 1);
 }
 
 #[test]

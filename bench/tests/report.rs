@@ -12,9 +12,23 @@ use reference::words::{hex, to_bytes};
 fn bench(line: &[&str]) -> Output {
     Command::new(env!("CARGO_BIN_EXE_bench"))
         .args(line)
+        .args(without_campaign(line))
         .output()
         .expect("the program starts")
 }
+
+/// A kernel is commissioned without a campaign here, which takes its time.
+fn without_campaign(line: &[&str]) -> &'static [&'static str] {
+    match line {
+        ["commission", _, rest @ ..] if !rest.iter().any(|word| NO_CAMPAIGN.contains(word)) => {
+            &["--campaign", "0"]
+        }
+        _ => &[],
+    }
+}
+
+/// Options with which there is none, or another one.
+const NO_CAMPAIGN: [&str; 3] = ["--answers", "--left", "--campaign"];
 
 /// The exit status, what is printed and what is said of an error.
 fn ran(line: &[&str]) -> (i32, String, String) {
@@ -222,6 +236,19 @@ fn words_that_were_read_back_are_judged_in_both_forms() {
             "{printed}"
         );
     }
+}
+
+#[test]
+fn words_that_show_nothing_end_with_a_status_of_their_own() {
+    let table = to_bytes(&TABLE_T);
+    let input = file("no-list.bin", &[&34u32.to_le_bytes()[..], &table].concat());
+    let (answers, left) = (file("no-list.answers", &[]), file("no-list.left", &table));
+    let (status, printed, _) = ran(&["commission", &input, "--answers", &answers, "--left", &left]);
+    assert!(
+        printed.contains("summary: 0 passed, 0 failed, "),
+        "{printed}"
+    );
+    assert_eq!(status, 3);
 }
 
 #[test]

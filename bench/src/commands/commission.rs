@@ -6,13 +6,15 @@ mod asked;
 
 use std::ffi::OsString;
 use std::path::Path;
-use std::time::SystemTime;
+use std::process::exit;
+use std::time::{Duration, SystemTime};
 
 use crate::args::Options;
 use crate::cases::Case;
 use crate::clock::in_utc;
 use crate::commands::commission::asked::{Asked, On, VALUED};
 use crate::commands::refused;
+use crate::judging::checklist::beyond::{with_campaign, with_drills, with_limits};
 use crate::judging::checklist::read_back::ReadBack;
 use crate::judging::checklist::{Checklist, Line, Summary, Verdicts};
 use crate::judging::compare::kept_calls;
@@ -29,7 +31,7 @@ use crate::reports::facts::{Judged, Report, Source};
 use crate::reports::sha256::sha256;
 
 pub const HELP: &str = "\
-bench commission FILE [--struck D] [--seed S] [--kernel NAME]
+bench commission FILE [--struck D] [--seed S] [--campaign T] [--kernel NAME]
                       [--report OUT] [--json OUT]
 bench commission FILE --answers A --left T [--struck D] [--report OUT]
                       [--json OUT]
@@ -48,6 +50,15 @@ allows.
   line 4  counts: the number of calls, and at every endpoint what was sent is
           received, lost or waiting
 
+Where no line failed, the drills follow: finite sets gone through whole, on this
+table and on tables of the checklist's own (n 1, 2, 8, 9, 15 and 16 with m 0, 1,
+31 and 32), since a kernel takes any table. They have every combination of two
+refusals, every bit of every field, queues and rights in every state, sizes
+around each limit, and more than 100,000 runs in one process, with every word
+compared after each. Then a campaign: runs and table images that are drawn as by
+`bench fuzz`, for T seconds. Both are judged by lines 1 and 2. A line of
+progress is shown on a terminal only.
+
 Each line says passed, with what it stands on, or failed with the first
 difference. What this table and list don't allow to be shown, and what holds
 only because there is nothing to show, is said as `not shown`, with the reason.
@@ -65,7 +76,9 @@ little-endian bytes or as a text of hexadecimal words. No kernel is run and no
 exercise; what one run can't show is said as `not shown`.
 
   --struck D     list the calls that are struck for domain D, a number or a name
-  --seed S       the seed that the variants are drawn from (default 1)
+  --seed S       the seed that the variants and the campaign are drawn from
+                 (default 1)
+  --campaign T   the seconds that the campaign takes (default 10; 0 for none)
   --kernel NAME  balkwizu (default), balkwizu-working, balkwizu-by-length,
                  plain-gcc, plain-clang, or wrong-NAME, which has the fault of
                  bench/c/wrong/NAME.edit
@@ -79,7 +92,7 @@ hash in it was worked out when this bench was built, of the bytes that it links.
 
 Exit status: 0 no line failed; 1 a line failed, the input is refused, or other
 words were read back than there must be; 2 bad usage, or a file that can't be
-read or written.
+read or written; 3 no line failed and none was shown.
 ";
 
 /// The command: whether no line failed.
@@ -119,8 +132,15 @@ pub fn command(options: &[OsString]) -> Result<bool, String> {
     });
     let well = tell(&verdicts);
     output::write(written?.as_bytes());
+    let Summary { passed, failed, .. } = verdicts.summary();
+    if (passed, failed) == (0, 0) {
+        exit(NOTHING_SHOWN);
+    }
     Ok(well)
 }
+
+/// The status where no line failed and none was shown.
+const NOTHING_SHOWN: i32 = 3;
 
 /// An input that is commissioned: an accepted table, its list and its names.
 struct Commissioned<'a> {
@@ -137,7 +157,7 @@ type Found = Result<(Judged, Verdicts), String>;
 impl Commissioned<'_> {
     fn judged(&self, on: &On) -> Result<Found, String> {
         Ok(match on {
-            On::Kernel(kernel, seed) => Ok(self.by_kernel(*kernel, *seed)),
+            On::Kernel(kernel, seed, campaign) => Ok(self.by_kernel(*kernel, *seed, *campaign)),
             On::ReadBack { answers, left } => {
                 let dumps = [read_dump(answers)?, read_dump(left)?];
                 self.by_words([answers, left], dumps)
@@ -145,8 +165,9 @@ impl Commissioned<'_> {
         })
     }
 
-    /// A kernel's verdicts.
-    fn by_kernel(&self, kernel: Kernel, seed: u64) -> (Judged, Verdicts) {
+    /// A kernel's verdicts: on this table and list, by the drills, and by a campaign for a
+    /// time.
+    fn by_kernel(&self, kernel: Kernel, seed: u64, campaign: Duration) -> (Judged, Verdicts) {
         self.tell_head(kernel.title);
         let list = Checklist::new(kernel, self.input, self.names, seed);
         say!("exercise made from this table: {}", list.size());
@@ -156,7 +177,9 @@ impl Commissioned<'_> {
             seed,
             exercise: list.size(),
         };
-        (judged, list.verdicts())
+        let verdicts = with_drills(&kernel, &self.input.table, list.verdicts());
+        let verdicts = with_campaign(&kernel, seed, campaign, verdicts);
+        (judged, with_limits(verdicts))
     }
 
     /// The same of words that were read back; what is wrong with their number.
@@ -333,7 +356,7 @@ mod tests {
     fn a_line_that_fails_says_why_and_no_more() {
         let table = Input::example().table;
         let [refusals, answers, isolation, counts] = lines(faulty::WRONG_ANSWER, &table);
-        assert!(refusals.starts_with("line 1 failed  refusals: exercise list 0"));
+        assert!(refusals.starts_with("line 1 failed  refusals: the list "));
         assert!(answers.starts_with("line 2 failed  answers and table: exercise list 0"));
         assert!(answers.ends_with("data 0 0\n") && !answers.contains("not shown"));
         assert!(isolation.starts_with("line 3 failed  isolation: exercise list"));

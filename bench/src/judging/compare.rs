@@ -39,6 +39,50 @@ pub fn difference(case: &Case, kernel: &Ran, separate: &Ran) -> Option<String> {
         .or_else(|| holders_difference(case, kernel, separate))
 }
 
+/// The first difference in what is refused: the entry's number, a word that a refused run
+/// changed, or the answer to a call that one of the two refuses.
+pub fn refusal_difference(case: &Case, kernel: &Ran, separate: &Ran) -> Option<String> {
+    let (code, should) = (kernel.outcome.code, separate.outcome.code);
+    if code != should {
+        return Some(format!(
+            "the kernel ends with code {code} ({}), it should be {should} ({})",
+            meaning(code),
+            meaning(should)
+        ));
+    }
+    if should != 0 {
+        let lent = (&case.table, &case.answers, &case.holders);
+        let changed = (&kernel.table, &kernel.answers, &kernel.holders) != lent;
+        return (changed || kernel.outcome.calls != 0).then(|| {
+            format!(
+                "refused with {should}, and yet it counts {} or a word was changed",
+                counted(kernel.outcome.calls, "call")
+            )
+        });
+    }
+    refused_calls_difference(case, kernel, separate)
+}
+
+/// The first call that one of two runs refuses and that they answer otherwise.
+fn refused_calls_difference(case: &Case, kernel: &Ran, separate: &Ran) -> Option<String> {
+    let calls = separate.outcome.calls as usize;
+    let of = |ran: &Ran, number: usize| {
+        let answer = &ran.answers[number * ANSWER_WORDS..][..ANSWER_WORDS];
+        (bits(answer[0], 15, 0), [answer[0], answer[1], answer[2]])
+    };
+    let differs = |&number: &usize| {
+        let ((code, answer), (should, right)) = (of(kernel, number), of(separate, number));
+        (code != 0 || should != 0) && answer != right
+    };
+    let number = (0..calls).find(differs)?;
+    Some(format!(
+        "call {number} ({}): the kernel answers {}, the separate machine {}",
+        call_in_words(&cut(&case.list)[number], &Names::none()),
+        answer_as_printed(&of(kernel, number).1),
+        answer_as_printed(&of(separate, number).1)
+    ))
+}
+
 fn outcome_difference(kernel: Outcome, separate: Outcome) -> Option<String> {
     if kernel.code != separate.code {
         return Some(format!(

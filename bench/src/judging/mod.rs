@@ -1,7 +1,8 @@
 //! What a kernel did, beside what it should have done: the comparison with the
-//! separate machine, the counts of the queues, the exercise made from a table and the
-//! variants of a line that are tried, the checklist, the random runs, table images,
-//! lists to be written, single calls, single queues, pairs of lines and components, who could influence whom, turns
+//! separate machine, the counts of the queues, the exercise made from a table, the drills and
+//! the variants of a line that are tried, the checklist, the random runs, table images,
+//! lists to be written, single calls, single queues, pairs of lines and components, who
+//! could influence whom, turns
 //! and their histories, what `linerun` prints, what was met in all, what is wrong cut down
 //! and told, how long it takes, by the length of a list too, and how many instructions.
 
@@ -9,6 +10,7 @@ pub mod chains;
 pub mod checklist;
 pub mod compare;
 pub mod counts;
+pub mod drills;
 pub mod exercise;
 pub mod groups;
 pub mod growth;

@@ -2,6 +2,7 @@
 //! them, and what it does where it doesn't come to that.
 
 use std::fmt::{self, Display};
+use std::io;
 use std::time::Duration;
 
 use reference::calls::cut;
@@ -12,7 +13,7 @@ use reference::Call;
 
 use crate::cases::Case;
 use crate::kernels::boundary::{Kernel, Outcome, Step};
-use crate::kernels::process::signal_in_words;
+use crate::kernels::process::{signal_in_words, Guarded};
 
 /// What a run returned and left.
 #[derive(Debug, Clone, PartialEq, Eq)]
@@ -178,6 +179,76 @@ pub fn run_here(kernel: &Kernel, case: &Case) -> Result<Ran, Failure> {
         answers: answers.words(Forbidden::AroundAnswers)?,
         holders: holders.words(Forbidden::AroundHolders)?,
     })
+}
+
+/// Spaces at whose ends nothing may be read or written, used again for each run: a kernel
+/// that reads past what it is lent stops there.
+pub struct Edges {
+    table: Guarded,
+    list: Guarded,
+    answers: Guarded,
+    holders: Guarded,
+}
+
+/// So many words each of these spaces has.
+const EDGE_WORDS: usize = 1 << 19;
+
+impl Edges {
+    pub fn new() -> io::Result<Edges> {
+        Ok(Edges {
+            table: Guarded::new(EDGE_WORDS)?,
+            list: Guarded::new(EDGE_WORDS)?,
+            answers: Guarded::new(EDGE_WORDS)?,
+            holders: Guarded::new(EDGE_WORDS)?,
+        })
+    }
+
+    /// A kernel's run of a case with all that is lent at the end of its space, in this
+    /// process; as [`run_here`] has it where something is longer than that.
+    pub fn run(&mut self, kernel: &Kernel, case: &Case) -> Result<Ran, Failure> {
+        let spaces = (
+            placed(&mut self.table, &case.table),
+            placed(&mut self.list, &case.list),
+            placed(&mut self.answers, &case.answers),
+            placed(&mut self.holders, &case.holders),
+        );
+        let (Some(table), Some(list), Some(answers), Some(holders)) = spaces else {
+            return run_here(kernel, case);
+        };
+        let from = BEFORE.len();
+        let outcome = kernel.run(
+            &mut table[from..],
+            &list[from..],
+            &mut answers[from..],
+            &mut holders[from..],
+        );
+        if left_of(list, Forbidden::AroundList)? != case.list {
+            return Err(Failure::Wrote(Forbidden::List));
+        }
+        Ok(Ran {
+            outcome,
+            table: left_of(table, Forbidden::AroundTable)?,
+            answers: left_of(answers, Forbidden::AroundAnswers)?,
+            holders: left_of(holders, Forbidden::AroundHolders)?,
+        })
+    }
+}
+
+/// Words at the end of a space, with words before them that nobody was lent.
+fn placed<'a>(space: &'a mut Guarded, lent: &[u32]) -> Option<&'a mut [u32]> {
+    let words = space.last(BEFORE.len() + lent.len())?;
+    words[..BEFORE.len()].copy_from_slice(&BEFORE);
+    words[BEFORE.len()..].copy_from_slice(lent);
+    Some(words)
+}
+
+/// What was left of them, unless a word before them was written.
+fn left_of(words: &[u32], around: Forbidden) -> Result<Vec<u32>, Failure> {
+    let (before, lent) = words.split_at(BEFORE.len());
+    match before == BEFORE {
+        true => Ok(lent.to_vec()),
+        false => Err(Failure::Wrote(around)),
+    }
 }
 
 /// A step on a table with one call, in this process.

@@ -34,6 +34,7 @@ extern "C" {
         offset: c_long,
     ) -> *mut c_void;
     fn munmap(address: *mut c_void, length: usize) -> c_int;
+    fn mprotect(address: *mut c_void, length: usize, protection: c_int) -> c_int;
 }
 
 const SIGKILL: c_int = 9;
@@ -44,7 +45,9 @@ const FIONREAD: c_ulong = 0x541B;
 const PR_SET_PDEATHSIG: c_int = 1;
 const RLIMIT_CORE: c_int = 4;
 const PROT_READ_AND_WRITE: c_int = 3;
+const PROT_NONE: c_int = 0;
 const MAP_SHARED_AND_ANONYMOUS: c_int = 0x21;
+const PAGE: usize = 4096;
 
 /// Numbers, zero at first, that a child process shares with its parent.
 pub struct Shared {
@@ -54,23 +57,64 @@ pub struct Shared {
 
 impl Shared {
     pub fn new(count: usize) -> io::Result<Shared> {
-        let bytes = count * size_of::<AtomicU64>();
-        // SAFETY: new memory is asked for, at no place in particular.
-        let start = unsafe {
-            mmap(
-                ptr::null_mut(),
-                bytes,
-                PROT_READ_AND_WRITE,
-                MAP_SHARED_AND_ANONYMOUS,
-                -1,
-                0,
-            )
-        };
-        if start as isize == -1 {
-            return Err(io::Error::last_os_error());
-        }
-        let start = start.cast();
+        let start = memory(count * size_of::<AtomicU64>())?.cast();
         Ok(Shared { start, count })
+    }
+}
+
+/// New memory of so many bytes, zero at first.
+fn memory(bytes: usize) -> io::Result<*mut c_void> {
+    // SAFETY: new memory is asked for, at no place in particular.
+    let start = unsafe {
+        mmap(
+            ptr::null_mut(),
+            bytes,
+            PROT_READ_AND_WRITE,
+            MAP_SHARED_AND_ANONYMOUS,
+            -1,
+            0,
+        )
+    };
+    match start as isize {
+        -1 => Err(io::Error::last_os_error()),
+        _ => Ok(start),
+    }
+}
+
+/// Words at whose end nothing may be read or written: whoever goes past them is ended.
+pub struct Guarded {
+    start: *mut c_void,
+    bytes: usize,
+}
+
+impl Guarded {
+    /// Space for so many words at least.
+    pub fn new(words: usize) -> io::Result<Guarded> {
+        let bytes = (words * size_of::<u32>()).next_multiple_of(PAGE);
+        let start = memory(bytes + PAGE)?;
+        // SAFETY: the last page of the memory that was just given, which nobody has yet.
+        match unsafe { mprotect(start.cast::<u8>().add(bytes).cast(), PAGE, PROT_NONE) } {
+            0 => Ok(Guarded { start, bytes }),
+            _ => Err(io::Error::last_os_error()),
+        }
+    }
+
+    /// The last words, so many; nothing where there aren't as many.
+    pub fn last(&mut self, words: usize) -> Option<&mut [u32]> {
+        let place = self.bytes.checked_sub(words * size_of::<u32>())?;
+        // SAFETY: the words from there to the end are this one's memory, borrowed with it
+        // alone; a page's end is aligned for words.
+        Some(unsafe {
+            let first = self.start.cast::<u8>().add(place).cast();
+            slice::from_raw_parts_mut(first, words)
+        })
+    }
+}
+
+impl Drop for Guarded {
+    fn drop(&mut self) {
+        // SAFETY: it is the memory that was given, and nobody has it any more.
+        unsafe { munmap(self.start, self.bytes + PAGE) };
     }
 }
 

@@ -2,6 +2,7 @@
 //! filed.
 
 use std::path::Path;
+use std::time::Duration;
 
 use reference::table::domains;
 
@@ -25,16 +26,20 @@ pub struct Asked<'a> {
 
 /// What the lines are judged on.
 pub enum On<'a> {
-    /// A kernel, with the seed of the variants.
-    Kernel(Kernel, u64),
+    /// A kernel, with the seed of the variants and the time of the campaign.
+    Kernel(Kernel, u64, Duration),
     /// The files of the words that were read back from a line.
     ReadBack { answers: &'a Path, left: &'a Path },
 }
 
+/// The seconds of a campaign where nothing else is asked for.
+const CAMPAIGN: u64 = 10;
+
 /// The options that take a value.
-pub const VALUED: [&str; 7] = [
+pub const VALUED: [&str; 8] = [
     "--struck",
     "--seed",
+    "--campaign",
     "--kernel",
     "--answers",
     "--left",
@@ -94,11 +99,13 @@ fn on(options: &Options) -> Result<On<'_>, String> {
         (Some(answers), Some(left)) => (answers, left),
         (None, None) => {
             let kernel = kernel(options.text("--kernel").unwrap_or("balkwizu"))?;
-            return Ok(On::Kernel(kernel, options.number("--seed")?.unwrap_or(1)));
+            let seed = options.number("--seed")?.unwrap_or(1);
+            let campaign = options.number("--campaign")?.unwrap_or(CAMPAIGN);
+            return Ok(On::Kernel(kernel, seed, Duration::from_secs(campaign)));
         }
         _ => return Err("--answers and --left are given together".to_string()),
     };
-    let runs = ["--kernel", "--seed"];
+    let runs = ["--kernel", "--seed", "--campaign"];
     match runs
         .into_iter()
         .find(|option| options.text(option).is_some())
@@ -137,6 +144,11 @@ mod tests {
         assert!(kernel.starts_with("--kernel is not for words"), "{kernel}");
         let seed = wrong("line --answers a --left t --seed 2");
         assert!(seed.starts_with("--seed is not for words"), "{seed}");
+        let campaign = wrong("line --answers a --left t --campaign 2");
+        assert!(
+            campaign.starts_with("--campaign is not for words"),
+            "{campaign}"
+        );
         let once = "standard input can be read once only";
         assert_eq!(wrong("- --answers - --left t"), once);
         assert_eq!(wrong("line --answers - --left -"), once);

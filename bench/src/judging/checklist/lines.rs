@@ -148,18 +148,24 @@ impl Checklist {
         mut judge: impl FnMut(usize, &Case, &Ran) -> Result<(), String>,
     ) -> Result<(), String> {
         let (mut finished, mut unfinished) = (0, None);
+        let mut progress = self.progress();
         for (number, (list, ran)) in self.listed(runs).enumerate() {
+            progress.step();
             let told = |why: String| format!("{}: {why}", list.what);
             match ran {
                 Ok(ran) => {
                     let judged = same_size(&list.case, ran);
                     let judged = judged.and_then(|()| judge(number, &list.case, ran));
-                    judged.map_err(told)?;
+                    if let Err(why) = judged {
+                        progress.clear();
+                        return Err(told(why));
+                    }
                     finished += 1;
                 }
                 Err(why) => unfinished = unfinished.or(Some(told(why.to_string()))),
             }
         }
+        progress.clear();
         let all = counted(self.lists.len(), "list");
         let others = || format!("; {finished} of {all} were finished and are right");
         unfinished.map_or(Ok(()), |why| Err(why + &others()))

@@ -2,6 +2,7 @@
 //! handed in. Each says what it stands on, and what of it this table can't show.
 
 pub mod basis;
+pub mod beyond;
 mod lines;
 pub mod read_back;
 mod refusals;
@@ -20,6 +21,7 @@ use crate::kernels::lent::{Failure, Ran, Stopped};
 use crate::line::explain::counted;
 use crate::line::input::Input;
 use crate::line::names::Names;
+use crate::progress::Progress;
 
 /// What the list that was handed in is called.
 pub const THIS_LIST: &str = "this list";
@@ -157,6 +159,11 @@ impl Checklist {
             None => Err(format!("{THIS_LIST} was not run")),
         };
         Verdicts { lines, left }
+    }
+
+    /// A line of progress for whoever goes through all lists.
+    fn progress(&self) -> Progress {
+        Progress::new("lists judged", &(0..self.lists.len() as u64))
     }
 
     fn exercise_lists(&self) -> &[Planned] {

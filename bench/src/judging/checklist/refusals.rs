@@ -16,14 +16,14 @@ use super::{at_a_time, each_run, Checklist, Found, Judged, Runs};
 use crate::cases::Case;
 use crate::judging::checklist::basis::{by_number, Basis};
 use crate::judging::checklist::shown;
-use crate::judging::compare::{difference, separate_run};
+use crate::judging::compare::{difference, refusal_difference, separate_run};
 use crate::judging::exercise::Planned;
 use crate::judging::report;
 use crate::judging::variants::{case_of, entry_edges, Variant};
 use crate::kernels::boundary::Kernel;
 use crate::kernels::child;
 use crate::kernels::lent::{Failure, Ran};
-use crate::line::explain::{counted, meaning};
+use crate::line::explain::counted;
 use crate::line::input::Input;
 
 /// How often runs ended with each number.
@@ -70,9 +70,16 @@ impl Checklist {
         self.checked()?;
         let lists = [&self.scrambled[..], &self.entry_edges()].concat();
         let ends = self.tried(&lists, wrongly_ended)?;
+        let mut progress = self.progress();
         for list in &self.lists {
-            self.tried(&stretches(list), wrongly_refused)?;
+            progress.step();
+            let tried = self.tried(&stretches(list), wrongly_refused);
+            if tried.is_err() {
+                progress.clear();
+            }
+            tried?;
         }
+        progress.clear();
         let calls = self.all_calls();
         Ok(vec![
             self.damaged_in_words(&damaged),
@@ -184,30 +191,13 @@ fn input_of(case: &Case) -> Input {
     }
 }
 
-/// What is wrong with how a run ended: by another number than its own, or with
+/// What is wrong with what a run refuses: the number that it ends with, a call's, or
 /// something changed where it is refused.
 fn wrongly_ended(case: &Case, ran: &Ran) -> Option<String> {
-    let right = match separate_run(case) {
-        Ok(right) => right,
-        Err(why) => return Some(why),
-    };
-    let (code, should) = (ran.outcome.code, right.outcome.code);
-    if code != should {
-        return Some(format!(
-            "the kernel ends with code {code} ({}), it should be {should} ({})",
-            meaning(code),
-            meaning(should)
-        ));
+    match separate_run(case) {
+        Ok(right) => refusal_difference(case, ran, &right),
+        Err(why) => Some(why),
     }
-    let lent = (&case.table, &case.answers, &case.holders);
-    let changed = (&ran.table, &ran.answers, &ran.holders) != lent;
-    if should != 0 && (changed || ran.outcome.calls != 0) {
-        return Some(format!(
-            "refused with {should}, and yet it counts {} or a word was changed",
-            counted(ran.outcome.calls, "call")
-        ));
-    }
-    None
 }
 
 /// What is wrong with a run of calls that are all refused: an answer, or a word that

@@ -1,0 +1,161 @@
+//! What the checklist goes through beyond the line's table and list: the drills, and a
+//! campaign of drawn runs. Both are for a kernel with which nothing was found wrong so far:
+//! what is wrong with one of them fails line 2, and line 1 where it is a refusal.
+
+use std::time::{Duration, Instant};
+
+use super::{Found, Line, Verdicts};
+use crate::judging::drills::{go_through, orders, Wrong, DRILLS};
+use crate::judging::images::try_images;
+use crate::judging::runs::try_runs;
+use crate::judging::tally::Tally;
+use crate::judging::trying::Draws;
+use crate::kernels::boundary::Kernel;
+use crate::line::explain::counted;
+
+/// What no run from outside can show.
+pub const BLACK_BOX: &str =
+    "what no run from outside can show: a fault that waits for one message, one name or \
+     one history among more than can be tried";
+
+/// The tables of the drills.
+const FAMILY: &str =
+    "this table, and tables of n 1, 2, 8, 9, 15 and 16 with m 0, 1, 31 and 32 and capacities \
+     1 to 8";
+
+/// So many runs of the campaign are drawn at a time, and so many images for each.
+const AT_A_TIME: u64 = 512;
+const IMAGES: u64 = 4;
+
+/// How long one run of the campaign may take.
+const LIMIT: Duration = Duration::from_secs(10);
+
+/// Goes through the drills where no line failed.
+pub fn with_drills(kernel: &Kernel, line: &[u32], verdicts: Verdicts) -> Verdicts {
+    if verdicts.summary().failed != 0 {
+        return verdicts;
+    }
+    let drilled = go_through(kernel, line);
+    let each = DRILLS.iter().zip(&drilled.cases);
+    let each = each.map(|(drill, cases)| format!("{}: {cases}", drill.what));
+    let runs = counted(drilled.cases.iter().sum::<u64>(), "run");
+    let first = vec![
+        format!("drills on {FAMILY}, {runs} in one process, each with every word compared"),
+        format!("of these: {}", each.collect::<Vec<_>>().join("; ")),
+        orders::in_words(),
+    ];
+    let second = vec![format!("the drills of line 1, {runs}")];
+    added(verdicts, [first, second], drilled.wrong)
+}
+
+/// Tries drawn runs and table images for a time, where no line failed.
+pub fn with_campaign(kernel: &Kernel, seed: u64, time: Duration, verdicts: Verdicts) -> Verdicts {
+    if verdicts.summary().failed != 0 || time.is_zero() {
+        return verdicts;
+    }
+    let began = Instant::now();
+    let (mut next, mut tally, mut wrong) = (0, Tally::default(), None);
+    while began.elapsed() < time && wrong.is_none() {
+        wrong = tried(kernel, seed, next, &mut tally).err();
+        next += AT_A_TIME;
+    }
+    let tried = vec![format!(
+        "a campaign of {} s with seed {seed}: {} and {}, drawn",
+        time.as_secs(),
+        counted(next, "run"),
+        counted(IMAGES * next, "table image")
+    )];
+    let wrong = wrong.map(|word| Wrong {
+        refusal: word.starts_with("STOPPED").then(|| word.clone()),
+        word,
+    });
+    added(verdicts, [tried.clone(), tried], wrong)
+}
+
+/// Draws runs and images from a number on; the first that is wrong.
+fn tried(kernel: &Kernel, seed: u64, next: u64, tally: &mut Tally) -> Result<(), String> {
+    let draws = |times: u64| Draws {
+        seed,
+        numbers: times * next..times * (next + AT_A_TIME),
+        limit: LIMIT,
+    };
+    try_runs(kernel, &draws(1), tally)?;
+    try_images(kernel, &draws(IMAGES), tally)
+}
+
+/// The verdicts with what lines 1 and 2 stand on besides, or with what is wrong.
+fn added(mut verdicts: Verdicts, more: [Vec<String>; 2], wrong: Option<Wrong>) -> Verdicts {
+    let Some(Wrong { refusal, word }) = wrong else {
+        for (line, more) in verdicts.lines.iter_mut().zip(more) {
+            stands_on(line, more);
+        }
+        return verdicts;
+    };
+    verdicts.lines[1].judged = Err(word);
+    if let Some(refusal) = refusal {
+        verdicts.lines[0].judged = Err(refusal);
+    }
+    verdicts
+}
+
+fn stands_on(line: &mut Line, more: Vec<String>) {
+    if let Ok(Found { stands_on, .. }) = &mut line.judged {
+        stands_on.extend(more);
+    }
+}
+
+/// Says of line 2 what no run from outside can show.
+pub fn with_limits(mut verdicts: Verdicts) -> Verdicts {
+    stands_on(&mut verdicts.lines[1], vec![BLACK_BOX.to_string()]);
+    verdicts
+}
+
+#[cfg(test)]
+mod tests {
+    use super::*;
+    use crate::judging::checklist::Checklist;
+    use crate::kernels::boundary::{kernel, PROVED};
+    use crate::kernels::faulty;
+    use crate::line::input::Input;
+    use crate::line::names::Names;
+
+    fn own(kernel: Kernel) -> Verdicts {
+        Checklist::new(kernel, &Input::example(), &Names::none(), 1).verdicts()
+    }
+
+    #[test]
+    fn a_campaign_is_counted_and_what_it_finds_fails_line_2() {
+        let time = Duration::from_millis(200);
+        let right = with_limits(with_campaign(&PROVED, 1, time, own(PROVED)));
+        let found = right.lines[1].judged.as_ref().expect("it passes");
+        let [.., campaign, limits] = &found.stands_on[..] else {
+            panic!("{:?}", found.stands_on)
+        };
+        assert!(
+            campaign.starts_with("a campaign of 0 s with seed 1: "),
+            "{campaign}"
+        );
+        assert_eq!(limits, BLACK_BOX);
+        let wrong = with_campaign(&faulty::WRONG_ANSWER, 1, time, own(PROVED));
+        assert!(wrong.lines[0].judged.is_ok());
+        let why = wrong.lines[1].judged.as_ref().unwrap_err();
+        assert!(why.starts_with("DIFFERENCE in run "), "{why}");
+    }
+
+    #[test]
+    fn a_kernel_that_failed_is_tried_no_further() {
+        let wrong = kernel("wrong-newest-first").unwrap();
+        let verdicts = with_drills(&wrong, &Input::example().table, own(wrong));
+        let before = own(wrong);
+        for (line, before) in verdicts.lines.iter().zip(&before.lines) {
+            assert_eq!(line.verdict(), before.verdict());
+        }
+    }
+
+    #[test]
+    fn the_sentence_about_the_tables_is_the_family() {
+        use crate::judging::drills::tables::{DOMAINS, ENDPOINTS};
+        assert_eq!((DOMAINS, ENDPOINTS), ([1, 2, 8, 9, 15, 16], [0, 1, 31, 32]));
+        assert!(FAMILY.contains("n 1, 2, 8, 9, 15 and 16 with m 0, 1, 31 and 32"));
+    }
+}

@@ -1,0 +1,122 @@
+//! The refusals of the entry in every combination: a list that is too long, a table that
+//! breaks its layout in one place or in several, too little answer space and other than n
+//! words for the holders.
+
+use reference::calls::{cut, LIST_WORDS_MAX, MY_RIGHTS};
+use reference::entry::ANSWER_WORDS;
+use reference::generate::call_word;
+use reference::table::{
+    endpoint_place, endpoints, DOMAINS_MAX, ENDPOINTS_MAX, INFO_PLACE, LOST_PLACE, NAME_PLACE,
+    WAITING_PLACE,
+};
+
+use super::{Tables, Take};
+use crate::cases::Case;
+use crate::judging::variants::holders_for;
+
+/// What is done to a table, where anything is.
+type Damage = fn(&mut Vec<u32>);
+
+/// Word 0 as it is, with another kind, with a bit of its spare ones, with no domain, with
+/// one too many, and with one endpoint too many; and no table at all.
+const HEADERS: [Damage; 8] = [
+    |_| {},
+    |table| table[0] ^= 1 << 28,
+    |table| table[0] |= 1 << 16,
+    |table| table[0] |= 1 << 27,
+    |table| table[0] &= !0xFF00,
+    |table| table[0] = table[0] & !0xFF00 | (DOMAINS_MAX as u32 + 1) << 8,
+    |table| table[0] = table[0] & !0xFF | (ENDPOINTS_MAX as u32 + 1),
+    |table| table.clear(),
+];
+
+/// The length as it is, with a word more or less, and with an endpoint's words more.
+const LENGTHS: [Damage; 4] = [
+    |_| {},
+    |table| table.push(0xF000_0000),
+    |table| table.truncate(table.len().saturating_sub(1)),
+    |table| table.extend([0xF000_0000; 12]),
+];
+
+/// The rights as they are, the first one with another kind, one with the bit past them.
+const RIGHTS: [Damage; 3] = [
+    |_| {},
+    |table| alter(table, 1, 3 << 28),
+    |table| alter(table, 1, 1 << 4),
+];
+
+/// The last endpoint as it is, or with one of its words broken.
+const ENDPOINTS: [Damage; 6] = [
+    |_| {},
+    |table| at_last_endpoint(table, NAME_PLACE, |_| 0x3000_0000),
+    |table| at_last_endpoint(table, INFO_PLACE, |word| word | 0xFF00),
+    |table| at_last_endpoint(table, INFO_PLACE, |word| word & !0xFF),
+    |table| at_last_endpoint(table, WAITING_PLACE, |_| 0x5000_0009),
+    |table| at_last_endpoint(table, LOST_PLACE, |word| word ^ 1 << 28),
+];
+
+fn alter(table: &mut [u32], place: usize, bits: u32) {
+    if let Some(word) = table.get_mut(place) {
+        *word ^= bits;
+    }
+}
+
+fn at_last_endpoint(table: &mut [u32], at: usize, with: fn(u32) -> u32) {
+    if table.is_empty() || endpoints(table) == 0 {
+        return;
+    }
+    let place = endpoint_place(table, endpoints(table) - 1) + at;
+    if let Some(word) = table.get_mut(place) {
+        *word = with(*word);
+    }
+}
+
+/// The drill, on the line's table and on two others.
+pub fn entries(tables: &Tables, take: &mut Take) {
+    for table in tables.few() {
+        for damaged in damaged(table) {
+            for words in [0, 5, LIST_WORDS_MAX + 1] {
+                spaces(&damaged, table, words, take);
+            }
+        }
+    }
+}
+
+/// A table with each damage of its endpoints, its rights, its length and its header, from
+/// the last to the first, so that what is looked up in the table is still there.
+fn damaged(table: &[u32]) -> Vec<Vec<u32>> {
+    let mut all = vec![table.to_vec()];
+    for damages in [&ENDPOINTS[..], &RIGHTS, &LENGTHS, &HEADERS] {
+        let with = |table: &Vec<u32>| {
+            let each = damages.iter().map(|damage| {
+                let mut table = table.clone();
+                damage(&mut table);
+                table
+            });
+            each.collect::<Vec<_>>()
+        };
+        all = all.iter().flat_map(with).collect();
+    }
+    all
+}
+
+/// A table with a list of so many words: with the answer space that it needs, one word less
+/// and none, and with as many words for the holders as there must be, one less, one more
+/// and none.
+fn spaces(table: &[u32], sound: &[u32], words: usize, take: &mut Take) {
+    let list = vec![call_word(MY_RIGHTS, 0, 0, 0, 0); words];
+    let enough = ANSWER_WORDS * cut(&list).len();
+    let holders = holders_for(sound);
+    for space in [enough, enough.saturating_sub(1), 0] {
+        for count in [holders.len(), holders.len() - 1, holders.len() + 1, 0] {
+            let mut holders = holders.clone();
+            holders.resize(count, 0xC0DE_0099);
+            take(Case {
+                table: table.to_vec(),
+                list: list.clone(),
+                answers: (0..space as u32).map(|place| 0xC0DE_0000 | place).collect(),
+                holders,
+            });
+        }
+    }
+}

@@ -1,0 +1,393 @@
+//! The drills: what the checklist goes through beyond the lists that are made from the
+//! line's table. A drill is a finite set that is gone through whole: the fields of a call
+//! at their edges in every combination, every bit of every field, every state of a queue,
+//! every overlap of rights, sizes around each limit. It is gone through on the line's table
+//! and on tables of the checklist's own, so that it shows everything whatever the line's
+//! table allows.
+//!
+//! Each case is one run; three of four have what is lent at the edge of memory, so that a
+//! read past it shows, the fourth amid words that must stay. After it the code, the number of calls and every word of the
+//! table, the answers and the holders are compared with the separate machine's. All cases
+//! run in one child process, so that what a kernel keeps between runs shows too.
+
+mod bits;
+mod entries;
+mod names;
+pub mod orders;
+mod queues;
+mod rights;
+mod runs;
+mod sizes;
+pub mod tables;
+mod walks;
+
+use reference::check_bytes;
+use reference::words::to_bytes;
+
+use crate::cases::Case;
+use crate::judging::compare::{difference, refusal_difference, separate_run};
+use crate::judging::report::{self, cut_down, Cut};
+use crate::kernels::boundary::Kernel;
+use crate::kernels::child::{self, watch, Board};
+use crate::kernels::lent::{run_here, Edges, Failure, Stopped};
+use crate::progress::Progress;
+
+use tables::family;
+
+/// Takes cases, one after another.
+type Take<'a> = dyn FnMut(Case) + 'a;
+
+/// A drill: what it goes through, and its cases on the line's table and on the family.
+pub struct Drill {
+    pub what: &'static str,
+    cases: fn(&Tables, &mut Take),
+}
+
+/// The line's table, and those of the checklist's own.
+pub struct Tables {
+    pub line: Vec<u32>,
+    pub own: Vec<Vec<u32>>,
+}
+
+impl Tables {
+    pub fn with(line: &[u32]) -> Tables {
+        Tables {
+            line: line.to_vec(),
+            own: family(),
+        }
+    }
+
+    /// The line's table first.
+    fn all(&self) -> impl Iterator<Item = &[u32]> {
+        let own = self.own.iter().map(Vec::as_slice);
+        std::iter::once(&self.line[..]).chain(own)
+    }
+
+    /// The line's table, the smallest of the others and the largest.
+    fn few(&self) -> impl Iterator<Item = &[u32]> {
+        let (least, most) = (self.own.first(), self.own.last());
+        let own = least.into_iter().chain(most).map(Vec::as_slice);
+        std::iter::once(&self.line[..]).chain(own)
+    }
+}
+
+/// All drills, in the order in which they are gone through.
+pub const DRILLS: [Drill; 11] = [
+    Drill {
+        what: "the fields of calls at their edges in every combination",
+        cases: orders::calls,
+    },
+    Drill {
+        what: "refusals of the entry in every combination",
+        cases: entries::entries,
+    },
+    Drill {
+        what: "every bit of calls that are done",
+        cases: bits::calls,
+    },
+    Drill {
+        what: "every bit of every table word",
+        cases: bits::tables,
+    },
+    Drill {
+        what: "headers, owners, capacities and waiting counts of every number",
+        cases: bits::numbers,
+    },
+    Drill {
+        what: "names at every endpoint, near each other and repeated",
+        cases: names::names,
+    },
+    Drill {
+        what: "queues in every state",
+        cases: queues::queues,
+    },
+    Drill {
+        what: "rights in every state, held in part, on oneself and on others",
+        cases: rights::rights,
+    },
+    Drill {
+        what: "sizes around each limit",
+        cases: sizes::sizes,
+    },
+    Drill {
+        what: "lists of calls that are done, after every call",
+        cases: walks::walks,
+    },
+    Drill {
+        what: "short lists over tables of different sizes",
+        cases: runs::one_after_another,
+    },
+];
+
+/// What the drills came to.
+pub struct Drilled {
+    /// How many cases each had, as far as they were gone through.
+    pub cases: Vec<u64>,
+    pub wrong: Option<Wrong>,
+}
+
+/// The first case with which something is wrong.
+pub struct Wrong {
+    /// What is wrong with a refusal, where something is.
+    pub refusal: Option<String>,
+    /// The first word that is wrong.
+    pub word: String,
+}
+
+/// Of four cases, the one that is lent amid words that must stay.
+const AMID: u64 = 3;
+
+/// The most bytes that are reported of what is wrong.
+const REPORTED_MAX: usize = 16_384;
+
+/// Where the text of a refusal and that of a word are left, after the counts.
+const REFUSAL: usize = DRILLS.len();
+const WORD: usize = REFUSAL + REPORTED_MAX;
+
+/// Goes through all drills with a kernel, up to the first case with which something is
+/// wrong.
+pub fn go_through(kernel: &Kernel, line: &[u32]) -> Drilled {
+    let tables = Tables::with(line);
+    let board = Board::new(WORD + REPORTED_MAX);
+    let mut progress = Progress::new("drills", &(0..DRILLS.len() as u64));
+    let watched = watch(&board, child::LIMIT, || {
+        let mut trial = Trial {
+            kernel,
+            board: &board,
+            edges: Edges::new().expect("memory for what is lent"),
+            number: 0,
+        };
+        (0..DRILLS.len()).all(|place| {
+            progress.step();
+            trial.one_drill(&tables, place)
+        })
+    });
+    progress.clear();
+    let cases = board.left(0..DRILLS.len()).collect();
+    let wrong = match watched {
+        Ok(true) => None,
+        Ok(false) => Some(differs(kernel, &tables, &board)),
+        Err(stopped) => Some(stops(kernel, &tables, &board, stopped)),
+    };
+    Drilled { cases, wrong }
+}
+
+/// The child process that goes through the drills.
+struct Trial<'a> {
+    kernel: &'a Kernel,
+    board: &'a Board,
+    edges: Edges,
+    /// The number of the next case.
+    number: u64,
+}
+
+impl Trial<'_> {
+    /// Goes through one drill; whether nothing is wrong. By turns what is lent has words
+    /// around it or ends where nothing may be read.
+    fn one_drill(&mut self, tables: &Tables, place: usize) -> bool {
+        let (mut count, mut right) = (0, true);
+        (DRILLS[place].cases)(tables, &mut |case| {
+            if !right {
+                return;
+            }
+            self.board.announce(self.number);
+            count += 1;
+            let wrong = self.wrong_with(&case);
+            self.number += 1;
+            if let Some(wrong) = wrong {
+                self.leave(REFUSAL, &wrong.refusal.unwrap_or_default());
+                self.leave(WORD, &wrong.word);
+                right = false;
+            }
+        });
+        self.board.leave(place, [count]);
+        right
+    }
+
+    fn leave(&self, place: usize, text: &str) {
+        let bytes = text.bytes().take(REPORTED_MAX - 1);
+        self.board.leave(place, bytes.map(u64::from));
+    }
+
+    /// What is wrong with the kernel's run of a case, or with its check of the image that
+    /// the table is.
+    fn wrong_with(&mut self, case: &Case) -> Option<Wrong> {
+        let ran = match self.number % 4 {
+            AMID => run_here(self.kernel, case),
+            _ => self.edges.run(self.kernel, case),
+        };
+        let ran = match ran {
+            Ok(ran) => ran,
+            Err(failure) => return Some(failed(failure)),
+        };
+        let right = match separate_run(case) {
+            Ok(right) => right,
+            Err(word) => {
+                let refusal = None;
+                return Some(Wrong { refusal, word });
+            }
+        };
+        if let Some(word) = difference(case, &ran, &right) {
+            let refusal = refusal_difference(case, &ran, &right);
+            return Some(Wrong { refusal, word });
+        }
+        image_difference(self.kernel, &case.table).map(in_both)
+    }
+}
+
+/// What is wrong with a refusal and with a word alike.
+fn in_both(why: String) -> Wrong {
+    Wrong {
+        refusal: Some(why.clone()),
+        word: why,
+    }
+}
+
+fn failed(failure: Failure) -> Wrong {
+    in_both(failure.to_string())
+}
+
+/// A table's image checked at an odd address, where a word stands at no place of its own.
+fn image_difference(kernel: &Kernel, table: &[u32]) -> Option<String> {
+    let bytes = [&[0xA5][..], &to_bytes(table)].concat();
+    let (code, should) = (kernel.table_check(&bytes[1..]), check_bytes(&bytes[1..]));
+    (code != should)
+        .then(|| format!("the table's image is checked with {code}, it should be {should}"))
+}
+
+/// The text that was left from a place on.
+fn text_left(board: &Board, place: usize) -> String {
+    let bytes = board.left(place..place + REPORTED_MAX);
+    let bytes: Vec<u8> = bytes
+        .map(|byte| byte as u8)
+        .take_while(|&b| b != 0)
+        .collect();
+    String::from_utf8_lossy(&bytes).into_owned()
+}
+
+/// The drill and the case of a number, and which of the drill's it is.
+fn case_of_number(tables: &Tables, wanted: u64) -> (&'static str, u64, Case) {
+    let mut number = 0;
+    for drill in &DRILLS {
+        let (first, mut found) = (number, None);
+        (drill.cases)(tables, &mut |case| {
+            if number == wanted {
+                found = Some(case);
+            }
+            number += 1;
+        });
+        if let Some(case) = found {
+            return (drill.what, wanted - first, case);
+        }
+    }
+    unreachable!("a drill announced the number")
+}
+
+/// What is reported of the case that differs, with its words cut down.
+fn differs(kernel: &Kernel, tables: &Tables, board: &Board) -> Wrong {
+    let (what, number, case) = case_of_number(tables, board.announced());
+    let wrong = |case: &Case, limit| match child::run(kernel, case, limit) {
+        Err(failure) => Some(failure.to_string()),
+        Ok(ran) => match separate_run(case) {
+            Ok(right) => difference(case, &ran, &right),
+            Err(why) => Some(why),
+        },
+    };
+    let shorter = cut_down(&case, Cut::Calls, child::LIMIT, wrong);
+    let shorter = shorter.unwrap_or_else(|| {
+        "Only after the runs before it in one process: by itself this run is right.".to_string()
+    });
+    let reported = |why: String| format!("{what}, case {number}: {why}\n{shorter}");
+    let refusal = Some(text_left(board, REFUSAL)).filter(|text| !text.is_empty());
+    Wrong {
+        refusal: refusal.map(reported),
+        word: reported(text_left(board, WORD)),
+    }
+}
+
+/// The same of a case that the kernel stops at.
+fn stops(kernel: &Kernel, tables: &Tables, board: &Board, stopped: Stopped) -> Wrong {
+    let (what, number, case) = case_of_number(tables, board.announced());
+    let failure = Failure::Stopped(stopped);
+    let why = report::failed(kernel, &case, failure, child::LIMIT);
+    let at = match board.announced() % 4 {
+        AMID => "",
+        _ => ", with nothing to be read past what is lent",
+    };
+    in_both(format!("{what}, case {number}{at}: {why}"))
+}
+
+#[cfg(test)]
+mod tests {
+    use super::*;
+    use crate::kernels::boundary::{kernel, Kernel, KERNELS, PROVED};
+    use crate::kernels::faulty;
+    use reference::example::TABLE_T;
+
+    fn wrong(kernel: Kernel) -> Wrong {
+        let drilled = go_through(&kernel, &TABLE_T);
+        drilled
+            .wrong
+            .unwrap_or_else(|| panic!("{} passes", kernel.name))
+    }
+
+    #[test]
+    fn right_kernels_go_through_all_drills() {
+        for kernel in KERNELS {
+            let drilled = go_through(kernel, &TABLE_T);
+            let wrong = drilled.wrong.map(|wrong| wrong.word);
+            assert_eq!(wrong, None, "{}", kernel.name);
+            assert!(
+                drilled.cases.iter().all(|&cases| cases > 1000),
+                "{:?}",
+                drilled.cases
+            );
+            assert!(drilled.cases[DRILLS.len() - 1] > 100_000);
+        }
+    }
+
+    #[test]
+    fn what_differs_is_cut_down_and_is_a_refusal_where_it_is_one() {
+        let answer = wrong(faulty::WRONG_ANSWER);
+        assert!(
+            answer.word.contains("in every combination, case 0: "),
+            "{}",
+            answer.word
+        );
+        assert!(
+            answer.word.contains("Cut down to 1 call:"),
+            "{}",
+            answer.word
+        );
+        let order = wrong(kernel("wrong-order-20-before-13").unwrap());
+        assert!(order.refusal.unwrap().contains("code 20 data 0 0"));
+        let far = wrong(kernel("wrong-size-far-behind").unwrap());
+        assert!(far.refusal.is_none() && far.word.contains("belongs to no call"));
+    }
+
+    #[test]
+    fn what_shows_only_after_other_runs_is_reported_as_such() {
+        let kept = wrong(kernel("wrong-history-grants-of-two-bytes").unwrap());
+        let told = "Only after the runs before it in one process";
+        assert!(kept.word.contains(told), "{}", kept.word);
+    }
+
+    #[test]
+    fn a_read_past_what_is_lent_stops_the_kernel() {
+        let reads = PROVED.with_run("reads on", |table, list, answers, holders| unsafe {
+            let next = list.cast::<u32>().add(list.len());
+            std::hint::black_box(next.read_volatile());
+            let outcome = PROVED.run(&mut *table, &*list, &mut *answers, &mut *holders);
+            outcome.calls << 16 | outcome.code
+        });
+        let stopped = wrong(reads).refusal.unwrap();
+        assert!(
+            stopped.contains("with nothing to be read past what is lent"),
+            "{stopped}"
+        );
+        assert!(
+            stopped.contains("signal 11 (segmentation fault)"),
+            "{stopped}"
+        );
+    }
+}

@@ -1,0 +1,72 @@
+//! Names at every endpoint, names that differ in one bit, and names that repeat.
+
+use reference::words::CONTENT_MAX;
+
+use super::bits::run_of;
+use super::tables::Shape;
+use super::{Tables, Take};
+use crate::judging::exercise::planner::look_up;
+
+/// The numbers of endpoints that have their names compared, on both sides of those where a
+/// kernel may look for them in another way; larger ones first, so that a name which is kept
+/// from them shows.
+const COUNTS: [usize; 8] = [32, 31, 8, 7, 6, 3, 2, 1];
+
+/// The drill.
+pub fn names(_: &Tables, take: &mut Take) {
+    for m in COUNTS {
+        for by in 0..m {
+            turned_round(m, by, take);
+        }
+        for (first, second) in (0..m).flat_map(|j| (0..j).map(move |i| (i, j))) {
+            repeated(m, first, second, take);
+        }
+        near(m, take);
+        at_the_ends(m, take);
+    }
+}
+
+/// Each name looked up.
+fn looked_up(shape: &Shape, take: &mut Take) {
+    let names = shape.queues.iter().map(|queue| queue.name);
+    let list = names.flat_map(|name| look_up(0, name).words()).collect();
+    run_of(&shape.words(), list, take);
+}
+
+/// Every name by so many endpoints further on.
+fn turned_round(m: usize, by: usize, take: &mut Take) {
+    let mut shape = Shape::new(2, m);
+    let names: Vec<u32> = shape.queues.iter().map(|queue| queue.name).collect();
+    for (e, queue) in shape.queues.iter_mut().enumerate() {
+        queue.name = names[(e + by) % m];
+    }
+    looked_up(&shape, take);
+}
+
+/// Two endpoints with one name, which is refused.
+fn repeated(m: usize, first: usize, second: usize, take: &mut Take) {
+    let mut shape = Shape::new(2, m);
+    shape.queues[second].name = shape.queues[first].name;
+    looked_up(&shape, take);
+}
+
+/// The first and the last name alike but for one bit, each of them; and both looked up with
+/// that bit turned.
+fn near(m: usize, take: &mut Take) {
+    for bit in (0..28).filter(|_| m > 1) {
+        let mut shape = Shape::new(2, m);
+        shape.queues[m - 1].name = shape.queues[0].name ^ 1 << bit;
+        looked_up(&shape, take);
+    }
+}
+
+/// The least name and the largest at each endpoint.
+fn at_the_ends(m: usize, take: &mut Take) {
+    for e in 0..m {
+        for name in [0, 1, CONTENT_MAX] {
+            let mut shape = Shape::new(2, m);
+            shape.queues[e].name = name;
+            looked_up(&shape, take);
+        }
+    }
+}

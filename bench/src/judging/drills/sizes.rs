@@ -1,0 +1,118 @@
+//! Sizes around each limit: of lists, of answer spaces, of the words for the holders and of
+//! tables; far above them too, where a length that is kept in a byte or in two would be a
+//! lawful one again.
+
+use reference::calls::{cut, Call, LIST_WORDS_MAX};
+use reference::entry::ANSWER_WORDS;
+use reference::table::domains;
+
+use super::{Tables, Take};
+use crate::cases::Case;
+use crate::judging::exercise::planner::{look_up, my_rights, send};
+use crate::judging::variants::holders_for;
+
+/// The lengths of lists.
+const LISTS: [usize; 26] = [
+    0, 1, 2, 3, 4, 63, 64, 65, 127, 128, 129, 255, 256, 257, 1023, 1024, 1025, 2048, 4094, 4095,
+    4096, 4097, 4098, 8192, 8195, 12_288,
+];
+
+/// Lengths of which the low bytes are those of a lawful one.
+const FAR: [usize; 6] = [65_536, 65_537, 65_541, 69_632, 69_633, 131_075];
+
+/// The drill, on the line's table and on two others.
+pub fn sizes(tables: &Tables, take: &mut Take) {
+    for table in tables.few() {
+        for words in LISTS {
+            for fill in FILLS {
+                for first in [0, 1] {
+                    let list = filled(fill, words, first);
+                    spaces(table, &list, words < 130 || words > 4090, take);
+                }
+            }
+        }
+        for words in FAR {
+            spaces(table, &filled(FILLS[0], words, 0), false, take);
+            spaces(table, &filled(FILLS[1], words, 0), false, take);
+        }
+        holders(table, take);
+        lengths(table, take);
+    }
+}
+
+/// What lists are filled with: calls of one word, calls of two, and calls of two whose
+/// second words are missing now and then.
+const FILLS: [fn(usize) -> Vec<u32>; 3] = [
+    |_| my_rights(0).words(),
+    |number| look_up(0, number as u32).words(),
+    |number| {
+        let call = send(0, 0, number as u32);
+        let second = call.second.filter(|_| number % 3 != 0);
+        Call { second, ..call }.words()
+    },
+];
+
+/// A list of just so many words after some of one word: what a list's end cuts in two is
+/// cut in two.
+fn filled(fill: fn(usize) -> Vec<u32>, words: usize, first: usize) -> Vec<u32> {
+    let before = vec![my_rights(0).first; first];
+    let rest = (0..).flat_map(fill);
+    before.into_iter().chain(rest).take(words).collect()
+}
+
+/// A list with just the answer space that it needs and far more; where asked for, with one
+/// word less and one more, with two less and with none too.
+fn spaces(table: &[u32], list: &[u32], all: bool, take: &mut Take) {
+    let enough = ANSWER_WORDS * cut(list).len();
+    let near = [
+        enough.saturating_sub(1),
+        enough + 1,
+        enough.saturating_sub(2),
+        0,
+    ];
+    let near = near.into_iter().filter(|_| all);
+    for space in [enough, enough + 5000].into_iter().chain(near) {
+        take(lent(table, list, space, domains(table)));
+    }
+}
+
+fn lent(table: &[u32], list: &[u32], space: usize, holders: usize) -> Case {
+    let mut lent = holders_for(table);
+    lent.resize(holders, 0xC0DE_0077);
+    Case {
+        table: table.to_vec(),
+        list: list.to_vec(),
+        answers: (0..space as u32).map(|place| 0xC0DE_0000 ^ place).collect(),
+        holders: lent,
+    }
+}
+
+/// Lists of no call, of some and of the most with every number of words for the holders up
+/// to some more than the largest table has, and with numbers whose low bytes are n; and with
+/// answer spaces likewise.
+fn holders(table: &[u32], take: &mut Take) {
+    let n = domains(table);
+    let far = [n + 16, n + 32, n + 256, n + 65_536];
+    for words in [0, 1, 5, LIST_WORDS_MAX] {
+        let list = filled(FILLS[0], words, 0);
+        for count in (0..=18).chain(far) {
+            take(lent(table, &list, ANSWER_WORDS * words, count));
+        }
+    }
+    let list = filled(FILLS[0], 5, 0);
+    for space in [256, 257, 65_536, 65_537, 65_550, 65_551, 131_072] {
+        take(lent(table, &list, space, n));
+    }
+}
+
+/// The table with so many words more that the low bytes of its length are its own again.
+fn lengths(table: &[u32], take: &mut Take) {
+    let list = filled(FILLS[0], 5, 0);
+    for more in [256, 512, 1024, 4096, 16_384, 65_536] {
+        let longer = [table, &vec![0xF000_0000; more]].concat();
+        take(Case {
+            table: longer,
+            ..lent(table, &list, 15, domains(table))
+        });
+    }
+}
