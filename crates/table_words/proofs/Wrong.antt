@@ -11,6 +11,7 @@ use Rattle.machine.specs.Word.{kind, payload}
 use Rattle.machine.specs.Right.{allRights}
 use Rattle.machine.specs.Queue.{emptySlot}
 use Rattle.machine.specs.Check.{slotWordOk, rightsWordOk}
+use Rattle.table_words.specs.Wrong.{slotAsked, slotWrong}
 
 -- two tests that follow from each other
 same-tests : (x y a b : ℕ) → (x ≡ y → a ≡ b) → (a ≡ b → x ≡ y) → eqb x y ≡ eqb a b
@@ -63,6 +64,12 @@ pub slot-right : (waiting i w asked : ℕ) → w < 2 ^ 32 → asked ≡ cond (lt
 unfolding slotWordOk
 slot-right waiting i w asked l e =
     rw (e, count-above waiting i) (slot-cases (ltb i (waiting - 1342177280)) w l)
+
+-- the bits that are asked for, by the whole waiting word
+pub slot-is : (waiting i w asked : ℕ) → asked ≡ cond (ltb (1342177280 + i) waiting) 4026531840 4294967295
+    → bitAnd (bitXor w emptySlot) asked ≡ slotWrong waiting i w
+unfolding slotWrong slotAsked
+slot-is waiting i w asked e = rw (e, count-above waiting i) refl
 
 -- no bit is gathered where there was none and none is added
 pub none-gathered : (a b : ℕ) → eqb (bitOr a b) 0 ≡ (eqb a 0 && eqb b 0)

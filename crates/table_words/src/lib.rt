@@ -22,6 +22,7 @@ ghost use Prim.Native.Nat.{_-_};
 ghost use lib.Dec.{eqb, leb};
 ghost use Rattle.machine.specs.Word.{word};
 ghost use Rattle.machine.specs.Right.{allRights};
+ghost use Rattle.table_words.specs.Wrong.{rightsWrong, slotWrong};
 ghost use Rattle.machine.specs.Check.{headerWordOk, rightsWordOk, nameWordOk, infoWordOk, waitingWordOk, lostWordOk, slotWordOk};
 
 // The waiting word where no message waits, in 64 bits.
@@ -49,6 +50,7 @@ pub fn rights_word_ok(w: u32) -> bool
 // Returns the bits in which a rights word differs from one that has no right. In a valid word only bits of rights differ. A
 // loop gathers the bits of all rights words by `|`.
 pub fn rights_wrong(w: u32) -> u32
+    ensures { λ r. ⌜ r ≡ rightsWrong w ⌝ }
     ensures { λ r. ⌜ leb r allRights ≡ rightsWordOk w ⌝ }
 {
     w ^ NO_RIGHT
@@ -98,6 +100,7 @@ fn bits_asked(waits: bool) -> u32
 // and empty from the waiting count on. A loop gathers the bits of all slots by `|`. The whole waiting word is compared: a
 // comparison of the count with 0 is compiled differently from the seven others, and the eight then don't run side by side.
 pub fn slot_wrong(waiting: u32, i: u32, w: u32) -> u32
+    ensures { λ r. ⌜ r ≡ slotWrong waiting i w ⌝ }
     ensures { λ r. ⌜ eqb r 0 ≡ slotWordOk (waiting - word 5 0) i w ⌝ }
 {
     let waits = NONE_WAITING + (i as u64) < waiting as u64;

@@ -31,7 +31,7 @@ again : tie.Need-loop-again Inv-loop μ-loop
 again c =
     let t = c .before .before in
     let l = t .before .loop in
-    (rw (rights-gathered _ _) (scan-next _ _ _ _ _ (l .inv .0) (t .loop-test .taken) (c .rights-wrong .ensures ∙ ap rightsWordOk (c .before .nth-word2 .ensures))), l .inv .1)
+    (rw (rights-gathered _ _) (scan-next _ _ _ _ _ (l .inv .0) (t .loop-test .taken) (c .rights-wrong .ensures .1 ∙ ap rightsWordOk (c .before .nth-word2 .ensures))), l .inv .1)
 
 returns : tie.Need-returns Inv-loop μ-loop
 unfolding rightsOk domains

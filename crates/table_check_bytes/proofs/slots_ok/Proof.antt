@@ -25,7 +25,7 @@ again c =
     let t = c .before .before in
     rw (none-gathered _ _)
     (scan-next _ _ _ _ _ (t .before .loop .inv) (omega arith)
-    (c .slot-wrong .ensures ∙ ap (slotWordOk _ _) (c .before .nth-word .ensures)))
+    (c .slot-wrong .ensures .1 ∙ ap (slotWordOk _ _) (c .before .nth-word .ensures)))
 
 returns : tie.Need-returns Inv-loop μ-loop
 returns c = scan-end _ _ _ _ (c .before .loop .inv) (c .loop-test .left)

@@ -20,7 +20,7 @@ abbrev μ-loop : tie.MeasureT-loop
 again : tie.Need-loop-again Inv-loop μ-loop
 again c =
     rw (none-gathered _ _)
-    (scan-next _ _ _ _ _ (c .before .before .before .loop .inv) (c .before .before .loop-test .taken) (c .slot-wrong .ensures))
+    (scan-next _ _ _ _ _ (c .before .before .before .loop .inv) (c .before .before .loop-test .taken) (c .slot-wrong .ensures .1))
 
 returns : tie.Need-returns Inv-loop μ-loop
 returns c = scan-end _ _ _ _ (c .before .loop .inv) (c .loop-test .left)
