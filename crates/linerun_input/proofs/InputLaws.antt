@@ -1,14 +1,13 @@
 -- The reading stays within the program's buffer. Where it stops before the input ends, no further byte makes a difference to what
--- is refused or to the list. Also what its steps leave. Assumes nothing.
+-- is refused or to the list. Assumes nothing.
 use Prim.Native.Nat.{ℕ, _+_, _-_, _*_, _≤_, _<_}
-use mathlib.Core.Path.{_≡_, refl, sym, ap, _∙_}
+use mathlib.Core.Path.{_≡_, refl, ap, _∙_}
 use mathlib.Core.Bool.{Bool, true, false}
-use mathlib.Core.List.{List, [], _++_}
-use borrow.Author.Tests.{lt-ltb, le-ltb}
+use mathlib.Core.List.{List, _++_}
+use borrow.Author.Tests.{le-ltb}
 use native.Mathlib.Omega.{arith}
 use lib.Dec.{lit≤}
 use lib.ListN.{length, take, drop, length-append, length-take, length-drop}
-use lib.Seq.{length-take-le}
 use Rattle.machine.proofs.Bools.{or-none-left}
 use Rattle.input_words.specs.Bytes.{wordsOf}
 use Rattle.input_words.specs.TableInput.{tableEnd, noTable, afterTable, tableWanted}
@@ -16,8 +15,7 @@ use Rattle.text.specs.Write.{Fills}
 use Rattle.text.proofs.WriteLaws.{fills-cut, fills-part}
 use Rattle.input_words.proofs.WordLaws.{take-wordsOf-append}
 use Rattle.input_words.proofs.TableLaws.{Whole, whole, whole-table, table-within, whole-more, afterTable-more, still-asks}
-use Rattle.input_words.proofs.Needed.{needed-none, needed-more, stored}
-use Rattle.linerun_input.specs.Input.{listWordsRead, mostInput, listOf, leftOver, unreadable, wanted, Needed, Reads}
+use Rattle.linerun_input.specs.Input.{listWordsRead, mostInput, listOf, leftOver, unreadable, wanted}
 
 -- the reading asks for no byte past the room for a longest table and a list one word too long
 pub wanted-within : (bytes : List ℕ) → length bytes ≤ mostInput → length bytes + wanted bytes ≤ mostInput
@@ -60,7 +58,7 @@ listOf-more bytes more w h =
     ∙ take-wordsOf-append listWordsRead (afterTable bytes) more h
 
 -- while fewer bytes follow than are wanted, more is wanted
-still-wanted : (bytes more : List ℕ) → length more < wanted bytes → 0 < wanted (bytes ++ more)
+pub still-wanted : (bytes more : List ℕ) → length more < wanted bytes → 0 < wanted (bytes ++ more)
 unfolding wanted
 still-wanted bytes more h = go (noTable bytes) refl
   where
@@ -70,29 +68,3 @@ still-wanted bytes more h = go (noTable bytes) refl
         let w : Whole bytes = whole bytes e in
         simp (whole-table (bytes ++ more) (whole-more bytes more w), afterTable-more bytes more w)
         (omega (arith, simp e at h, length-append (afterTable bytes) more))
-
--- ---- the two ways to stop, and the step between
-
--- where there is no byte, the length word is wanted
-pub stops-empty : Reads [] true
-unfolding wanted noTable tableWanted
-stops-empty = record { reason = refl; needed = needed-none wanted }
-
-pub stops-full : (bytes : List ℕ) → Needed bytes → wanted bytes ≡ 0 → Reads bytes false
-stops-full bytes needed done = record { reason = sym (le-ltb 0 (wanted bytes) (omega arith)); needed = needed }
-
--- a buffer of which the first bytes stayed while a read, which asked for no more than was wanted, stored its own after them: these
--- were needed too
-module _ (before after : List ℕ) (have got : ℕ) (kept : take have after ≡ take have before) (room : have + got ≤ length after)
-    (needed : Needed (take have before)) where
-  many : length (take got (drop have after)) ≡ got
-  many = length-take-le got (drop have after) (omega (arith, length-drop have after))
-
-  pub needed-step : got ≤ wanted (take have before) → Needed (take (have + got) after)
-  needed-step asked = rw (stored before after have got kept) (needed-more wanted still-wanted (take have before) (take got (drop have after)) needed (omega (arith, many)))
-
-  pub stops-short : got < wanted (take have before) → Reads (take (have + got) after) true
-  stops-short short =
-      let more : 0 < wanted (take (have + got) after) =
-      rw (stored before after have got kept) (still-wanted (take have before) (take got (drop have after)) (omega (arith, many))) in
-      record { reason = sym (lt-ltb _ _ more); needed = needed-step (omega arith) }

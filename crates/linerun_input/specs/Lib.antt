@@ -1,2 +1,3 @@
--- What the contracts of `linerun_input` cite: what linerun reads.
+-- What the contracts of `linerun_input` cite: what linerun reads, and how its reading goes on.
 pub mod Input
+pub mod Stage

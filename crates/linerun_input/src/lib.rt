@@ -1,5 +1,8 @@
 // What linerun reads: the table, then the list's words up to word 4,097 (document 01, 'Into firmware and onto the bench').
-// This file says which input code 7 refuses and how many more bytes are wanted. Module stdin reads standard input by it.
+// This file says which input code 7 refuses and how many more bytes are wanted. Module stdin reads, module stage says how far the
+// reading is, and module reading goes from one stage to the next until nothing more is wanted.
+pub mod reading;
+pub mod stage;
 pub mod stdin;
 
 use format::calls::LONGEST_LIST;

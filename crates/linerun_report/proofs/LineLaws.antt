@@ -21,7 +21,7 @@ next-line answers from i h w v =
     let call : from + (i - from) ≡ i = omega arith in
     rw (one-more, call) (then w v)
 
-at-number : (f : ℕ → List ℕ) (a b : ℕ) → a ≡ b → f a ≡ f b
+pub at-number : (f : ℕ → List ℕ) (a b : ℕ) → a ≡ b → f a ≡ f b
 at-number f a b e = ap f e
 
 -- the lines of some calls and of those that follow

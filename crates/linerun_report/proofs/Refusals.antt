@@ -25,7 +25,7 @@ use Rattle.input_words.proofs.TableLaws.{Whole, whole-table}
 use Rattle.linerun_input.specs.Input.{listWordsRead, listOf, unreadable}
 use Rattle.linerun_text.specs.Lines.{firstLine}
 use Rattle.linerun_report.specs.Lines.{callLines, allLines}
-use Rattle.linerun_report.specs.Report.{answerSpace, holdersSpace, outcomeLines, report, NeverSix}
+use Rattle.linerun_report.specs.Report.{answerSpace, holdersSpace, outcomeLines, answered, report, NeverSix}
 use Rattle.linerun_input.proofs.InputLaws.{no-left-over}
 
 -- where there are as many list words as are read, the list is one word too long
@@ -40,7 +40,7 @@ long bytes h =
 
 pub one-word-too-many : (bytes : List ℕ) → Whole bytes → 4 * listWordsRead ≤ length (afterTable bytes)
     → report bytes ≡ firstLine 0 1
-unfolding report unreadable outcomeLines allLines callLines refusal
+unfolding report answered unreadable outcomeLines allLines callLines refusal
 one-word-too-many bytes w h =
     let t = tableOf bytes in
     let ws = listOf bytes in

@@ -2,4 +2,5 @@
 -- asks for, and linerun_text a line.
 pub mod Lines
 pub mod Report
+pub mod Cursor
 pub mod Examples

@@ -1,5 +1,5 @@
 -- All lines that `linerun` prints, as bytes (document 01, 'Into firmware and onto the bench').
-use Prim.Native.Nat.{ℕ, zero, suc, _+_, _-_, _*_}
+use Prim.Native.Nat.{ℕ, zero, suc, _+_, _-_, _*_, min}
 use mathlib.Core.List.{List, [], _++_}
 use lib.ListN.{getD}
 use Rattle.linerun_text.specs.Lines.{firstLine, callLine}
@@ -35,3 +35,18 @@ linesFrom answers i (suc k) = linesFrom answers i k ++ lineOf answers (i + k)
 unfoldable pub linesBetween : ℕ → ℕ → List ℕ → ℕ → ℕ → List ℕ
 linesBetween calls code answers zero next = firstLine calls code ++ linesFrom answers 0 (next - 1)
 linesBetween calls code answers (suc i) next = linesFrom answers i (next - suc i)
+
+-- the most lines that a part has, and the most bytes
+abbrev pub partLines : ℕ
+partLines = 256
+
+abbrev pub partBytes : ℕ
+partBytes = mostBytes partLines
+
+-- the line before which the part from a line on ends
+unfoldable pub lineAfter : ℕ → ℕ → ℕ
+lineAfter calls line = min (line + partLines) (calls + 1)
+
+-- the part from a line on; it is empty from the line on that would follow the last
+unfoldable pub partFrom : ℕ → ℕ → List ℕ → ℕ → List ℕ
+partFrom calls code answers line = linesBetween calls code answers line (lineAfter calls line)

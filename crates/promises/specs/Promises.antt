@@ -12,6 +12,8 @@ use Rattle.isolation_theory.specs.ComponentExamples as isolation-theory-compone
 use Rattle.isolation_theory.specs.LineExamples as isolation-theory-line-examples
 use Rattle.isolation_theory.specs.TwoLines as isolation-theory-two-lines
 use Rattle.kernel.specs.AskedAfterStep as kernel-asked-after-step
+use Rattle.linerun_input.specs.Stage as linerun-input-stage
+use Rattle.linerun_report.specs.Cursor as linerun-report-cursor
 use Rattle.linerun_report.specs.Examples as linerun-report-examples
 use Rattle.linerun_report.specs.Report as linerun-report-report
 use Rattle.linetotals_input.specs.Examples as linetotals-input-examples
@@ -131,6 +133,14 @@ pub record Promises : Type 0 where
   -- ---- The program linerun
   -- Inputs and what linerun prints, byte for byte.
   pub P-linerun-rows : linerun-report-examples.EveryRow linerun-report-examples.rows
+  -- Before linerun reads anything, its stage is that after no byte.
+  pub P-linerun-start : linerun-input-stage.EveryStart
+  -- Parts that are read in order, each of at most as many bytes as are wanted, give the stage after their concatenation.
+  pub P-linerun-step : linerun-input-stage.EveryStep
+  -- The parts that are printed from line 0 on concatenate to the report.
+  pub P-linerun-parts : linerun-report-cursor.PartsAreReport
+  -- No line shows what was in the words that are lent for the answers.
+  pub P-linerun-every-space : linerun-report-report.EverySpace
   -- Where linerun wants no further byte, what follows changes nothing.
   pub P-linerun-nothing-follows : linerun-report-report.NothingFollows
   -- linerun lends space enough: code 6 never comes.

@@ -1,14 +1,18 @@
--- `linerun::answer_input` meets its contract: all lines of what it returns are the report. Assumes nothing.
-use mathlib.Core.Path.{sym, ap, _∙_}
-use native.Mathlib.Nat.{sub-zero}
-use native.Mathlib.Omega.{arith}
-use lib.ListN.{take}
+-- `linerun::answer_input` meets its contract: the lines of the cursor that it returns are the report. Assumes nothing.
+use Prim.Native.Nat.{ℕ, _-_}
+use mathlib.Core.Path.{_≡_, ap, _∙_}
+use mathlib.Core.List.{List}
 use borrow.Author.Needs.{needs}
-use Rattle.linerun_report.specs.Report.{report}
-use Rattle.linerun_report.proofs.LineLaws.{all-printed}
+use native.Mathlib.Nat.{sub-zero}
+use lib.ListN.{take}
+use Rattle.linerun_input.specs.Stage.{haveOf, endedOf}
+use Rattle.linerun_input.proofs.StageLaws.{all-read}
 use Rattle.linerun_report.proofs.ReportLaws.{prints}
 use Rattle.linerun.proofs.answer_input.Statement.{statement}
 use Rattle.linerun.proofs.answer_input.Tie as tie
+
+have-requires : tie.Need-have-requires
+have-requires c κs = search needs
 
 sub-answer : tie.Need-sub-answer
 sub-answer c = search needs
@@ -28,16 +32,23 @@ same-length c = search needs
 returns : tie.Need-returns
 returns c =
     let answered = c .before .before .answer in
-    let start = c .before .before .before .before .before .before .before in
-    let input = start .args .input .now in
-    let read = start .args .read in
-    let head = answered .result in
-    let lines = sym (answered .ensures .lines (start .pre .1 .1)) ∙ ap (λ k. report (take k input)) (sub-zero (read .have)) in (
-      omega (arith, answered .ensures .few),
-      prints (take (read .have) input) (read .ended) (start .pre .1 .0) (sym (all-printed (head .calls) (head .code) _) ∙ lines),
-    )
+    let start = c .before .before .before .before .before .before .before .before in
+    let have = c .before .before .before .before .before .have in
+    let input = start .args .input in
+    let is-read : take (have .result - 0) (start .args .buffer .now) ≡ take (haveOf input) (start .args .buffer .now) =
+    ap (λ (k : ℕ). take k (start .args .buffer .now)) (sub-zero (have .result) ∙ have .ensures) in
+    let is-run = rw (is-read, start .pre .1 .1) at (answered .ensures) in
+    prints (take (haveOf input) (start .args .buffer .now)) (endedOf input)
+    (all-read (start .pre .1 .0 .0) (start .pre .1 .0 .1)) (is-run .0) (is-run .1)
 
 pub answer-input-spec : {M : Type 1} → statement M
 answer-input-spec =
     tie.close
-    (tie.spec sub-answer part-answer-start part-answer-end answer-requires same-length returns)
+    (tie.spec
+    have-requires
+    sub-answer
+    part-answer-start
+    part-answer-end
+    answer-requires
+    same-length
+    returns)

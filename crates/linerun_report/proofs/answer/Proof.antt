@@ -1,16 +1,15 @@
 -- `linerun_report::answer` meets its contract: the two cases of the definition. Assumes nothing.
 use Prim.Native.Nat.{ℕ, min}
 use mathlib.Core.Path.{refl, sym, ap, _∙_}
-use mathlib.Core.List.{List, append-nil}
-use native.Mathlib.Omega.{arith}
+use mathlib.Core.List.{List}
 use Rattle.machine.specs.Table.{domains}
+use Rattle.machine.specs.Entry.{refusal}
 use Rattle.text.proofs.WriteLaws.{fills-part}
 use Rattle.input_words.specs.TableInput.{tableOf}
 use Rattle.input_words.proofs.TableLaws.{whole, length-tableOf}
 use Rattle.linerun_input.proofs.InputLaws.{readable-whole, list-part}
-use Rattle.linerun_text.specs.Lines.{firstLine}
-use Rattle.linerun_report.specs.Lines.{callLines, allLines}
-use Rattle.linerun_report.proofs.ReportLaws.{report-unreadable, report-ran, lent-part, ran-few}
+use Rattle.linerun_report.specs.Cursor.{firstOf}
+use Rattle.linerun_report.proofs.ReportLaws.{answered-unreadable, answered-ran, lent-part}
 use borrow.Author.Needs.{needs}
 use Rattle.linerun_report.proofs.answer.Statement.{statement}
 use Rattle.linerun_report.proofs.answer.Tie as tie
@@ -19,11 +18,13 @@ unreadable-requires : tie.Need-unreadable-requires
 unreadable-requires c κs = search needs
 
 returns : tie.Need-returns
-unfolding allLines callLines
+unfolding firstOf refusal
 returns c =
-    let bytes = c .before .before .before .before .args .bytes .now in
-    let unread = report-unreadable bytes (sym (c .before .unreadable .ensures) ∙ c .if1 .taken) in
-    record { few = omega arith; lines = λ _. unread ∙ sym (append-nil (firstLine 0 7)) }
+    let start = c .before .before .before .before in
+    let unread =
+    answered-unreadable (start .args .bytes .now) (start .args .answers .now)
+    (sym (c .before .unreadable .ensures) ∙ c .if1 .taken) in
+    (rw unread refl, rw unread refl)
 
 slice-aggregate-read-table : tie.Need-slice-aggregate-read-table
 slice-aggregate-read-table c = search needs
@@ -102,14 +103,10 @@ returns-2 c =
     let tested = read .before .before in
     let bytes = tested .before .before .before .before .args .bytes .now in
     let readable = sym (tested .before .unreadable .ensures) ∙ tested .if1 .left in
-    let calls = called .calls .ensures in
     let table = fills-part (length-tableOf bytes (whole bytes (readable-whole bytes readable))) (read .read-table .ensures) in
     let list = list-part bytes refl (rw (after .after-table .ensures) at (filled .fill .ensures)) in
     let holders = lent-part (tableOf bytes) (lent .holders-lent .ensures ∙ ap (λ (t : List ℕ). min (domains t) 16) table) in
-    record {
-      few = omega (arith, ran-few (ran .run .ensures), calls);
-      lines = λ space. report-ran bytes readable table list holders (rw space at (ran .run .ensures)) calls (c .code .ensures);
-    }
+    answered-ran bytes readable table list holders (ran .run .ensures) (called .calls .ensures) (c .code .ensures)
 
 pub answer-spec : {M : Type 1} → statement M
 answer-spec =

@@ -13,9 +13,12 @@ use Rattle.isolation_theory.proofs.Component as isolation-theory-component-proo
 use Rattle.isolation_theory.proofs.ComponentExamples as isolation-theory-component-examples-proofs
 use Rattle.isolation_theory.proofs.LineExamples as isolation-theory-line-examples-proofs
 use Rattle.isolation_theory.proofs.TwoLines as isolation-theory-two-lines-proofs
+use Rattle.linerun_input.proofs.StageLaws as linerun-input-stage-laws-proofs
+use Rattle.linerun_report.proofs.CursorLaws as linerun-report-cursor-laws-proofs
 use Rattle.linerun_report.proofs.Examples as linerun-report-examples-proofs
 use Rattle.linerun_report.proofs.Refusals as linerun-report-refusals-proofs
 use Rattle.linerun_report.proofs.ReportLaws as linerun-report-report-laws-proofs
+use Rattle.linerun_report.proofs.SpaceLaws as linerun-report-space-laws-proofs
 use Rattle.linetotals_input.proofs.Examples as linetotals-input-examples-proofs
 use Rattle.linetotals_theory.proofs.Examples as linetotals-theory-examples-proofs
 use Rattle.linetotals_theory.proofs.SheetLaws as linetotals-theory-sheet-laws-proofs
@@ -101,6 +104,10 @@ returns c =
       C-fifo-order = machine-counts-proofs.fifo-order;
       R-same-decision = rules-readings-proofs.same-decision;
       P-linerun-rows = linerun-report-examples-proofs.every-row;
+      P-linerun-start = linerun-input-stage-laws-proofs.starts;
+      P-linerun-step = linerun-input-stage-laws-proofs.steps;
+      P-linerun-parts = linerun-report-cursor-laws-proofs.parts-are-report;
+      P-linerun-every-space = linerun-report-space-laws-proofs.every-space;
       P-linerun-nothing-follows = linerun-report-report-laws-proofs.nothing-follows;
       P-linerun-never-six = linerun-report-refusals-proofs.never-six;
       B-all-or-nothing = machine-trail-proofs.all-or-nothing;

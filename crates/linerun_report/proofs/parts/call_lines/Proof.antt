@@ -1,4 +1,4 @@
--- `linerun::lines::call_lines` meets its contract: before the iteration of call i the lines of the calls below it are written.
+-- `parts::call_lines` meets its contract: before the iteration of call i the lines of the calls below it are written.
 -- Assumes nothing.
 use borrow.Author.Needs.{needs}
 use Prim.Native.Nat.{_+_, _-_, _*_, _≤_}
@@ -7,11 +7,11 @@ use mathlib.Core.Path.{_≡_}
 use native.Mathlib.Omega.{arith}
 use Rattle.text.specs.Write.{Writes}
 use Rattle.text.proofs.WriteLaws.{writes-nothing, writes-length}
 use Rattle.linerun_report.specs.Lines.{linesFrom}
 use Rattle.linerun_text.proofs.LineLaws.{length-callLine}
 use Rattle.linerun_report.proofs.LineLaws.{next-line}
-use Rattle.linerun.proofs.lines.call_lines.Statement.{statement}
-use Rattle.linerun.proofs.lines.call_lines.Tie as tie
+use Rattle.linerun_report.proofs.parts.call_lines.Statement.{statement}
+use Rattle.linerun_report.proofs.parts.call_lines.Tie as tie
 
 abbrev Inv-loop : tie.InvT-loop
 Inv-loop answers from to out₀ start at₀ i₀ out at i =
