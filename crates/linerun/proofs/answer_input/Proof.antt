@@ -5,8 +5,11 @@ use mathlib.Core.List.{List}
 use borrow.Author.Needs.{needs}
 use native.Mathlib.Nat.{sub-zero}
 use lib.ListN.{take}
+use Rattle.machine.specs.Entry.{Outcome}
 use Rattle.linerun_input.specs.Stage.{haveOf, endedOf}
 use Rattle.linerun_input.proofs.StageLaws.{all-read}
+use Rattle.linerun_report.specs.Report.{answered}
+use Rattle.linerun_report.specs.Cursor.{firstOf}
 use Rattle.linerun_report.proofs.ReportLaws.{prints}
 use Rattle.linerun.proofs.answer_input.Statement.{statement}
 use Rattle.linerun.proofs.answer_input.Tie as tie
@@ -31,15 +34,16 @@ same-length c = search needs
 
 returns : tie.Need-returns
 returns c =
-    let answered = c .before .before .answer in
+    let was-run = c .before .before .answer in
     let start = c .before .before .before .before .before .before .before .before in
     let have = c .before .before .before .before .before .have in
     let input = start .args .input in
     let is-read : take (have .result - 0) (start .args .buffer .now) ≡ take (haveOf input) (start .args .buffer .now) =
     ap (λ (k : ℕ). take k (start .args .buffer .now)) (sub-zero (have .result) ∙ have .ensures) in
-    let is-run = rw (is-read, start .pre .1 .1) at (answered .ensures) in
-    prints (take (haveOf input) (start .args .buffer .now)) (endedOf input)
-    (all-read (start .pre .1 .0 .0) (start .pre .1 .0 .1)) (is-run .0) (is-run .1)
+    let bytes = take (haveOf input) (start .args .buffer .now) in
+    let same = ap (λ (b : List ℕ). answered b (start .args .answers .now)) is-read ∙ ap (answered bytes) (start .pre .1 .1) in
+    prints bytes (endedOf input) (all-read (start .pre .1 .0 .0) (start .pre .1 .0 .1)) (was-run .ensures .0 ∙ ap firstOf same)
+    (was-run .ensures .1 ∙ ap (λ (o : Outcome). o .answers) same)
 
 pub answer-input-spec : {M : Type 1} → statement M
 answer-input-spec =
