@@ -7,11 +7,11 @@ use Prim.Native.Nat.{ℕ, zero, suc, _≤_, _<_, _*_, zero-le}
 use native.Mathlib.Decide.{decLt}
 use native.Mathlib.Omega.{arith}
 use lib.ListN.{length, take, length-take}
-use Rattle.machine.specs.Call.{Call, Call.one, Call.two, pairs, split}
+use Rattle.machine.specs.Call.{Call, Call.one, Call.two, pairs, split, wordsOf}
 use Rattle.machine.specs.Entry.{longestList, entryCode, ran, Runs}
 use Rattle.machine.proofs.Split.{split-two, split-one}
 use Rattle.machine.proofs.Promise.{runs-accepted, runs-short, code-space, code-holders, entry-ran, entry-code}
-use Rattle.holders_theory.specs.Noted.{wordsOf, firstWords}
+use Rattle.holders_theory.specs.Noted.{firstWords}
 use Rattle.holders_theory.specs.Claims.{HoldersAfterEveryCall}
 use Rattle.holders_theory.proofs.Kept.{holders-kept-along}
 

@@ -8,7 +8,7 @@ use lib.Dec.{eqb, leb, ltb}
 use lib.ListN.{length, getD, set, take}
 use Rattle.machine.specs.Right.{hasAny}
 use Rattle.machine.specs.Table.{domains}
-use Rattle.machine.specs.Call.{Call, Call.one, Call.two, split}
+use Rattle.machine.specs.Call.{Call, split, wordsOf}
 use Rattle.machine.specs.Machine.{Effect, decide, effect, step, Effect.nothing, Effect.newRights, Effect.newEndpoint}
 use Rattle.machine.specs.Holders.{holdersOf}
 
@@ -40,12 +40,6 @@ holdersAfter p (newEndpoint e q) = p
 unfoldable pub holdersAfterCalls : List ℕ → List ℕ → List Call → List ℕ
 holdersAfterCalls p t [] = p
 holdersAfterCalls p t (c ∷ cs) = holdersAfterCalls (holdersAfter p (effect t (decide t c))) (step t c) cs
-
--- the words of calls, in their order
-unfoldable pub wordsOf : List Call → List ℕ
-wordsOf [] = []
-wordsOf (one w ∷ cs) = w ∷ wordsOf cs
-wordsOf (two w v ∷ cs) = w ∷ (v ∷ wordsOf cs)
 
 -- the words of the first k calls of a list
 unfoldable pub firstWords : ℕ → List ℕ → List ℕ

@@ -14,7 +14,7 @@ use Rattle.machine.specs.MachineClaims.{noneRefuses, RefusesFirst, Every
 use Rattle.machine.proofs.Bools.{and-left, and-right, either}
 
 -- a decision refuses
-refuses : Decision → Bool
+unfoldable pub refuses : Decision → Bool
 refuses (refused n) = true
 refuses (lookedUp e) = false
 refuses (sends e message) = false
@@ -96,7 +96,7 @@ not-refused (removes g u r) f = refl
 not-refused (revokes g h r) f = refl
 
 -- a kind that passes all its places has a row, which refuses nothing
-row-serves : (t : List ℕ) (c : Call) (k : Kind) → noneRefuses k (placesOf t c) ≡ true → refuses (rowOf t c k) ≡ false
+pub row-serves : (t : List ℕ) (c : Call) (k : Kind) → noneRefuses k (placesOf t c) ≡ true → refuses (rowOf t c k) ≡ false
 unfolding noneRefuses placesOf oneOf kindNumber rowOf refuses
 row-serves t c lookUp e = refl
 row-serves t c send e = refl

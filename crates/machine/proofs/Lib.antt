@@ -21,3 +21,5 @@ pub mod Split
 pub mod Counts
 pub mod Refused
 pub mod Promise
+pub mod WordClaims
+pub mod PromiseClaims

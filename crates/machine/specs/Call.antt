@@ -32,6 +32,17 @@ split [] = []
 split (w ∷ []) = one w ∷ []
 split (w ∷ v ∷ ws) = cond (pairs w v) (two w v ∷ split ws) (one w ∷ split (v ∷ ws))
 
+-- how many words a call has
+unfoldable pub width : Call → ℕ
+width (one w) = 1
+width (two w v) = 2
+
+-- the words of calls, in their order
+unfoldable pub wordsOf : List Call → List ℕ
+wordsOf [] = []
+wordsOf (one w ∷ cs) = w ∷ wordsOf cs
+wordsOf (two w v ∷ cs) = w ∷ (v ∷ wordsOf cs)
+
 -- the eight calls, a word of kind 15 that begins a call (document 01: a stray), and the unknown kinds
 pub data Kind : Type 0 where
   lookUp send receive myEndpoints myRights grant remove revoke stray unknown : Kind

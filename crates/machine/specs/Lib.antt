@@ -20,6 +20,8 @@ pub mod RunClaims
 pub mod Promise
 pub mod SameParts
 pub mod MachineClaims
+pub mod WordClaims
+pub mod PromiseClaims
 pub mod Examples
 pub mod CodeExamples
 pub mod TableExamples

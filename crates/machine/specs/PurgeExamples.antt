@@ -1,17 +1,18 @@
 -- Rows that pin what no code ever runs: the source set at each call (sources), the kept calls (purge) and the whole view, on
 -- small tables. A theorem would stay true of definitions that keep too many calls or that see too little; these rows would
 -- not. Inputs and outcomes are literals, worked out by hand.
-use Prim.Native.Nat.{ℕ, _^_}
+use Prim.Native.Nat.{ℕ, _<_, _^_}
 use mathlib.Core.Path.{_≡_}
 use mathlib.Core.Bool.{cond}
 use mathlib.Core.List.{List, [], _∷_, _++_}
 use Rattle.machine.specs.Below.{sumBelow}
 use Rattle.machine.specs.Table.{domains}
-use Rattle.machine.specs.Call.{Call, split, Call.one, Call.two}
+use Rattle.machine.specs.Check.{Accepted}
+use Rattle.machine.specs.Call.{Call, callerOf, split, Call.one, Call.two}
 use Rattle.machine.specs.Machine.{step}
 use Rattle.machine.specs.Run.{run, answers}
-use Rattle.machine.specs.DomainSet.{member}
-use Rattle.machine.specs.Purge.{sources, purge, View, view}
+use Rattle.machine.specs.DomainSet.{member, callerIn}
+use Rattle.machine.specs.Purge.{joinedBy, sources, purge, View, view}
 use Rattle.machine.specs.Examples.{emptySlots}
 use Rattle.machine.specs.CodeExamples.{fourDomains}
 
@@ -201,3 +202,35 @@ purgeRows =
           };
     })
     ∷ []
+
+-- ---- "Working out influence from the last table alone: a right used and then removed is missed" (document 01, 'Shortcuts that
+-- break it')
+
+-- the source set at the first of the calls by one table alone, whatever the calls alter
+unfoldable pub sourcesIn : List ℕ → List Call → ℕ → List ℕ
+sourcesIn t [] d = d ∷ []
+sourcesIn t (c ∷ cs) d = joinedBy t (callerOf c) (sourcesIn t cs d)
+
+-- the calls whose caller is in that set
+unfoldable pub keptIn : List ℕ → List Call → ℕ → List Call
+keptIn t [] d = []
+keptIn t (c ∷ cs) d =
+    let rest = keptIn t cs d in
+    cond (callerIn (callerOf c) (sourcesIn t (c ∷ cs) d)) (c ∷ rest) rest
+
+-- Noninterference with the source sets by the table at the end is false.
+abbrev pub LastTableRuleFails : Type 0
+LastTableRuleFails =
+    ((t : List ℕ) (cs : List Call) (d : ℕ)
+    → Accepted t
+    → d < domains t
+    → view d cs (answers t cs) (run t cs)
+    ≡ view d (keptIn (run t cs) cs d) (answers t (keptIn (run t cs) cs d)) (run t (keptIn (run t cs) cs d)))
+    → ⊥
+
+-- 1 has SEND and REMOVE on 0; it sends to 0, and then gives up both
+abbrev pub sendAndGo : List ℕ
+sendAndGo = 0x2040_0000 ∷ 0xF000_0007 ∷ 0x7040_0005 ∷ []
+
+abbrev pub mayGo : List ℕ
+mayGo = threeDomains (none3 ++ (0x2000_0005 ∷ 0x2000_0000 ∷ 0x2000_0000 ∷ []) ++ none3)

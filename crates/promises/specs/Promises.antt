@@ -26,8 +26,10 @@ use Rattle.machine.specs.Examples as machine-examples
 use Rattle.machine.specs.FieldExamples as machine-field-examples
 use Rattle.machine.specs.MachineClaims as machine-machine-claims
 use Rattle.machine.specs.Promise as machine-promise
+use Rattle.machine.specs.PromiseClaims as machine-promise-claims
 use Rattle.machine.specs.PurgeExamples as machine-purge-examples
 use Rattle.machine.specs.TableExamples as machine-table-examples
+use Rattle.machine.specs.WordClaims as machine-word-claims
 use Rattle.machine_limits.specs.Rows as machine-limits-rows
 use Rattle.potential_theory.specs.Claims as potential-theory-claims
 use Rattle.potential_theory.specs.Examples as potential-theory-examples
@@ -89,6 +91,23 @@ pub record Promises : Type 0 where
   pub D-bytes-same-code : table-check-bytes-bytes.SameCode
   -- Bytes left over after the last whole word get 3, unless the first word is broken.
   pub D-bytes-left-over : table-check-bytes-bytes.LeftOver
+  -- "The result is 0 or 2 to 5": the check of any bytes has one of these codes.
+  pub D-bytes-codes : table-check-bytes-bytes.CodesOfBytes
+  -- ---- Document 01, "The table" and "The calls": single words
+  -- "So at most 641": an accepted table has no more words.
+  pub D-table-short : machine-word-claims.EveryAcceptedShort
+  -- "This cutting looks at kinds only": of two lists with the same kinds, word by word, the calls have the same numbers of words.
+  pub D-split-by-kinds : machine-word-claims.EverySplitByKinds
+  -- The words of the calls of a list, in order, are those of the list.
+  pub D-split-keeps-words : machine-word-claims.EverySplitKeepsWords
+  -- "The call's kind in bits 31–28, caller in bits 27–22 as found, code in bits 15–0, the rest zero": an answer's first word, for
+  -- every code of 16 bits; the caller of a stray is 0.
+  pub D-answer-word : machine-word-claims.EveryAnswerWord
+  -- "Bit e is set for each endpoint e owned", and no other bit, in any words.
+  pub D-owned-bits : machine-word-claims.EveryOwnedBits
+  -- "Rights on target t in bits 4t to 4t+3 of the first data word; targets 8 to 15 likewise in the second": of a domain in an
+  -- accepted table; no right is shown on what is no domain.
+  pub D-rights-digits : machine-word-claims.EveryRightsDigits
   -- ---- Document 01, "Where each number is checked": a refusal is by its number and changes nothing
   -- What the entry leaves keeps the promise of a run, for arbitrary words.
   pub D-entry-keeps : machine-promise.EveryEntryKeeps
@@ -98,11 +117,23 @@ pub record Promises : Type 0 where
   -- A refused call, wherever in a list, alters no table word, is answered with its number and two zero words, and the table at the
   -- end is that of a run without it.
   pub D-refusals : machine-machine-claims.EveryRunRefusalChangesNothing
+  -- "An entry refusal answers its code and 0 calls and changes neither table nor answers", nor the holders: of the words that any
+  -- function leaves which keeps the promise of a run.
+  pub D-entry-refusal : machine-promise-claims.EveryRefusedRunChangesNothing
+  -- "Where none fails, the code is 0": a call that no place of its kind refuses has an answer with the code 0, on any table.
+  pub D-unrefused-zero : machine-word-claims.EveryUnrefusedAnsweredZero
   -- ---- Document 01, "Influence": what a call may alter, and what its answer may depend on
   -- A call on an accepted table leaves an accepted table, with the same unchanging parts.
   pub I-stays-accepted : machine-machine-claims.EveryCallStaysAccepted
   -- A run from an accepted table leaves an accepted table, with the same unchanging parts.
   pub I-run-stays-accepted : machine-machine-claims.EveryRunStaysAccepted
+  -- "Owners, names and capacities never change": the same of the table that any function leaves which keeps the promise of a run,
+  -- where the list ran.
+  pub I-promised-accepted : machine-promise-claims.EveryPromisedRunStaysAccepted
+  -- "Grant and remove alter one rights word; what a row doesn't name stays": a word that a call on an accepted table alters is one
+  -- that its row names, the rights word of a grant, a remove or a revoke, or a waiting, lost or slot word of the endpoint that a
+  -- send or a receive has.
+  pub I-alters-named : machine-word-claims.EveryCallAltersNamed
   -- "A call may alter only what belongs to domains its caller influences", on an accepted table.
   pub I-alters-only : machine-machine-claims.EveryCallAltersOnly
   -- A call's answer depends only on its own words, its caller's part and the unchanging parts, on an accepted table and any
@@ -119,6 +150,9 @@ pub record Promises : Type 0 where
   pub N-noninterference : machine-machine-claims.EveryRunNoninterference
   -- Source sets at each call, the calls that are kept, and what d sees of the whole run, in rows.
   pub N-purge-rows : machine-purge-examples.EveryPurgeRow machine-purge-examples.purgeRows
+  -- "Working out influence from the last table alone: a right used and then removed is missed": with source sets by the table at the
+  -- end the rule is false.
+  pub N-last-table-fails : machine-purge-examples.LastTableRuleFails
   -- ---- Document 01, "Conditions of acceptance", 2: a kernel "inventing lost or call counts" is rejected
   -- Each call is answered by three words, on any table.
   pub C-answers : machine-machine-claims.EveryRunAnswered
@@ -192,6 +226,14 @@ pub record Promises : Type 0 where
   -- ---- Document 02 (d): a receive leaves the slots from the waiting count on, whatever they hold
   -- Of any twelve words with 1 to 8 waiting, the slots from the waiting count on stay.
   pub Q-later-slots : queue-later-slots.LaterSlotsStay
+  -- "Move only the waiting words and clear the one slot that comes free": of any twelve words with 1 to 8 waiting, name, info and lost
+  -- count stay, waiting falls by 1, the messages after the oldest move up, and the slot that comes free is empty.
+  pub Q-move-up : queue-later-slots.WaitingMoveUp
+  -- "Every answer and every table word is the same as before": of an endpoint's twelve words that the check accepts, with a message
+  -- waiting, a receive leaves what it leaves where all the slots after the first move up.
+  pub Q-as-before : machine-word-claims.EveryReceiveAsBefore
+  -- Words and what a receive leaves of them, with messages in the slots from the waiting count on too.
+  pub Q-receive-rows : queue-later-slots.EveryReceive queue-later-slots.receiveRows
   -- Which words a send is done with, on both sides of each test.
   pub Q-send-rows : queue-examples.EverySendRow queue-examples.sendRows
   -- ---- Document 02 (e): end-of-shift totals

@@ -1,16 +1,31 @@
--- The slots from the waiting count on, which a receive leaves whatever they hold (document 02 (d)): the claim, and rows of
--- literals on words that have messages there, which no check accepts. Worked out by hand.
-use Prim.Native.Nat.{ℕ, _+_}
+-- What a receive leaves (document 02 (d)): the waiting messages move up, and the slots from the waiting count on stay whatever
+-- they hold. The claims, and rows of literals on words that have messages there, which no check accepts. Worked out by hand.
+use Prim.Native.Nat.{ℕ, _+_, _-_, _<_}
 use mathlib.Core.Path.{_≡_}
 use mathlib.Core.Bool.{true}
 use mathlib.Core.List.{List, [], _∷_}
-use lib.ListN.{take, drop}
-use Rattle.machine.specs.Queue.{waiting}
+use lib.ListN.{length, getD, take, drop}
+use Rattle.machine.specs.Word.{word}
+use Rattle.machine.specs.Queue.{waiting, emptySlot}
 use Rattle.queue.specs.Queue.{receivable, leftByReceive}
 
 -- Of any twelve words with 1 to 8 waiting, the slots from the waiting count on stay.
 abbrev pub LaterSlotsStay : Type 0
 LaterSlotsStay = (q : List ℕ) → receivable q ≡ true → drop (4 + waiting q) (leftByReceive q) ≡ drop (4 + waiting q) q
+
+-- What a receive leaves of the twelve words q: name, info and lost count stay, waiting falls by 1, the waiting messages after the
+-- oldest move up by one slot, and the slot that comes free is empty.
+pub record MovedUp (q left : List ℕ) : Type 0 where
+  pub size : length left ≡ 12
+  pub identity : take 2 left ≡ take 2 q
+  pub count : getD left 2 0 ≡ word 5 (waiting q - 1)
+  pub lost : getD left 3 0 ≡ getD q 3 0
+  pub moved : (i : ℕ) → i + 1 < waiting q → getD left (4 + i) 0 ≡ getD q (5 + i) 0
+  pub freed : getD left (3 + waiting q) 0 ≡ emptySlot
+
+-- "Move only the waiting words and clear the one slot that comes free" (document 02 (d)), of any twelve words with 1 to 8 waiting.
+abbrev pub WaitingMoveUp : Type 0
+WaitingMoveUp = (q : List ℕ) → receivable q ≡ true → MovedUp q (leftByReceive q)
 
 -- A row: from words to what a receive leaves of them.
 pub data ReceiveRow : Type 0 where

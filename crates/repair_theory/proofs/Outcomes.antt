@@ -3,13 +3,12 @@ use Prim.Native.Nat.{ℕ, _*_, _≤_}
 use mathlib.Core.Path.{_≡_, refl}
 use mathlib.Core.Bool.{Bool, true, false, cond, not}
 use mathlib.Core.List.{List}
-use native.Mathlib.Nat.{mul-le-mul}
 use native.Mathlib.Omega.{arith}
 use borrow.Author.Tests.{ltb-false, eqb-true, eqb-false}
 use lib.Dec.{eqb, ltb}
 use lib.ListN.{length}
 use Rattle.machine.proofs.Bools.{cond-elim}
-use Rattle.machine.proofs.Accepted.{accepted-sized, accepted-counts}
+use Rattle.machine.proofs.WordClaims.{accepted-short}
 use Rattle.repair_theory.specs.Mend.{mended, mendable}
 use Rattle.repair_theory.proofs.Mended.{mended-length}
 use Rattle.repair_theory.proofs.Claims.{mended-accepted}
@@ -29,10 +28,7 @@ altered-few t = lists-numbers (length t) _ .few
 
 -- a table that can be mended has at most 641 words
 pub mendable-small : (t : List ℕ) → mendable t ≡ true → length t ≤ 641
-mendable-small t can =
-    let a = mended-accepted t can in
-    let (some, n, m) = accepted-counts (mended t) a in
-    omega (arith, mended-length t, accepted-sized (mended t) a, mul-le-mul n n)
+mendable-small t can = omega (arith, mended-length t, accepted-short (mended t) (mended-accepted t can))
 
 -- where the code is 0 mending is enough and there is room for the pairs
 not-refused : (t : List ℕ) (size : ℕ) → repairCode t size ≡ 0 → (mendable t ≡ true) × (length (altered t) ≤ size)

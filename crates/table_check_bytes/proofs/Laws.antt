@@ -1,24 +1,39 @@
--- What ties the code of a table in bytes to the machine's check of words (specs/Bytes: SameCode, LeftOver).
+-- What ties the code of a table in bytes to the machine's check of words (specs/Bytes: SameCode, LeftOver), and which codes there are (CodesOfBytes).
 -- Assumes nothing.
 use mathlib.Core.Path.{_≡_, refl, sym, ap, _∙_}
-use mathlib.Core.Bool.{Bool, true, false}
+use mathlib.Core.Bool.{Bool, true, false, not, _||_}
+use mathlib.Core.Logic.{_⊎_, _⊎_.inl, _⊎_.inr}
 use mathlib.Core.List.{List}
-use Prim.Native.Nat.{ℕ, _*_, _^_, _<_}
+use Prim.Native.Nat.{ℕ, _*_, _^_, _<_, _≤_}
 use native.Mathlib.Omega.{arith}
 use borrow.Author.Tests.{eqb-true, eqb-false, eq-eqb, ne-eqb}
-use lib.Dec.{eqb}
+use lib.Dec.{eqb, ltb}
 use lib.ListN.{length, getD}
 use Rattle.machine.specs.Table.{domains, endpoints, lengthFor}
-use Rattle.machine.specs.Check.{headerOk, lengthOk, tableCode}
+use Rattle.machine.specs.Check.{headerOk, lengthOk, rightsOk, endpointsOk, tableCode}
+use Rattle.machine.proofs.Bools.{cond-elim}
 use Rattle.table_check.proofs.Places.{code-2, code-3}
 use Rattle.input_words.specs.Bytes.{wordsOf, bytesOf}
 use Rattle.input_words.proofs.WordLaws.{wordsOf-bytesOf, length-bytesOf}
-use Rattle.table_check_bytes.specs.Bytes.{bytesFor, bytesCode, SameCode, LeftOver}
+use Rattle.table_check_bytes.specs.Bytes.{bytesFor, bytesCode, SameCode, LeftOver, CodesOfBytes}
 use Rattle.table_check_bytes.proofs.Places.{bytes-2, bytes-3, bytes-words}
 
 pub left-over : LeftOver
 unfolding bytesFor
 left-over b h odd = sym (bytes-3 b h (ne-eqb (length b) (bytesFor (wordsOf b)) (λ e. odd (omega arith))))
+
+pub codes-of-bytes : CodesOfBytes
+unfolding bytesCode tableCode
+codes-of-bytes b =
+    let refuses : (n : ℕ) → 2 ≤ n → n ≤ 5 → (n ≡ 0) ⊎ ((2 ≤ n) × (n ≤ 5)) = λ n l m. inr (l, m) in
+    let P : ℕ → Type 0 = λ n. (n ≡ 0) ⊎ ((2 ≤ n) × (n ≤ 5)) in
+    let t = wordsOf b in
+    cond-elim P (ltb (length b) 4 || not (headerOk t)) (λ _. refuses 2 (omega arith) (omega arith))
+    (λ _. cond-elim P (not (eqb (length b) (bytesFor t))) (λ _. refuses 3 (omega arith) (omega arith))
+    (λ _. cond-elim P (not (headerOk t)) (λ _. refuses 2 (omega arith) (omega arith))
+    (λ _. cond-elim P (not (lengthOk t)) (λ _. refuses 3 (omega arith) (omega arith))
+    (λ _. cond-elim P (not (rightsOk t)) (λ _. refuses 4 (omega arith) (omega arith))
+    (λ _. cond-elim P (not (endpointsOk t)) (λ _. refuses 5 (omega arith) (omega arith)) (λ _. inl refl))))))
 
 times-four : (a k : ℕ) → eqb (4 * a) (4 * k) ≡ eqb a k
 times-four a k = go (eqb a k) refl

@@ -1,7 +1,8 @@
 -- A table as little-endian bytes, and the code of its check (document 01, 'Into firmware and onto the bench').
-use Prim.Native.Nat.{ℕ, _*_, _%_, _^_, _<_}
+use Prim.Native.Nat.{ℕ, _*_, _%_, _^_, _<_, _≤_}
 use mathlib.Core.Path.{_≡_}
 use mathlib.Core.Bool.{true, cond, not, _||_}
+use mathlib.Core.Logic.{_⊎_}
 use mathlib.Core.List.{List}
 use lib.ListN.{length, getD}
 use lib.Dec.{eqb, ltb}
@@ -28,6 +29,10 @@ SameCode = (ws : List ℕ) → ((i : ℕ) → getD ws i 0 < 2 ^ 32) → bytesCod
 -- Bytes left over after the last whole word get 3, unless the first word is broken.
 abbrev pub LeftOver : Type 0
 LeftOver = (bytes : List ℕ) → headerOk (wordsOf bytes) ≡ true → (length bytes % 4 ≡ 0 → ⊥) → bytesCode bytes ≡ 3
+
+-- "The result is 0 or 2 to 5" (document 01, 'Into firmware and onto the bench'), of any bytes.
+abbrev pub CodesOfBytes : Type 0
+CodesOfBytes = (bytes : List ℕ) → (bytesCode bytes ≡ 0) ⊎ ((2 ≤ bytesCode bytes) × (bytesCode bytes ≤ 5))
 
 -- the precondition of the tests after the first two places: the places 2 and 3 don't refuse the bytes
 pub record Fitting (bytes : List ℕ) : Type 0 where

@@ -29,9 +29,11 @@ use Rattle.machine.proofs.Exactly as machine-exactly-proofs
 use Rattle.machine.proofs.Examples as machine-examples-proofs
 use Rattle.machine.proofs.Noninterference as machine-noninterference-proofs
 use Rattle.machine.proofs.Promise as machine-promise-proofs
+use Rattle.machine.proofs.PromiseClaims as machine-promise-claims-proofs
 use Rattle.machine.proofs.Refused as machine-refused-proofs
 use Rattle.machine.proofs.Step as machine-step-proofs
 use Rattle.machine.proofs.Trail as machine-trail-proofs
+use Rattle.machine.proofs.WordClaims as machine-word-claims-proofs
 use Rattle.machine_limits.proofs.Rows as machine-limits-rows-proofs
 use Rattle.potential_theory.proofs.Exact as potential-theory-exact-proofs
 use Rattle.potential_theory.proofs.Examples as potential-theory-examples-proofs
@@ -88,17 +90,29 @@ returns c =
       D-limits = machine-limits-rows-proofs.every-bound-row;
       D-bytes-same-code = table-check-bytes-laws-proofs.same-code;
       D-bytes-left-over = table-check-bytes-laws-proofs.left-over;
+      D-bytes-codes = table-check-bytes-laws-proofs.codes-of-bytes;
+      D-table-short = machine-word-claims-proofs.accepted-short;
+      D-split-by-kinds = machine-word-claims-proofs.split-by-kinds;
+      D-split-keeps-words = machine-word-claims-proofs.split-keeps-words;
+      D-answer-word = machine-word-claims-proofs.answer-word;
+      D-owned-bits = machine-word-claims-proofs.owned-bits;
+      D-rights-digits = machine-word-claims-proofs.rights-digits;
       D-entry-keeps = machine-promise-proofs.promise-kept;
       D-refused-exactly = machine-exactly-proofs.refused-exactly;
       D-refusals = machine-refused-proofs.refusal-changes-nothing;
+      D-entry-refusal = machine-promise-claims-proofs.refused-run;
+      D-unrefused-zero = machine-word-claims-proofs.unrefused-zero;
       I-stays-accepted = machine-step-proofs.stays-accepted;
       I-run-stays-accepted = machine-step-proofs.run-accepted;
+      I-promised-accepted = machine-promise-claims-proofs.promised-accepted;
+      I-alters-named = machine-word-claims-proofs.alters-named;
       I-alters-only = machine-step-proofs.alters-only;
       I-answer-depends = machine-consistency-proofs.answer-depends;
       I-each-right = machine-trail-proofs.each-right;
       I-rights-provenance = machine-trail-proofs.rights-provenance;
       N-noninterference = machine-noninterference-proofs.noninterference;
       N-purge-rows = machine-examples-proofs.every-purge-row;
+      N-last-table-fails = machine-examples-proofs.last-table-rule-fails;
       C-answers = machine-counts-proofs.answers-length;
       C-counts-conserved = machine-counts-proofs.counts-conserved;
       C-fifo-order = machine-counts-proofs.fifo-order;
@@ -131,6 +145,9 @@ returns c =
       W-each-kind = writer-theory-row-examples-proofs.each-kind;
       W-no-calls = writer-theory-row-examples-proofs.no-calls;
       Q-later-slots = queue-later-slots-proofs.later-slots-stay;
+      Q-move-up = queue-later-slots-proofs.waiting-move-up;
+      Q-as-before = machine-word-claims-proofs.receive-as-before;
+      Q-receive-rows = queue-later-slots-proofs.every-receive;
       Q-send-rows = queue-examples-proofs.every-send-row;
       E-sheet = totals-theory-totals-laws-proofs.sheet-holds;
       E-one-run = totals-theory-totals-laws-proofs.one-run;
