@@ -16,31 +16,8 @@ use Rattle.machine.proofs.Bools.{either}
 use Rattle.machine.proofs.Below.{bits-lt, bits-at, bits-past}
 use Rattle.machine.proofs.Right.{holds-bit, holds-without}
 use Rattle.machine.proofs.Table.{equal-either}
-use Rattle.reachability.proofs.Bits.{bit-or, bit-none, bit-zero, bit-half, bit-own, bit-other, some-bit}
+use Rattle.reachability.proofs.Bits.{bit-or, bit-own, bit-other, same-bits}
 use Rattle.holders_theory.specs.Noted.{withBit}
-
--- numbers with the same bits are the same
-pub same-bits : (a b : ℕ) → ((k : ℕ) → hasBit a k ≡ hasBit b k) → a ≡ b
-same-bits = bin-ind (λ a. (b : ℕ) → ((k : ℕ) → hasBit a k ≡ hasBit b k) → a ≡ b) none (λ a ih b same. whole a b (ih (b / 2) (halves a b same)) (lowest a b same))
-  where
-    none : (b : ℕ) → ((k : ℕ) → hasBit 0 k ≡ hasBit b k) → 0 ≡ b
-    none b same =
-        ⊎-elim sym
-        (λ n. let (k, h) = some-bit b n in absurd (false≢true (sym (bit-none k) ∙ same k ∙ h)))
-        (equal-either b 0)
-
-    halves : (a b : ℕ) → ((k : ℕ) → hasBit a k ≡ hasBit b k) → (k : ℕ) → hasBit (a / 2) k ≡ hasBit (b / 2) k
-    halves a b same k = bit-half a k ∙ same (suc k) ∙ sym (bit-half b k)
-
-    lowest : (a b : ℕ) → ((k : ℕ) → hasBit a k ≡ hasBit b k) → a % 2 ≡ b % 2
-    lowest a b same =
-        let low : eqb (a % 2) 1 ≡ eqb (b % 2) 1 = sym (bit-zero a) ∙ same 0 ∙ bit-zero b in
-        ⊎-elim (λ odd. omega (arith, eqb-true (a % 2) 1 odd, eqb-true (b % 2) 1 (sym low ∙ odd)))
-        (λ even. omega (arith, eqb-false (a % 2) 1 even, eqb-false (b % 2) 1 (sym low ∙ even)))
-        (either (eqb (a % 2) 1))
-
-    whole : (a b : ℕ) → a / 2 ≡ b / 2 → a % 2 ≡ b % 2 → a ≡ b
-    whole a b p q = omega arith
 
 -- ---- a bit set or cleared
 

@@ -10,7 +10,7 @@ use borrow.Author.Tests.{ltb-true, leb-true, lt-ltb, le-leb}
 use lib.Dec.{leb, ltb}
 use lib.ListN.{length, getD, List·getD-eq-default}
 use lib.Pow.{pow-pos, pow-mono, pow-lt}
-use Rattle.machine.specs.Below.{bitsBelow}
+use Rattle.machine.specs.Below.{bitsBelow, hasBit}
 use Rattle.machine.specs.Table.{domains}
 use Rattle.machine.specs.Check.{Accepted}
 use Rattle.machine.specs.Influence.{reaches}
@@ -19,16 +19,16 @@ use Rattle.machine.specs.Run.{run}
 use Rattle.machine.specs.Entry.{ran, Runs}
 use Rattle.machine.specs.Holders.{holdersOf}
 use Rattle.machine.proofs.Bools.{and-left, and-right, cond-elim}
-use Rattle.machine.proofs.Below.{all-at, all-of, bits-lt, bits-at, words-at}
+use Rattle.machine.proofs.Below.{all-at, all-of, bits-lt, bits-at, bits-past, words-at, words-past}
 use Rattle.machine.proofs.Accepted.{accepted-counts}
 use Rattle.machine.proofs.Step.{run-accepted}
 use Rattle.machine.proofs.Promise.{runs-accepted, entry-ran, entry-code}
 use Rattle.reachability.specs.Chain.{Chain, linked, linkWords}
-use Rattle.reachability.proofs.Bits.{bit-own, bit-other}
+use Rattle.reachability.proofs.Bits.{bit-none, bit-own, bit-other}
 use Rattle.reachability.proofs.Bounds.{closed-lt}
 use Rattle.reachability.proofs.Chain.{closed-exactly, relation-closed-exactly}
 use Rattle.holders_theory.specs.Asked.{bitsWithin, askable, askCode, asked, ReachReported}
-use Rattle.holders_theory.specs.Claims.{HoldersSay, AskedExactly, AskedNow, AskedAfterRun}
+use Rattle.holders_theory.specs.Claims.{HoldersSay, HoldersOneWord, HoldersNoOther, AskedExactly, AskedNow, AskedAfterRun}
 use Rattle.holders_theory.proofs.Filled.{holders-length}
 
 -- ---- when words can be asked
@@ -114,6 +114,20 @@ asked-after-run t ws space holders calls answers end kept d u p l =
     (asked-now (run t (split ws)) d u (stays .accepted) (omega (arith, l, stays .frame .sameDomains)))
 
 -- ---- word by word
+pub holders-one-word : HoldersOneWord
+holders-one-word = holders-length
+
+pub holders-no-other : HoldersNoOther
+unfolding holdersOf
+holders-no-other t h g past = go (decLt g (domains t))
+  where
+    bits : ℕ → ℕ
+    bits k = bitsBelow (domains t) (λ i. reaches t i k)
+
+    go : Dec (g < domains t) → hasBit (getD (holdersOf t) g 0) h ≡ false
+    go (yes l) = rw (words-at (domains t) bits g 0 l) (bits-past (domains t) (λ i. reaches t i g) h past)
+    go (no n) = rw (words-past (domains t) bits g 0 (omega arith)) (bit-none h)
+
 pub holders-say : HoldersSay
 unfolding holdersOf
 holders-say t h g a b =

@@ -1,8 +1,8 @@
 -- What is claimed of the holders (document 02 (h)), in closed statements about all accepted tables, or about arbitrary words
 -- where a claim says so.
-use Prim.Native.Nat.{ℕ, _<_}
+use Prim.Native.Nat.{ℕ, _<_, _≤_}
 use mathlib.Core.Path.{_≡_}
-use mathlib.Core.Bool.{true}
+use mathlib.Core.Bool.{true, false}
 use mathlib.Core.Logic.{_↔_}
 use mathlib.Core.List.{List}
 use lib.ListN.{length, getD, take}
@@ -23,6 +23,14 @@ use Rattle.holders_theory.specs.Asked.{askable, askCode, asked}
 -- Bit h of word g of a table's holders says whether h has any right on g.
 abbrev pub HoldersSay : Type 0
 HoldersSay = (t : List ℕ) (h g : ℕ) → h < domains t → g < domains t → hasBit (getD (holdersOf t) g 0) h ≡ reaches t h g
+
+-- There is one word a domain,
+abbrev pub HoldersOneWord : Type 0
+HoldersOneWord = (t : List ℕ) → length (holdersOf t) ≡ domains t
+
+-- and no word has a bit from the count of domains on.
+abbrev pub HoldersNoOther : Type 0
+HoldersNoOther = (t : List ℕ) (h g : ℕ) → domains t ≤ h → hasBit (getD (holdersOf t) g 0) h ≡ false
 
 -- Noting what a call alters turns the holders of an accepted table before it into those of the table after it, computed afresh.
 abbrev pub HoldersKept : Type 0

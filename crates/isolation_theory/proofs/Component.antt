@@ -2,7 +2,7 @@
 -- the target and on the recipient, so all three are connected already: the laws of a single right say so (EachRight, GivenBy),
 -- and no kind of call is looked at here. The rest is a case of the unwinding theorem. Assumes nothing.
 use mathlib.Core.Path.{_≡_, refl, sym, ap, ap₂, subst, _∙_}
-use mathlib.Core.Bool.{true, cond, _&&_, and-comm, or-comm}
+use mathlib.Core.Bool.{Bool, true, false, cond, _&&_, and-comm, or-comm}
 use mathlib.Core.Logic.{_⊎_, ⊎-elim}
 use mathlib.Core.List.{List, [], _∷_, _++_}
 use Prim.Native.Nat.{ℕ, _^_, _<_}
@@ -32,9 +32,9 @@ use Rattle.unwinding.proofs.Unwinding.{group-noninfluence}
 use Rattle.machine.proofs.Purge.{tables, observed}
 use Rattle.machine.proofs.Noninterference.{Alike, conditions, same-view}
 use Rattle.reachability.specs.Chain.{Chain.end, Chain.link, among}
-use Rattle.reachability.proofs.Bits.{some-bit}
+use Rattle.reachability.proofs.Bits.{some-bit, same-bits}
 use Rattle.reachability.proofs.Chain.{chain-trans, relation-closed-exactly}
-use Rattle.isolation_theory.specs.Component.{joined, component, Connected, EveryComponent, ComponentsStay, callsFrom, componentCalls}
+use Rattle.isolation_theory.specs.Component.{joined, component, Connected, EveryComponent, EveryComponentShared, ComponentsStay, callsFrom, componentCalls}
 use Rattle.isolation_theory.specs.Component.{EveryRunComponentsStay, EveryRunComponentNoninterference}
 use Rattle.isolation_theory.specs.Component.{EveryPromisedRunComponentsStay, EveryPromisedRunComponentNoninterference, EveryComponentOfDomains}
 use Rattle.isolation_theory.proofs.Ran.{ran-accepted, ran-table, ran-answers}
@@ -71,6 +71,21 @@ module _ (t : List ℕ) where
   connected-below b end = b
   connected-below b (link {u = a} {v = v} l c) =
       ltb-true _ _ (and-left (ltb a (domains t)) _ (and-left (ltb a (domains t) && ltb v (domains t)) (joined t a v) l))
+
+-- two tests that hold where the other does are the same
+both-ways : (a b : Bool) → (a ≡ true → b ≡ true) → (b ≡ true → a ≡ true) → a ≡ b
+both-ways true b f g = sym (f refl)
+both-ways false true f g = g refl
+both-ways false false f g = refl
+
+pub component-shared : EveryComponentShared
+component-shared t d v h =
+    let between = every-component t d v .0 h in
+    same-bits (component t v) (component t d)
+    (λ k.
+    both-ways (hasBit (component t v) k) (hasBit (component t d) k)
+    (λ x. every-component t d k .1 (chain-trans between (every-component t v k .0 x)))
+    (λ x. every-component t v k .1 (chain-trans (connected-back t between) (every-component t d k .0 x))))
 
 -- ---- one call
 

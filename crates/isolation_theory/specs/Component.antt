@@ -34,6 +34,11 @@ Connected t d v = Chain (among (domains t) (joined t)) d v
 abbrev pub EveryComponent : Type 0
 EveryComponent = (t : List ℕ) (d v : ℕ) → (hasBit (component t d) v ≡ true) ↔ Connected t d v
 
+-- "Call what hangs together a group" (document 02 (j)): whatever is in the component of a domain has the same component, in
+-- arbitrary words.
+abbrev pub EveryComponentShared : Type 0
+EveryComponentShared = (t : List ℕ) (d v : ℕ) → hasBit (component t d) v ≡ true → component t v ≡ component t d
+
 -- Components stay: at the end no domain influences one outside the component that it had in the table t.
 abbrev pub ComponentsStay : List ℕ → List ℕ → Type 0
 ComponentsStay t end =

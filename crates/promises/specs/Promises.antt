@@ -274,6 +274,10 @@ pub record Promises : Type 0 where
   -- ---- Document 02 (h): who can reach the drives right now
   -- Bit h of word g of a table's holders says whether h has any right on g.
   pub H-say : holders-theory-claims.HoldersSay
+  -- "One word a domain": a table's holders are as many as its domains,
+  pub H-one-word : holders-theory-claims.HoldersOneWord
+  -- and no word has a bit from that count on.
+  pub H-no-other : holders-theory-claims.HoldersNoOther
   -- Noting what a call alters turns the holders of an accepted table before it into those of the table after it, computed afresh.
   pub H-kept : holders-theory-claims.HoldersKept
   -- Noted from an accepted table on, the words are the holders of the table after each of any calls: after the first k, for any k.
@@ -307,6 +311,8 @@ pub record Promises : Type 0 where
   -- ---- Document 02 (j): connected components, which no list joins
   -- A component is exactly what is connected with its domain, in arbitrary words.
   pub J-component : isolation-theory-component.EveryComponent
+  -- "Call what hangs together a group": all that is in a component has the same component, in arbitrary words.
+  pub J-shared : isolation-theory-component.EveryComponentShared
   -- A component holds domains alone, so that a call of an unknown caller is purged whatever the table.
   pub J-of-domains : isolation-theory-component.EveryComponentOfDomains
   -- No run from an accepted table joins components: at its end no domain influences one outside the component that it had at the

@@ -16,6 +16,7 @@ use Rattle.machine.specs.Below.{hasBit}
 use Rattle.machine.specs.Right.{adds}
 use Rattle.machine.proofs.Bools.{either}
 use Rattle.machine.proofs.Right.{holds-bit, holds-adds}
+use Rattle.machine.proofs.Table.{equal-either}
 
 pub bit-or : (a b u : ℕ) → hasBit (bitOr a b) u ≡ (hasBit a u || hasBit b u)
 unfolding hasBit adds
