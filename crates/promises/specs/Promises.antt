@@ -405,6 +405,9 @@ pub record Promises : Type 0 where
   pub K-only-broken : repair-theory-claims.OnlyBrokenAltered
   -- What results passes the check.
   pub K-repair-accepted : repair-theory-repair-claims.EveryRepairAccepted
+  -- "A broken rights word becomes 20000000. An endpoint with a broken waiting, lost or slot word gets an empty queue, lost 0": each
+  -- rights word and each endpoint, in what any function leaves which keeps the promise of a repair, where its code is 0.
+  pub K-repair-mended : repair-theory-repair-claims.EveryRepairMended
   -- A refusal alters neither the table nor the list.
   pub K-refusal-alters-nothing : repair-theory-repair-claims.EveryRefusalAltersNothing
   -- A sound table stays and yields an empty list.
@@ -462,8 +465,8 @@ pub record Promises : Type 0 where
   -- Rings whose places wrap round and full rings: what a send, a receive, loading and storing make of them.
   pub L-ring-rows : ring-theory-examples.EveryRing ring-theory-examples.ringRows
   -- ---- Document 02 (m): turns
-  -- Served in time: while the table is an accepted one, the oldest pending call of a domain is served within n turns that aren't
-  -- refused, whatever is handed in.
+  -- Served in time: from an accepted table, the oldest pending call of a domain is served within n turns that aren't refused,
+  -- whatever is handed in.
   pub M-served-in-time : turns-theory-claims.ServedInTime
   -- As one list: the calls served, in order, have the answers, the table at the end and the holders after each call that the
   -- machine gives for them, however long the history, from arbitrary words as a table.

@@ -1,7 +1,7 @@
 -- The claims about a repair hold of whoever keeps the promise (specs/RepairClaims). Assumes nothing.
 use Prim.Native.Nat.{ℕ, _+_, _*_, _<_, _≤_}
 use mathlib.Core.Path.{_≡_, refl, sym, ap, subst, _∙_}
-use mathlib.Core.Bool.{true, not}
+use mathlib.Core.Bool.{true, not, _&&_}
 use mathlib.Core.List.{List, [], _++_}
 use native.Mathlib.Nat.{not-suc-le-zero}
 use native.Mathlib.Decide.{decLt}
@@ -9,11 +9,12 @@ use native.Mathlib.Omega.{arith}
 use borrow.Author.Tests.{eqb-false, eq-eqb, ne-eqb, not-true, le-ltb}
 use lib.ListN.{length, getD, take, drop, length-append, length-drop, List·getD-append, List·getD-eq-default}
 use lib.Seq.{take-at, drop-at}
-use Rattle.machine.specs.Check.{tableCode, Accepted}
+use Rattle.machine.specs.Check.{headerOk, lengthOk, tableCode, Accepted}
+use Rattle.machine.proofs.Bools.{and-left, and-right}
 use Rattle.repair_theory.specs.Mend.{mended, mendable}
-use Rattle.repair_theory.specs.Claims.{AddsNoRight, AddsNoRightInAnyReading, AltersOnlyBroken}
+use Rattle.repair_theory.specs.Claims.{Mended, AddsNoRight, AddsNoRightInAnyReading, AltersOnlyBroken}
 use Rattle.repair_theory.proofs.Mended.{mended-length}
-use Rattle.repair_theory.proofs.Claims.{accepted-exactly, mended-accepted, sound-stays, no-right-added, no-right-in-any-reading, only-broken-altered}
+use Rattle.repair_theory.proofs.Claims.{each-part-mended, accepted-exactly, mended-accepted, sound-stays, no-right-added, no-right-in-any-reading, only-broken-altered}
 use Rattle.repair_theory.specs.Changes.{differing, changePairs, changes, putBack}
 use Rattle.repair_theory.specs.Repair.{altered, alteredCount, repairCode, RepairOutcome, refusal, repaired, repair}
 use Rattle.repair_theory.specs.RepairClaims as claims
@@ -39,6 +40,15 @@ pub every-repair-accepted : claims.EveryRepairAccepted
 unfolding repaired refusal
 every-repair-accepted t list =
     promised t list (λ o. o .code ≡ 0 → Accepted (o .table)) (λ can _ _. mended-accepted t can) (λ n some _ none. absurd (some none))
+
+pub every-repair-mended : claims.EveryRepairMended
+unfolding repaired refusal mendable
+every-repair-mended t list =
+    promised t list (λ o. o .code ≡ 0 → Mended t (o .table))
+    (λ can _ _.
+    let framed = and-left (headerOk t && lengthOk t) _ can in
+    each-part-mended t (and-left (headerOk t) (lengthOk t) framed) (and-right (headerOk t) (lengthOk t) framed))
+    (λ n some _ none. absurd (some none))
 
 pub every-refusal-alters-nothing : claims.EveryRefusalAltersNothing
 unfolding repaired refusal

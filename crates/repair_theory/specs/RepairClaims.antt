@@ -5,7 +5,7 @@ use mathlib.Core.Path.{_≡_}
 use mathlib.Core.List.{List}
 use lib.ListN.{length, getD, take, drop}
 use Rattle.machine.specs.Check.{Accepted}
-use Rattle.repair_theory.specs.Claims.{AddsNoRight, AddsNoRightInAnyReading, AltersOnlyBroken}
+use Rattle.repair_theory.specs.Claims.{Mended, AddsNoRight, AddsNoRightInAnyReading, AltersOnlyBroken}
 use Rattle.repair_theory.specs.Changes.{putBack}
 use Rattle.repair_theory.specs.Repair.{RepairPromise}
 
@@ -20,6 +20,11 @@ pub record PromisedRepair (t list : List ℕ) : Type 0 where
 -- What results passes the check.
 abbrev pub EveryRepairAccepted : Type 0
 EveryRepairAccepted = (t list : List ℕ) (r : PromisedRepair t list) → r .code ≡ 0 → Accepted (r .end)
+
+-- Each rights word and each endpoint is mended: "A broken rights word becomes 20000000. An endpoint with a broken waiting, lost or
+-- slot word gets an empty queue, lost 0" (document 02 (k)).
+abbrev pub EveryRepairMended : Type 0
+EveryRepairMended = (t list : List ℕ) (r : PromisedRepair t list) → r .code ≡ 0 → Mended t (r .end)
 
 -- A refusal alters neither the table nor the list.
 abbrev pub EveryRefusalAltersNothing : Type 0

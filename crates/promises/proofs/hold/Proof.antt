@@ -225,6 +225,7 @@ returns c =
       K-no-right-in-any-reading = repair-theory-claims-proofs.no-right-in-any-reading;
       K-only-broken = repair-theory-claims-proofs.only-broken-altered;
       K-repair-accepted = repair-theory-repair-claims-proofs.every-repair-accepted;
+      K-repair-mended = repair-theory-repair-claims-proofs.every-repair-mended;
       K-refusal-alters-nothing = repair-theory-repair-claims-proofs.every-refusal-alters-nothing;
       K-sound-table-stays = repair-theory-repair-claims-proofs.every-sound-table-stays;
       K-repair-adds-no-right = repair-theory-repair-claims-proofs.every-repair-adds-no-right;
