@@ -1,17 +1,18 @@
 -- The entry of a run and of a step, as the code goes through it. Assumes nothing.
 use mathlib.Core.Path.{_≡_, refl, sym, ap, _∙_}
-use mathlib.Core.Bool.{Bool, true, false, not}
+use mathlib.Core.Bool.{Bool, true, false, cond, not}
 use mathlib.Core.List.{List}
 use Prim.Native.Nat.{ℕ, _*_, _<_, _≤_}
 use native.Mathlib.Decide.{decLt, ℕ-discrete}
 use native.Mathlib.Omega.{arith}
-use lib.Dec.{leb, ltb}
+use lib.Dec.{eqb, leb, ltb}
 use lib.ListN.{length}
-use borrow.Author.Tests.{lt-ltb, le-ltb, leb-true, leb-false, eq-eqb, ne-eqb}
+use borrow.Author.Tests.{lt-ltb, le-ltb, leb-true, leb-false, eqb-true, eqb-false, eq-eqb, ne-eqb}
 use Rattle.machine.specs.Check.{tableCode, Accepted}
 use Rattle.machine.specs.Table.{domains}
 use Rattle.machine.specs.Call.{Call, split}
 use Rattle.machine.specs.Entry.{longestList, holdersCode, entryCode, Runs}
+use Rattle.machine.specs.Holders.{holdersOf}
 use Rattle.machine.specs.Promise.{RunPromise}
 use Rattle.machine.proofs.Promise.{runs-accepted, runs-short, code-space, code-holders, holders-unfit, promise-refused, promise-ran}
 use Rattle.run_result.specs.Entry.{entryRefusalCode}
@@ -20,6 +21,7 @@ use Rattle.run_result.proofs.Refusals.{entry-refusal-code}
 use Rattle.answers.specs.Answer.{answerWords}
 use Rattle.answers.specs.declared.Answer.{Answer}
 use Rattle.kernel.specs.Step.{StepOutcome, stepEntryCode, StepPromise}
+use Rattle.kernel.specs.Reports.{HoldersPromise}
 use Rattle.kernel.specs.Run.{AllRun}
 use Rattle.kernel.specs.Entered.{enteredCode}
 use Rattle.kernel.specs.declared.Entered.{Entered}
@@ -108,3 +110,23 @@ pub promise-all-run : (t ws space holders : List ℕ) (x : Entered)
     → RunPromise t ws space holders 0 k answers end kept
 promise-all-run t ws space holders x reported is k answers end kept all =
     promise-ran t ws space holders k answers end kept (runs t ws (length space) (length holders) x reported is) (all .count) (all .answers) (all .table) (all .holders)
+
+-- ---- the holders of a table by itself
+
+pub holders-refused : (t holders : List ℕ) (r : EntryRefusal) → entryRefusalCode r ≡ stepEntryCode t (length holders) → HoldersPromise t holders (entryRefusalCode r) holders
+holders-refused t holders r e =
+    record { sameCode = e; sameHolders = rw (ne-eqb (stepEntryCode t (length holders)) 0 (λ none. entry-refusal-code r (e ∙ none))) }
+
+-- an entry that doesn't refuse: the table is accepted, and one word a domain is lent
+pub step-entered : (t : List ℕ) (lent : ℕ) → stepEntryCode t lent ≡ 0 → Accepted t × (lent ≡ domains t)
+unfolding stepEntryCode holdersCode
+step-entered t lent e = go (eqb (tableCode t) 0) (eqb lent (domains t)) refl refl e
+  where
+    go : (a b : Bool) → eqb (tableCode t) 0 ≡ a → eqb lent (domains t) ≡ b → cond a (cond b 0 6) (tableCode t) ≡ 0 → Accepted t × (lent ≡ domains t)
+    go true true f g h = (eqb-true _ _ f, eqb-true _ _ g)
+    go true false f g h = absurd (omega arith)
+    go false b f g h = absurd (eqb-false _ _ f h)
+
+pub holders-shown : (t holders kept : List ℕ) → stepEntryCode t (length holders) ≡ 0 → kept ≡ holdersOf t → HoldersPromise t holders 0 kept
+holders-shown t holders kept e is =
+    record { sameCode = sym e; sameHolders = rw (eq-eqb (stepEntryCode t (length holders)) 0 e) is }

@@ -4,3 +4,4 @@ pub mod AskedAfterStep
 pub mod Outcome
 pub mod Run
 pub mod Entered
+pub mod Reports

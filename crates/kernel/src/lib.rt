@@ -2,6 +2,7 @@
 // is checked before any call runs (document 01, 'Where each number is checked'; the holders: document 02, (h)).
 mod endpoint_calls;
 mod lent_lengths;
+pub mod reports;
 mod rights_calls;
 mod run_list;
 mod serve;
