@@ -468,6 +468,10 @@ pub record Promises : Type 0 where
   -- Served in time: from an accepted table, the oldest pending call of a domain is served within n turns that aren't refused,
   -- whatever is handed in.
   pub M-served-in-time : turns-theory-claims.ServedInTime
+  -- Every pending call: the one after k others of its domain is served within (1 + k) · n turns that aren't refused.
+  pub M-every-call-served : turns-theory-claims.EveryCallServedInTime
+  -- So a domain with at most 16 words pending has each of their calls served within 16 · n turns that aren't refused.
+  pub M-all-served : turns-theory-claims.AllServedInTime
   -- As one list: the calls served, in order, have the answers, the table at the end and the holders after each call that the
   -- machine gives for them, however long the history, from arbitrary words as a table.
   pub M-one-list : turns-theory-claims.AsOneList
@@ -479,6 +483,8 @@ pub record Promises : Type 0 where
   pub M-in-order : turns-theory-claims.InOrder
   -- A turn is idle exactly where none of the n domains has a call pending.
   pub M-idle-exactly : turns-theory-claims.IdleExactly
+  -- With none pending a turn is idle and changes nothing, however few words are lent for an answer.
+  pub M-idle : turns-theory-claims.IdleChangesNothing
   -- A refused event changes nothing.
   pub M-refused : turns-theory-claims.RefusedChangesNothing
   -- The beginning is proper: each domain has at most 16 words pending, calls of its own, and an index that is no domain has none.
@@ -498,13 +504,23 @@ pub record Promises : Type 0 where
   pub M-words-hand-in : turns-claims.EveryHandIn
   -- A turn, in a state of the right length: likewise.
   pub M-words-turn : turns-claims.EveryTurn
-  -- Events that keep the promises of their functions match a history: codes, answers, holders, and at the end the table, what is
-  -- pending and the place of the turn, from any state of the right length.
+  -- Events that keep the promises of their functions match a history: codes, turns, answers, holders, the calls accepted, and at the
+  -- end the table, what is pending and the place of the turn, from any state of the right length.
   pub M-word-history : turns-word-history.EveryWordHistory
-  -- Served in time, by the words: the oldest pending call of a domain is served within n turns that are not refused.
+  -- Served in time, by the words: within n turns that aren't refused one of the history's events serves the oldest pending call of a
+  -- domain, answers that one call was served, and has the machine's three answer words for it.
   pub M-words-served-in-time : turns-word-history.ServedInTimeByWords
+  -- Likewise the call after k others of its domain, within (1 + k) · n turns that aren't refused.
+  pub M-words-every-call-served : turns-word-history.EveryCallServedByWords
+  -- And each pending call within 16 · n.
+  pub M-words-all-served : turns-word-history.AllServedByWords
   -- From words that are all 0, events that keep the promises are as one list.
   pub M-from-the-beginning : turns-word-history.FromTheBeginning
+  -- After a beginning, where each event is lent the holders that the one before it left, they are what the table says, at once and
+  -- after every event.
+  pub M-holders-throughout : turns-word-history.HoldersThroughout
+  -- States, a beginning, and the words left.
+  pub M-begin-rows : turns-examples.EveryRow turns-examples.beginRows
   -- States, what is handed in, and the words left.
   pub M-hand-in-rows : turns-examples.EveryRow turns-examples.handInRows
   -- States, a turn, and the words left.

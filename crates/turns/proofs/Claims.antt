@@ -19,10 +19,10 @@ use Rattle.turns_theory.proofs.Histories.{LetIn, let-in}
 use Rattle.turns_state.specs.Pending.{blockLength, count, pendingIn, enqueued, dequeued, MayEnqueue, MayDequeue}
 use Rattle.turns_state.proofs.Laws.{pending-length, pending-enqueued, pending-dequeued, enqueued-length, dequeued-length}
 use Rattle.turns_state.specs.State.{stateLength, blockAt, block, setBlock, turnsIn, turnIn, stateHandedIn, stateServed, stateAfter}
-use Rattle.turns.specs.Promise.{handsInCode}
+use Rattle.turns.specs.Promise.{handInCodeOnState}
 use Rattle.turns.specs.Claims.{Begins, EveryHandIn, EveryTurn}
 use Rattle.turns_state.proofs.Blocks.{block-length, set-block-length}
-use Rattle.turns.proofs.Codes.{turns-turn}
+use Rattle.turns.proofs.Codes.{turn-code}
 
 -- ---- a domain's words among the others'
 
@@ -111,11 +111,11 @@ begins size =
 -- ---- handing in
 
 module _ (t ws : List ℕ) (d : ℕ) (vs : List ℕ) (size : length ws ≡ stateLength (domains t)) where
-  same-code : handsInCode t ws d vs ≡ handInCode t (turnsIn ws) d vs
-  unfolding handsInCode handInCode turnsIn
+  same-code : handInCodeOnState t ws d vs ≡ handInCode t (turnsIn ws) d vs
+  unfolding handInCodeOnState handInCode turnsIn
   same-code = rw (eq-eqb (length ws) (stateLength (domains t)) size)
 
-  module _ (done : handsInCode t ws d vs ≡ 0) where
+  module _ (done : handInCodeOnState t ws d vs ≡ 0) where
     in′ : LetIn t (turnsIn ws) d vs
     in′ = let-in t (turnsIn ws) d vs (eq-eqb _ 0 (sym same-code ∙ done))
 
@@ -206,12 +206,12 @@ pub every-turn : EveryTurn
 unfolding turnIn stateAfter afterTurn
 every-turn t ws space lent size =
     ⊎-elim
-    (λ none. let is : turnIn t ws ≡ idle = none .0 in record { code = turns-turn t space lent (length ws) size; left = rw is; size = rw is })
+    (λ none. let is : turnIn t ws ≡ idle = none .0 in record { code = turn-code t ws space lent size; left = rw is; size = rw is })
     (λ some.
     let (d, c, is, it) = some in
     let turn : turnIn t ws ≡ serves d c = is in
     record {
-      code = turns-turn t space lent (length ws) size;
+      code = turn-code t ws space lent size;
       left = rw turn (served-left ws (domains t) d c size it);
       size = rw turn (served-size ws (domains t) d c size it);
     })

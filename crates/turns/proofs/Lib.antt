@@ -1,7 +1,8 @@
--- What is proved of handing in and turns.
+-- What is proved of the beginning, handing in and turns.
 pub mod Codes
 pub mod Serves
 pub mod Outcomes
 pub mod Examples
 pub mod Claims
 pub mod WordHistory
+pub mod Service

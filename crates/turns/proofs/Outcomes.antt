@@ -1,4 +1,6 @@
--- What holds of every outcome of a turn: its code and how many calls it served are small. Assumes nothing.
+-- What holds of every refusal and of every outcome of a turn: a refusal has a code, and the code and how many calls a turn served are
+-- small. Assumes nothing.
+use mathlib.Core.Path.{_≡_}
 use Prim.Native.Nat.{_≤_}
 use native.Mathlib.Omega.{arith}
 use Rattle.table_check.specs.Checked.{refusalCode}
@@ -11,6 +13,18 @@ use Rattle.turns.specs.declared.Turned.{Turned}
 use Rattle.turns.specs.declared.Turned.the-variants.{Refused, Idle, Served}
 use Rattle.turns.specs.declared.TurnRefusal.the-variants.{Entry, BadTurns}
 use Rattle.turns.specs.Codes.{turnedCode, turnedServed}
+
+pub table-some : (r : TableRefusal) → refusalCode r ≡ 0 → ⊥
+table-some BadHeader e = omega arith
+table-some BadLength e = omega arith
+table-some BadRights e = omega arith
+table-some BadEndpoint e = omega arith
+
+pub entry-some : (r : EntryRefusal) → entryRefusalCode r ≡ 0 → ⊥
+entry-some ListTooLong e = omega arith
+entry-some (BadTable r) e = table-some r e
+entry-some SpaceTooSmall e = omega arith
+entry-some BadHolders e = omega arith
 
 table-code : (r : TableRefusal) → refusalCode r ≤ 99
 table-code BadHeader = omega arith

@@ -1,40 +1,39 @@
 // A turn that serves nobody, and one that serves a domain (document 02 (m)).
 use crate::TurnRefusal;
 use crate::Turned;
-use answers::by_value::put;
-use calls::split::width;
+use kernel::Entered;
 use kernel::Stepped;
-use kernel::check;
+use kernel::reports::enter_step;
+use kernel::reports::put;
+use kernel::reports::width;
 use kernel::step;
-use run_result::EntryRefusal;
-use table_check::Checked;
-use turns_state::domain::fits;
-use turns_state::domain::number;
 use turns_state::first_of_oldest;
 use turns_state::remove;
 use turns_state::second_of_oldest;
 ghost use mathlib.Core.Path.{_≡_};
-ghost use Rattle.turns.specs.Codes.{turnedCode, turnedServed};
-ghost use Rattle.turns.specs.Promise.{turnsCode, MayServe, TurnPromise};
+ghost use Rattle.kernel.specs.Step.{stepEntryCode};
+ghost use Rattle.turns.specs.Codes.{thenCode, turnRefusalCode, turnedCode, turnedServed};
+ghost use Rattle.turns.specs.Promise.{MayServe, TurnPromise, words, outcome};
 
-// Returns the outcome of a turn that serves nobody: its refusal, or idle.
-pub fn nobody(table: &[u32], size: usize, lent: usize, space: usize) -> Turned
-    ensures { λ r. ⌜ turnedCode r ≡ turnsCode (now (table .entry)) size space lent ⌝ }
+// Returns the refusal of a table or of so many words lent for the holders, or the given refusal where neither is refused.
+pub fn refused_or(table: &[u32], lent: usize, next: TurnRefusal) -> TurnRefusal
+    ensures { λ r. ⌜ turnRefusalCode r ≡ thenCode (stepEntryCode (now (table .entry)) lent) (turnRefusalCode next) ⌝ }
+{
+    let entered = enter_step(table, lent);
+    if let Entered::Refused(refusal) = entered {
+        return TurnRefusal::Entry(refusal);
+    }
+    next
+}
+
+// Returns the outcome of a turn with nothing pending: the refusal of its table or of its holders, or idle.
+pub fn idle(table: &[u32], lent: usize) -> Turned
+    ensures { λ r. ⌜ turnedCode r ≡ stepEntryCode (now (table .entry)) lent ⌝ }
     ensures { λ r. ⌜ turnedServed r ≡ 0 ⌝ }
 {
-    let checked = check(table);
-    if let Checked::Refused(refusal) = checked {
-        return Turned::Refused(TurnRefusal::Entry(EntryRefusal::BadTable(refusal)));
-    }
-    if space < 3 {
-        return Turned::Refused(TurnRefusal::Entry(EntryRefusal::SpaceTooSmall));
-    }
-    let n = number(table);
-    if lent != n as usize {
-        return Turned::Refused(TurnRefusal::Entry(EntryRefusal::BadHolders));
-    }
-    if !fits(table, size) {
-        return Turned::Refused(TurnRefusal::BadTurns);
+    let entered = enter_step(table, lent);
+    if let Entered::Refused(refusal) = entered {
+        return Turned::Refused(TurnRefusal::Entry(refusal));
     }
     Turned::Idle
 }
@@ -48,8 +47,9 @@ pub fn serve(
     domain: u8,
 ) -> Turned
     requires { ⌜ MayServe (now table) (now state) (now answer) domain ⌝ }
-    ensures { λ r. ⌜ TurnPromise (now (table .entry)) (now (state .entry)) (now (holders .entry)) (now (answer .entry)) (turnedCode r)
-        (turnedServed r) (now (table .exit)) (now (state .exit)) (now (holders .exit)) (now (answer .exit)) ⌝ }
+    ensures { λ r. ⌜ TurnPromise (words (now (table .entry)) (now (state .entry)) (now (holders .entry)) (now (answer .entry)))
+        (outcome (turnedCode r) (turnedServed r)
+        (words (now (table .exit)) (now (state .exit)) (now (holders .exit)) (now (answer .exit)))) ⌝ }
 {
     let first = first_of_oldest(state, domain);
     let second = second_of_oldest(state, domain);

@@ -4,10 +4,9 @@ use mathlib.Core.Bool.{Bool, true, false}
 use mathlib.Core.Logic.{_⊎_, ⊎-elim, _⊎_.inl, _⊎_.inr}
 use mathlib.Core.List.{List}
 use mathlib.Core.Option.{none, some}
-use Prim.Native.Nat.{ℕ, _<_, _≤_}
-use native.Mathlib.Decide.{decLt}
+use Prim.Native.Nat.{ℕ, _<_}
 use native.Mathlib.Omega.{arith}
-use borrow.Author.Tests.{eqb-true, eqb-false, eq-eqb, ne-eqb, le-leb, lt-leb}
+use borrow.Author.Tests.{eqb-true, eqb-false, eq-eqb, ne-eqb}
 use lib.Dec.{eqb, leb}
 use lib.ListN.{length}
 use Rattle.machine.proofs.Bools.{and-right}
@@ -62,28 +61,20 @@ next-none n s h =
 
 -- ---- whom a turn is to serve
 
-pub next-size : (n : ℕ) (ws : List ℕ) (space : ℕ) → (length ws ≡ stateLength n → ⊥) → nextToServe n ws space ≡ n
+pub next-size : (n : ℕ) (ws : List ℕ) → (length ws ≡ stateLength n → ⊥) → nextToServe n ws ≡ n
 unfolding nextToServe
-next-size n ws space h = rw (ne-eqb (length ws) (stateLength n) h)
+next-size n ws h = rw (ne-eqb (length ws) (stateLength n) h)
 
-pub next-space : (n : ℕ) (ws : List ℕ) (space : ℕ) → length ws ≡ stateLength n → space < 3 → nextToServe n ws space ≡ n
+pub next-waiting : (n : ℕ) (ws : List ℕ) → length ws ≡ stateLength n → nextToServe n ws ≡ orNone n (firstWaiting n (turnsIn ws))
 unfolding nextToServe
-next-space n ws space h l = rw (eq-eqb (length ws) (stateLength n) h, lt-leb 3 space l)
+next-waiting n ws h = rw (eq-eqb (length ws) (stateLength n) h)
 
-pub next-waiting : (n : ℕ) (ws : List ℕ) (space : ℕ) → length ws ≡ stateLength n → 3 ≤ space → nextToServe n ws space ≡ orNone n (firstWaiting n (turnsIn ws))
-unfolding nextToServe
-next-waiting n ws space h l = rw (eq-eqb (length ws) (stateLength n) h, le-leb 3 space l)
-
--- whoever is to be served is the first that waits, in a state of the right length, and with space for the answer
-pub next-may : (n : ℕ) (ws : List ℕ) (space d : ℕ) → d ≡ nextToServe n ws space → (d ≡ n → ⊥) → (length ws ≡ stateLength n) × (3 ≤ space) × (firstWaiting n (turnsIn ws) ≡ some d)
-next-may n ws space d is other = go (eqb (length ws) (stateLength n)) refl
+-- whoever is to be served is the first that waits, in a state of the right length
+pub next-may : (n : ℕ) (ws : List ℕ) (d : ℕ) → d ≡ nextToServe n ws → (d ≡ n → ⊥) → (length ws ≡ stateLength n) × (firstWaiting n (turnsIn ws) ≡ some d)
+next-may n ws d is other = go (eqb (length ws) (stateLength n)) refl
   where
-    apart : length ws ≡ stateLength n → Dec (space < 3) → (length ws ≡ stateLength n) × (3 ≤ space) × (firstWaiting n (turnsIn ws) ≡ some d)
-    apart size (yes l) = absurd (other (is ∙ next-space n ws space size l))
-    apart size (no l) =
-        let room : 3 ≤ space = omega arith in
-        (size, room, next-found n (turnsIn ws) d (is ∙ next-waiting n ws space size room) other)
-
-    go : (b : Bool) → eqb (length ws) (stateLength n) ≡ b → (length ws ≡ stateLength n) × (3 ≤ space) × (firstWaiting n (turnsIn ws) ≡ some d)
-    go true e = apart (eqb-true _ _ e) (decLt space 3)
-    go false e = absurd (other (is ∙ next-size n ws space (eqb-false _ _ e)))
+    go : (b : Bool) → eqb (length ws) (stateLength n) ≡ b → (length ws ≡ stateLength n) × (firstWaiting n (turnsIn ws) ≡ some d)
+    go true e =
+        let size = eqb-true _ _ e in
+        (size, next-found n (turnsIn ws) d (is ∙ next-waiting n ws size) other)
+    go false e = absurd (other (is ∙ next-size n ws (eqb-false _ _ e)))

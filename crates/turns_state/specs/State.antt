@@ -5,8 +5,8 @@ use Prim.Native.Nat.{ℕ, _+_, _*_}
 use mathlib.Core.Bool.{Bool, cond, not, _&&_}
 use mathlib.Core.List.{List, _++_}
 use mathlib.Core.Option.{Option, none, some}
-use lib.Dec.{eqb, leb}
-use lib.ListN.{length, getD, take, drop, set}
+use lib.Dec.{eqb}
+use lib.ListN.{length, getD, take, drop, set, replicate}
 use Rattle.machine.specs.Word.{kind, caller}
 use Rattle.machine.specs.Table.{domains}
 use Rattle.turns_theory.specs.Turns.{Turns, Turn, firstWaiting, turnOf, width, Turn.idle, Turn.serves}
@@ -18,6 +18,10 @@ stateLength n = 1 + 17 * n
 
 abbrev pub blockAt : ℕ → ℕ
 blockAt d = 1 + 17 * d
+
+-- the state of n domains at the beginning: nothing is pending, and the first turn starts at 0
+abbrev pub beginning : ℕ → List ℕ
+beginning n = replicate (stateLength n) 0
 
 -- a domain's seventeen words, and the state with other words in their place
 unfoldable pub block : List ℕ → ℕ → List ℕ
@@ -72,7 +76,6 @@ unfoldable pub orNone : ℕ → Option ℕ → ℕ
 orNone n none = n
 orNone n (some d) = d
 
--- the domain that a turn is to serve, with so many words for its answer, or n
-unfoldable pub nextToServe : ℕ → List ℕ → ℕ → ℕ
-nextToServe n ws space =
-    cond (eqb (length ws) (stateLength n) && leb 3 space) (orNone n (firstWaiting n (turnsIn ws))) n
+-- the domain that a turn is to serve, or n
+unfoldable pub nextToServe : ℕ → List ℕ → ℕ
+nextToServe n ws = cond (eqb (length ws) (stateLength n)) (orNone n (firstWaiting n (turnsIn ws))) n

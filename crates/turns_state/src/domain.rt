@@ -1,9 +1,10 @@
-// The domains of a table and what one of them hands in (document 02 (m)). Total: accepts arbitrary words as a table.
-use calls::split::second_at;
-use calls::split::width;
+// The size of a table's state and what a domain hands in (document 02 (m)). Total: accepts arbitrary words as a table.
 use format::KIND_UNIT;
 use format::calls::CALLER_UNIT;
 use format::calls::KIND_SECOND;
+use kernel::reports::domain_count;
+use kernel::reports::second_of_first;
+use kernel::reports::width;
 ghost use mathlib.Core.Path.{_≡_};
 ghost use lib.Dec.{eqb};
 ghost use Rattle.machine.specs.Table as machine;
@@ -11,22 +12,11 @@ ghost use Rattle.machine.specs.Call.{split};
 ghost use Rattle.turns_theory.specs.Turns.{isOneOf};
 ghost use Rattle.turns_state.specs.State.{stateLength, isCallOf};
 
-// Returns n, the count of domains: eight bits of a table's first word.
-pub fn number(table: &[u32]) -> u8
-    ensures { λ n. ⌜ n ≡ machine.domains (now (table .entry)) ⌝ }
-{
-    if table.len() == 0 {
-        return 0;
-    }
-    let header = table[0];
-    (header / 256 % 256) as u8
-}
-
 // Returns whether a state's size is the one for the table's n domains.
 pub fn fits(table: &[u32], size: usize) -> bool
     ensures { λ b. ⌜ b ≡ eqb size (stateLength (machine.domains (now (table .entry)))) ⌝ }
 {
-    let n = number(table);
+    let n = domain_count(table);
     size == 1 + 17 * n as usize
 }
 
@@ -51,6 +41,6 @@ pub fn is_one_call(words: &[u32], domain: u32) -> bool
     if !is_call_of(words[0], domain) {
         return false;
     }
-    let second = second_at(words, 0);
+    let second = second_of_first(words);
     words.len() == width(second)
 }

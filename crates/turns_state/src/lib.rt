@@ -7,9 +7,20 @@ pub mod pending;
 
 use calls::split::Second;
 ghost use mathlib.Core.Path.{_≡_};
-ghost use lib.ListN.{length};
+ghost use lib.ListN.{length, replicate};
 ghost use Rattle.turns_state.specs.Pending.{enqueuable, secondOfOldest, dequeuable};
 ghost use Rattle.turns_state.specs.State.{block, addedTo, firstOfOldest, removedFrom};
+
+// Sets every word of the state to 0, which is the beginning: nothing is pending, and the first turn starts at 0.
+pub fn clear(state: &mut [u32])
+    ensures { λ _. ⌜ now (state .exit) ≡ replicate (length (now (state .entry))) 0 ⌝ }
+{
+    let mut i: usize = 0;
+    while i < state.len() {
+        state[i] = 0;
+        i += 1;
+    }
+}
 
 // Appends the words to those that are pending of the domain and returns true, or returns false where there is no room for them.
 pub fn add(state: &mut [u32], domain: u8, words: &[u32]) -> bool

@@ -1,5 +1,5 @@
 // Whose turn is next (document 02 (m)).
-use crate::domain::number;
+use kernel::reports::domain_count;
 ghost use mathlib.Core.Path.{_≡_};
 ghost use mathlib.Core.Bool.{_&&_};
 ghost use Prim.Native.Nat.{_<_};
@@ -49,16 +49,13 @@ fn first_waiting(state: &[u32], n: u8) -> u8
     first
 }
 
-// Returns the domain that a turn on the table is to serve, with so many words for the answer. It is n for nobody: nothing is
-// pending, the state's length isn't the one for n domains, or the answer has no space.
-pub fn next_to_serve(table: &[u32], state: &[u32], space: usize) -> u8
-    ensures { λ r. ⌜ r ≡ nextToServe (machine.domains (now (table .entry))) (now (state .entry)) space ⌝ }
+// Returns the domain that a turn on the table is to serve. It is n for nobody: nothing is pending, or the state's length isn't the
+// one for n domains.
+pub fn next_to_serve(table: &[u32], state: &[u32]) -> u8
+    ensures { λ r. ⌜ r ≡ nextToServe (machine.domains (now (table .entry))) (now (state .entry)) ⌝ }
 {
-    let n = number(table);
+    let n = domain_count(table);
     if state.len() != 1 + 17 * n as usize {
-        return n;
-    }
-    if space < 3 {
         return n;
     }
     first_waiting(state, n)

@@ -3,7 +3,7 @@
 // the count on are never read, and a count above 16 is read as 16. Where the words aren't seventeen, `enqueue` and `dequeue` change
 // nothing.
 use calls::split::Second;
-use calls::split::second_at;
+use kernel::reports::second_of_first;
 ghost use mathlib.Core.Path.{_≡_};
 ghost use Prim.Native.Nat.{_+_, _≤_};
 ghost use lib.ListN.{length};
@@ -68,7 +68,7 @@ pub fn second_of_oldest(block: &[u32]) -> Second
         return Second::Nothing;
     }
     let end = 1 + count(block);
-    second_at(&block[1..end], 0)
+    second_of_first(&block[1..end])
 }
 
 // Returns whether the words are seventeen and at least `few` are pending.

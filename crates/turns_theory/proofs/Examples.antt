@@ -11,7 +11,7 @@ pub every-turn-row : EveryTurnRow turnRows
 unfolding everything wordsBelow bitsBelow holdersOf
     turns.begun turns.replaced turns.isOneOf turns.handInCode turns.handedIn turns.waits turns.firstPendingFrom turns.orElse
     turns.firstWaiting turns.servesOldest turns.servesAt turns.turnOf turns.afterTurn turns.tableAfter turns.answerOf
-    turns.holdersAfterTurn turns.turnCode
+    turns.holdersAfterTurn turns.answerCode turns.turnCode
     history.eventCode history.nextTurn history.done history.afterEvent history.layerAfter history.alongWith history.turnAt
     history.answerAt history.holdersOfTurn history.holdersAt shown
-every-turn-row = (refl, (refl, (refl, (refl, (refl, (refl, (refl, (refl, (refl, (refl, (refl, (refl, (refl, (refl, (refl, (refl, (refl, (refl, (refl, (refl, (refl, (refl, (refl, (refl, (refl, (refl, (refl, (refl, (refl, (refl, (refl, (refl, tt))))))))))))))))))))))))))))))))
+every-turn-row = (refl, (refl, (refl, (refl, (refl, (refl, (refl, (refl, (refl, (refl, (refl, (refl, (refl, (refl, (refl, (refl, (refl, (refl, (refl, (refl, (refl, (refl, (refl, (refl, (refl, (refl, (refl, (refl, (refl, (refl, (refl, (refl, (refl, (refl, tt))))))))))))))))))))))))))))))))))

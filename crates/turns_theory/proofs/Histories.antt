@@ -6,7 +6,7 @@ use mathlib.Core.Logic.{_⊎_, ⊎-elim}
 use mathlib.Core.List.{List, [], _∷_, _++_, append-assoc, append-nil}
 use Prim.Native.Nat.{ℕ, suc, _+_, _<_, _≤_}
 use native.Mathlib.Omega.{arith}
-use borrow.Author.Tests.{eqb-true, ne-eqb, ltb-true, ltb-false, lt-ltb}
+use borrow.Author.Tests.{eqb-true, eq-eqb, ne-eqb, ltb-true, ltb-false, lt-ltb}
 use lib.Dec.{eqb, ltb}
 use lib.ListN.{length, drop, length-append, length-drop}
 use Rattle.machine.specs.Table.{domains}
@@ -21,7 +21,7 @@ use Rattle.machine.proofs.Noninterference.{noninterference}
 use Rattle.turns_theory.specs.Turns.{Turns, Turn, begun, replaced, isOneOf, handInCode, handedIn, width, afterTurn, tableAfter, answerOf, Turn.idle, Turn.serves}
 use Rattle.turns_theory.specs.Turns as turns
 use Rattle.turns_theory.specs.History.{Layer, Event, eventCode, nextTurn, done, afterEvent, layerAfter, alongWith, turnAt, turnsOf, answerAt, holdersOfTurn, holdersAt, callsAt, handedInBy, served, servedOf, holdersEach, Event.handIn, Event.turn}
-use Rattle.turns_theory.specs.Claims.{AsOneList, EveryHistoryNoninterference, InOrder, IdleExactly, RefusedChangesNothing, allOf, ProperHistory, BeginsProper, StaysProper, servesOwn, ServesOwn}
+use Rattle.turns_theory.specs.Claims.{AsOneList, EveryHistoryNoninterference, InOrder, IdleExactly, IdleChangesNothing, RefusedChangesNothing, allOf, ProperHistory, BeginsProper, StaysProper, servesOwn, ServesOwn}
 use Rattle.turns_theory.proofs.Pending.{no-cons, split-append, one-opens, Serving, turn-cases, replaced-all}
 
 pub refused-changes-nothing : RefusedChangesNothing
@@ -52,6 +52,12 @@ idle-exactly n s =
     let (d, c, is, it) = some in
     (λ e. absurd (not-idle (sym is ∙ e)), λ all. absurd (no-cons (ap split (sym (all d (it .below))) ∙ it .front))))
     (turn-cases n s)
+
+pub idle-changes-nothing : IdleChangesNothing
+unfolding eventCode afterEvent done nextTurn turns.turnCode turns.answerCode tableAfter afterTurn
+idle-changes-nothing l space a none =
+    let is = idle-exactly (domains (l .table)) (l .turns) .1 none in
+    rw (eq-eqb (tableCode (l .table)) 0 a, eq-eqb (domains (l .table)) (domains (l .table)) refl, is) (refl, refl)
 
 -- ---- as one list
 

@@ -8,7 +8,7 @@ use mathlib.Core.Option.{Option, none, some}
 use Prim.Native.Nat.{ℕ, zero, suc, _+_, _<_, _≤_}
 use native.Mathlib.Nat.{not-suc-le-zero}
 use native.Mathlib.Omega.{arith}
-use borrow.Author.Tests.{eqb-true, le-leb, leb-true}
+use borrow.Author.Tests.{eqb-true, eq-eqb, le-leb, leb-true}
 use lib.Dec.{eqb, leb}
 use lib.ListN.{length, drop}
 use Rattle.machine.specs.Word.{kind, caller}
@@ -270,3 +270,7 @@ replaced-all P f d ws e here there = go (eqb d e) refl
 pub replaced-else : (f : ℕ → List ℕ) (d : ℕ) (ws : List ℕ) (e : ℕ) → eqb d e ≡ false → replaced f d ws e ≡ f e
 unfolding replaced
 replaced-else f d ws e h = rw h
+
+pub replaced-here : (f : ℕ → List ℕ) (d : ℕ) (ws : List ℕ) → replaced f d ws d ≡ ws
+unfolding replaced
+replaced-here f d ws = rw (eq-eqb d d refl)

@@ -1,6 +1,6 @@
 -- The claims about histories of handing in and turns (document 02 (m)), as closed statements. Each is the type of a theorem in
 -- proofs/.
-use Prim.Native.Nat.{ℕ, _<_, _≤_}
+use Prim.Native.Nat.{ℕ, _+_, _*_, _<_, _≤_}
 use mathlib.Core.Path.{_≡_}
 use mathlib.Core.Bool.{Bool, true, false, _&&_}
 use mathlib.Core.List.{List, [], _∷_, _++_}
@@ -13,14 +13,15 @@ use Rattle.machine.specs.Run as machine
 use Rattle.machine.specs.DomainSet.{calledBy}
 use Rattle.machine.specs.RunClaims.{Noninterference}
 use Rattle.turns_theory.specs.Turns.{Turns, Turn, begun, mostPending, turnOf, Turn.idle, Turn.serves}
-use Rattle.turns_theory.specs.History.{Layer, Event, eventCode, afterEvent, layerAfter, turnsOf, answersServed, holdersThroughout, handedInBy, served, servedOf, holdersEach}
+use Rattle.turns_theory.specs.History.{Layer, Event, eventCode, afterEvent, layerAfter, turnsOf, answersServed, holdersThroughout, handedInBy, served, servedOf, holdersEach, Event.turn}
 
--- Among the turns ts, one of the first m serves the call c of the domain d, and none before it serves d.
-pub record ServedWithin (m d : ℕ) (c : Call) (ts : List Turn) : Type 0 where
+-- Among the turns ts, one of the first m serves the call c of the domain d, and those before it serve of d the calls earlier, which
+-- are none where c was the oldest.
+pub record ServedWithin (m d : ℕ) (earlier : List Call) (c : Call) (ts : List Turn) : Type 0 where
   pub at : ℕ
   pub soon : at < m
   pub serves : getD ts at idle ≡ serves d c
-  pub first : servedOf d (take at ts) ≡ []
+  pub first : servedOf d (take at ts) ≡ earlier
 
 -- Served in time: the oldest pending call of a domain is served within n turns that aren't refused, whatever is handed in.
 abbrev pub ServedInTime : Type 0
@@ -30,7 +31,29 @@ ServedInTime =
     → d < domains (l .table)
     → split (l .turns .pending d) ≡ c ∷ cs
     → domains (l .table) ≤ length (turnsOf l es)
-    → ServedWithin (domains (l .table)) d c (turnsOf l es)
+    → ServedWithin (domains (l .table)) d [] c (turnsOf l es)
+
+-- Every pending call: the one after k others of its domain is served within (1 + k) · n turns that aren't refused, whatever is
+-- handed in, and those k before it in their order.
+abbrev pub EveryCallServedInTime : Type 0
+EveryCallServedInTime =
+    (l : Layer) (es : List Event) (d : ℕ) (earlier : List Call) (c : Call) (later : List Call)
+    → Accepted (l .table)
+    → d < domains (l .table)
+    → split (l .turns .pending d) ≡ earlier ++ (c ∷ later)
+    → (1 + length earlier) * domains (l .table) ≤ length (turnsOf l es)
+    → ServedWithin ((1 + length earlier) * domains (l .table)) d earlier c (turnsOf l es)
+
+-- So a domain with at most 16 words pending has each of their calls served within 16 · n turns that aren't refused.
+abbrev pub AllServedInTime : Type 0
+AllServedInTime =
+    (l : Layer) (es : List Event) (d : ℕ) (earlier : List Call) (c : Call) (later : List Call)
+    → Accepted (l .table)
+    → d < domains (l .table)
+    → length (l .turns .pending d) ≤ mostPending
+    → split (l .turns .pending d) ≡ earlier ++ (c ∷ later)
+    → mostPending * domains (l .table) ≤ length (turnsOf l es)
+    → ServedWithin (mostPending * domains (l .table)) d earlier c (turnsOf l es)
 
 -- The calls served, in order, as one list for the call-by-call machine: its answers, its table at the end, and the holders of its
 -- table after each call.
@@ -64,6 +87,14 @@ abbrev pub IdleExactly : Type 0
 IdleExactly =
     (n : ℕ) (s : Turns)
     → (turnOf n s ≡ idle → (d : ℕ) → d < n → s .pending d ≡ []) × (((d : ℕ) → d < n → s .pending d ≡ []) → turnOf n s ≡ idle)
+
+-- With none pending a turn is idle and changes nothing, however few words are lent for an answer.
+abbrev pub IdleChangesNothing : Type 0
+IdleChangesNothing =
+    (l : Layer) (space : ℕ)
+    → Accepted (l .table)
+    → ((d : ℕ) → d < domains (l .table) → l .turns .pending d ≡ [])
+    → (eventCode l (turn space (domains (l .table))) ≡ 0) × (afterEvent l (turn space (domains (l .table))) ≡ l)
 
 -- A refused event changes nothing.
 abbrev pub RefusedChangesNothing : Type 0

@@ -33,11 +33,11 @@ shown l es =
     }
 
 -- A row: a history from the beginning; the code of handing in for a domain, with so many of its words pending; or the code of a
--- turn.
+-- turn, with so many words pending of the domain 1.
 pub data TurnRow : Type 0 where
   shows : (table : List ℕ) (events : List Event) (outcome : Shown) → TurnRow
   handsIn : (table : List ℕ) (count d : ℕ) (words : List ℕ) (code : ℕ) → TurnRow
-  turnsWith : (table : List ℕ) (space lent code : ℕ) → TurnRow
+  turnsWith : (table : List ℕ) (count space lent code : ℕ) → TurnRow
 
 -- so many words pending of the domain d, and none of any other
 abbrev pub pendingOf : ℕ → ℕ → Turns
@@ -47,7 +47,7 @@ pendingOf d count = record { pending = replaced (begun .pending) d (replicate co
 abbrev pub TurnRowHolds : TurnRow → Type 0
 TurnRowHolds (shows t es o) = shown (record { table = t; turns = begun }) es ≡ o
 TurnRowHolds (handsIn t count d ws n) = handInCode t (pendingOf d count) d ws ≡ n
-TurnRowHolds (turnsWith t space lent n) = turnCode t space lent ≡ n
+TurnRowHolds (turnsWith t count space lent n) = turnCode t (pendingOf 1 count) space lent ≡ n
 
 -- the single claim about a list of such rows: each holds
 abbrev pub EveryTurnRow : List TurnRow → Type 0
@@ -66,11 +66,12 @@ four =
     ++ (0x2000_0000 ∷ 0x2000_0001 ∷ 0x2000_0003 ∷ 0x2000_0000 ∷ [])
     ++ (0x3000_0011 ∷ 0x4000_0202 ∷ 0x5000_0000 ∷ 0x6000_0000 ∷ emptySlots)
 
--- 2 and 3 hand in before 0 does. Nothing was pending at the first turn, so the next still starts at 0. A turn with a word too few
--- for the holders or for the answer serves nobody. 0 is served again, and what is handed in meanwhile waits for its turn.
+-- 2 and 3 hand in before 0 does. Nothing was pending at the first turn, which is idle with no word for an answer, so the next
+-- still starts at 0. A turn with a word too few for the holders or for the answer of a call serves nobody. 0 is served again, and
+-- what is handed in meanwhile waits for its turn.
 abbrev pub events : List Event
 events =
-    turn 3 4
+    turn 0 4
     ∷ handIn 2 (0x3080_0000 ∷ [])
     ∷ handIn 3 (0x60C2_0101 ∷ [])
     ∷ handIn 0 (0x2000_0000 ∷ 0xF000_0007 ∷ [])
@@ -151,14 +152,18 @@ turnRows =
     ∷ handsIn four 16 1 (0x5040_0000 ∷ []) 37
     ∷ handsIn four 14 1 (0x2040_0000 ∷ 0xF000_0000 ∷ []) 0
     ∷ handsIn four 15 1 (0x2040_0000 ∷ 0xF000_0000 ∷ []) 37
-    -- a turn: 2 to 5 before 6, and 6 for the answer's space and for the holders
-    ∷ turnsWith [] 0 0 2
-    ∷ turnsWith (four ++ (0 ∷ [])) 0 0 3
-    ∷ turnsWith (set four 1 0) 2 4 4
-    ∷ turnsWith (set four 20 0) 3 5 5
-    ∷ turnsWith four 2 4 6
-    ∷ turnsWith four 3 3 6
-    ∷ turnsWith four 3 5 6
-    ∷ turnsWith four 3 4 0
-    ∷ turnsWith four 4 4 0
+    -- a turn: 2 to 5 before 6
+    ∷ turnsWith [] 1 0 0 2
+    ∷ turnsWith (four ++ (0 ∷ [])) 1 0 0 3
+    ∷ turnsWith (set four 1 0) 1 2 4 4
+    ∷ turnsWith (set four 20 0) 1 3 5 5
+    -- 6 for the holders, idle or not
+    ∷ turnsWith four 0 3 3 6
+    ∷ turnsWith four 1 3 5 6
+    -- 6 for the answer's space where a call is pending; with none pending a turn is idle
+    ∷ turnsWith four 1 2 4 6
+    ∷ turnsWith four 0 2 4 0
+    ∷ turnsWith four 0 0 4 0
+    ∷ turnsWith four 1 3 4 0
+    ∷ turnsWith four 1 4 4 0
     ∷ []

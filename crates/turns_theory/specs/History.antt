@@ -24,7 +24,7 @@ pub data Event : Type 0 where
 -- its code: 0, or the code that refuses it
 unfoldable pub eventCode : Layer → Event → ℕ
 eventCode l (handIn d ws) = handInCode (l .table) (l .turns) d ws
-eventCode l (turn space lent) = turnCode (l .table) space lent
+eventCode l (turn space lent) = turnCode (l .table) (l .turns) space lent
 
 -- the next turn
 unfoldable pub nextTurn : Layer → Turn

@@ -1,7 +1,7 @@
 -- Calls that domains hand in one by one and that are served by turns (document 02 (m)): what is pending, the outcomes of handing in
 -- and of a turn, and what each leaves. Nothing here depends on the words that represent it.
 use Prim.Native.Nat.{ℕ, _+_}
-use mathlib.Core.Bool.{Bool, false, cond, not, _&&_, _||_}
+use mathlib.Core.Bool.{Bool, false, cond, not, _&&_}
 use mathlib.Core.List.{List, [], _∷_, _++_}
 use mathlib.Core.Option.{Option, none, some}
 use lib.Dec.{eqb, leb, ltb}
@@ -115,8 +115,14 @@ unfoldable pub holdersAfterTurn : List ℕ → Turn → List ℕ → List ℕ
 holdersAfterTurn t idle holders = holders
 holdersAfterTurn t (serves d c) holders = holdersOf (step t c)
 
--- the code of a turn with so many words lent for its answer and for the holders: the table's 2 to 5, then 6 where there is no space
--- for the answer's three words or the holders aren't one word a domain; 0 where nothing refuses it
-unfoldable pub turnCode : List ℕ → ℕ → ℕ → ℕ
-turnCode t space lent =
-    cond (not (eqb (tableCode t) 0)) (tableCode t) (cond (ltb space 3 || not (eqb lent (domains t))) 6 0)
+-- 6 where a turn serves a call and there is no space for its three answer words; an idle turn needs none
+unfoldable pub answerCode : Turn → ℕ → ℕ
+answerCode idle space = 0
+answerCode (serves d c) space = cond (ltb space 3) 6 0
+
+-- the code of a turn with so many words lent for its answer and for the holders: the table's 2 to 5, then 6 where the holders
+-- aren't one word a domain, idle or not, then 6 where a call is pending and its answer has no space; 0 where nothing refuses it
+unfoldable pub turnCode : List ℕ → Turns → ℕ → ℕ → ℕ
+turnCode t s space lent =
+    cond (not (eqb (tableCode t) 0)) (tableCode t)
+    (cond (not (eqb lent (domains t))) 6 (answerCode (turnOf (domains t) s) space))

@@ -5,7 +5,7 @@ use mathlib.Core.Path.{_≡_, sym, subst₂, _∙_}
 use native.Mathlib.Omega.{arith}
 use borrow.Author.Needs.{needs}
 use denote.Ref.{now}
-use Rattle.turns.specs.Promise.{TurnPromise}
+use Rattle.turns.specs.Promise.{TurnPromise, words, outcome}
 use Rattle.turns.proofs.Outcomes.{code-small, served-small}
 use Rattle.balkwizu_turns.proofs.balkwizu_turn.Statement.{statement}
 use Rattle.balkwizu_turns.proofs.balkwizu_turn.Tie as tie
@@ -23,10 +23,10 @@ few c =
     let turned = c .before .before .before .before .before .before .before .before .before .before in
     omega (arith, c .served .ensures, served-small (turned .turn .result))
 
-small : (c : tie.After-served) → c .before .code .result ≤ 99
+small : (c : tie.After-served) → c .before .to-code .result ≤ 99
 small c =
     let turned = c .before .before .before .before .before .before .before .before .before .before in
-    omega (arith, c .before .code .ensures, code-small (turned .turn .result))
+    omega (arith, c .before .to-code .ensures, code-small (turned .turn .result))
 
 returns : tie.Need-returns
 returns c =
@@ -34,9 +34,9 @@ returns c =
     let a = turned .before .before .before .before .before .before .before .before .before .args in
     let end = turned .turn .last in
     subst₂
-    (λ (code served : ℕ). TurnPromise (now (a .table)) (now (a .state)) (now (a .holders)) (now (a .answer)) code served (end .0) (end .1 .0) (end .1 .1 .0) (end .1 .1 .1 .0))
-    (sym (c .before .code .ensures) ∙ low (c .before .code .result) (c .served .result) (omega (arith, small c)))
-    (sym (c .served .ensures) ∙ high (c .before .code .result) (c .served .result) (omega (arith, small c)))
+    (λ (code served : ℕ). TurnPromise (words (now (a .table)) (now (a .state)) (now (a .holders)) (now (a .answer))) (outcome code served (words (end .0) (end .1 .0) (end .1 .1 .0) (end .1 .1 .1 .0))))
+    (sym (c .before .to-code .ensures) ∙ low (c .before .to-code .result) (c .served .result) (omega (arith, small c)))
+    (sym (c .served .ensures) ∙ high (c .before .to-code .result) (c .served .result) (omega (arith, small c)))
     (turned .turn .ensures)
 
 pub balkwizu-turn-spec : {M : Type 1} → statement M

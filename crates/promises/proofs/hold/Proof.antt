@@ -57,6 +57,7 @@ use Rattle.totals_theory.proofs.Examples as totals-theory-examples-proofs
 use Rattle.totals_theory.proofs.TotalsLaws as totals-theory-totals-laws-proofs
 use Rattle.turns.proofs.Claims as turns-claims-proofs
 use Rattle.turns.proofs.Examples as turns-examples-proofs
+use Rattle.turns.proofs.Service as turns-service-proofs
 use Rattle.turns.proofs.WordHistory as turns-word-history-proofs
 use Rattle.turns_state.proofs.Examples as turns-state-examples-proofs
 use Rattle.turns_theory.proofs.Examples as turns-theory-examples-proofs
@@ -252,10 +253,13 @@ returns c =
       L-ring-stored = ring-theory-simulation-proofs.store-is-queue;
       L-ring-rows = ring-theory-examples-proofs.every-ring;
       M-served-in-time = turns-theory-in-time-proofs.served-in-time;
+      M-every-call-served = turns-theory-in-time-proofs.every-call-served-in-time;
+      M-all-served = turns-theory-in-time-proofs.all-served-in-time;
       M-one-list = turns-theory-histories-proofs.as-one-list;
       M-noninterference = turns-theory-histories-proofs.history-noninterference;
       M-in-order = turns-theory-histories-proofs.in-order;
       M-idle-exactly = turns-theory-histories-proofs.idle-exactly;
+      M-idle = turns-theory-histories-proofs.idle-changes-nothing;
       M-refused = turns-theory-histories-proofs.refused-changes-nothing;
       M-begins-proper = turns-theory-histories-proofs.begins-proper;
       M-stays-proper = turns-theory-histories-proofs.stays-proper;
@@ -266,8 +270,12 @@ returns c =
       M-words-hand-in = turns-claims-proofs.every-hand-in;
       M-words-turn = turns-claims-proofs.every-turn;
       M-word-history = turns-word-history-proofs.every-word-history;
-      M-words-served-in-time = turns-word-history-proofs.served-in-time-by-words;
+      M-words-served-in-time = turns-service-proofs.served-in-time-by-words;
+      M-words-every-call-served = turns-service-proofs.every-call-served-by-words;
+      M-words-all-served = turns-service-proofs.all-served-by-words;
       M-from-the-beginning = turns-word-history-proofs.from-the-beginning;
+      M-holders-throughout = turns-service-proofs.holders-throughout;
+      M-begin-rows = turns-examples-proofs.every-begin-row;
       M-hand-in-rows = turns-examples-proofs.every-hand-in-row;
       M-turn-rows = turns-examples-proofs.every-turn-row;
     }

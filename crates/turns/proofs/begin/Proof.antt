@@ -1,67 +1,58 @@
--- `begin` meets its contract. The loop's invariant: the words passed are 0, and the rest are as they were. Assumes nothing.
-use mathlib.Core.Path.{_≡_, refl, sym, ap, ap₂, _∙_}
-use mathlib.Core.List.{List, _++_, append-nil}
-use Prim.Native.Nat.{ℕ, _+_, _-_, _≤_}
-use native.Mathlib.Nat.{zero-add}
-use native.Mathlib.Numerals.{add-one}
+-- `begin` meets its contract: the state's length refuses it, or the entry does, or it is done. Assumes nothing.
+use mathlib.Core.Path.{_≡_, refl, sym, ap, _∙_}
 use native.Mathlib.Omega.{arith}
-use lib.ListN.{length, drop, set, replicate, length-set, length-replicate, getD-replicate}
-use lib.Seq.{take-all, drop-length, paste, paste-suc}
+use borrow.Author.Needs.{needs}
+use borrow.Author.Tests.{eqb-true, eqb-false, not-true, not-false}
+use lib.ListN.{length}
+use denote.Ref.{now}
+use Rattle.machine.specs.Table.{domains}
+use Rattle.kernel.specs.Entered.{enteredCode}
+use Rattle.turns_state.specs.State.{stateLength}
+use Rattle.turns.specs.Codes.{badTurns}
+use Rattle.turns.proofs.Codes.{then-some, begin-unfit, begin-fit, begin-refused, begin-done, holders-stay}
+use Rattle.turns.proofs.Outcomes.{entry-some}
 use Rattle.turns.proofs.begin.Statement.{statement}
 use Rattle.turns.proofs.begin.Tie as tie
 
--- all words are 0
-cleared : (s : List ℕ) → paste s 0 (replicate (length s) 0) (length s) ≡ replicate (length s) 0
-cleared s =
-    ap₂ (λ (xs ys : List ℕ). xs ++ ys) (take-all (length s) (replicate (length s) 0) (omega (arith, length-replicate {A = ℕ} (length s) 0)))
-    (ap (λ (k : ℕ). drop k s) (zero-add (length s)) ∙ drop-length s)
-    ∙ append-nil _
-
-abbrev Inv-loop : tie.InvT-loop
-Inv-loop state₀ i₀ state i =
-    (i ≤ length state) × (length state ≡ length state₀) × (state ≡ paste state₀ 0 (replicate (length state₀) 0) i)
-
-abbrev μ-loop : tie.MeasureT-loop
-μ-loop state₀ i₀ state i = length state₀ - i
-
-loop-holds : tie.Need-loop-holds Inv-loop μ-loop
-loop-holds c = (omega arith, refl, refl)
-
-loop-again : tie.Need-loop-again Inv-loop μ-loop
-loop-again c =
-    let s = c .before .before .args .state .now in
-    let i = c .before .loop .i in
-    let inv = c .before .loop .inv in
-    let l = c .loop-test .taken in
-    let zeros : List ℕ = replicate (length s) 0 in
-    let z = length-replicate {A = ℕ} (length s) 0 in
-    let here : 0 + i ≡ i = omega arith in (
-      simp length-set (omega arith),
-      simp length-set (inv .1),
-      ap (λ (x : List ℕ). set x i 0) (inv .2)
-          ∙ ap₂ (λ (j w : ℕ). set (paste s 0 zeros i) j w) (sym here) (sym (getD-replicate (length s) i 0 0 (omega arith)))
-          ∙ paste-suc s 0 zeros i 0 (omega arith) (omega arith)
-          ∙ ap (paste s 0 zeros) (sym (add-one i)),
-    )
-
-returns : tie.Need-returns Inv-loop μ-loop
+returns : tie.Need-returns
 returns c =
-    let s = c .before .before .args .state .now in
-    let inv = c .before .loop .inv in
-    let all : c .before .loop .i ≡ length s = omega (arith, inv .0, inv .1, c .loop-test .left) in
-    inv .2 ∙ ap (paste s 0 (replicate (length s) 0)) all ∙ cleared s
+    let a = c .before .before .before .before .before .before .args in
+    let is = c .refused-or .ensures in
+    let other = eqb-false _ _ (sym (c .before .before .fits2 .ensures) ∙ not-true _ (c .before .if1 .taken)) in
+    begin-refused _ _ _ _ (is ∙ sym (begin-unfit (now (a .table)) (now (a .state)) (now (a .holders)) other)) (λ z. then-some _ badTurns (λ e. omega arith) (sym is ∙ z)) _ refl
+
+-- the state has the length for n domains
+size : (c : tie.Else1) → (let a = c .before .before .before .before .before .args in length (now (a .state)) ≡ stateLength (domains (now (a .table))))
+size c = eqb-true _ _ (sym (c .before .fits2 .ensures) ∙ not-false _ (c .if1 .left))
+
+returns-2 : tie.Need-returns-2
+returns-2 c =
+    let a = c .before .before .before .before .before .before .before .before .before .before .before .before .args in
+    let show = c .before .before .before .before .before in
+    let given = c .before .shown .given in
+    let some = entry-some (given .0 .0) in
+    let code = sym (ap enteredCode (given .1)) in
+    begin-refused _ _ _ _ (code ∙ show .show-holders .ensures .sameCode ∙ sym (begin-fit (now (a .table)) (now (a .state)) (now (a .holders)) (size (c .before .before .before .before .before .before .before)))) some _
+    (holders-stay _ _ _ _ (show .show-holders .ensures) (λ z. some (code ∙ z)))
+
+returns-3 : tie.Need-returns-3
+returns-3 c =
+    let show = c .before .before .before .before .before .before .before .before in
+    begin-done _ _ _ (size (c .before .before .before .before .before .before .before .before .before .before)) _ _ _ (ap enteredCode (c .before .before .before .before .enum-told .given .1)) (c .before .before .clear .ensures) (show .show-holders .ensures)
 
 pub begin-spec : {M : Type 1} → statement M
 begin-spec =
     tie.close
     (tie.spec
-    Inv-loop
-    μ-loop
-    loop-holds
-    (λ c. omega arith)
-    (λ c. omega arith)
-    (λ c. omega arith)
-    (λ c. omega arith)
-    loop-again
-    (λ c. omega arith)
-    returns)
+    (λ c κs. search needs)
+    (λ c κs. search needs)
+    returns
+    (λ c κs. search needs)
+    (λ c. search needs)
+    (λ c. search needs)
+    returns-2
+    (λ c. search needs)
+    (λ c κs. search needs)
+    (λ c. search needs)
+    (λ c. search needs)
+    returns-3)

@@ -10,11 +10,11 @@ use Rattle.machine.specs.Table.{domains}
 use Rattle.machine.specs.Check.{Accepted}
 use Rattle.machine.specs.Call.{split}
 use Rattle.table_check.specs.Checked.{checkedCode}
-use Rattle.table_check.proofs.Refusals.{refusal-code}
 use Rattle.turns_theory.specs.Turns.{isOneOf}
 use Rattle.turns_state.specs.State.{stateLength}
 use Rattle.turns_state.proofs.Blocks.{added-none, added-there}
 use Rattle.turns.proofs.Codes.{hands-table, hands-domain, hands-call, hands-size, hands-room, hands-fine, hand-in-refused, hand-in-done}
+use Rattle.turns.proofs.Outcomes.{table-some}
 use Rattle.turns.proofs.hand_in.Statement.{statement}
 use Rattle.turns.proofs.hand_in.Tie as tie
 
@@ -22,7 +22,7 @@ returns : tie.Need-returns
 returns c =
     let check = c .before .before .before in
     let code = sym (ap checkedCode (c .before .checked .given .1)) ∙ check .check .ensures in
-    let bad = refusal-code (c .before .checked .given .0 .0) in
+    let bad = table-some (c .before .checked .given .0 .0) in
     hand-in-refused _ _ _ _ _ (hands-table _ _ _ _ _ code bad) bad _ refl
 
 accepted : (c : tie.After-enum-told) → Accepted (c .before .before .before .before .before .before .args .table .now)
@@ -32,12 +32,12 @@ returns-2 : tie.Need-returns-2
 returns-2 c =
     let number = c .before in
     hand-in-refused _ _ _ _ _
-    (hands-domain _ _ _ _ (accepted (number .before)) (omega (arith, number .number .ensures, c .if1 .taken)))
+    (hands-domain _ _ _ _ (accepted (number .before)) (omega (arith, number .domain-count .ensures, c .if1 .taken)))
     (λ z. omega arith) _ refl
 
 -- the domain is one of the table's
 below : (c : tie.Else1) → (let a = c .before .before .before .before .before .before .before .before .args in a .domain < domains (a .table .now))
-below c = omega (arith, c .before .number .ensures, c .if1 .left)
+below c = omega (arith, c .before .domain-count .ensures, c .if1 .left)
 
 returns-3 : tie.Need-returns-3
 returns-3 c =

@@ -4,7 +4,6 @@ use borrow.Author.Needs.{needs}
 use denote.Ref.{now}
 use Rattle.machine.specs.Call.{Call}
 use Rattle.calls.specs.Split.{callOf, widthOf}
-use Rattle.answers.proofs.Space.{put-whole}
 use Rattle.kernel.specs.Step.{StepPromise}
 use Rattle.kernel.specs.declared.Stepped.{Stepped}
 use Rattle.turns_state.proofs.Oldest.{oldest-call}
@@ -37,7 +36,7 @@ returns-2 c =
     serve-answered (start .pre) (now (start .args .holders)) _ _ _ _ _ _
     (width .width .ensures ∙ ap widthOf (step .before .before .before .second-of-oldest .ensures))
     (remove .remove .ensures .1)
-    (put .put .ensures ∙ put-whole _ _ (start .pre .room))
+    (put .put .ensures)
     (stepped step _ (put .before .before .before .stepped2 .given .1))
 
 pub serve-spec : {M : Type 1} → statement M

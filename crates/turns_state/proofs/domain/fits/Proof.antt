@@ -8,7 +8,7 @@ use Rattle.turns_state.proofs.domain.fits.Statement.{statement}
 use Rattle.turns_state.proofs.domain.fits.Tie as tie
 
 returns : tie.Need-returns
-returns c = ap (λ (n : ℕ). eqb (c .before .before .args .size) (stateLength n)) (c .number .ensures)
+returns c = ap (λ (n : ℕ). eqb (c .before .before .args .size) (stateLength n)) (c .domain-count .ensures)
 
 pub fits-spec : {M : Type 1} → statement M
 fits-spec =

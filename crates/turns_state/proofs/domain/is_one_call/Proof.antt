@@ -23,7 +23,7 @@ returns-3 c =
     let test = second .before in
     let start = test .before .before .before .before .before in
     let ws = start .args .words .now in
-    ap (eqb (length ws)) (c .width .ensures ∙ ap widthOf (second .second-at .ensures))
+    ap (eqb (length ws)) (c .width .ensures ∙ ap widthOf (second .second-of-first .ensures))
     ∙ sym (its-call (start .args .domain) ws (omega (arith, test .before .before .before .if1 .left)) (sym (test .before .is-call-of .ensures) ∙ not-false _ (test .if2 .left)))
 
 pub is-one-call-spec : {M : Type 1} → statement M

@@ -1,32 +1,25 @@
 -- `order::next_to_serve` meets its contract. Assumes nothing.
 use mathlib.Core.Path.{_≡_, sym, ap, _∙_}
 use Prim.Native.Nat.{ℕ}
-use native.Mathlib.Omega.{arith}
 use borrow.Author.Needs.{needs}
 use denote.Ref.{now}
 use Rattle.machine.specs.Table.{domains}
 use Rattle.turns_state.specs.State.{nextToServe}
-use Rattle.turns_state.proofs.Next.{next-size, next-space, next-waiting}
+use Rattle.turns_state.proofs.Next.{next-size, next-waiting}
 use Rattle.turns_state.proofs.order.next_to_serve.Statement.{statement}
 use Rattle.turns_state.proofs.order.next_to_serve.Tie as tie
 
 -- the count that was read is the table's
-reported : (c : tie.After-number) → (let a = c .before .before .before .args in nextToServe (c .number .result) (now (a .state)) (a .space) ≡ nextToServe (domains (now (a .table))) (now (a .state)) (a .space))
+reported : (c : tie.After-domain-count) → (let a = c .before .before .before .args in nextToServe (c .domain-count .result) (now (a .state)) ≡ nextToServe (domains (now (a .table))) (now (a .state)))
 reported c =
     let a = c .before .before .before .args in
-    ap (λ (n : ℕ). nextToServe n (now (a .state)) (a .space)) (c .number .ensures)
+    ap (λ (n : ℕ). nextToServe n (now (a .state))) (c .domain-count .ensures)
 
 returns : tie.Need-returns
-returns c = sym (next-size _ _ _ (c .if1 .taken)) ∙ reported (c .before)
+returns c = sym (next-size _ _ (c .if1 .taken)) ∙ reported (c .before)
 
 returns-2 : tie.Need-returns-2
-returns-2 c = sym (next-space _ _ _ (c .before .if1 .left) (c .if2 .taken)) ∙ reported (c .before .before)
-
-returns-3 : tie.Need-returns-3
-returns-3 c =
-    c .first-waiting .ensures
-    ∙ sym (next-waiting _ _ _ (c .before .before .if1 .left) (omega (arith, c .before .if2 .left)))
-    ∙ reported (c .before .before .before)
+returns-2 c = c .first-waiting .ensures ∙ sym (next-waiting _ _ (c .before .if1 .left)) ∙ reported (c .before .before)
 
 pub next-to-serve-spec : {M : Type 1} → statement M
 next-to-serve-spec =
@@ -37,6 +30,5 @@ next-to-serve-spec =
     (λ c. search needs)
     (λ c. search needs)
     returns
-    returns-2
     (λ c κs. search needs)
-    returns-3)
+    returns-2)

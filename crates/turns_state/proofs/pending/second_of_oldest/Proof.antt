@@ -1,4 +1,4 @@
--- `second_of_oldest` meets its contract: the words that are lent to `second_at` are those that are pending. Assumes nothing.
+-- `second_of_oldest` meets its contract: the words that are lent to `second_of_first` are those that are pending. Assumes nothing.
 use mathlib.Core.Path.{_≡_, ap, _∙_}
 use Prim.Native.Nat.{ℕ, _+_, _-_}
 use native.Mathlib.Omega.{arith}
@@ -20,8 +20,8 @@ returns c = rw (ne-eqb _ _ (c .if1 .taken))
 add-end : tie.Need-add-end
 add-end c = omega (arith, c .count .ensures, count-most (now (c .before .before .before .args .block)))
 
-part-second-at-end : tie.Need-part-second-at-end
-part-second-at-end c = omega (arith, c .count .ensures, count-most (now (c .before .before .before .args .block)))
+part-second-of-first-end : tie.Need-part-second-of-first-end
+part-second-of-first-end c = omega (arith, c .count .ensures, count-most (now (c .before .before .before .args .block)))
 
 returns-2 : tie.Need-returns-2
 unfolding secondOfOldest pendingIn
@@ -29,7 +29,7 @@ returns-2 c =
     let counted = c .before .before in
     let b = now (counted .before .before .before .args .block) in
     let few : 1 + counted .count .result - 1 ≡ count b = omega (arith, counted .count .ensures) in
-    c .second-at .ensures
+    c .second-of-first .ensures
     ∙ rw (eq-eqb _ _ (counted .before .if1 .left)) (ap (λ (k : ℕ). secondAt (take k (drop 1 b)) 0) few)
 
 pub second-of-oldest-spec : {M : Type 1} → statement M
@@ -41,6 +41,6 @@ second-of-oldest-spec =
     add-end
     (λ c. search needs)
     (λ c. search needs)
-    part-second-at-end
+    part-second-of-first-end
     (λ c κs. search needs)
     returns-2)

@@ -1,0 +1,2 @@
+-- The definitions that the contracts of this crate cite: the number of its release.
+pub mod Version
