@@ -581,13 +581,18 @@ static uint32_t turn(size_t words, size_t holder_words, size_t answer_words)
                          answers, answer_words);
 }
 
+static uint32_t begin(size_t words, size_t holder_words)
+{
+    return balkwizu_turns_begin(table, EXAMPLE_TABLE_WORDS, state, words, holders, holder_words);
+}
+
 static void begin_on_t(void)
 {
     put_table_t();
     memset(state, 0x77, sizeof state);
     memset(holders, 0x77, sizeof holders);
     memset(answers, 0x77, sizeof answers);
-    balkwizu_turns_begin(state, BALKWIZU_TURNS_WORDS(3));
+    IS(begin(BALKWIZU_TURNS_WORDS(3), 3), BALKWIZU_OK);
 }
 
 static void words_of_turns(void)
@@ -602,6 +607,10 @@ static void words_of_turns(void)
     for (size_t i = 0; i < 52; i++)
         IS(state[i], 0);
     IS(state[52], 0x77777777);
+    IS(holders[0], 2); /* what T says, before the first call */
+    IS(holders[1], 1);
+    IS(holders[2], 2);
+    IS(balkwizu_turns_version(), BALKWIZU_VERSION);
 }
 
 /* Domain 1 hands in a grant to domain 0, and domain 0 a send and a look up alone. */
@@ -611,7 +620,9 @@ static void turns_of_t(void)
     static const uint32_t send[] = { BALKWIZU_SEND(0, 1), BALKWIZU_SECOND(5) };
     static const uint32_t alone[] = { BALKWIZU_LOOK_UP(0) };
     begin_on_t();
+    memset(holders, 0x77, sizeof holders);
     IS(turn(52, 3, 3), 0); /* idle: nothing is written */
+    IS(turn(52, 3, 0), 0); /* and no space for an answer is needed */
     IS(answers[0], 0x77777777);
     IS(holders[0], 0x77777777);
     IS(hand_in(52, 1, grant, 1), BALKWIZU_OK);
@@ -653,11 +664,16 @@ static void turns_refused(void)
     IS(hand_in(52, 1, call, 1), BALKWIZU_NO_ROOM);
     IS(hand_in(53, 1, call, 1), BALKWIZU_BAD_TURNS);
     IS(turn(51, 2, 3), BALKWIZU_WRONG_SPACE);
-    IS(turn(51, 3, 2), BALKWIZU_WRONG_SPACE);
+    IS(turn(51, 3, 2), BALKWIZU_BAD_TURNS);
     IS(turn(51, 3, 3), BALKWIZU_BAD_TURNS);
+    IS(turn(52, 3, 2), BALKWIZU_WRONG_SPACE);
+    IS(begin(51, 2), BALKWIZU_WRONG_SPACE);
+    IS(begin(4 * 52, 3), BALKWIZU_BAD_TURNS); /* a length in bytes */
+    IS(state[BALKWIZU_TURNS_COUNT_AT(1)], 16);
     table[9] = 0x20000010; /* P6 */
     IS(hand_in(51, 3, call, 2), BALKWIZU_TABLE_BAD_RIGHTS);
     IS(turn(51, 2, 2), BALKWIZU_TABLE_BAD_RIGHTS);
+    IS(begin(51, 2), BALKWIZU_TABLE_BAD_RIGHTS);
     IS(answers[0], 0x77777777);
     IS(state[0], 0);
     IS(BALKWIZU_UNKNOWN_DOMAIN, 35);

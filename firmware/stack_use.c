@@ -164,7 +164,10 @@ static int tell_turn(const struct call *turn)
 static int tell_turns(void)
 {
     const struct call begin = { (void (*)(void))balkwizu_turns_begin,
-                                { (uintptr_t)state, BALKWIZU_TURNS_WORDS(DOMAINS) } };
+                                { (uintptr_t)table, BALKWIZU_TABLE_WORDS_MAX,
+                                  (uintptr_t)state, BALKWIZU_TURNS_WORDS(DOMAINS),
+                                  (uintptr_t)holders, DOMAINS } };
+    const struct call version = { (void (*)(void))balkwizu_turns_version, { 0 } };
     const struct call hand_in = { (void (*)(void))balkwizu_hand_in,
                                   { (uintptr_t)table, BALKWIZU_TABLE_WORDS_MAX,
                                     (uintptr_t)state, BALKWIZU_TURNS_WORDS(DOMAINS),
@@ -174,8 +177,9 @@ static int tell_turns(void)
                                  (uintptr_t)state, BALKWIZU_TURNS_WORDS(DOMAINS),
                                  (uintptr_t)holders, DOMAINS, (uintptr_t)answers,
                                  BALKWIZU_ANSWER_WORDS } };
-    int failed =
-        tell_plain("balkwizu_turns_begin", &begin, BALKWIZU_TURNS_BEGIN_STACK_BYTES);
+    int failed = tell_plain("balkwizu_turns_version", &version,
+                            BALKWIZU_TURNS_VERSION_STACK_BYTES);
+    failed |= tell("balkwizu_turns_begin", &begin, BALKWIZU_TURNS_BEGIN_STACK_BYTES);
     failed |= tell("balkwizu_hand_in", &hand_in, BALKWIZU_HAND_IN_STACK_BYTES);
     return failed | tell_turn(&turn);
 }

@@ -9,7 +9,8 @@
  * asks. Where it can't, it only stores the words, and the loop below hands them in.
  *
  * Table, state, holders and answer are static: nothing is allocated. The exit status is
- * 0 where no interrupt handed in during a turn and no turn was refused, else 1.
+ * 0 where no interrupt handed in during a turn, neither the beginning nor a turn was
+ * refused, and the holders were what the table says throughout, else 1.
  */
 #define _POSIX_C_SOURCE 200809L
 #include <signal.h>
@@ -20,6 +21,7 @@
 
 enum { LINK, LOADER, CHUTES, DRIVES, DOMAINS };
 enum { TABLE_WORDS = BALKWIZU_TABLE_WORDS(DOMAINS, DOMAINS) };
+enum { ARRIVALS = 8 };
 enum { STATE_WORDS = BALKWIZU_TURNS_WORDS(DOMAINS) };
 
 static uint32_t table[TABLE_WORDS], state[STATE_WORDS], holders[DOMAINS];
@@ -30,7 +32,7 @@ static struct arrival {
     uint32_t domain, words[2];
     size_t len;
     uint32_t code;
-} arrivals[] = {
+} arrivals[ARRIVALS] = {
     { LINK, { BALKWIZU_SEND(LINK, DRIVES), BALKWIZU_SECOND(65) }, 2, 0 },
     { LINK, { BALKWIZU_SEND(LINK, DRIVES), BALKWIZU_SECOND(66) }, 2, 0 },
     { LOADER, { BALKWIZU_GRANT(LOADER, DRIVES, LINK, BALKWIZU_RIGHT_SEND) }, 1, 0 },
@@ -46,14 +48,19 @@ static const struct { int before, during; } turns[] = {
     { 0, 0 }, { 4, 1 }, { 0, 0 }, { 0, 1 }, { 0, 0 }, { 1, 1 }, { 0, 0 }, { 0, 0 },
 };
 
-static volatile sig_atomic_t arrived, in_turn, handed_in_during_a_turn;
+static volatile sig_atomic_t arrived, beyond, in_turn, handed_in_during_a_turn;
 static sigset_t wire;
 
-/* The interrupt. It doesn't print: what it did is told by the loop. */
+/* The interrupt. It doesn't print: what it did is told by the loop. One that nobody
+ * waits for is counted, and stores nothing. */
 static void on_arrival(int number)
 {
-    struct arrival *next = &arrivals[arrived];
     (void)number;
+    if (arrived >= ARRIVALS) {
+        beyond = 1;
+        return;
+    }
+    struct arrival *next = &arrivals[arrived];
     if (in_turn)
         handed_in_during_a_turn = 1;
     next->code = balkwizu_hand_in(table, TABLE_WORDS, state, STATE_WORDS, next->domain,
@@ -133,7 +140,18 @@ static void make_table(void)
     }
 }
 
-static void begin(void)
+/* Whether the holders say of each domain who has a right on it. */
+static int holders_are_right(void)
+{
+    for (unsigned d = 0; d < DOMAINS; d++)
+        for (unsigned h = 0; h < DOMAINS; h++)
+            if (((holders[d] >> h) & 1u) != (balkwizu_table_rights(table, h, d) != 0))
+                return 0;
+    return 1;
+}
+
+/* Its code; nothing has arrived before it. */
+static uint32_t begin(void)
 {
     struct sigaction arrival = { 0 };
     arrival.sa_handler = on_arrival;
@@ -141,24 +159,27 @@ static void begin(void)
     sigemptyset(&wire);
     sigaddset(&wire, SIGUSR1);
     make_table();
-    balkwizu_turns_begin(state, STATE_WORDS); /* before the first interrupt can come */
+    /* before the first interrupt can come */
+    uint32_t code = balkwizu_turns_begin(table, TABLE_WORDS, state, STATE_WORDS, holders, DOMAINS);
     sigaction(SIGUSR1, &arrival, NULL);
+    return code;
 }
 
 int main(void)
 {
-    int told = 0, refused = 0;
-    begin();
+    int told = 0, refused = begin() != BALKWIZU_OK, wrong = !holders_are_right();
     for (unsigned i = 0; i < sizeof turns / sizeof *turns; i++) {
         for (int k = 0; k < turns[i].before; k++)
             raise(SIGUSR1);
         told = tell_arrivals("between turns:", told);
         uint32_t result = turn(turns[i].during);
         refused |= BALKWIZU_TURN_CODE(result) != BALKWIZU_OK;
+        wrong |= !holders_are_right();
         tell_turn(i + 1, result);
         told = tell_arrivals("kept out until now:", told);
     }
     printf("interrupts that handed in during a turn: %s\n",
            handed_in_during_a_turn ? "some" : "none");
-    return handed_in_during_a_turn || refused;
+    printf("holders are what the table says throughout: %s\n", wrong ? "no" : "yes");
+    return handed_in_during_a_turn || beyond || refused || wrong;
 }

@@ -91,7 +91,8 @@ extern "C" {
  *   libbalkwizu_turns.a
  *     balkwizu_hand_in: general and xmm registers, aligned stack
  *     balkwizu_turn: general and xmm registers, aligned stack, unmarked jumps
- *     balkwizu_turns_begin: general registers
+ *     balkwizu_turns_begin: general and xmm registers, aligned stack
+ *     balkwizu_turns_version: general registers
  */
 #define BALKWIZU_RUN_STACK_BYTES 1280
 #define BALKWIZU_RUN_WORKING_STACK_BYTES 5632
@@ -104,7 +105,8 @@ extern "C" {
 #define BALKWIZU_WRITE_STACK_BYTES 256
 #define BALKWIZU_WHO_REACHES_STACK_BYTES 256
 #define BALKWIZU_VERSION_STACK_BYTES 256
-#define BALKWIZU_TURNS_BEGIN_STACK_BYTES 256
+#define BALKWIZU_TURNS_BEGIN_STACK_BYTES 1024
+#define BALKWIZU_TURNS_VERSION_STACK_BYTES 256
 #define BALKWIZU_HAND_IN_STACK_BYTES 1024
 #define BALKWIZU_TURN_STACK_BYTES 1024
 
@@ -184,7 +186,7 @@ enum balkwizu_code {
     BALKWIZU_CHANGES_TOO_SHORT = 34, /* the list of changes is too short */
 
     /* Of a call that is handed in, the first that fails: nothing was changed. 99 is
-       of a turn too, and comes before 37. */
+       of a beginning and of a turn too, and comes before 37. */
     BALKWIZU_UNKNOWN_DOMAIN = 35,  /* domain not below n */
     BALKWIZU_NOT_ONE_CALL = 36,    /* the words aren't exactly one call, no stray,
                                       with the domain as its caller */
@@ -893,12 +895,15 @@ uint64_t balkwizu_write(const uint32_t *calls, size_t calls_len,
  *     16 words its pending calls, oldest first; words from the count on are old ones
  *              and are never looked at
  *
- * The example of balkwizu_turn has all three functions.
+ * The example of balkwizu_turn has all functions.
  *
  * While nothing but turns alters the table, and nothing but handing in and turns the
- * state, two things are proved: the oldest pending call of a domain is served within
- * n turns that aren't refused, whatever others hand in; and the calls served get, in
- * order, the answers that a run of them as one list gives, however many they are.
+ * state, this is proved: the oldest pending call of a domain is served within n turns
+ * that aren't refused, and the k-th within k times n, so each within 16 times n,
+ * whatever others hand in; the calls served get, in order, the answers that a run of
+ * them as one list gives, however many they are; and where each function is lent the
+ * holders that the one before it left, they are what the table says, from the
+ * beginning on.
  *
  * The layer isn't reentrant. A turn and a call that is handed in both read and write
  * the state, so an interrupt must not hand in during a turn, nor while another hands
@@ -917,16 +922,38 @@ uint64_t balkwizu_write(const uint32_t *calls, size_t calls_len,
 #define BALKWIZU_TURNS_COUNT_AT(domain) BALKWIZU_TURNS_WORDS(domain)
 
 /*
- * Begins: nothing is pending, and the first turn of all starts at 0. Every word of the
- * state is 0 then, whatever it was and however many they are.
+ * Which release the archive of the turns is of, as balkwizu_version says of the other.
+ *
+ * Example:
+ *
+ *     assert(balkwizu_turns_version() == BALKWIZU_VERSION);
+ */
+uint32_t balkwizu_turns_version(void);
+
+/*
+ * Begins: nothing is pending, the first turn of all starts at 0, and the holders are
+ * what the table says, as after a run. Lengths are in words.
+ *
+ * Returns one code:
+ *   0       BALKWIZU_OK: every word of the state is 0, and holders are as a run of an
+ *           empty list leaves them
+ *   2 to 5  as balkwizu_table_check answers, for the table's words
+ *   6       BALKWIZU_WRONG_SPACE: holders_len isn't n
+ *   99      BALKWIZU_BAD_TURNS
+ * With another code than 0 no word was written. The table is never written.
  *
  * The caller's duties:
- *   - state points to state_len words that may be read and written, aligned to four
- *     bytes; it isn't a null pointer, also where state_len is 0;
- *   - nobody else reads or writes them during the call: no other core, interrupt or
- *     transfer.
+ *   - table, state and holders each point to as many words as their length says: the
+ *     table may be read, the others may be read and written;
+ *   - all three are aligned to four bytes, and none is a null pointer, also where its
+ *     length is 0;
+ *   - state and holders overlap neither each other nor the table, in no word;
+ *   - nobody else reads or writes state or holders, and nobody writes the table, during
+ *     the call: no other core, interrupt or transfer.
  */
-void balkwizu_turns_begin(uint32_t *state, size_t state_len);
+uint32_t balkwizu_turns_begin(const uint32_t *table, size_t table_len,
+                              uint32_t *state, size_t state_len,
+                              uint32_t *holders, size_t holders_len);
 
 /*
  * Hands in the words of one call for a domain: they go behind those that are pending.
@@ -969,10 +996,11 @@ uint32_t balkwizu_hand_in(const uint32_t *table, size_t table_len,
  *           of answer, as in a run, with whose call it was (BALKWIZU_ANSWER_CALLER);
  *           table and holders are as a run of that call leaves them. Answer words
  *           beyond the third are untouched. Where the turn was idle nothing was
- *           written, holders neither.
+ *           written, holders neither; an idle turn needs no answer words.
  *   2 to 5  as balkwizu_table_check answers, for the table's words
- *   6       BALKWIZU_WRONG_SPACE: answer_len is under 3, or holders_len isn't n
+ *   6       BALKWIZU_WRONG_SPACE: holders_len isn't n
  *   99      BALKWIZU_BAD_TURNS
+ *   6       BALKWIZU_WRONG_SPACE, behind 99: a call is pending and answer_len is under 3
  * With another code than 0 nothing is served and no word was written. The table is
  * checked at every turn; with many endpoints that is most of what a turn costs.
  *
@@ -989,9 +1017,11 @@ uint32_t balkwizu_hand_in(const uint32_t *table, size_t table_len,
  *     static uint32_t state[BALKWIZU_TURNS_WORDS(2)], holders[2];
  *     const uint32_t call[] = { BALKWIZU_SEND(0, 0), BALKWIZU_SECOND(5) };
  *     uint32_t answer[BALKWIZU_ANSWER_WORDS];
- *     balkwizu_turns_begin(state, BALKWIZU_TURNS_WORDS(2));
- *     uint32_t code = balkwizu_hand_in(table, table_len,
- *                                      state, BALKWIZU_TURNS_WORDS(2), 0, call, 2);
+ *     uint32_t code = balkwizu_turns_begin(table, table_len,
+ *                                          state, BALKWIZU_TURNS_WORDS(2), holders, 2);
+ *     assert(code == BALKWIZU_OK);
+ *     code = balkwizu_hand_in(table, table_len,
+ *                             state, BALKWIZU_TURNS_WORDS(2), 0, call, 2);
  *     assert(code == BALKWIZU_OK);
  *     uint32_t result = balkwizu_turn(table, table_len,
  *                                     state, BALKWIZU_TURNS_WORDS(2), holders, 2,

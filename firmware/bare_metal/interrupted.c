@@ -47,8 +47,8 @@ static struct lent {
 } lent, wanted;
 
 /* What a function returns: a code in bits 15-0, which is to be 0, the result of writing a
- * list, a number, or nothing. */
-enum returns { CODE, WRITTEN, NUMBER, NOTHING };
+ * list, or a number. */
+enum returns { CODE, WRITTEN, NUMBER };
 
 /* One of the kernel's functions by its name, with what it is called with. */
 struct tried {
@@ -148,7 +148,9 @@ static const struct tried all[] = {
     CALL(CODE, balkwizu_could_influence, WORDS(lent.table), 5, DOMAINS - 1),
     CALL(CODE, balkwizu_repair, WORDS(lent.worn), WORDS(lent.changes)),
     CALL(WRITTEN, balkwizu_write, WORDS(lent.calls), WORDS(lent.written)),
-    CALL(NOTHING, balkwizu_turns_begin, WORDS(lent.state)),
+    CALL(NUMBER, balkwizu_turns_version, 0),
+    CALL(CODE, balkwizu_turns_begin, WORDS(lent.table), WORDS(lent.state),
+         WORDS(lent.holders)),
     CALL(CODE, balkwizu_hand_in, WORDS(lent.table), WORDS(lent.state), 3,
          (uintptr_t)(lent.list + 7), 1),
     CALL(CODE, balkwizu_turn, WORDS(lent.table), WORDS(lent.state), WORDS(lent.holders),
@@ -182,8 +184,7 @@ static int try(const struct tried *tried)
     make_lent();
     begin_interrupts();
     uint64_t interrupted = returned(tried, TRAP_FLAG);
-    int same = (tried->returns == NOTHING || interrupted == result)
-               && memcmp(&lent, &wanted, sizeof lent) == 0;
+    int same = interrupted == result && memcmp(&lent, &wanted, sizeof lent) == 0;
     int refused = is_refused(tried, result);
     printf("%s: %lu interrupts, %s%s\n", tried->name, interrupts,
            same ? "as without" : "not as without", refused ? ", refused" : "");
