@@ -55,7 +55,12 @@ const KERNEL: Archive = Archive {
 const TURNS: Archive = Archive {
     name: "balkwizu_turns",
     variable: "BALKWIZU_TURNS_ARCHIVE",
-    exports: &["balkwizu_turns_begin", "balkwizu_hand_in", "balkwizu_turn"],
+    exports: &[
+        "balkwizu_turns_begin",
+        "balkwizu_hand_in",
+        "balkwizu_turn",
+        "balkwizu_turns_version",
+    ],
 };
 
 /// An archive for tests alone, and the flag that the program is compiled with where it is linked.

@@ -1354,7 +1354,8 @@ fn the_example_of_turns_is_played_and_told() {
         "    domain 3 (drives) receives from endpoint 3 (belts): message 49; 0 lost so far",
         "    domain 0 (link) sends 66 to endpoint 3 (belts): done\n",
         "  the next turn starts at domain 1 (loader)\n",
-        "  the longest waits, where 4 turns is the most that can be:\n    domain 0 (link): 4 turns",
+        "  the longest waits of an oldest call, 4 turns at the most, and of any since it was handed \
+         in, 64 turns at the most:\n    domain 0 (link): 4 turns, 7 turns",
     ] {
         assert!(told.contains(part), "{part}: {told}");
     }

@@ -9,6 +9,7 @@
 //! is, word for word.
 
 use crate::entry::ANSWER_WORDS;
+use crate::holders::holders;
 use crate::table::{check_table, domains, DOMAINS_MAX};
 use crate::turns::{Turn, Turns, PENDING_WORDS};
 
@@ -16,7 +17,7 @@ use crate::turns::{Turn, Turns, PENDING_WORDS};
 pub const DOMAIN_WORDS: usize = 1 + PENDING_WORDS;
 
 /// What is answered where other than [`length`] words are lent, behind what the papers
-/// tell without them and before 37. No paper uses the number.
+/// tell without them and before 37 and 6 for an answer. No paper uses the number.
 pub const WRONG_LENGTH: u32 = 99;
 
 /// How many words are to be lent for n domains.
@@ -24,9 +25,22 @@ pub const fn length(n: usize) -> usize {
     1 + DOMAIN_WORDS * n
 }
 
-/// Begins with nothing pending; the first turn of all starts at 0.
-pub fn begin(state: &mut [u32]) {
+/// Begins with nothing pending, the first turn of all starts at 0, and the panel's words
+/// are what the table says: 0, or a refusal that changes nothing.
+pub fn begin(table: &[u32], state: &mut [u32], panel: &mut [u32]) -> u32 {
+    let code = check_table(table);
+    if code != 0 {
+        return code;
+    }
+    if panel.len() != domains(table) {
+        return 6;
+    }
+    if state.len() != length(domains(table)) {
+        return WRONG_LENGTH;
+    }
     state.fill(0);
+    panel.copy_from_slice(&holders(table));
+    0
 }
 
 /// Hands in the words of a call for a domain: 0, or a refusal that changes nothing.
@@ -43,31 +57,33 @@ pub fn hand_in(table: &[u32], state: &mut [u32], domain: u32, words: &[u32]) -> 
 }
 
 /// A turn: its code and how many calls it served, one or none. The answer of a call that
-/// is served stands in the first three words of the answer space; with fewer a turn is
-/// refused with 6.
+/// is served stands in the first three words of the answer space; with fewer a turn that
+/// has a call to serve is refused with 6, the last of its refusals.
 pub fn turn(
     table: &mut [u32],
     state: &mut [u32],
     panel: &mut [u32],
     space: &mut [u32],
 ) -> (u32, u32) {
-    let Some(space) = space.first_chunk_mut::<ANSWER_WORDS>() else {
-        let code = check_table(table);
-        return (if code == 0 { 6 } else { code }, 0);
-    };
     let Some(before) = kept(table, state) else {
         // With nothing pending a turn that isn't refused is idle.
         let turned = Turns::begin().turn(table, panel);
         return (turned.err().unwrap_or(WRONG_LENGTH), 0);
     };
-    let mut after = before.clone();
-    let turned = after.turn(table, panel);
+    let (mut after, mut new_table, mut new_panel) =
+        (before.clone(), table.to_vec(), panel.to_vec());
+    let turned = after.turn(&mut new_table, &mut new_panel);
+    if matches!(turned, Ok(Turn::Served { .. })) && space.len() < ANSWER_WORDS {
+        return (6, 0);
+    }
+    table.copy_from_slice(&new_table);
+    panel.copy_from_slice(&new_panel);
     put_back(state, &before, &after, domains(table));
     match turned {
         Err(code) => (code, 0),
         Ok(Turn::Idle) => (0, 0),
         Ok(Turn::Served { answer, .. }) => {
-            *space = answer;
+            space[..ANSWER_WORDS].copy_from_slice(&answer);
             (0, 1)
         }
     }

@@ -27,6 +27,12 @@ pub struct History {
     rng: Rng,
     pub table: Vec<u32>,
     pub state: Vec<u32>,
+    /// What the last event of its own left of the holders, where each is lent what the one
+    /// before it left.
+    pub holders: Vec<u32>,
+    keeps: bool,
+    /// Whether the holders are what a beginning that wasn't refused made them.
+    pub shown: bool,
     /// Whether the state is one that beginning, handing in and turns make.
     pub proper: bool,
     /// Whether the state is damaged now and then.
@@ -45,6 +51,8 @@ pub struct Next {
     pub event: Event,
     /// Whether table and state are the history's own, which goes on with what is left.
     pub own: bool,
+    /// Whether the holders are those that the event before it left.
+    pub kept: bool,
 }
 
 /// The history of a number: a table, and a state of any words, which the first event
@@ -58,10 +66,15 @@ pub fn history(seed: u64, number: u64) -> History {
     let long = number % LONG_EVERY == LONG_EVERY - 1;
     let damages = !long && rng.chance(1, 3);
     let left = rng.between(20, 40 + 12 * n);
+    let holders = (0..n).map(|_| rng.word()).collect();
+    let keeps = rng.chance(1, 2);
     History {
         rng,
         table,
         state,
+        holders,
+        keeps,
+        shown: false,
         proper: false,
         damages,
         begins: if long { LONG * LONG } else { 128 },
@@ -82,10 +95,15 @@ impl History {
         }
         let event = self.event();
         let rng = &mut self.rng;
+        let kept = self.keeps && rng.chance(15, 16);
         let mut lent = Lent {
             table: self.table.clone(),
             state: self.state.clone(),
-            holders: holders_words(rng, domains(&self.table)),
+            holders: match kept {
+                true => self.holders.clone(),
+                false if self.keeps => other_holders(rng, domains(&self.table)),
+                false => holders_words(rng, domains(&self.table)),
+            },
             answer: answer_words(rng),
         };
         let own = match rng.below(24) {
@@ -99,7 +117,12 @@ impl History {
             }
             _ => true,
         };
-        Some(Next { lent, event, own })
+        Some(Next {
+            lent,
+            event,
+            own,
+            kept,
+        })
     }
 
     /// A beginning where the state is any words, then turns and handing in; at times mostly
@@ -162,6 +185,13 @@ fn holders_words(rng: &mut Rng, n: usize) -> Vec<u32> {
         0 => lent_panel(rng, n),
         _ => (0..n).map(|_| rng.word()).collect(),
     }
+}
+
+/// Words for the holders, one too many or one too few, which refuse an event that is lent
+/// them.
+fn other_holders(rng: &mut Rng, n: usize) -> Vec<u32> {
+    let words = if rng.chance(1, 2) { n + 1 } else { n - 1 };
+    (0..words).map(|_| rng.word()).collect()
 }
 
 /// Words for an answer, now and then too few.

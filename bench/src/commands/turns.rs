@@ -29,8 +29,10 @@ bench turns FILE
 Plays what domains hand in and the turns that serve it, on the proved layer of
 turns, and tells each event in words: what was pending, who was served and after
 how many turns, the answer, an idle turn, and each refusal; at the end what is
-still pending, where the next turn starts, and the longest wait of each domain
-beside the most that there can be, which is as many turns as there are domains.
+still pending, where the next turn starts, and the longest waits of each domain:
+of an oldest call, which is as many turns as there are domains at the most, and
+of any call since it was handed in, which is as many for each call of the domain
+that was pending then, itself among them.
 Every event is compared with the separate layer, and the calls served with a run
 of them as one list. `-` is standard input. A text looks like this:
 
@@ -140,7 +142,10 @@ fn played(
     names: &Names,
     events: &[(usize, (Event, u32))],
 ) -> (String, bool) {
-    let mut play = Play::begin(layer, table, names);
+    let mut play = match Play::begin(layer, table, names) {
+        Ok(play) => play,
+        Err(told) => return (format!("DIFFERENCE at the beginning:\n  {told}\n"), false),
+    };
     let each = events
         .iter()
         .flat_map(|(line, (event, times))| (0..*times).map(move |_| (*line, event)));
@@ -165,30 +170,33 @@ fn played(
 }
 
 impl<'a> Play<'a> {
-    /// A state with nothing pending. The words that the layer begins on are any.
-    fn begin(layer: &Layer, table: &[u32], names: &'a Names) -> Play<'a> {
+    /// A state with nothing pending. The words that the layer begins on are any. An error
+    /// where something differs.
+    fn begin(layer: &Layer, table: &[u32], names: &'a Names) -> Result<Play<'a>, String> {
         let n = domains(table);
-        let mut state = vec![u32::MAX; length(n)];
-        (layer.begin)(&mut state);
-        let most = counted(n, "turn");
-        Play {
+        let lent = Lent {
+            table: table.to_vec(),
+            state: vec![u32::MAX; length(n)],
+            holders: vec![u32::MAX; n],
+            answer: vec![0; 3],
+        };
+        let left = event_here(layer, &lent, &Event::Begin)?;
+        let wanted = separate_event(&lent, &Event::Begin)?;
+        difference(&lent, &left, &wanted).map_or(Ok(()), Err)?;
+        Ok(Play {
             names,
-            lent: Lent {
-                table: table.to_vec(),
-                state,
-                holders: vec![0; n],
-                answer: vec![0; 3],
-            },
+            lent: left.words,
             turns: 0,
             served: Served::begin(table),
             waits: Waits::new(n),
             told: format!(
-                "{}: nothing is pending, the first turn starts at {}, and no call waits \
-                 longer than {most}\n",
+                "{}: nothing is pending, the first turn starts at {}, and the k-th pending call \
+                 of a domain waits k times {} at the most\n",
                 counted(n, "domain"),
-                names.domain(0)
+                names.domain(0),
+                counted(n, "turn")
             ),
-        }
+        })
     }
 
     /// Plays one event; an error where something differs.
@@ -256,11 +264,16 @@ impl<'a> Play<'a> {
                 self.names.domain(0)
             ),
         };
-        let most = counted(n, "turn");
-        told += &format!("  the longest waits, where {most} is the most that can be:\n");
-        for (domain, longest) in self.waits.longest.iter().enumerate() {
-            let longest = counted(*longest, "turn");
-            told += &format!("    {}: {longest}\n", self.names.domain(domain));
+        told += &format!(
+            "  the longest waits of an oldest call, {} at the most, and of any since it was handed \
+             in, {} at the most:\n",
+            counted(n, "turn"),
+            counted(PENDING_WORDS * n, "turn")
+        );
+        let longest = self.waits.longest.iter().zip(&self.waits.longest_of_all);
+        for (domain, (oldest, any)) in longest.enumerate() {
+            let (oldest, any) = (counted(*oldest, "turn"), counted(*any, "turn"));
+            told += &format!("    {}: {oldest}, {any}\n", self.names.domain(domain));
         }
         told
     }
@@ -356,9 +369,25 @@ hand in 2 receive caller 2 endpoint 1
         assert_eq!(lines[16], "  the next turn starts at domain 1");
         assert_eq!(
             lines[18..21].join(""),
-            "    domain 0: 2 turns    domain 1: 2 turns    domain 2: 0 turns"
+            "    domain 0: 2 turns, 3 turns    domain 1: 2 turns, 2 turns    domain 2: 0 turns, 0 turns"
         );
         assert!(lines[21].starts_with("3 calls served; as one list"));
+    }
+
+    /// Eight sends by one domain before the first turn: the last waits eight turns, and more
+    /// where others are served between them.
+    #[test]
+    fn the_waits_of_eight_sends_by_one_domain_are_told() {
+        let send = "hand in 1 send caller 1 endpoint 1 message 5\n".repeat(8);
+        let text = format!("table T\n{send}turns 8\n");
+        let (told, same) = played(&PROVED_LAYER, &TABLE_T, &Names::none(), &events(&text));
+        assert!(same, "{told}");
+        assert!(told.contains("    domain 1: 1 turn, 8 turns\n"), "{told}");
+        let ask = |d: u32| format!("hand in {d} my-rights caller {d}\n").repeat(16);
+        let text = format!("table T\n{send}{}{}turns 24\n", ask(0), ask(2));
+        let (told, same) = played(&PROVED_LAYER, &TABLE_T, &Names::none(), &events(&text));
+        assert!(same, "{told}");
+        assert!(told.contains("    domain 1: 3 turns, 23 turns\n"), "{told}");
     }
 
     #[test]
@@ -370,7 +399,7 @@ hand in 2 receive caller 2 endpoint 1
             "line 3: domain 0 (link) hands in: domain 0 (link) sends 5 to endpoint 1 (belts)",
             "turn 1 serves domain 0 (link) after 1 turn (pending calls: 2 of domain 0 (link), 1",
             "  pending of domain 2 (drives): domain 2 (drives) receives from endpoint 1 (belts)",
-            "    domain 0 (link): 2 turns\n    domain 1: 2 turns\n",
+            "    domain 0 (link): 2 turns, 3 turns\n    domain 1: 2 turns, 2 turns\n",
         ] {
             assert!(told.contains(part), "{part}: {told}");
         }

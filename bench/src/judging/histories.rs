@@ -1,16 +1,19 @@
 //! Random histories of turns (document 02, request (m)): the proved layer beside the
 //! separate one, event by event, every word that is lent compared.
 //!
-//! While the state is one that handing in and turns make, nobody may wait longer than as
-//! many turns as there are domains, and the calls served must get the answers, and leave
-//! the table and the holders, that a run of them as one list does.
+//! While the state is one that handing in and turns make, no oldest call of a domain may
+//! wait longer than as many turns as there are domains, and none that is handed in after k
+//! others longer than 1 + k times as many; and the calls served must get the answers, and
+//! leave the table and the holders, that a run of them as one list does. Where each event is
+//! lent the holders that the one before it left, they must be what the table says after
+//! every event from the beginning on.
 
 use reference::calls::{LOOK_UP, SEND, STRAY};
 use reference::entry::ANSWER_WORDS;
 use reference::table::{domains, DOMAINS_MAX};
 use reference::turns::PENDING_WORDS;
 use reference::words::{hex, kind};
-use reference::Call;
+use reference::{holders, Call};
 
 use crate::cases::histories::{history, Next};
 use crate::judging::trying::{try_all, Counted, Draws, Found, Summary};
@@ -20,7 +23,7 @@ use crate::judging::turning::{
 use crate::kernels::layer::{event_here, Event, Layer, Left, Lent};
 use crate::line::explain::counted;
 
-/// The codes that handing in is refused with, and those of a turn.
+/// The codes that handing in is refused with, and those of a turn and of a beginning.
 const HAND_IN_CODES: [u32; 8] = [2, 3, 4, 5, 35, 36, 99, 37];
 const TURN_CODES: [u32; 6] = [2, 3, 4, 5, 6, 99];
 
@@ -28,14 +31,21 @@ const TURN_CODES: [u32; 6] = [2, 3, 4, 5, 6, 99];
 #[derive(Default)]
 pub struct Met {
     histories: u64,
+    events: u64,
+    begun: u64,
     handed_in: u64,
     served: u64,
     idle: u64,
-    /// In the order of [`HAND_IN_CODES`] and of [`TURN_CODES`].
+    /// Idle turns with too few words for an answer.
+    idle_with_few: u64,
+    /// Events after which the holders that are handed on were what the table says.
+    kept: u64,
+    /// In the order of [`HAND_IN_CODES`] and of [`TURN_CODES`], those of beginnings too.
     hand_in_codes: [u64; HAND_IN_CODES.len()],
     turn_codes: [u64; TURN_CODES.len()],
+    begin_codes: [u64; TURN_CODES.len()],
     /// Turns refused with 6 for the answer's words, by how many there were, and for the
-    /// holders' alone.
+    /// holders.
     few_words: [u64; ANSWER_WORDS],
     wrong_holders: u64,
     /// A domain's sixteen words just filled.
@@ -51,17 +61,23 @@ pub struct Met {
     lists: u64,
     listed: u64,
     long: u64,
-    /// By the number of domains, the most turns that a call waited.
+    /// By the number of domains, the most turns that an oldest call waited, and any call
+    /// since it was handed in.
     waits: [u64; DOMAINS_MAX + 1],
+    all_waits: [u64; DOMAINS_MAX + 1],
 }
 
 impl Counted for Met {
     fn numbers(&mut self) -> impl Iterator<Item = &mut u64> {
         let single = [
             &mut self.histories,
+            &mut self.events,
+            &mut self.begun,
             &mut self.handed_in,
             &mut self.served,
             &mut self.idle,
+            &mut self.idle_with_few,
+            &mut self.kept,
             &mut self.wrong_holders,
             &mut self.filled,
             &mut self.counts,
@@ -73,15 +89,21 @@ impl Counted for Met {
             &mut self.long,
         ];
         let by_code = self.hand_in_codes.iter_mut().chain(&mut self.turn_codes);
-        let others = by_code.chain(&mut self.few_words).chain(&mut self.waits);
+        let by_code = by_code.chain(&mut self.begin_codes);
+        let waits = self.waits.iter_mut().chain(&mut self.all_waits);
+        let others = by_code.chain(&mut self.few_words).chain(waits);
         single.into_iter().chain(others)
     }
 }
 
 impl Met {
     fn add(&mut self, next: &Next, left: &Left) {
+        self.events += 1;
         match &next.event {
-            Event::Begin => {}
+            Event::Begin => {
+                count(&TURN_CODES, &mut self.begin_codes, left.code);
+                self.begun += u64::from(left.code == 0);
+            }
             Event::HandIn { domain, .. } => {
                 count(&HAND_IN_CODES, &mut self.hand_in_codes, left.code);
                 self.handed_in += u64::from(left.code == 0);
@@ -95,13 +117,15 @@ impl Met {
     fn add_turn(&mut self, lent: &Lent, left: &Left) {
         count(&TURN_CODES, &mut self.turn_codes, left.code);
         if left.code == 6 {
-            match self.few_words.get_mut(lent.answer.len()) {
-                Some(few) => *few += 1,
-                None => self.wrong_holders += 1,
+            match lent.holders.len() == domains(&lent.table) {
+                true => self.few_words[lent.answer.len()] += 1,
+                false => self.wrong_holders += 1,
             }
         }
         let Some((domain, call)) = served(lent, left) else {
+            let few = lent.answer.len() < ANSWER_WORDS;
             self.idle += u64::from(left.code == 0);
+            self.idle_with_few += u64::from(left.code == 0 && few);
             return;
         };
         self.served += 1;
@@ -114,9 +138,14 @@ impl Met {
     }
 
     fn waited(&mut self, waits: &Waits) {
-        let seen = &mut self.waits[waits.longest.len()];
-        let longest = waits.longest.iter().max().copied().unwrap_or(0);
-        *seen = (*seen).max(longest as u64);
+        let n = waits.longest.len();
+        for (seen, longest) in [
+            (&mut self.waits[n], &waits.longest),
+            (&mut self.all_waits[n], &waits.longest_of_all),
+        ] {
+            let longest = longest.iter().max().copied().unwrap_or(0);
+            *seen = (*seen).max(longest as u64);
+        }
     }
 }
 
@@ -142,12 +171,17 @@ impl Summary for Met {
         let hand_in = hand_in.into_iter().zip(self.hand_in_codes);
         let turn = TURN_CODES.map(|code| format!("a turn refused with {code}"));
         let turn = turn.into_iter().zip(self.turn_codes);
+        let begin = TURN_CODES.map(|code| format!("a beginning refused with {code}"));
+        let turn = turn.chain(begin.into_iter().zip(self.begin_codes));
         let few = self.few_words.iter().copied().enumerate();
         let few = few.map(|(words, count)| (counted(words, "word") + " for an answer", count));
         let others = [
             ("a call handed in", self.handed_in),
             ("a call served", self.served),
             ("an idle turn", self.idle),
+            ("an idle turn with few words for an answer", self.idle_with_few),
+            ("a beginning", self.begun),
+            ("holders handed on", self.kept),
             ("other than n words for the holders", self.wrong_holders),
             ("a domain's words just filled", self.filled),
             ("a count above 16", self.counts),
@@ -175,24 +209,32 @@ impl Summary for Met {
         };
         let row = |name: &str, figure: fn(&Met, usize) -> u64| {
             let figures = (1..=DOMAINS_MAX).map(|n| format!("{:>4}", figure(self, n)));
-            format!("{name:<23}{}", figures.collect::<String>())
+            format!("{name:<25}{}", figures.collect::<String>())
         };
         format!(
-            "{} histories with {} handed in and {} served, {} idle\n\
+            "{} histories of {} with {} handed in and {} served, {} idle, {} of them with few words \
+             for an answer\n\
+             begun {}; refused with {}\n\
              handing in refused with {}; domains filled: {}\n\
-             turns refused with {}; 6 by 0, 1 and 2 answer words {:?}, by the holders' {}\n\
+             turns refused with {}; 6 by 0, 1 and 2 answer words {:?}, by the holders {}\n\
+             holders handed on were what the table says after {}\n\
              damaged states: {} served with a count above 16, {} from a place above n, {} stray; \
              old second words left alone: {}\n\
-             as one list: {} of {}, {} of more than 4,096 words\n{}\n{}",
+             as one list: {} of {}, {} of more than 4,096 words\n{}\n{}\n{}\n{}",
             self.histories,
+            counted(self.events, "event"),
             counted(self.handed_in, "call"),
             self.served,
             counted(self.idle, "turn"),
+            self.idle_with_few,
+            counted(self.begun, "time"),
+            refused(&TURN_CODES, &self.begin_codes),
             refused(&HAND_IN_CODES, &self.hand_in_codes),
             self.filled,
             refused(&TURN_CODES, &self.turn_codes),
             self.few_words,
             self.wrong_holders,
+            counted(self.kept, "event"),
             self.counts,
             self.places,
             self.strays,
@@ -200,8 +242,10 @@ impl Summary for Met {
             counted(self.lists, "part"),
             counted(self.listed, "call"),
             self.long,
-            row("domains, and the bound", |_, n| n as u64),
-            row("longest wait in turns", |met, n| met.waits[n])
+            row("domains, bound of oldest", |_, n| n as u64),
+            row("longest wait of oldest", |met, n| met.waits[n]),
+            row("bound of every call", |_, n| (PENDING_WORDS * n) as u64),
+            row("longest wait of any", |met, n| met.all_waits[n])
         )
     }
 }
@@ -228,16 +272,37 @@ fn try_history(layer: &Layer, seed: u64, number: u64, met: &mut Met) -> Result<(
         }
         met.add(&next, &left);
         if next.own {
-            history.proper |= next.event == Event::Begin;
+            let begun = next.event == Event::Begin && left.code == 0;
+            history.proper |= begun;
             if history.proper {
                 log.note(&next, &left, met).map_err(told)?;
             }
             (history.table, history.state) = (left.words.table, left.words.state);
+            if next.kept {
+                history.shown |= begun;
+                history.holders = left.words.holders;
+            }
+            if history.shown {
+                holders_are_shown(&history.table, &history.holders).map_err(told)?;
+                met.kept += 1;
+            }
         }
         happened += 1;
     }
     met.histories += 1;
     log.ended(met)
+}
+
+/// That holders are what a table says.
+fn holders_are_shown(table: &[u32], kept: &[u32]) -> Result<(), String> {
+    match kept == holders(table) {
+        true => Ok(()),
+        false => Err(format!(
+            "the holders that are handed on are {}, and the table says {}",
+            hex(kept),
+            hex(&holders(table))
+        )),
+    }
 }
 
 /// What was served, and who waited how long, since the beginning of a state that only
@@ -258,7 +323,7 @@ impl Log {
     /// Takes note of an event; an error where a call isn't served in time.
     fn note(&mut self, next: &Next, left: &Left, met: &mut Met) -> Result<(), String> {
         match next.event {
-            Event::Begin => {
+            Event::Begin if left.code == 0 => {
                 self.ended(met)?;
                 *self = Log::begin(&next.lent.table);
             }
@@ -340,8 +405,10 @@ mod tests {
         for name in [
             "handing in refused with 37",
             "a turn refused with 99",
+            "a beginning refused with 6",
             "2 words for an answer",
             "an idle turn",
+            "holders handed on",
             "an old second word",
             "a wait of 16 turns with 16 domains",
         ] {
@@ -445,10 +512,45 @@ mod tests {
             _ => code,
         });
         assert!(stray.contains("the separate one 36 ("), "{stray}");
-        let begin = told(Layer {
-            begin: |state| state[1..].fill(0),
-            ..PROVED_LAYER
+    }
+
+    /// A layer that does one more thing once it has begun.
+    macro_rules! begins {
+        (|$table:ident, $state:ident, $holders:ident, $code:ident| $fault:expr) => {
+            told(Layer {
+                begin: |$table, $state, $holders| unsafe {
+                    let $code = (PROVED_LAYER.begin)($table, $state, $holders);
+                    $fault
+                },
+                ..PROVED_LAYER
+            })
+        };
+    }
+
+    #[test]
+    fn a_wrong_beginning_is_found() {
+        let state = begins!(|_t, state, _h, code| {
+            if code == 0 {
+                *state.cast::<u32>() = 1;
+            }
+            code
         });
-        assert!(begin.contains("word 0 of the state"), "{begin}");
+        assert!(state.contains("word 0 of the state"), "{state}");
+        let left = begins!(|_t, _s, holders, code| {
+            if code == 0 {
+                *holders.cast::<u32>() ^= 1;
+            }
+            code
+        });
+        assert!(left.contains("word 0 of the holders"), "{left}");
+        let table = begins!(|table, _s, _h, code| {
+            if code == 0 {
+                *table.cast_mut().cast::<u32>() ^= 1;
+            }
+            code
+        });
+        assert!(table.contains("wrote a table that it only reads"));
+        let code = begins!(|_t, _s, _h, code| if code == 99 { 0 } else { code });
+        assert!(code.contains("the separate one 99 ("), "{code}");
     }
 }

@@ -161,7 +161,7 @@ fn turns(n: usize, m: usize) -> Job {
             let mut table = sound.clone();
             let mut state = vec![0; length(n)];
             let (mut holders, mut answer) = (vec![0; n], [0; 3]);
-            (PROVED_LAYER.begin)(&mut state);
+            assert_eq!(PROVED_LAYER.begin(&table, &mut state, &mut holders), 0);
             for domain in 0..n {
                 let call = [call_word(MY_RIGHTS, domain, 0, 0, 0)];
                 let code = PROVED_LAYER.hand_in(&table, &mut state, domain as u32, &call);

@@ -1,6 +1,8 @@
 //! What a layer of turns makes of an event, beside what the separate one makes of it; how
 //! long calls wait; and the calls served as one list.
 
+use std::collections::VecDeque;
+
 use reference::calls::LIST_WORDS_MAX;
 use reference::entry::ANSWER_WORDS;
 use reference::table::domains;
@@ -25,10 +27,7 @@ pub fn separate_event(lent: &Lent, event: &Event) -> Result<Left, String> {
         let mut words = lent.clone();
         let (table, state) = (&mut words.table, &mut words.state);
         let (code, served) = match event {
-            Event::Begin => {
-                turn_words::begin(state);
-                (0, 0)
-            }
+            Event::Begin => (turn_words::begin(table, state, &mut words.holders), 0),
             Event::HandIn {
                 domain,
                 words: call,
@@ -126,12 +125,24 @@ pub fn served(lent: &Lent, left: &Left) -> Option<(usize, Call)> {
     Some((domain, call))
 }
 
-/// How many turns the oldest pending call of each domain has waited, and how many any has
-/// waited at the most. A turn that is refused doesn't count.
+/// How many turns pending calls have waited, and how many any has waited at the most: the
+/// oldest of each domain since it is the oldest, and each call since it was handed in. A
+/// turn that is refused doesn't count.
 #[derive(Debug, Clone, PartialEq, Eq)]
 pub struct Waits {
     now: Vec<usize>,
     pub longest: Vec<usize>,
+    /// Of each domain's pending calls, oldest first.
+    calls: Vec<VecDeque<Wait>>,
+    pub longest_of_all: Vec<usize>,
+}
+
+/// How many turns a call has waited since it was handed in, and within how many it is to be
+/// served: n for each call of its domain that was pending then, itself among them.
+#[derive(Debug, Clone, PartialEq, Eq)]
+struct Wait {
+    turns: usize,
+    within: usize,
 }
 
 impl Waits {
@@ -140,15 +151,19 @@ impl Waits {
         Waits {
             now: vec![0; n],
             longest: vec![0; n],
+            calls: vec![VecDeque::new(); n],
+            longest_of_all: vec![0; n],
         }
     }
 
-    /// Counts a turn that isn't refused; an error where a call isn't served within as many
-    /// turns as there are domains.
+    /// Counts a turn that isn't refused; an error where the oldest call of a domain isn't
+    /// served within as many turns as there are domains, or another within as many for each
+    /// call up to it.
     pub fn turned(&mut self, lent: &Lent, left: &Left) -> Result<(), String> {
         let n = domains(&lent.table);
         let served = served(lent, left).map(|(domain, _)| domain);
         for domain in 0..n {
+            self.turned_for(lent, domain, served == Some(domain))?;
             let Some(call) = pending_calls(&lent.state, domain).first().copied() else {
                 self.now[domain] = 0;
                 continue;
@@ -163,6 +178,32 @@ impl Waits {
             }
         }
         Ok(())
+    }
+
+    /// Counts a turn for every pending call of a domain, and takes out the one served.
+    fn turned_for(&mut self, lent: &Lent, domain: usize, served: bool) -> Result<(), String> {
+        let n = domains(&lent.table);
+        let pending = pending_calls(&lent.state, domain);
+        let waits = &mut self.calls[domain];
+        waits.truncate(pending.len());
+        for place in waits.len()..pending.len() {
+            let within = (1 + place) * n;
+            waits.push_back(Wait { turns: 0, within });
+        }
+        for wait in waits.iter_mut() {
+            wait.turns += 1;
+            self.longest_of_all[domain] = self.longest_of_all[domain].max(wait.turns);
+        }
+        if served {
+            waits.pop_front();
+        }
+        match waits.iter().find(|wait| wait.turns >= wait.within) {
+            None => Ok(()),
+            Some(late) => Err(format!(
+                "a pending call of domain {domain} is not served within {} turns",
+                late.within
+            )),
+        }
     }
 
     /// How many turns the call has waited that a turn serves, that turn among them.
@@ -309,7 +350,31 @@ mod tests {
         assert_eq!(turned(&[1, 2, 1], 1), (Ok(()), vec![1, 2, 1]));
         assert_eq!(turned(&[1, 1, 1], 2), (Ok(()), vec![2, 2, 2]));
         let late = "not served within 3 turns: domain 0 asks for its rights".to_string();
-        assert_eq!(turned(&[1, 1, 0], 1), (Err(late), vec![3, 2, 2]));
+        assert_eq!(turned(&[2, 1, 0], 1), (Err(late), vec![3, 2, 2]));
+    }
+
+    /// The second of two calls may wait six turns with three domains, and not seven.
+    #[test]
+    fn waits_are_counted_from_where_a_call_is_handed_in() {
+        let mut waits = Waits::new(3);
+        let mut turned = |pending: &[u32], domain| {
+            let lent = lent(pending);
+            let left = left_by_serving(&lent, domain);
+            (waits.turned(&lent, &left), waits.longest_of_all[0])
+        };
+        for (pending, domain, longest) in [
+            (&[2, 1, 1], 1, 1),
+            (&[2, 1, 1], 2, 2),
+            (&[2, 1, 1], 0, 3),
+            (&[1, 1, 1], 1, 4),
+            (&[1, 1, 1], 2, 5),
+        ] {
+            assert_eq!(turned(pending, domain), (Ok(()), longest));
+        }
+        let (late, longest) = turned(&[1, 1, 1], 1);
+        let late = late.unwrap_err();
+        assert!(late.ends_with("of domain 0 is not served within 6 turns"));
+        assert_eq!(longest, 6);
     }
 
     #[test]

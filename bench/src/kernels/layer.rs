@@ -5,6 +5,10 @@ use reference::words::bits;
 
 use crate::kernels::lent::{Failure, Fenced, Forbidden};
 
+/// The beginning, of words that are valid for reads, those of the state and of the holders
+/// for writes too, and that don't overlap. It may turn out to write the table.
+type Begin = unsafe fn(*const [u32], state: *mut [u32], holders: *mut [u32]) -> u32;
+
 /// Handing in, of words that are valid for reads, the state's for writes too, and that
 /// don't overlap. It may turn out to write the others: no reference says that it doesn't.
 type HandIn = unsafe fn(*const [u32], state: *mut [u32], domain: u32, words: *const [u32]) -> u32;
@@ -15,7 +19,8 @@ type Turn = fn(&mut [u32], &mut [u32], &mut [u32], &mut [u32]) -> u32;
 /// The functions of a layer of turns.
 #[derive(Clone, Copy)]
 pub struct Layer {
-    pub begin: fn(state: &mut [u32]),
+    /// A code.
+    pub begin: Begin,
     /// A code.
     pub hand_in: HandIn,
     /// A code in bits 15–0 and the calls served in bits 31–16.
@@ -23,6 +28,13 @@ pub struct Layer {
 }
 
 impl Layer {
+    /// Begins on a table: a code.
+    pub fn begin(&self, table: &[u32], state: &mut [u32], holders: &mut [u32]) -> u32 {
+        // SAFETY: three slices, each valid for its length and aligned; those that are
+        // written are borrowed alone.
+        unsafe { (self.begin)(table, state, holders) }
+    }
+
     /// Hands in the words of a call for a domain: a code.
     pub fn hand_in(&self, table: &[u32], state: &mut [u32], domain: u32, words: &[u32]) -> u32 {
         // SAFETY: three slices, each valid for its length and aligned; the one that is
@@ -34,12 +46,28 @@ impl Layer {
 /// The layer of the proved archive for it. As in [`boundary`](crate::kernels::boundary) the
 /// caller's duties are what references say of themselves.
 pub const PROVED_LAYER: Layer = Layer {
-    begin: |state| {
+    begin: |table, state, holders| {
         extern "C" {
-            fn balkwizu_turns_begin(state: *mut u32, state_len: usize);
+            fn balkwizu_turns_begin(
+                table: *const u32,
+                table_len: usize,
+                state: *mut u32,
+                state_len: usize,
+                holders: *mut u32,
+                holders_len: usize,
+            ) -> u32;
         }
-        // SAFETY: a slice, valid for its length, aligned and borrowed alone.
-        unsafe { balkwizu_turns_begin(state.as_mut_ptr(), state.len()) }
+        // SAFETY: the caller's duties are those of the C function.
+        unsafe {
+            balkwizu_turns_begin(
+                table.cast(),
+                table.len(),
+                state.cast(),
+                state.len(),
+                holders.cast(),
+                holders.len(),
+            )
+        }
     },
     hand_in: |table, state, domain, words| {
         extern "C" {
@@ -104,7 +132,7 @@ pub enum Event {
 }
 
 /// The words that an event is lent, or that it left of them. Handing in is lent the table
-/// and the state, and the beginning the state alone.
+/// and the state, and the beginning the holders too.
 #[derive(Debug, Clone, PartialEq, Eq)]
 pub struct Lent {
     pub table: Vec<u32>,
@@ -131,9 +159,15 @@ pub fn event_here(layer: &Layer, lent: &Lent, event: &Event) -> Result<Left, Fai
 }
 
 fn begin_here(layer: &Layer, lent: &Lent) -> Result<Left, Failure> {
+    let mut table = Fenced::new(&lent.table);
     let mut state = Fenced::new(&lent.state);
-    (layer.begin)(state.lent());
-    with_state(lent, 0, state)
+    let mut holders = Fenced::new(&lent.holders);
+    // SAFETY: three parts of spaces of their own, which may all be written.
+    let code = unsafe { (layer.begin)(table.lent(), state.lent(), holders.lent()) };
+    table.unwritten(&lent.table, Forbidden::Table, Forbidden::AroundTable)?;
+    let mut left = with_state(lent, code, state)?;
+    left.words.holders = holders.words(Forbidden::AroundHolders)?;
+    Ok(left)
 }
 
 fn hand_in_here(layer: &Layer, lent: &Lent, domain: u32, words: &[u32]) -> Result<Left, Failure> {
@@ -147,7 +181,7 @@ fn hand_in_here(layer: &Layer, lent: &Lent, domain: u32, words: &[u32]) -> Resul
     with_state(lent, code, state)
 }
 
-/// What is left where the state alone may be written.
+/// What is left where the state may be written and what else isn't said.
 fn with_state(lent: &Lent, code: u32, state: Fenced) -> Result<Left, Failure> {
     let words = Lent {
         state: state.words(Forbidden::AroundState)?,

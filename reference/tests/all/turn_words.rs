@@ -7,6 +7,7 @@ use reference::generate::{call_word, damaged_table, events, table, Event, Rng};
 use reference::table::domains;
 use reference::turn_words::{begin, hand_in, kept, length, turn, DOMAIN_WORDS, WRONG_LENGTH};
 use reference::turns::{Turn, Turns};
+use reference::holders;
 
 /// A domain asks for its rights.
 fn ask(domain: usize) -> u32 {
@@ -25,9 +26,9 @@ fn served(table: &mut [u32], state: &mut [u32]) -> Option<u32> {
 fn where_the_words_stand() {
     assert_eq!((length(1), length(3), length(16)), (18, 52, 273));
     let mut table = TABLE_T.to_vec();
-    let mut state = vec![UNTOUCHED; 52];
-    begin(&mut state);
-    assert_eq!(state, vec![0; 52]);
+    let (mut state, mut panel) = (vec![UNTOUCHED; 52], [UNTOUCHED; 3]);
+    assert_eq!(begin(&table, &mut state, &mut panel), 0);
+    assert_eq!((&state, panel), (&vec![0; 52], [0b010, 0b001, 0b010]));
     assert_eq!(hand_in(&table, &mut state, 2, &[ask(2)]), 0);
     let send = [0x2040_0100, 0xF000_0005];
     assert_eq!(hand_in(&table, &mut state, 1, &send), 0);
@@ -96,21 +97,20 @@ fn counts_and_places_that_no_history_makes() {
 fn what_is_refused_or_idle_changes_nothing() {
     let mut table = TABLE_T.to_vec();
     for place in [0, 1, 3, 77] {
-        let mut state = vec![UNTOUCHED; 52];
-        begin(&mut state);
+        let mut state = vec![0; 52];
         state[0] = place;
         let left = state.clone();
-        let mut answer = [UNTOUCHED; 3];
-        for lent in [0, 2, 3, 4] {
-            let mut panel = vec![UNTOUCHED; lent];
+        for (lent, space) in [(0, 3), (2, 3), (3, 3), (4, 3), (3, 2), (3, 0), (2, 0)] {
+            let (mut panel, mut answer) = (vec![UNTOUCHED; lent], vec![UNTOUCHED; space]);
             let told = turn(&mut table, &mut state, &mut panel, &mut answer);
             assert_eq!(told, (if lent == 3 { 0 } else { 6 }, 0));
-            assert_eq!(panel, vec![UNTOUCHED; lent]);
+            assert!(panel.iter().chain(&answer).all(|&word| word == UNTOUCHED));
         }
-        assert!(state == left && answer == [UNTOUCHED; 3] && table == TABLE_T);
+        assert!(state == left && table == TABLE_T);
     }
 }
 
+/// A call that is served needs three words for its answer; an idle turn needs none.
 #[test]
 fn code_6_under_three_words_for_the_answer() {
     for pending in [false, true] {
@@ -123,7 +123,7 @@ fn code_6_under_three_words_for_the_answer() {
         for space in 0..3 {
             let (mut panel, mut answer) = ([UNTOUCHED; 3], vec![UNTOUCHED; space]);
             let told = turn(&mut table, &mut state, &mut panel, &mut answer);
-            assert_eq!(told, (6, 0));
+            assert_eq!(told, (if pending { 6 } else { 0 }, 0));
             assert!(state == left && panel == [UNTOUCHED; 3] && table == TABLE_T);
             assert_eq!(answer, vec![UNTOUCHED; space]);
         }
@@ -134,7 +134,27 @@ fn code_6_under_three_words_for_the_answer() {
     }
 }
 
-/// 99 comes behind 2 to 5 and 6, behind 35 and 36, and before 37.
+/// The beginning is refused with 2 to 5, then 6 for the panel's words, then 99, and changes
+/// nothing then.
+#[test]
+fn a_beginning_that_is_refused() {
+    let mut damaged = TABLE_T.to_vec();
+    damaged[1] = 0;
+    for (table, words, lent, code) in [
+        (&damaged[..], 0, 0, 4),
+        (&TABLE_T[..], 0, 2, 6),
+        (&TABLE_T[..], 52, 4, 6),
+        (&TABLE_T[..], 51, 3, WRONG_LENGTH),
+        (&TABLE_T[..], 4 * 52, 3, WRONG_LENGTH),
+    ] {
+        let (mut state, mut panel) = (vec![UNTOUCHED; words], vec![UNTOUCHED; lent]);
+        assert_eq!(begin(table, &mut state, &mut panel), code);
+        assert!(state.iter().chain(&panel).all(|&word| word == UNTOUCHED));
+    }
+}
+
+/// 99 comes behind 2 to 5 and 6 for the panel's words, behind 35 and 36, and before 37 and
+/// 6 for an answer.
 #[test]
 fn a_wrong_length() {
     for words in [0, 1, 18, 35, 51, 53, 69, 273] {
@@ -145,7 +165,7 @@ fn a_wrong_length() {
         assert_eq!(hand_in(&table, &mut state, 2, &[ask(1)]), 36);
         assert_eq!(hand_in(&table, &mut state, 2, &[ask(2)]), WRONG_LENGTH);
         let (mut panel, mut answer) = ([UNTOUCHED; 3], [UNTOUCHED; 3]);
-        for (lent, space, code) in [(2, 3, 6), (3, 2, 6), (3, 3, WRONG_LENGTH)] {
+        for (lent, space, code) in [(2, 3, 6), (2, 2, 6), (3, 2, WRONG_LENGTH), (3, 3, WRONG_LENGTH)] {
             let told = turn(
                 &mut table,
                 &mut state,
@@ -186,7 +206,9 @@ fn drawn_events() {
         let (mut now, mut other) = (start.clone(), start.clone());
         let mut turns = Turns::begin();
         let mut state: Vec<u32> = (0..length(domains(&start))).map(|_| rng.word()).collect();
-        begin(&mut state);
+        let mut first = vec![UNTOUCHED; domains(&start)];
+        assert_eq!(begin(&start, &mut state, &mut first), 0);
+        assert_eq!(first, holders(&start));
         for event in events(rng, &start, 120) {
             match event {
                 Event::HandIn { domain, words } => assert_eq!(
