@@ -179,7 +179,10 @@ impl Summary for Met {
             ("a call handed in", self.handed_in),
             ("a call served", self.served),
             ("an idle turn", self.idle),
-            ("an idle turn with few words for an answer", self.idle_with_few),
+            (
+                "an idle turn with few words for an answer",
+                self.idle_with_few,
+            ),
             ("a beginning", self.begun),
             ("holders handed on", self.kept),
             ("other than n words for the holders", self.wrong_holders),

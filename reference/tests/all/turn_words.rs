@@ -4,10 +4,10 @@
 use crate::support::{rights_table, UNTOUCHED};
 use reference::example::TABLE_T;
 use reference::generate::{call_word, damaged_table, events, table, Event, Rng};
+use reference::holders;
 use reference::table::domains;
 use reference::turn_words::{begin, hand_in, kept, length, turn, DOMAIN_WORDS, WRONG_LENGTH};
 use reference::turns::{Turn, Turns};
-use reference::holders;
 
 /// A domain asks for its rights.
 fn ask(domain: usize) -> u32 {
@@ -165,7 +165,12 @@ fn a_wrong_length() {
         assert_eq!(hand_in(&table, &mut state, 2, &[ask(1)]), 36);
         assert_eq!(hand_in(&table, &mut state, 2, &[ask(2)]), WRONG_LENGTH);
         let (mut panel, mut answer) = ([UNTOUCHED; 3], [UNTOUCHED; 3]);
-        for (lent, space, code) in [(2, 3, 6), (2, 2, 6), (3, 2, WRONG_LENGTH), (3, 3, WRONG_LENGTH)] {
+        for (lent, space, code) in [
+            (2, 3, 6),
+            (2, 2, 6),
+            (3, 2, WRONG_LENGTH),
+            (3, 3, WRONG_LENGTH),
+        ] {
             let told = turn(
                 &mut table,
                 &mut state,
