@@ -1555,6 +1555,11 @@ fn the_ways_are_walked() {
         .filter(|line| !line.contains("CARD") && !line.contains("target/bin"));
     let mut walked = 0;
     for line in lines {
+        // Without a campaign, which takes its time, where a kernel is commissioned.
+        let line = match line.contains("--answers") {
+            true => line.to_string(),
+            false => line.replacen("commission ", "commission --campaign 0 ", 1),
+        };
         let line = format!("'{}' {line}", env!("CARGO_BIN_EXE_bench"));
         let mut shell = Command::new("bash");
         // linetotals makes it, which need not be at hand here.

@@ -320,7 +320,7 @@ fn stops(kernel: &Kernel, tables: &Tables, board: &Board, stopped: Stopped) -> W
 #[cfg(test)]
 mod tests {
     use super::*;
-    use crate::kernels::boundary::{kernel, Kernel, KERNELS, PROVED};
+    use crate::kernels::boundary::{kernel, Kernel, PROVED};
     use crate::kernels::faulty;
     use reference::example::TABLE_T;
 
@@ -332,18 +332,12 @@ mod tests {
     }
 
     #[test]
-    fn right_kernels_go_through_all_drills() {
-        for kernel in KERNELS {
-            let drilled = go_through(kernel, &TABLE_T);
-            let wrong = drilled.wrong.map(|wrong| wrong.word);
-            assert_eq!(wrong, None, "{}", kernel.name);
-            assert!(
-                drilled.cases.iter().all(|&cases| cases > 1000),
-                "{:?}",
-                drilled.cases
-            );
-            assert!(drilled.cases[DRILLS.len() - 1] > 100_000);
-        }
+    fn a_right_kernel_goes_through_all_drills() {
+        let drilled = go_through(&PROVED, &TABLE_T);
+        assert_eq!(drilled.wrong.map(|wrong| wrong.word), None);
+        let cases = drilled.cases;
+        assert!(cases.iter().all(|&cases| cases > 1000), "{cases:?}");
+        assert!(cases[DRILLS.len() - 1] > 100_000);
     }
 
     #[test]
