@@ -1,5 +1,4 @@
 -- What is proved of linetotals' input as definitions: laws that the program's proofs cite.
 pub mod ListLaws
-pub mod InputLaws
 pub mod ListLoop
 pub mod Examples

@@ -154,7 +154,7 @@ at-start head few =
 -- one more list
 module _ {read : List ℕ} {lists : List (List ℕ)} {left n : ℕ} (x : Going read lists left n) (chunk : List ℕ) (asked : length chunk ≤ 4 * n + headWanted left) where
   -- what is wanted where a list's length is known: its words, and the bytes before the next
-  wanted-now : listsWanted read ≡ 4 * n + headWanted left
+  pub wanted-now : listsWanted read ≡ 4 * n + headWanted left
   unfolding prepend stopped then
   wanted-now =
       ap listsWanted (sym (append-nil read))

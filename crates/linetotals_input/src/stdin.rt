@@ -1,86 +1,47 @@
-// Reads standard input in steps: the length word, the table, then each list together with the bytes before the next. Each step
-// asks for what is wanted in any case and for no byte more, so that the program never waits for one that can't matter.
+// Reads standard input: the one function of linetotals that does. What it read can be made by no other function, so that a stage
+// which takes a reading of as many bytes as it wants can't go on without one.
 use format::calls::LONGEST_LIST;
-use input_words::table_input::table_wanted;
 use libc::STDIN_FILENO;
-ghost use Prim.Native.Nat.{_+_, _≤_};
 ghost use mathlib.Core.Path.{_≡_};
-ghost use lib.ListN.{length, take};
-ghost use Rattle.linetotals_input.specs.Input.{headWanted};
-ghost use Rattle.linetotals_input.specs.Read.{ListRead, TableRead};
+ghost use Rattle.linetotals_input.specs.Read.{wantOf, countOf, WantedRead};
 
-// The most bytes that a step reads: those of a list of 4,096 words and a length word.
+// The most bytes that are wanted at once: those of a list of 4,096 words and a length word.
 pub const MOST_READ: usize = 4 * (LONGEST_LIST + 1);
 
-// What a step read: how many bytes, and whether that is fewer than were asked for, which is so where the input ended.
-pub struct Read {
-    pub got: usize,
-    pub short: bool,
+// A reading: how many bytes were wanted, and how many came, at the front of the lent buffer.
+pub struct Got {
+    want: usize,
+    count: usize,
 }
 
-// Reads `want` bytes after the first `have`, fewer only where the input ends, and returns how many.
-fn read_after(input: &mut [u8], have: usize, want: usize) -> usize
-    requires { ⌜ have + want ≤ length (now input) ⌝ }
-    ensures { λ r. ⌜ (r ≤ want) × (take have (now (input .exit)) ≡ take have (now (input .entry))) ⌝ }
-{
-    let end = have + want;
-    io::read_full(STDIN_FILENO, &mut input[have..end])
-}
-
-// Returns how many bytes to read of those before a list, where `left` more lists may come. After the last list that there may be
-// it is 1, since one byte is too many.
-fn head_wanted(left: usize) -> usize
-    ensures { λ r. ⌜ r ≡ headWanted left ⌝ }
-{
-    if left == 0 { 1 } else { 4 }
-}
-
-// Reads a list of `words` words and the bytes before the next list, where `left` more lists may come after it. A list that is too
-// long, or that doesn't fit, isn't read. The contract leaves open which bytes come, and what the buffer has after them.
-pub fn read_list(input: &mut [u8], words: usize, left: usize) -> Read
-    ensures { λ r. ⌜ ListRead words left (now (input .exit)) r ⌝ }
-{
-    if LONGEST_LIST < words {
-        return Read {
-            got: 0,
-            short: true,
-        };
+impl Got {
+    // Returns how many bytes were wanted.
+    pub fn want(self) -> usize
+        ensures { λ r. ⌜ r ≡ wantOf self ⌝ }
+    {
+        self.want
     }
-    let want = 4 * words + head_wanted(left);
+
+    // Returns how many bytes came.
+    pub fn count(self) -> usize
+        ensures { λ r. ⌜ r ≡ countOf self ⌝ }
+    {
+        self.count
+    }
+}
+
+// Reads `want` bytes into the buffer's front, fewer only where the input ends. Into a buffer that is shorter than that it reads
+// nothing: it leaves the buffer as it is and returns a reading of which no byte was wanted.
+//
+// Free: how many bytes come, up to `want`; which they are; and what the buffer's first `want` bytes are after those that came. It
+// is believed of the world, and tested, that the bytes come from descriptor 0 in their order, and that fewer than `want` come only
+// at the input's end or where a read fails.
+pub fn read_wanted(input: &mut [u8], want: usize) -> Got
+    ensures { λ r. ⌜ WantedRead want (now (input .entry)) r (now (input .exit)) ⌝ }
+{
     if input.len() < want {
-        return Read {
-            got: 0,
-            short: true,
-        };
+        return Got { want: 0, count: 0 };
     }
-    let got = read_after(input, 0, want);
-    Read {
-        got,
-        short: got < want,
-    }
-}
-
-// Reads the length word, then the table that it announces. Into a buffer that is too short it reads nothing.
-pub fn read_table_input(input: &mut [u8]) -> Read
-    ensures { λ r. ⌜ TableRead (now (input .exit)) r ⌝ }
-{
-    if input.len() < MOST_READ {
-        return Read {
-            got: 0,
-            short: true,
-        };
-    }
-    let first = read_after(input, 0, 4);
-    if first < 4 {
-        return Read {
-            got: first,
-            short: true,
-        };
-    }
-    let want = table_wanted(&input[0..4]);
-    let rest = read_after(input, 4, want);
-    Read {
-        got: 4 + rest,
-        short: rest < want,
-    }
+    let count = io::read_full(STDIN_FILENO, &mut input[0..want]);
+    Got { want, count }
 }

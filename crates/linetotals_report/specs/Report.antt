@@ -1,14 +1,11 @@
--- What is written into a buffer for an input (document 02 (e), end-of-shift totals): the sheet of some bytes, each of which was
--- needed.
-use Prim.Native.Nat.{ℕ, zero, suc, _≤_}
+-- What is printed after a stage of the reading (document 02 (e), end-of-shift totals): the lines of what was counted.
+use Prim.Native.Nat.{ℕ, zero, suc, _≤_, min}
 use mathlib.Core.List.{List, [], _++_}
-use lib.ListN.{length, getD}
-use Rattle.text.specs.Write.{Writes}
-use Rattle.linetotals_text.specs.Lines.{endpointLine}
-use Rattle.input_words.specs.TableInput.{NeededBy}
-use Rattle.linetotals_input.specs.Input.{Needed}
-use Rattle.linetotals_theory.specs.Sheet.{tableSheet, sheet}
-use Rattle.linetotals_run.specs.Ran.{listsAfter}
+use lib.ListN.{length, getD, take}
+use Rattle.linetotals_text.specs.Lines.{endpointLine, lastLine}
+use Rattle.linetotals_run.specs.declared.Stage.{Stage}
+use Rattle.linetotals_run.specs.Stage.{countsAt}
+use Rattle.linetotals_run.specs.Step.{waitingAt}
 
 -- the most bytes that a sheet has: at most 146 in the line of each of 32 endpoints, 43 in the last
 abbrev pub mostBytes : ℕ
@@ -34,16 +31,10 @@ pub record Counted (m : ℕ) (sent received lost start end : List ℕ) : Type 0 
   pub startWords : m ≤ length start
   pub endWords : m ≤ length end
 
--- the sheet of the table t and of the lists that bytes give after it is written
-pub record TableReported (t buffer : List ℕ) (count : ℕ) (left : List ℕ) : Type 0 where
-  pub bytes : List ℕ
-  pub needed : NeededBy (λ xs. listsAfter t xs .wanted) bytes
-  pub lines : Writes 0 (tableSheet t (listsAfter t bytes)) buffer count left
-  pub few : count ≤ mostBytes
-
--- the sheet of bytes is written
-pub record Reported (buffer : List ℕ) (count : ℕ) (left : List ℕ) : Type 0 where
-  pub bytes : List ℕ
-  pub needed : Needed bytes
-  pub lines : Writes 0 (sheet bytes) buffer count left
-  pub few : count ≤ mostBytes
+-- what is printed after a stage, where the lists left the table at the front of these words
+unfoldable pub stageLines : Stage → List ℕ → List ℕ
+stageLines s table =
+    let said = countsAt s in
+    countsLines (said .tally .sent) (said .tally .received) (said .tally .lost) (said .start) (waitingAt (take (said .words) table))
+    (min (said .endpoints) 32)
+    ++ lastLine (said .count) (said .code)

@@ -1,2 +1,2 @@
--- What is proved of running lists, as definitions: laws that the functions' proofs cite.
-pub mod RanLaws
+-- What is proved of the step from stage to stage, as definitions: laws that the functions' proofs cite.
+pub mod StepLaws

@@ -1,2 +1,3 @@
--- What the contracts of `linetotals_run` cite: what running the lists of an input leaves.
-pub mod Ran
+-- What the contracts of `linetotals_run` cite: the stages of a reading, and the step from one to the next.
+pub mod Stage
+pub mod Step

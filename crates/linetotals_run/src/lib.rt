@@ -1,108 +1,225 @@
-// Runs the lists of standard input one after another from one table, each as it is read, and adds up what they count (document 02
-// (e), end-of-shift totals). One list is held at a time, however many come.
-mod add_words;
+// The stages of linetotals' input, which is run as it is read (document 02 (e), end-of-shift totals). A stage says how many bytes
+// are wanted next, and a step goes on from a stage by a reading of so many. One list is held at a time, however many come.
+mod list_phase;
+mod table_phase;
 
-use add_words::add_words;
-use format::answers::MOST_ANSWER_WORDS;
-use format::calls::LONGEST_LIST;
-use format::tables::DOMAIN_PLACES;
-use kernel::check;
-use linetotals_input::Next;
-use linetotals_input::next_list;
-use linetotals_input::stdin::MOST_READ;
-use linetotals_input::stdin::read_list;
-use table_layout::domains;
-use table_layout::endpoints;
+use linetotals_input::head_wanted;
+use linetotals_input::stdin::Got;
+use list_phase::head_read;
+use list_phase::list_read;
+use table_phase::length_read;
+use table_phase::table_read;
 use totals_add::Tally;
+ghost use Prim.Native.Nat.{_+_, _-_, _*_};
 ghost use mathlib.Core.Path.{_≡_};
-ghost use lib.ListN.{length};
-ghost use Rattle.machine.specs.Table.{domains as domainsOf};
-ghost use Rattle.machine.specs.Check.{Accepted};
-ghost use Rattle.linetotals_run.specs.Ran.{AllRan, ListsRan};
+ghost use Rattle.linetotals_input.specs.Input.{mostLists, headWanted};
+ghost use Rattle.linetotals_input.specs.Read.{wantOf, countOf};
+ghost use Rattle.linetotals_run.specs.Stage.{phaseCode, wantedAt, firstStage, inPhase, countsAt};
+ghost use Rattle.linetotals_run.specs.Step.{phaseFits, takes, stepOn, Left};
 
 // The most lists that there may be.
 const MOST_LISTS: usize = 65536;
 
-// The result of running lists: the count of endpoints that they were counted at, 0 where the table is refused; how many lists ran,
-// the code that ended them, and their totals.
-pub struct Lists {
-    pub endpoints: usize,
-    pub count: usize,
-    pub code: u32,
-    pub tally: Tally,
+// What the next bytes are: the table's length word; its words, so many; the first list's length word; a list's words, so many, and
+// the bytes before the next list. Or nothing more is wanted, and a code ended the reading.
+pub enum Phase {
+    TableLength,
+    TableWords(u32),
+    FirstLength,
+    ListWords(u32),
+    Over(u32),
 }
 
-// How many lists ran, the code that ended them, and their totals.
-struct Ran {
+impl Phase {
+    // Returns the code that ended the reading, or 7 where it isn't over.
+    fn code(self) -> u32
+        ensures { λ r. ⌜ r ≡ phaseCode self ⌝ }
+    {
+        match self {
+            Phase::TableLength => 7,
+            Phase::TableWords(_) => 7,
+            Phase::FirstLength => 7,
+            Phase::ListWords(_) => 7,
+            Phase::Over(code) => code,
+        }
+    }
+}
+
+// A stage: what the next bytes are; of an accepted table its count of words and of endpoints; how many lists ran; how many messages
+// waited at each endpoint at the start; and the totals so far.
+pub struct Stage {
+    phase: Phase,
+    words: usize,
+    endpoints: usize,
     count: usize,
-    code: u32,
+    start: [u64; 32],
     tally: Tally,
 }
 
-// Runs all lists of standard input from an accepted table. The caller must lend a word for each domain.
-fn run_all(table: &mut [u32], holders: &mut [u32]) -> Ran
-    requires { ⌜ Accepted (now table) ⌝ }
-    requires { ⌜ length (now holders) ≡ domainsOf (now table) ⌝ }
-    ensures { λ r. ⌜ AllRan (now (table .entry)) (r .count) (r .code) (r .tally) (now (table .exit)) ⌝ }
-{
-    let mut input = [0u8; MOST_READ];
-    let mut list = [0u32; LONGEST_LIST];
-    // three words for each call of the longest list
-    let mut answers = [0u32; MOST_ANSWER_WORDS];
-    let mut tally = Tally::new();
-    let mut count: usize = 0;
-    // the count of words of the list that was run last: the bytes before the next list were read after them
-    let mut words: usize = 0;
-    let mut got = read_list(&mut input, 0, MOST_LISTS).got;
-    loop {
-        let left = MOST_LISTS - count;
-        let from = 4 * words;
-        let next = next_list(left, &input[from..got]);
-        match next {
-            Next::Ends(code) => return Ran { count, code, tally },
-            Next::Words(n) => words = n,
+// What a stage says, for what is printed: the code is the one that ended the reading.
+pub struct Counts {
+    pub words: usize,
+    pub endpoints: usize,
+    pub count: usize,
+    pub code: u32,
+    pub start: [u64; 32],
+    pub tally: Tally,
+}
+
+impl Stage {
+    // Returns the first stage: nothing was read.
+    pub fn new() -> Stage
+        ensures { λ r. ⌜ r ≡ firstStage ⌝ }
+    {
+        Stage {
+            phase: Phase::TableLength,
+            words: 0,
+            endpoints: 0,
+            count: 0,
+            start: [0; 32],
+            tally: Tally::new(),
         }
-        got = read_list(&mut input, words, left - 1).got;
-        let end = 4 * words;
-        if got < end {
-            let code = 7;
-            return Ran { count, code, tally };
+    }
+
+    // Returns how many bytes are wanted next: 0 where the reading is over.
+    pub fn wanted(self) -> usize
+        ensures { λ r. ⌜ r ≡ wantedAt self ⌝ }
+    {
+        let phase = self.phase;
+        match phase {
+            Phase::TableLength => 4,
+            Phase::TableWords(n) => 4 * (n as usize),
+            Phase::FirstLength => 4,
+            Phase::ListWords(n) => list_wanted(n, self.count),
+            Phase::Over(_) => 0,
         }
-        tally = add_words(
-            table,
-            &input[0..end],
-            &mut list,
-            &mut answers,
-            holders,
+    }
+
+    // Returns what the stage says, for what is printed.
+    pub fn counts(self) -> Counts
+        ensures { λ r. ⌜ r ≡ countsAt self ⌝ }
+    {
+        let phase = self.phase;
+        let start = self.start;
+        let tally = self.tally;
+        Counts {
+            words: self.words,
+            endpoints: self.endpoints,
+            count: self.count,
+            code: phase.code(),
+            start,
             tally,
-        );
-        count += 1;
+        }
+    }
+
+    // Returns the stage with another phase.
+    fn at(self, phase: Phase) -> Stage
+        ensures { λ r. ⌜ r ≡ inPhase phase self ⌝ }
+    {
+        let start = self.start;
+        let tally = self.tally;
+        Stage {
+            phase,
+            words: self.words,
+            endpoints: self.endpoints,
+            count: self.count,
+            start,
+            tally,
+        }
     }
 }
 
-// Runs all lists of standard input from any table. For a refused table it returns the table's code and looks at no list.
-pub fn run_lists(table: &mut [u32]) -> Lists
-    ensures { λ r. ⌜ ListsRan (now (table .entry)) r (now (table .exit)) ⌝ }
+// Returns how many more lists may come after `count`.
+fn left_after(count: usize) -> usize
+    ensures { λ r. ⌜ r ≡ mostLists - count ⌝ }
 {
-    let refused = check(table).code();
-    if refused != 0 {
-        return Lists {
-            endpoints: 0,
-            count: 0,
-            code: refused,
-            tally: Tally::new(),
-        };
+    if count < MOST_LISTS {
+        MOST_LISTS - count
+    } else {
+        0
     }
-    let m = endpoints(table) as usize;
-    let n = domains(table) as usize;
-    // one word for each domain of an accepted table
-    let mut holders = [0u32; DOMAIN_PLACES];
-    let ran = run_all(table, &mut holders[0..n]);
-    let tally = ran.tally;
-    Lists {
-        endpoints: m,
-        count: ran.count,
-        code: ran.code,
-        tally,
+}
+
+// Returns one less, or 0.
+fn one_less(left: usize) -> usize
+    ensures { λ r. ⌜ r ≡ left - 1 ⌝ }
+{
+    if left == 0 { 0 } else { left - 1 }
+}
+
+// Returns how many bytes a list of n words and the bytes before the next list have, where `count` lists ran before it.
+fn list_wanted(n: u32, count: usize) -> usize
+    ensures { λ r. ⌜ r ≡ 4 * n + headWanted (mostLists - (count + 1)) ⌝ }
+{
+    let head = head_wanted(one_less(left_after(count)));
+    4 * (n as usize) + head
+}
+
+// Returns whether there is space for the words that follow, and one list more may come where a list does.
+fn fits(stage: Stage, table: &[u32], list: &[u32]) -> bool
+    ensures { λ r. ⌜ r ≡ phaseFits (stage .phase) (stage .words) (stage .count) (now (table .entry)) (now (list .entry)) ⌝ }
+{
+    let phase = stage.phase;
+    match phase {
+        Phase::TableLength => true,
+        Phase::TableWords(n) => n as usize <= table.len(),
+        Phase::FirstLength => true,
+        Phase::ListWords(n) => {
+            if stage.words <= table.len() {
+                if n as usize <= list.len() {
+                    return stage.count < MOST_LISTS;
+                }
+            }
+            false
+        }
+        Phase::Over(_) => true,
+    }
+}
+
+// Returns whether the stage takes a reading: it wanted so many bytes, the input has those that came, and there is space.
+fn takes(stage: Stage, got: Got, input: &[u8], table: &[u32], list: &[u32]) -> bool
+    ensures { λ r. ⌜ r ≡ takes stage (wantOf got) (countOf got) (now (input .entry)) (now (table .entry)) (now (list .entry)) ⌝ }
+{
+    if got.want() != stage.wanted() {
+        return false;
+    }
+    if input.len() < got.count() {
+        return false;
+    }
+    fits(stage, table, list)
+}
+
+// Goes on from a stage by the bytes that were read for it, at the front of `input`: the table is checked and stored at the front of
+// `table`, and each list runs from it. Returns the next stage. A reading that the stage doesn't take leaves everything as it is.
+pub fn step(
+    stage: Stage,
+    got: Got,
+    input: &[u8],
+    table: &mut [u32],
+    list: &mut [u32],
+    answers: &mut [u32],
+    holders: &mut [u32],
+) -> Stage
+    ensures { λ r. ⌜ Left
+        (stepOn (record {
+          stage = stage;
+          table = now (table .entry);
+          list = now (list .entry);
+          answers = now (answers .entry);
+          holders = now (holders .entry);
+        }) (wantOf got) (countOf got) (now (input .entry)))
+        r (now (table .exit)) (now (list .exit)) (now (answers .exit)) (now (holders .exit)) ⌝ }
+{
+    if !takes(stage, got, input, table, list) {
+        return stage;
+    }
+    let count = got.count();
+    let phase = stage.phase;
+    match phase {
+        Phase::TableLength => length_read(stage, &input[0..count]),
+        Phase::TableWords(n) => table_read(stage, n, &input[0..count], table),
+        Phase::FirstLength => head_read(stage, &input[0..count]),
+        Phase::ListWords(n) => list_read(stage, n, &input[0..count], table, list, answers, holders),
+        Phase::Over(_) => stage,
     }
 }

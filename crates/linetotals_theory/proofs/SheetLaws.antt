@@ -1,19 +1,18 @@
--- The sheet of an input: where the reading asks for nothing more, what follows makes no difference, so that what is printed for the
--- bytes read is the whole input's sheet. Assumes nothing.
-use Prim.Native.Nat.{ℕ, _<_}
-use mathlib.Core.Path.{_≡_, refl, sym, ap, _∙_}
+-- The sheet of an input: where the reading asks for nothing more, what follows makes no difference; and the lines of an accepted
+-- table balance. Assumes nothing.
+use Prim.Native.Nat.{ℕ}
+use mathlib.Core.Path.{_≡_, refl, ap}
 use mathlib.Core.Bool.{Bool, true, false}
-use mathlib.Core.List.{List, [], _++_, append-nil}
-use native.Mathlib.Decide.{decLt}
-use native.Mathlib.Omega.{arith}
+use mathlib.Core.List.{List, _++_}
+use borrow.Author.Tests.{eq-eqb}
 use lib.Dec.{eqb}
 use Rattle.machine.specs.Check.{tableCode}
 use Rattle.input_words.specs.TableInput.{noTable, tableOf, afterTable}
 use Rattle.input_words.proofs.TableLaws.{Whole, whole, whole-table, no-more, no-table-more, whole-more, tableOf-more, afterTable-more}
 use Rattle.totals_theory.proofs.TotalsLaws.{sheet-holds}
-use Rattle.linetotals_input.specs.Input.{mostLists, listsFrom, listsOf, wanted, Needed}
+use Rattle.linetotals_input.specs.Input.{mostLists, listsFrom, listsOf, wanted}
 use Rattle.linetotals_input.proofs.ListLaws as lists
-use Rattle.linetotals_theory.specs.Sheet.{tableSheet, sheet, NothingFollows, Printed}
+use Rattle.linetotals_theory.specs.Sheet.{tableSheet, sheet, NothingFollows, EveryPrintedConserved}
 
 pub nothing-follows : NothingFollows
 unfolding sheet tableSheet wanted
@@ -33,17 +32,11 @@ nothing-follows bytes more done = go (noTable bytes) refl
         check true f = ap (tableSheet (tableOf bytes)) (lists.nothing-follows mostLists (afterTable bytes) more (simp (e, f) at done))
         check false f = simp f
 
--- so what is printed for the bytes read is the whole input's sheet
-pub printed : (bytes : List ℕ) {lines : List ℕ} → Needed bytes → lines ≡ sheet bytes → Printed lines
-printed bytes {lines} needed is =
+-- the lines of an accepted table are those of the totals, which balance
+pub printed-conserved : EveryPrintedConserved
+unfolding sheet tableSheet
+printed-conserved bytes e a =
     record {
-      bytes = bytes;
-      needed = needed;
-      read = is;
-      whole = λ more follows. is ∙ whole more follows (decLt 0 (wanted bytes));
-      conserved = λ a e l. sheet-holds (tableOf bytes) (listsOf bytes .lists) e a l;
+      lines = simp (e, eq-eqb (tableCode (tableOf bytes)) 0 a);
+      conserved = λ i l. sheet-holds (tableOf bytes) (listsOf bytes .lists) i a l;
     }
-  where
-    whole : (more : List ℕ) → (0 < wanted bytes → more ≡ []) → Dec (0 < wanted bytes) → sheet bytes ≡ sheet (bytes ++ more)
-    whole more follows (yes h) = rw (follows h, append-nil)
-    whole more follows (no h) = sym (nothing-follows bytes more (omega arith))

@@ -1,7 +1,7 @@
 -- `linetotals` as one definition: from the bytes read to the bytes written (document 02 (e), end-of-shift totals: the sheet).
 use Prim.Native.Nat.{ℕ, zero, suc, _<_}
 use mathlib.Core.Path.{_≡_}
-use mathlib.Core.Bool.{cond}
+use mathlib.Core.Bool.{false, cond}
 use mathlib.Core.List.{List, [], _++_}
 use lib.Dec.{eqb}
 use lib.ListN.{length}
@@ -12,7 +12,7 @@ use Rattle.input_words.specs.TableInput.{noTable, tableOf}
 use Rattle.totals_theory.specs.Totals.{totals, tableAfterLists}
 use Rattle.totals_theory.specs.Claims.{SheetConserved}
 use Rattle.linetotals_text.specs.Lines.{endpointLine, lastLine}
-use Rattle.linetotals_input.specs.Input.{Lists, listsOf, wanted, Needed}
+use Rattle.linetotals_input.specs.Input.{Lists, listsOf, wanted}
 
 -- the line of endpoint e over lists that are run from the table t
 unfoldable pub totalsLine : List ℕ → List (List ℕ) → ℕ → List ℕ
@@ -45,13 +45,12 @@ sheet bytes =
 abbrev pub NothingFollows : Type 0
 NothingFollows = (bytes more : List ℕ) → wanted bytes ≡ 0 → sheet (bytes ++ more) ≡ sheet bytes
 
--- What is printed after a reading: the sheet of some bytes, each of which was needed, and so the sheet of the whole input, whatever
--- else is in it. Where more is wanted after these bytes, nothing else is in it. The totals of an accepted table are those of all
--- calls as one list, and balance. That these are the bytes of standard input, in their order, is believed of the world.
-pub record Printed (lines : List ℕ) : Type 0 where
-  pub bytes : List ℕ
-  pub needed : Needed bytes
-  pub read : lines ≡ sheet bytes
-  pub whole : (more : List ℕ) → (0 < wanted bytes → more ≡ []) → lines ≡ sheet (bytes ++ more)
-  pub conserved : Accepted (tableOf bytes) → (e : ℕ) → e < endpoints (tableOf bytes)
+-- What is printed for an accepted table: the lines of the totals over the lists that the bytes give, which are those of all calls as
+-- one list, and at each endpoint sends plus waiting at the start are received plus lost plus waiting at the end.
+pub record PrintedConserved (bytes : List ℕ) : Type 0 where
+  pub lines : sheet bytes ≡ totalsLines (tableOf bytes) (listsOf bytes .lists) (listsOf bytes .code)
+  pub conserved : (e : ℕ) → e < endpoints (tableOf bytes)
       → SheetConserved e (tableOf bytes) (listsOf bytes .lists) (tableAfterLists (tableOf bytes) (listsOf bytes .lists))
+
+abbrev pub EveryPrintedConserved : Type 0
+EveryPrintedConserved = (bytes : List ℕ) → noTable bytes ≡ false → Accepted (tableOf bytes) → PrintedConserved bytes

@@ -17,6 +17,7 @@ use Rattle.linerun_report.specs.Cursor as linerun-report-cursor
 use Rattle.linerun_report.specs.Examples as linerun-report-examples
 use Rattle.linerun_report.specs.Report as linerun-report-report
 use Rattle.linetotals_input.specs.Examples as linetotals-input-examples
+use Rattle.linetotals_report.specs.Claims as linetotals-report-claims
 use Rattle.linetotals_theory.specs.Examples as linetotals-theory-examples
 use Rattle.linetotals_theory.specs.Sheet as linetotals-theory-sheet
 use Rattle.machine.specs.AnyWordsExamples as machine-any-words-examples
@@ -255,6 +256,11 @@ pub record Promises : Type 0 where
   pub E-sheet-rows : linetotals-theory-examples.EveryRow linetotals-theory-examples.rows
   -- Where linetotals wants no further byte, what follows changes nothing.
   pub E-nothing-follows : linetotals-theory-sheet.NothingFollows
+  -- The lines that linetotals prints for an accepted table have the totals of all calls as one list, and these balance.
+  pub E-printed : linetotals-theory-sheet.EveryPrintedConserved
+  -- Parts of the lengths that were wanted, in order, give in linetotals the sheet of all of them; each byte was needed, and
+  -- while all come that are wanted, as many are wanted as the definition says.
+  pub E-reading : linetotals-report-claims.EveryReading
   -- ---- Document 02 (g): the isolation rule between two lines
   -- The isolation rule between two lines, of the machine fed any calls, however many.
   pub G-lines : isolation-theory-two-lines.IsolationBetweenLines

@@ -51,7 +51,7 @@ after-endpoints : (t : List ℕ) (lists : List (List ℕ)) → Accepted t → en
 after-endpoints t lists a = ap endpoints (one-run t lists) ∙ run-accepted t (callsOf lists) a .frame .sameEndpoints
 
 -- a tally is the same where its three parts are
-same-tally : {a b : Tally} → a .sent ≡ b .sent → a .received ≡ b .received → a .lost ≡ b .lost → a ≡ b
+pub same-tally : {a b : Tally} → a .sent ≡ b .sent → a .received ≡ b .received → a .lost ≡ b .lost → a ≡ b
 same-tally {a} {b} p q r =
     ap₂ (λ (x y : List ℕ). record { sent = x; received = y; lost = a .lost }) p q
     ∙ ap (λ (z : List ℕ). record { sent = b .sent; received = b .received; lost = z }) r

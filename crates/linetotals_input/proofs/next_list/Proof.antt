@@ -22,8 +22,8 @@ returns-3 c = simp (ne-eqb _ _ (c .before .before .if1 .left), ne-eqb _ _ (c .be
 word-at-requires : tie.Need-word-at-requires
 word-at-requires c κs = search needs
 
-cast-words : tie.Need-cast-words
-cast-words c = search needs
+cast-if4 : tie.Need-cast-if4
+cast-if4 c = search needs
 
 returns-4 : tie.Need-returns-4
 unfolding nextOf
@@ -50,4 +50,4 @@ returns-5 c =
 pub next-list-spec : {M : Type 1} → statement M
 next-list-spec =
     tie.close
-    (tie.spec returns returns-2 returns-3 word-at-requires cast-words returns-4 returns-5)
+    (tie.spec returns returns-2 returns-3 word-at-requires cast-if4 returns-4 returns-5)

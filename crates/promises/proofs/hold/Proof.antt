@@ -20,6 +20,7 @@ use Rattle.linerun_report.proofs.Refusals as linerun-report-refusals-proofs
 use Rattle.linerun_report.proofs.ReportLaws as linerun-report-report-laws-proofs
 use Rattle.linerun_report.proofs.SpaceLaws as linerun-report-space-laws-proofs
 use Rattle.linetotals_input.proofs.Examples as linetotals-input-examples-proofs
+use Rattle.linetotals_report.proofs.Reading as linetotals-report-reading-proofs
 use Rattle.linetotals_theory.proofs.Examples as linetotals-theory-examples-proofs
 use Rattle.linetotals_theory.proofs.SheetLaws as linetotals-theory-sheet-laws-proofs
 use Rattle.kernel.proofs.AskedAfterStep as kernel-asked-after-step-proofs
@@ -158,6 +159,8 @@ returns c =
       E-input-rows = linetotals-input-examples-proofs.every-row;
       E-sheet-rows = linetotals-theory-examples-proofs.every-row;
       E-nothing-follows = linetotals-theory-sheet-laws-proofs.nothing-follows;
+      E-printed = linetotals-theory-sheet-laws-proofs.printed-conserved;
+      E-reading = linetotals-report-reading-proofs.every-reading;
       G-lines = isolation-theory-two-lines-proofs.between-lines;
       G-runs = isolation-theory-two-lines-proofs.between-runs;
       G-rows = isolation-theory-line-examples-proofs.every-line-row;
