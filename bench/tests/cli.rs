@@ -1402,12 +1402,14 @@ fn histories_show_the_longest_waits_beside_the_bound() {
         .lines()
         .map(|line| line.split_whitespace().collect())
         .collect();
-    let [.., bound, waits, _] = &lines[..] else {
+    let [.., bound, waits, bound_of_all, _, _] = &lines[..] else {
         panic!("{told}");
     };
-    let numbers: Vec<String> = (1..=16).map(|n| n.to_string()).collect();
-    assert_eq!(bound[4..], numbers, "{told}");
-    assert_eq!(waits[4..], numbers, "{told}");
+    let numbers = |times: u32| (1..=16).map(|n| (times * n).to_string()).collect();
+    let (once, of_all): (Vec<String>, Vec<String>) = (numbers(1), numbers(16));
+    assert_eq!(bound[4..], once, "{told}");
+    assert_eq!(waits[4..], once, "{told}");
+    assert_eq!(bound_of_all[4..], of_all, "{told}");
     assert!(told.ends_with("1000 cases with seed 1: passed\n"), "{told}");
 }
 

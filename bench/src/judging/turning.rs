@@ -163,7 +163,6 @@ impl Waits {
         let n = domains(&lent.table);
         let served = served(lent, left).map(|(domain, _)| domain);
         for domain in 0..n {
-            self.turned_for(lent, domain, served == Some(domain))?;
             let Some(call) = pending_calls(&lent.state, domain).first().copied() else {
                 self.now[domain] = 0;
                 continue;
@@ -177,7 +176,7 @@ impl Waits {
                 return Err(format!("not served within {n} turns: {call}"));
             }
         }
-        Ok(())
+        (0..n).try_for_each(|domain| self.turned_for(lent, domain, served == Some(domain)))
     }
 
     /// Counts a turn for every pending call of a domain, and takes out the one served.
@@ -371,10 +370,9 @@ mod tests {
         ] {
             assert_eq!(turned(pending, domain), (Ok(()), longest));
         }
-        let (late, longest) = turned(&[1, 1, 1], 1);
-        let late = late.unwrap_err();
+        let late = waits.turned_for(&lent(&[1, 1, 1]), 0, false).unwrap_err();
         assert!(late.ends_with("of domain 0 is not served within 6 turns"));
-        assert_eq!(longest, 6);
+        assert_eq!(waits.longest_of_all[0], 6);
     }
 
     #[test]
