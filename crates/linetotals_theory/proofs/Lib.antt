@@ -1,3 +1,5 @@
 -- What is proved of what linetotals prints, as definitions.
 pub mod SheetLaws
+pub mod RunLaws
 pub mod Examples
+pub mod MostLists

@@ -1,13 +1,14 @@
 -- Inputs of `linetotals` and what it prints for them: list L of document 01 twice on table T, two lists each of which is split by
 -- itself, each refusal, a table without endpoints, an empty list and no list.
-use Prim.Native.Nat.{ℕ}
+use Prim.Native.Nat.{ℕ, zero, suc}
 use Prim.Native.String.{String}
 use mathlib.Core.Path.{_≡_}
 use mathlib.Core.List.{List, [], _∷_, _++_}
-use lib.ListN.{take, set, replicate}
+use lib.ListN.{length, take, set, replicate}
 use Rattle.machine.specs.Examples.{T, L}
 use Rattle.text.specs.Ascii.{ascii}
 use Rattle.input_words.specs.Bytes.{bytesOf}
+use Rattle.linetotals_input.specs.Input.{mostLists, listsFrom}
 use Rattle.linetotals_theory.specs.Sheet.{sheet}
 
 -- an input, and what is printed for it
@@ -77,3 +78,18 @@ rows =
       printed = "endpoint 0 sent 0 received 0 lost 0 start 0 end 0\nendpoint 1 sent 2 received 1 lost 1 start 0 end 0\nlists 1 code 7\n";
     }
     ∷ []
+
+-- the bytes of so many empty lists
+unfoldable pub emptyLists : ℕ → List ℕ
+emptyLists zero = []
+emptyLists (suc k) = 0 ∷ 0 ∷ 0 ∷ 0 ∷ emptyLists k
+
+-- The most lists that there may be: a byte after 65,536 empty ones is one list too many, and one after 65,535 is a length word that
+-- is cut short.
+pub record MostListsRow (b : ℕ) : Type 0 where
+  pub allRan : length (listsFrom mostLists (emptyLists 65536 ++ (b ∷ [])) .lists) ≡ 65536
+  pub tooMany : listsFrom mostLists (emptyLists 65536 ++ (b ∷ [])) .code ≡ 1
+  pub cutShort : listsFrom mostLists (emptyLists 65535 ++ (b ∷ [])) .code ≡ 7
+
+abbrev pub EveryMostListsRow : Type 0
+EveryMostListsRow = (b : ℕ) → MostListsRow b

@@ -1,13 +1,16 @@
 -- `linetotals` as one definition: from the bytes read to the bytes written (document 02 (e), end-of-shift totals: the sheet).
-use Prim.Native.Nat.{ℕ, zero, suc, _<_}
+use Prim.Native.Nat.{ℕ, zero, suc, _*_, _<_}
 use mathlib.Core.Path.{_≡_}
 use mathlib.Core.Bool.{false, cond}
-use mathlib.Core.List.{List, [], _++_}
+use mathlib.Core.List.{List, [], _∷_, _++_}
 use lib.Dec.{eqb}
 use lib.ListN.{length}
-use Rattle.machine.specs.Table.{endpoints, endpoint}
+use Rattle.machine.specs.Table.{domains, endpoints, endpoint}
 use Rattle.machine.specs.Queue.{waiting}
 use Rattle.machine.specs.Check.{tableCode, Accepted}
+use Rattle.machine.specs.Call.{split}
+use Rattle.machine.specs.Run.{run}
+use Rattle.machine.specs.Entry.{Runs}
 use Rattle.input_words.specs.TableInput.{noTable, tableOf}
 use Rattle.totals_theory.specs.Totals.{totals, tableAfterLists}
 use Rattle.totals_theory.specs.Claims.{SheetConserved}
@@ -54,3 +57,16 @@ pub record PrintedConserved (bytes : List ℕ) : Type 0 where
 
 abbrev pub EveryPrintedConserved : Type 0
 EveryPrintedConserved = (bytes : List ℕ) → noTable bytes ≡ false → Accepted (tableOf bytes) → PrintedConserved bytes
+
+-- No entry refuses a list from the table t, with three answer words for each word of the list and one word for each domain.
+abbrev pub RunsFrom : List ℕ → List ℕ → Type 0
+RunsFrom t ws = Runs t ws (3 * length ws) (domains t)
+
+-- The first list runs from the table t, each later one from the table that the one before left.
+abbrev pub AllRun : List ℕ → List (List ℕ) → Type 0
+AllRun t [] = Unit {0}
+AllRun t (ws ∷ lists) = RunsFrom t ws × AllRun (run t (split ws)) lists
+
+-- From an accepted table all lists that are counted run so.
+abbrev pub EveryListRuns : Type 0
+EveryListRuns = (bytes : List ℕ) → Accepted (tableOf bytes) → AllRun (tableOf bytes) (listsOf bytes .lists)

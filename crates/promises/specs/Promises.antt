@@ -254,10 +254,14 @@ pub record Promises : Type 0 where
   pub E-input-rows : linetotals-input-examples.EveryRow linetotals-input-examples.rows
   -- Inputs and what linetotals prints, byte for byte.
   pub E-sheet-rows : linetotals-theory-examples.EveryRow linetotals-theory-examples.rows
+  -- 65,536 lists may come, and no more.
+  pub E-most-lists : linetotals-theory-examples.EveryMostListsRow
   -- Where linetotals wants no further byte, what follows changes nothing.
   pub E-nothing-follows : linetotals-theory-sheet.NothingFollows
   -- The lines that linetotals prints for an accepted table have the totals of all calls as one list, and these balance.
   pub E-printed : linetotals-theory-sheet.EveryPrintedConserved
+  -- No entry refuses a list that is counted, each run from the table that the one before left.
+  pub E-lists-run : linetotals-theory-sheet.EveryListRuns
   -- Parts of the lengths that were wanted, in order, give in linetotals the sheet of all of them; each byte was needed, and
   -- while all come that are wanted, as many are wanted as the definition says.
   pub E-reading : linetotals-report-claims.EveryReading

@@ -22,6 +22,8 @@ use Rattle.linerun_report.proofs.SpaceLaws as linerun-report-space-laws-proofs
 use Rattle.linetotals_input.proofs.Examples as linetotals-input-examples-proofs
 use Rattle.linetotals_report.proofs.Reading as linetotals-report-reading-proofs
 use Rattle.linetotals_theory.proofs.Examples as linetotals-theory-examples-proofs
+use Rattle.linetotals_theory.proofs.MostLists as linetotals-theory-most-lists-proofs
+use Rattle.linetotals_theory.proofs.RunLaws as linetotals-theory-run-laws-proofs
 use Rattle.linetotals_theory.proofs.SheetLaws as linetotals-theory-sheet-laws-proofs
 use Rattle.kernel.proofs.AskedAfterStep as kernel-asked-after-step-proofs
 use Rattle.machine.proofs.Consistency as machine-consistency-proofs
@@ -158,8 +160,10 @@ returns c =
       E-totals-rows = totals-theory-examples-proofs.every-row;
       E-input-rows = linetotals-input-examples-proofs.every-row;
       E-sheet-rows = linetotals-theory-examples-proofs.every-row;
+      E-most-lists = linetotals-theory-most-lists-proofs.most-lists-row;
       E-nothing-follows = linetotals-theory-sheet-laws-proofs.nothing-follows;
       E-printed = linetotals-theory-sheet-laws-proofs.printed-conserved;
+      E-lists-run = linetotals-theory-run-laws-proofs.every-list-runs;
       E-reading = linetotals-report-reading-proofs.every-reading;
       G-lines = isolation-theory-two-lines-proofs.between-lines;
       G-runs = isolation-theory-two-lines-proofs.between-runs;
