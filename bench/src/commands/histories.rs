@@ -18,12 +18,12 @@ and then get too few or too many words. `bench turns` plays a history that is
 written by hand.
 
 While only handing in and turns alter the state, the oldest call of a domain may
-wait no longer than as many turns as there are domains, n, and one that is handed
-in after k others no longer than 1 + k times n, so 16 n at the most; and the calls
-served must be answered as a run of them as one list answers them. The last four
-lines show the longest waits that were seen for each number of domains beside the
-bounds. In half of the histories each event is lent the holders that the one
-before it left: they must be what the table says after every event.
+wait no longer than as many turns as there are domains, n, and one that is
+handed in after k others no longer than 1 + k times n, so 16 n at the most; and
+the calls served must be answered as a run of them as one list answers them. The
+last four lines show the longest waits that were seen for each number of domains
+beside the bounds. In half of the histories each event is lent the holders that
+the one before it left: they must be what the table says after every event.
 
   --cases N  histories to play (default 10,000)
   --seed S   the seed that everything is drawn from (default 1)
