@@ -78,6 +78,7 @@ const TEST_ARCHIVES: [TestArchive; 2] = [
                 "balkwizu_test_step",
                 "balkwizu_test_send",
                 "balkwizu_test_receive",
+                "balkwizu_test_both_ways",
             ],
         },
         flag: "test_export",

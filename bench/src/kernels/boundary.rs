@@ -431,6 +431,8 @@ pub fn kernel(name: &str) -> Result<Kernel, String> {
 #[cfg(test)]
 mod tests {
     use super::*;
+    #[cfg(test_export)]
+    use crate::cases::{random::run_case, Case};
     use reference::example::{LIST_L, TABLE_T};
 
     /// Who has a right on each domain once L has run on T: a bit for each holder.
@@ -483,5 +485,84 @@ mod tests {
             wrong.contains("balkwizu, balkwizu-working, balkwizu-by-length, plain-gcc"),
             "{wrong}"
         );
+    }
+
+    /// Both runs of a list by the one function of the proved kernel that runs both, in
+    /// place on a case and on the working layout of its copy: whether it says that they
+    /// ended the same.
+    #[cfg(test_export)]
+    fn both_ways(case: &mut Case, copy: &mut Case) -> bool {
+        extern "C" {
+            fn balkwizu_test_both_ways(
+                table: *mut u32,
+                table_len: usize,
+                copy: *mut u32,
+                copy_len: usize,
+                list: *const u32,
+                list_len: usize,
+                answers: *mut u32,
+                answers_len: usize,
+                copied_answers: *mut u32,
+                copied_answers_len: usize,
+                holders: *mut u32,
+                holders_len: usize,
+                copied_holders: *mut u32,
+                copied_holders_len: usize,
+            ) -> u32;
+        }
+        // SAFETY: seven slices, each valid for its length, aligned and borrowed alone.
+        let same = unsafe {
+            balkwizu_test_both_ways(
+                case.table.as_mut_ptr(),
+                case.table.len(),
+                copy.table.as_mut_ptr(),
+                copy.table.len(),
+                case.list.as_ptr(),
+                case.list.len(),
+                case.answers.as_mut_ptr(),
+                case.answers.len(),
+                copy.answers.as_mut_ptr(),
+                copy.answers.len(),
+                case.holders.as_mut_ptr(),
+                case.holders.len(),
+                copy.holders.as_mut_ptr(),
+                copy.holders.len(),
+            )
+        };
+        same == 1
+    }
+
+    #[cfg(test_export)]
+    #[test]
+    fn both_runs_of_a_list_leave_the_same_words() {
+        for number in 0..5000 {
+            let mut case = run_case(1, number);
+            let mut copy = case.clone();
+            let mut alone = case.clone();
+            assert!(both_ways(&mut case, &mut copy), "run {number}");
+            assert_eq!(case, copy, "run {number}");
+            let Case {
+                table,
+                list,
+                answers,
+                holders,
+            } = &mut alone;
+            PROVED.run(table, list, answers, holders);
+            assert_eq!(case, alone, "run {number}");
+        }
+    }
+
+    #[cfg(test_export)]
+    #[test]
+    fn runs_of_different_tables_do_not_end_the_same() {
+        let mut case = Case {
+            table: TABLE_T.to_vec(),
+            list: LIST_L.to_vec(),
+            answers: vec![0; 27],
+            holders: vec![0; 3],
+        };
+        let mut copy = case.clone();
+        copy.table.clear();
+        assert!(!both_ways(&mut case, &mut copy));
     }
 }
