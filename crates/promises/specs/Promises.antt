@@ -71,8 +71,8 @@ pub record Promises : Type 0 where
   pub D-rows : machine-examples.EveryRow machine-examples.rows
   -- ---- Document 01, "The table", "The calls" and "Where each number is checked": rows that pin what the worked example leaves
   -- open
-  -- Every code from 10 to 23 with its order, what calls of the kinds 1 to 7 answer, a table in which the caller, the target and
-  -- the owner differ, and the edges of the entry.
+  -- Every code from 10 to 23, most pairs of them in their order, what calls of the kinds 1 to 7 answer, a table in which the caller,
+  -- the target and the owner differ, and the edges of the entry.
   pub D-codes : machine-examples.EveryRow machine-code-examples.codeRows
   -- The check of a table: rows for each kind of word, bits 27–16 of word 0 and of an info one by one, and the order of its places.
   pub D-tables : machine-table-examples.EveryTable machine-table-examples.tableRows
@@ -106,8 +106,8 @@ pub record Promises : Type 0 where
   pub D-answer-word : machine-word-claims.EveryAnswerWord
   -- "Bit e is set for each endpoint e owned", and no other bit, in any words.
   pub D-owned-bits : machine-word-claims.EveryOwnedBits
-  -- "Rights on target t in bits 4t to 4t+3 of the first data word; targets 8 to 15 likewise in the second": of a domain in an
-  -- accepted table; no right is shown on what is no domain.
+  -- "Rights on target t in bits 4t to 4t+3 of the first data word; targets 8 to 15 likewise in the second": of the number that is
+  -- made of a domain's rights on eight targets in an accepted table; no right is shown on what is no domain.
   pub D-rights-digits : machine-word-claims.EveryRightsDigits
   -- ---- Document 01, "Where each number is checked": a refusal is by its number and changes nothing
   -- What the entry leaves keeps the promise of a run, for arbitrary words.
@@ -131,7 +131,7 @@ pub record Promises : Type 0 where
   -- "Owners, names and capacities never change": the same of the table that any function leaves which keeps the promise of a run,
   -- where the list ran.
   pub I-promised-accepted : machine-promise-claims.EveryPromisedRunStaysAccepted
-  -- "Grant and remove alter one rights word; what a row doesn't name stays": a word that a call on an accepted table alters is one
+  -- "Grant and remove alter one rights word": a word that a call on an accepted table alters is one
   -- that its row names, the rights word of a grant, a remove or a revoke, or a waiting, lost or slot word of the endpoint that a
   -- send or a receive has.
   pub I-alters-named : machine-word-claims.EveryCallAltersNamed
@@ -172,9 +172,9 @@ pub record Promises : Type 0 where
   pub P-linerun-start : linerun-input-stage.EveryStart
   -- Parts that are read in order, each of at most as many bytes as are wanted, give the stage after their concatenation.
   pub P-linerun-step : linerun-input-stage.EveryStep
-  -- The parts that are printed from line 0 on concatenate to the report.
+  -- The parts of the lines from line 0 on concatenate to the report.
   pub P-linerun-parts : linerun-report-cursor.PartsAreReport
-  -- No line shows what was in the words that are lent for the answers.
+  -- No line shows what was in the words that are lent for the answers, where they are enough for every list.
   pub P-linerun-every-space : linerun-report-report.EverySpace
   -- Where linerun wants no further byte, what follows changes nothing.
   pub P-linerun-nothing-follows : linerun-report-report.NothingFollows
@@ -188,7 +188,7 @@ pub record Promises : Type 0 where
   -- ---- Document 02 (c): lists are written as well as read
   -- Calls that can be written are read back: decoding their words gives the calls.
   pub W-reads-back : writer-theory-claims.ReadsBack
-  -- Two different lists of calls are never written in the same words.
+  -- Two different lists of calls that can be written are never written in the same words.
   pub W-different-words : writer-theory-claims.DifferentWords
   -- A list that is read as calls past the four can be written, and is written as it came.
   pub W-writes-back : writer-theory-claims.WritesBack
@@ -210,7 +210,8 @@ pub record Promises : Type 0 where
   pub W-rows-read-back : writer-theory-list-claims.RowsReadBack
   -- Two different lists of rows that are written never give the same words.
   pub W-rows-different-words : writer-theory-list-claims.RowsDifferentWords
-  -- A list that is read as calls past the four is written as it came by the rows of these calls, each word of which has 32 bits.
+  -- A list that is read as calls past the four is written as it came by the rows of these calls, each word of which has 32 bits,
+  -- where there is space for it and it isn't longer than a list may be.
   pub W-rows-written-as-it-came : writer-theory-list-claims.RowsWrittenAsItCame
   -- Results in one number, and the code and the number that each says.
   pub W-results : writer-theory-result.EveryResult
@@ -230,7 +231,7 @@ pub record Promises : Type 0 where
   -- "Move only the waiting words and clear the one slot that comes free": of any twelve words with 1 to 8 waiting, name, info and lost
   -- count stay, waiting falls by 1, the messages after the oldest move up, and the slot that comes free is empty.
   pub Q-move-up : queue-later-slots.WaitingMoveUp
-  -- "Every answer and every table word is the same as before": of an endpoint's twelve words that the check accepts, with a message
+  -- Document 02 (d), "the same as before", of table words: of an endpoint's twelve words that the check accepts, with a message
   -- waiting, a receive leaves what it leaves where all the slots after the first move up.
   pub Q-as-before : machine-word-claims.EveryReceiveAsBefore
   -- Words and what a receive leaves of them, with messages in the slots from the waiting count on too.
@@ -254,16 +255,16 @@ pub record Promises : Type 0 where
   pub E-input-rows : linetotals-input-examples.EveryRow linetotals-input-examples.rows
   -- Inputs and what linetotals prints, byte for byte.
   pub E-sheet-rows : linetotals-theory-examples.EveryRow linetotals-theory-examples.rows
-  -- 65,536 lists may come, and no more.
+  -- Rows: a byte after 65,536 empty lists gives 1, and after 65,535 it is a length word cut short.
   pub E-most-lists : linetotals-theory-examples.EveryMostListsRow
   -- Where linetotals wants no further byte, what follows changes nothing.
   pub E-nothing-follows : linetotals-theory-sheet.NothingFollows
   -- The lines that linetotals prints for an accepted table have the totals of all calls as one list, and these balance.
   pub E-printed : linetotals-theory-sheet.EveryPrintedConserved
-  -- No entry refuses a list that is counted, each run from the table that the one before left.
+  -- From an accepted table no entry refuses a list that is counted, each run from the table that the one before left.
   pub E-lists-run : linetotals-theory-sheet.EveryListRuns
-  -- Parts of the lengths that were wanted, in order, give in linetotals the sheet of all of them; each byte was needed, and
-  -- while all come that are wanted, as many are wanted as the definition says.
+  -- Where linetotals' space is large enough: parts of the lengths that were wanted, in order, give the sheet of all of them once
+  -- nothing more is wanted; each byte was needed, and while all come that are wanted, as many are wanted as the definition says.
   pub E-reading : linetotals-report-claims.EveryReading
   -- ---- Document 02 (g): the isolation rule between two lines
   -- The isolation rule between two lines, of the machine fed any calls, however many.
@@ -292,8 +293,8 @@ pub record Promises : Type 0 where
   pub H-kept : holders-theory-claims.HoldersKept
   -- Noted from an accepted table on, the words are the holders of the table after each of any calls: after the first k, for any k.
   pub H-kept-along : holders-theory-claims.HoldersKeptAlong
-  -- "From the start of a list that runs, and after every call": after the first k calls of a list that ran, for any k, the words
-  -- noted so far are the holders of the table then, and a run of these calls alone runs and leaves them.
+  -- "From the start of a list that runs, and after every call": after the first k calls of a list that ran, for any k, the holders
+  -- as they are defined to be noted call by call are those of the table then, and a run of these calls alone runs and leaves them.
   pub H-after-every-call : holders-theory-claims.HoldersAfterEveryCall
   -- Of any words that can be asked, the set holds exactly those that have a chain in these words, d itself among them.
   pub H-asked-exactly : holders-theory-claims.AskedExactly
@@ -325,12 +326,12 @@ pub record Promises : Type 0 where
   pub J-shared : isolation-theory-component.EveryComponentShared
   -- A component holds domains alone, so that a call of an unknown caller is purged whatever the table.
   pub J-of-domains : isolation-theory-component.EveryComponentOfDomains
-  -- No run from an accepted table joins components: at its end no domain influences one outside the component that it had at the
-  -- start.
+  -- No run from an accepted table lets influence cross components: at its end no domain influences one outside the component that
+  -- it had at the start.
   pub J-stay : isolation-theory-component.EveryRunComponentsStay
   -- From an accepted table: without every call whose caller is not in d's component, d sees the same.
   pub J-noninterference : isolation-theory-component.EveryRunComponentNoninterference
-  -- The same of the words that the kernel left, for any list that runs: no run joins components,
+  -- The same of the words that the kernel left, for any list that runs,
   pub J-run-stay : isolation-theory-component.EveryPromisedRunComponentsStay
   -- and d sees the same without the calls from outside its component.
   pub J-run-noninterference : isolation-theory-component.EveryPromisedRunComponentNoninterference
@@ -359,38 +360,42 @@ pub record Promises : Type 0 where
   -- Tables, who acts, and the potential rights.
   pub V-rows : potential-theory-examples.EveryPotentialRow potential-theory-examples.potentialRows
   -- ---- Who could ever influence whom
-  -- The computed set is exactly those that could influence d: d, and each that acts from which a chain of potential rights leads to
-  -- d, through others that act.
+  -- On an accepted table, the computed set is exactly those that could influence d: d, and each that acts from which a chain of
+  -- potential rights leads to d, through others that act.
   pub U-computed : influence-theory-claims.EveryCouldInfluence
   -- It holds domains alone, so that a call of an unknown caller is purged.
   pub U-of-domains : influence-theory-claims.EveryInfluenceOfDomains
-  -- Whatever calls are run, however many, refused or not: if their known callers are in s, each source of d is in the set.
+  -- Whatever calls are run from an accepted table, however many, refused or not: if their known callers are in s, each source of d
+  -- is in the set.
   pub U-sources-within : influence-theory-claims.EverySourceCouldInfluence
-  -- There is one list that makes all of them sources, of every domain at once, and it is computed.
+  -- On an accepted table one list, which is computed, makes all of them sources, of every domain at once.
   pub U-list-makes-all : influence-theory-claims.EveryInfluenceListMakesAll
-  -- So u is a source of d over some list of calls by domains of s exactly where u is d or such a chain leads from it to d.
+  -- So on an accepted table u is a source of d over some list of calls by domains of s exactly where u is d or such a chain leads
+  -- from it to d.
   pub U-sources-exactly : influence-theory-claims.EverySourceExactly
-  -- Who could influence d after calls of s could do so before them.
+  -- Who could influence d after calls of s, run from an accepted table, could do so before them.
   pub U-nobody-new : influence-theory-claims.EveryRunNobodyNew
-  -- Purge every call whose caller could not influence d, strays too, and d sees the same.
+  -- Of calls from an accepted table whose known callers are in s: purge every call whose caller could not influence d, strays too,
+  -- and d sees the same.
   pub U-noninterference : influence-theory-claims.EveryRunInfluenceNoninterference
-  -- The same of the words that the kernel left, for any list that runs.
+  -- The same of the words that the kernel left, for any list that runs and whose known callers are in s.
   pub U-run-noninterference : influence-theory-claims.EveryPromisedRunInfluenceNoninterference
-  -- With all domains as actors nothing is asked of the callers: of the machine,
+  -- With all domains as actors nothing is asked of the callers: of the machine from an accepted table,
   pub U-everyone-noninterference : influence-theory-claims.EveryRunEveryoneNoninterference
   -- and of the words that the kernel left, for any list that runs.
   pub U-run-everyone-noninterference : influence-theory-claims.EveryPromisedRunEveryoneNoninterference
-  -- All domains as actors: each claim that asks where the callers are holds of any calls.
+  -- With all domains as actors the known callers of any calls are among them.
   pub U-every-caller : influence-theory-claims.EveryCallerIsKnown
-  -- The same by any larger set, which has at least those that could influence d.
+  -- Of the machine, from an accepted table and with the known callers in s: the same by any larger set, which has at least those
+  -- that could influence d.
   pub U-larger-set : influence-theory-claims.EveryLargerSetNoninterference
-  -- Connected components are such sets: the component of d has all that could influence d, whoever acts.
+  -- Connected components are such sets: on an accepted table the component of d has all that could influence d, whoever acts.
   pub U-in-component : influence-theory-claims.EveryInfluenceInComponent
   -- On two lines that agree on each that could influence d, as (g) asks of its sources, the set is the same,
   pub U-lines-set : influence-theory-claims.EveryLinesSameInfluence
-  -- and d sees the same of any calls run from both.
+  -- and d sees the same of any calls run from both, where their known callers are in s.
   pub U-lines : influence-theory-claims.EveryLinesInfluence
-  -- The same of the words that two runs of the kernel on one list left.
+  -- The same of the words that two runs of the kernel on one such list left.
   pub U-runs : influence-theory-claims.EveryRunsInfluence
   -- Tables, who acts, and who could influence each domain; and, along six calls, who has a chain of rights to a domain in each table.
   pub U-rows : influence-theory-examples.EveryInfluenceRow influence-theory-examples.influenceRows
@@ -493,9 +498,10 @@ pub record Promises : Type 0 where
   pub M-in-order : turns-theory-claims.InOrder
   -- A turn is idle exactly where none of the n domains has a call pending.
   pub M-idle-exactly : turns-theory-claims.IdleExactly
-  -- With none pending a turn is idle and changes nothing, however few words are lent for an answer.
+  -- With none pending on an accepted table, a turn that is lent n holders has code 0 and leaves table, pending calls and place as
+  -- they are, however few words are lent for an answer.
   pub M-idle : turns-theory-claims.IdleChangesNothing
-  -- A refused event changes nothing.
+  -- A refused event leaves table, pending calls and place as they are.
   pub M-refused : turns-theory-claims.RefusedChangesNothing
   -- The beginning is proper: each domain has at most 16 words pending, calls of its own, and an index that is no domain has none.
   pub M-begins-proper : turns-theory-claims.BeginsProper
