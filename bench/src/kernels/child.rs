@@ -85,7 +85,6 @@ pub fn watch(board: &Board, limit: Duration, act: impl FnOnce() -> bool) -> Resu
     match (board.0[ENDED].load(Relaxed), status.code()) {
         (WITH_TRUE, _) => Ok(true),
         (WITH_FALSE, _) => Ok(false),
-        (_, Some(101)) => panic!("the child process panicked"),
         (_, Some(status)) => Err(Stopped::Exit(status)),
         (_, None) => Err(Stopped::Fault(status.signal().unwrap_or_default())),
     }
