@@ -1,5 +1,8 @@
 //! The program as it is used: its commands, what they print and their exit status.
 
+mod campaign;
+
+use campaign::without_campaign;
 use std::ffi::OsStr;
 use std::fs;
 use std::os::unix::ffi::OsStrExt;
@@ -19,19 +22,6 @@ fn bench(line: &[&str]) -> Output {
         .output()
         .expect("the program starts")
 }
-
-/// A kernel is commissioned without a campaign here, which takes its time.
-fn without_campaign(line: &[&str]) -> &'static [&'static str] {
-    match line {
-        ["commission", _, rest @ ..] if !rest.iter().any(|word| NO_CAMPAIGN.contains(word)) => {
-            &["--campaign", "0"]
-        }
-        _ => &[],
-    }
-}
-
-/// Options with which there is none, or another one.
-const NO_CAMPAIGN: [&str; 3] = ["--answers", "--left", "--campaign"];
 
 fn status(line: &[&str]) -> i32 {
     bench(line).status.code().expect("it ends by itself")

@@ -1,6 +1,9 @@
 //! Reports of commissioning as they are made, and what is read back from a line judged:
 //! what is written, what is printed, and the exit status.
 
+mod campaign;
+
+use campaign::without_campaign;
 use std::fs;
 use std::path::{Path, PathBuf};
 use std::process::{Command, Output};
@@ -16,19 +19,6 @@ fn bench(line: &[&str]) -> Output {
         .output()
         .expect("the program starts")
 }
-
-/// A kernel is commissioned without a campaign here, which takes its time.
-fn without_campaign(line: &[&str]) -> &'static [&'static str] {
-    match line {
-        ["commission", _, rest @ ..] if !rest.iter().any(|word| NO_CAMPAIGN.contains(word)) => {
-            &["--campaign", "0"]
-        }
-        _ => &[],
-    }
-}
-
-/// Options with which there is none, or another one.
-const NO_CAMPAIGN: [&str; 3] = ["--answers", "--left", "--campaign"];
 
 /// The exit status, what is printed and what is said of an error.
 fn ran(line: &[&str]) -> (i32, String, String) {
