@@ -344,7 +344,7 @@ fn names_that_a_text_gives_stand_beside_the_numbers() {
     let sent = "domain 0 (link) sends 5 to endpoint 1 (belts)";
     assert!(shown.contains(sent), "{shown}");
     let list = printed(&["commission", &named, "--struck", "1"]);
-    let granted = "domain 1 grants domain 0 (link) SEND, GRANT and REMOVE on domain 2";
+    let granted = "domain 1 grants domain 0 (link) SEND+GRANT+REMOVE on domain 2";
     assert!(list.contains(granted), "{list}");
     let wrong = file("named-wrong.txt", (text + "domain 3 drives\n").as_bytes());
     let beyond = "line 5: there is no domain 3: the table has 0 to 2";
@@ -479,7 +479,7 @@ fn whether_calls_count_is_answered_by_the_first_line() {
         counts.starts_with(
             "In this list: call 0 of domain 0 (link) counts for domain 5 (drive-5).\nIn this table \
              a chain of rights leads from domain 0 (link) to domain 5 (drive-5): domain 0 (link) \
-             has SEND on domain 1 (loader), domain 1 (loader) has GRANT and REMOVE on domain 5 \
+             has SEND on domain 1 (loader), domain 1 (loader) has GRANT+REMOVE on domain 5 \
              (drive-5).\n"
         ),
         "{counts}"
@@ -509,9 +509,9 @@ fn what_could_count_is_answered_by_the_calls_and_what_never_can_by_why() {
         could.starts_with(
             "Not in this list, but it could: by these calls of domain 1 (loader), domain 2 (chute) \
              and domain 4 (drive-4), which the proved kernel does, domain 4 (drive-4) is in the \
-             source set of domain 3 (drive-3):\n  domain 1 (loader) grants domain 2 (chute) SEND \
-             and GRANT on domain 2 (chute)\n  domain 2 (chute) grants domain 4 (drive-4) SEND and \
-             GRANT on domain 2 (chute)\n  domain 4 (drive-4) asks for its rights\n  domain 2 \
+             source set of domain 3 (drive-3):\n  domain 1 (loader) grants domain 2 (chute) \
+             SEND+GRANT on domain 2 (chute)\n  domain 2 (chute) grants domain 4 (drive-4) \
+             SEND+GRANT on domain 2 (chute)\n  domain 4 (drive-4) asks for its rights\n  domain 2 \
              (chute) asks for its rights\nIn this table no chain of rights leads"
         ),
         "{could}"
@@ -539,8 +539,7 @@ fn what_could_count_is_answered_by_the_calls_and_what_never_can_by_why() {
 fn all_chains_and_source_sets_are_printed() {
     let input = file("roads.bin", &example());
     let all = printed(&["roads", &input]);
-    let chain =
-        "\n    domain 0 has SEND on domain 1, domain 1 has SEND, GRANT and REMOVE on domain \
+    let chain = "\n    domain 0 has SEND on domain 1, domain 1 has SEND+GRANT+REMOVE on domain \
                  2\n";
     assert!(all.contains(chain), "{all}");
     // Document 01, P12: four of the nine calls are struck for domain 1.
@@ -881,20 +880,50 @@ fn calls_to_an_input_and_back() {
     assert_eq!(input[..4 * 35], example()[..4 * 35]);
     assert_eq!(input.len(), 4 * (35 + 10));
     let path = file("input-written.bin", &input);
-    assert_eq!(printed(&["read", &path]), CALLS);
+    assert_eq!(printed(&["read", "--calls", &path]), CALLS);
     // the same by texts: as one, and put together
     let text = printed(&["write", &calls, "--table", &table, "--text"]);
     let by_text = file("input-text.txt", text.as_bytes());
     assert_eq!(bench(&["words", &by_text]).stdout, input);
-    assert_eq!(printed(&["read", &by_text]), CALLS);
+    assert_eq!(printed(&["read", "--calls", &by_text]), CALLS);
     assert_eq!(bench(&["write", &calls, "--table", &by_text]).stdout, input);
     let together = format!("table {}\n{WORDS}", hex(&TABLE_T));
     let together = file("input-together.txt", together.as_bytes());
     assert_eq!(bench(&["words", &together]).stdout, input);
     // and the calls of an input, put behind its own table
-    let back = file("input-back.txt", printed(&["read", &path]).as_bytes());
+    let back = file(
+        "input-back.txt",
+        printed(&["read", "--calls", &path]).as_bytes(),
+    );
     assert_eq!(bench(&["write", &back, "--table", &path]).stdout, input);
     assert_eq!(status(&["show", &path]), 0);
+}
+
+#[test]
+fn a_line_in_words_goes_both_ways() {
+    let input = file("described.bin", &example());
+    let text = printed(&["read", &input]);
+    assert!(text.starts_with("domain d0\ndomain d1\n"), "{text}");
+    assert!(text.contains("\nrights d1 on d2: SEND+GRANT+REMOVE\n"));
+    assert!(text.contains("\n  d1 grants d0 SEND on d2\n"));
+    assert!(text.contains("\n  words F0000009\n"));
+    let described = file("described.txt", text.as_bytes());
+    assert_eq!(bench(&["words", &described]).stdout, example());
+    assert_eq!(status(&["show", &described]), 0);
+    let wrong = file(
+        "described-wrong.txt",
+        b"domain link\nendpoint e owner lnik capacity 1\nrights link at link: SEND",
+    );
+    let reported = told(&["show", &wrong]);
+    assert!(reported.contains("line 2, column 18: `lnik`: no domain has this name; did you mean"));
+    assert!(reported.contains("\nline 3, column 13: `on` is wanted here, not `at`"));
+    assert_eq!(status(&["show", &wrong]), 2);
+    let warned = file(
+        "described-warned.txt",
+        b"domain link\ncalls\n  7 asks for its rights",
+    );
+    assert!(told(&["show", &warned]).contains("line 3: the table has no domain 7\n"));
+    assert_eq!(status(&["show", &warned]), 0);
 }
 
 #[test]
@@ -1020,10 +1049,10 @@ fn calls_are_read_with_names_in_comments() {
 #[test]
 fn a_call_that_the_reader_refuses_is_told_by_number_and_code() {
     let input = file("refused.bin", &example());
-    assert_eq!(status(&["read", &input]), 1);
-    assert_eq!(printed(&["read", &input]), "");
+    assert_eq!(status(&["read", "--calls", &input]), 1);
+    assert_eq!(printed(&["read", "--calls", &input]), "");
     assert_eq!(
-        told(&["read", &input]),
+        told(&["read", "--calls", &input]),
         "bench read: call 6 is refused with 10 (a word of kind 15 stands alone): a stray word \
          with content 9\n"
     );
@@ -1443,8 +1472,8 @@ fn a_text_of_another_kind_is_told_with_the_command_for_it() {
     assert!(told(&["write", &words]).contains("of words `bench read` makes the calls"));
     let named = file("named-caller.txt", b"my-rights caller link\n");
     assert!(told(&["write", &named]).contains("takes the names that INPUT gives"));
-    let right = file("named-right.txt", b"remove caller 1 target 2 rights SEND\n");
-    assert!(told(&["write", &right]).contains("a sum of SEND 1, GRANT 2, REMOVE 4 and REVOKE 8"));
+    let right = file("no-right.txt", b"remove caller 1 target 2 rights SIT\n");
+    assert!(told(&["write", &right]).contains("a set is written as SEND+GRANT"));
     let lines = file("printed-lines.txt", PRINTED.as_bytes());
     assert!(told(&["show", &lines]).contains("a line that linerun prints"));
 }

@@ -53,6 +53,6 @@ fn the_checklist_and_its_page_have_the_link_in_the_source_set_of_the_drive() {
         assert!(!text.contains("at the end of this list"), "{text}");
         assert!(!text.contains("reaches it"), "{text}");
     }
-    let altered = "<li>domain 0 (link) on domain 1 (yard): SEND and REMOVE before, none after</li>";
+    let altered = "<li>domain 0 (link) on domain 1 (yard): SEND+REMOVE before, none after</li>";
     assert!(page.contains(altered), "{page}");
 }

@@ -1,4 +1,4 @@
-//! `bench read`: a list into calls as text, one a line.
+//! `bench read`: a line in words, or a list into calls as text, one a line.
 
 use std::ffi::OsString;
 
@@ -9,26 +9,27 @@ use crate::args::Options;
 use crate::commands::refused;
 use crate::kernels::boundary::PROVED_WRITER;
 use crate::line::calls;
-use crate::line::explain::{call_in_words, counted, meaning};
+use crate::line::described;
+use crate::line::explain::{call_in_words, counted, meaning, table_fault};
 use crate::line::given::{read_given_list, Given};
 use crate::line::input::Input;
 use crate::line::names::Names;
 use crate::output::{self, complain};
 
 pub const HELP: &str = "\
-bench read FILE
+bench read FILE [--calls]
 
-Writes the calls of a list as text, one a line, as `bench write` takes them.
-FILE is an input of linerun, or a text of hexadecimal words as `bench words`
-takes it or as `bench write` gives it, whose `list` may stand without a table.
-`-` is standard input. Where the text gives names, each call is told with them
-in a comment.
+Describes a line in words, as every command takes it (`bench help words`): its
+domains, endpoints, rights and calls, by their names where FILE gives some. A
+call that no sentence says is written as its words. FILE is an input of linerun,
+or a text; `-` is standard input.
 
-The calls are written by the proved writer again, and must give the list as it
-came: two different lists of calls are never written in the same words, so these
-are the calls of the list. A call that the reader refuses whatever the table,
-with 10, 11, 13 or 14, has no such text: it is told by its number, from 0, and
-its code.
+With --calls, and where FILE has a list alone, as `bench write` gives it, writes
+the calls as text, one a line, as `bench write` takes them. They are written by
+the proved writer again, and must give the list as it came: two different lists
+of calls are never written in the same words, so these are the calls of the
+list. A call that the reader refuses whatever the table, with 10, 11, 13 or 14,
+has no such text: it is reported by its number, from 0, and its code.
 
 Exit status: 0 written; 1 the list has such a call, or FILE is refused; 2 bad
 usage, or a file that can't be read.
@@ -39,26 +40,39 @@ const TOLD_MAX: usize = 10;
 
 /// The command: whether there was something to write.
 pub fn command(line: &[OsString]) -> Result<bool, String> {
-    let options = Options::parse(line, &[], &[])?;
+    let options = Options::parse(line, &[], &["--calls"])?;
     let file = options.file()?;
-    let Given { bytes, names } = read_given_list(file)?;
-    let list = match Input::parse(&bytes) {
-        Ok(Input { list, .. }) => list,
+    let Given { bytes, names, .. } = read_given_list(file)?;
+    let input = match Input::parse(&bytes) {
+        Ok(input) => input,
         Err(refusal) => {
             refused::complain_of("read", file, &refusal);
             return Ok(false);
         }
     };
-    let values = reference::read(&list);
-    let refused = told_refused(&list, &values, &names);
+    if options.has("--calls") || input.table.is_empty() {
+        return calls_alone(&input.list, &names);
+    }
+    if let Some(refusal) = table_fault(&input.table, &names) {
+        refused::complain_of("read", file, &refusal);
+        return Ok(false);
+    }
+    output::write(described::write(&input, &names).as_bytes());
+    Ok(true)
+}
+
+/// Writes the calls of a list, unless one has no text.
+fn calls_alone(list: &[u32], names: &Names) -> Result<bool, String> {
+    let values = reference::read(list);
+    let refused = told_refused(list, &values, names);
     if !refused.is_empty() {
         // Standard output is for the text alone.
         complain!("{}", refused.trim_end());
         return Ok(false);
     }
     let calls: Vec<[u32; COLUMNS]> = values.iter().filter_map(to_columns).collect();
-    as_it_came(&list, &calls)?;
-    output::write(in_text(&list, &calls, &names).as_bytes());
+    as_it_came(list, &calls)?;
+    output::write(in_text(list, &calls, names).as_bytes());
     Ok(true)
 }
 

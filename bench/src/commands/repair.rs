@@ -127,7 +127,7 @@ impl Asked<'_> {
     /// Reads IN; it may hold no words.
     fn read(&self) -> Result<Held, String> {
         if self.form != Form::Image {
-            let Given { bytes, names } = read_given(self.from)?;
+            let Given { bytes, names, .. } = read_given(self.from)?;
             return Ok(Input::parse(&bytes).map(|input| (input, names)));
         }
         let bytes = read_at_most(self.from, INPUT_BYTES_MAX)?;
@@ -338,7 +338,7 @@ mod tests {
         let broken = told(&[(3, 0x2000_0010)]);
         let anew =
             "  domain 0 has no right on domain 2 any more, whatever it had: calls of domain 1 \
-                    could give it SEND, GRANT and REMOVE, and no list gives it more";
+                    could give it SEND+GRANT+REMOVE, and no list gives it more";
         assert!(broken.ends_with(anew), "{broken}");
         let broken = told(&[(2, 0x2000_0010)]);
         let gone =

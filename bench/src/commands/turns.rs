@@ -74,6 +74,7 @@ pub fn command(line: &[OsString]) -> Result<bool, String> {
         Table::Here(bytes) => given::Given {
             bytes,
             names: Names::none(),
+            warnings: Vec::new(),
         },
     };
     let table = match given.accepted() {

@@ -41,6 +41,28 @@ A name is one word of letters, digits, `-` and `_`, of 24 characters at most.
 All commands that take the text print names beside the numbers; the input of
 linerun is the same with and without them.
 
+A line may be described in words instead, by names alone:
+
+  domain link
+  domain loader
+  endpoint routes owner loader capacity 4
+  rights link on loader: SEND
+  calls
+    link sends 65 to routes
+    loader receives from routes
+
+An endpoint may have `name 18`, `lost 3` and `waiting 5 6` behind it; its name
+is its number plus 1 where none is given. A set of rights is SEND+GRANT, of
+SEND, GRANT, REMOVE and REVOKE. Each kind of call has its sentence:
+
+  D looks up name N           D sends N to E         D receives from E
+  D asks for its endpoints    D asks for its rights  D grants D SET on D
+  D gives up SET on D         D takes SET on D back from D
+
+A call may also stand as `bench write` takes it, or as `words F0000009`. `bench
+read` writes such a text. All mistakes are reported, each by its line and
+column.
+
 A text without `table` and `list` is written as it stands. Its first word must
 then be the table's length, hexadecimal like the rest: 00000022 for 34 words. Up
 to three bytes of two digits each may stand at its end, for an input that has

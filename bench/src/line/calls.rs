@@ -7,7 +7,9 @@
 use reference::calls::{GRANT, LOOK_UP, MY_ENDPOINTS, MY_RIGHTS, RECEIVE, REMOVE, REVOKE, SEND};
 use reference::writer::COLUMNS;
 
+use crate::line::explain::NAMED_RIGHTS;
 use crate::line::names::Names;
+use crate::line::sentences;
 use crate::line::text::lines_of;
 
 /// A kind of call: its name and number, and its fields in the order that they are
@@ -20,9 +22,9 @@ struct Kind {
 
 /// A field of a call: which of the five words it is, and how many bits it has.
 #[derive(Debug, Clone, Copy, PartialEq, Eq)]
-struct Field {
-    name: &'static str,
-    column: usize,
+pub struct Field {
+    pub name: &'static str,
+    pub column: usize,
     bits: u32,
 }
 
@@ -31,39 +33,55 @@ impl Field {
         Field { name, column, bits }
     }
 
-    /// The number that is typed: as one, or by the name of what it is the number of.
-    fn number(&self, typed: &str, names: &Names) -> Result<u32, String> {
+    /// The number that is typed: as one, by the name of what it is the number of, or as a set
+    /// of rights.
+    pub fn number(&self, typed: &str, names: &Names) -> Result<u32, String> {
         let named = || match self.name {
-            "caller" | "target" | "recipient" | "holder" => names.domain_called(typed),
-            "endpoint" => names.endpoint_called(typed),
-            _ => None,
+            "rights" => set_of(typed),
+            "endpoint" => names.endpoint_called(typed).map(|number| number as u32),
+            "name" | "message" => None,
+            _ => names.domain_called(typed).map(|number| number as u32),
         };
-        let number = number(typed).or_else(|| named().map(|number| number as u32));
+        let number = number(typed).or_else(named);
         number.ok_or_else(|| self.no_number(typed, names))
     }
 
     /// What is said where no number is given.
     fn no_number(&self, typed: &str, names: &Names) -> String {
         let wanted = match self.name {
-            "rights" => "rights are a sum of SEND 1, GRANT 2, REMOVE 4 and REVOKE 8",
-            "name" | "message" => "17 or 0x11 is one",
+            "rights" => "a set is written as SEND+GRANT, of SEND, GRANT, REMOVE and REVOKE".into(),
+            "name" | "message" => "17 or 0x11 is one".into(),
             _ if names.is_empty() => {
                 "17 or 0x11 is one; `bench write --table INPUT` takes the names that INPUT gives"
+                    .into()
             }
-            _ => "17 or 0x11 is one, and nothing has this name",
+            "endpoint" => names.no_endpoint(typed),
+            _ => names.no_domain(typed),
         };
         format!("{} is `{typed}`, which is no number: {wanted}", self.name)
     }
 }
 
-const CALLER: Field = Field::new("caller", 1, 6);
-const TARGET: Field = Field::new("target", 2, 6);
-const ENDPOINT: Field = Field::new("endpoint", 3, 8);
-const RECIPIENT: Field = Field::new("recipient", 3, 8);
-const HOLDER: Field = Field::new("holder", 3, 8);
-const RIGHTS: Field = Field::new("rights", 4, 8);
-const NAME: Field = Field::new("name", 4, 28);
-const MESSAGE: Field = Field::new("message", 4, 28);
+/// The set of rights that is typed, as `SEND+GRANT`.
+pub fn set_of(typed: &str) -> Option<u32> {
+    let bit = |name| {
+        NAMED_RIGHTS
+            .iter()
+            .find(|(.., known)| *known == name)
+            .map(|(bit, ..)| bit)
+    };
+    let bits = typed.split('+').map(bit).collect::<Option<Vec<_>>>()?;
+    Some(bits.iter().fold(0, |set, bit| set | *bit))
+}
+
+pub const CALLER: Field = Field::new("caller", 1, 6);
+pub const TARGET: Field = Field::new("target", 2, 6);
+pub const ENDPOINT: Field = Field::new("endpoint", 3, 8);
+pub const RECIPIENT: Field = Field::new("recipient", 3, 8);
+pub const HOLDER: Field = Field::new("holder", 3, 8);
+pub const RIGHTS: Field = Field::new("rights", 4, 8);
+pub const NAME: Field = Field::new("name", 4, 28);
+pub const MESSAGE: Field = Field::new("message", 4, 28);
 
 #[rustfmt::skip]
 const KINDS: [Kind; 8] = [
@@ -90,6 +108,37 @@ pub struct Typed {
 }
 
 impl Typed {
+    /// A call of some kind whose fields are still to be set.
+    pub fn new(line: usize, kind: u32) -> Typed {
+        let mut columns = [0; COLUMNS];
+        columns[0] = kind;
+        Typed {
+            line,
+            columns,
+            fields: Vec::new(),
+        }
+    }
+
+    /// Sets a field to the number that was typed.
+    pub fn set(&mut self, field: Field, number: u32, typed: &str) {
+        self.columns[field.column] = number;
+        self.fields.push((field, typed.to_string()));
+    }
+
+    /// What the call names by a number that a table of so many domains and endpoints hasn't.
+    pub fn beyond(&self, (domains, endpoints): (usize, usize)) -> Vec<String> {
+        let beyond = self.fields.iter().filter_map(|(field, _)| {
+            let (what, size) = match field.name {
+                "endpoint" => ("endpoint", endpoints),
+                "rights" | "name" | "message" => return None,
+                _ => ("domain", domains),
+            };
+            let number = self.columns[field.column] as usize;
+            (number >= size).then(|| format!("{what} {number}"))
+        });
+        beyond.collect()
+    }
+
     /// The field that exceeds its bits, in words.
     pub fn too_large(&self) -> Option<String> {
         let (field, typed) = self
@@ -139,35 +188,33 @@ pub fn read_line(line: &str, at: usize, names: &Names) -> Result<Option<Typed>, 
     let Some(name) = words.next() else {
         return Ok(None);
     };
+    let items = sentences::items_of(line);
+    if items
+        .get(1)
+        .is_some_and(|item| sentences::is_verb(item.text))
+    {
+        let call = sentences::read(&items, at, names);
+        return call.map(Some).map_err(|(_, why)| why);
+    }
     let kind = KINDS.iter().find(|kind| kind.name == name).ok_or_else(|| {
         let names = KINDS.map(|kind| kind.name).join(", ");
         let meant = meant(name);
         format!("there is no call `{name}`, only {names}{meant}")
     })?;
-    let mut columns = [0; COLUMNS];
-    columns[0] = kind.number;
-    let mut fields: Vec<(Field, String)> = Vec::new();
+    let mut call = Typed::new(at, kind.number);
     while let Some(word) = words.next() {
         let field = kind.field(word)?;
-        if fields.iter().any(|(given, _)| *given == field) {
+        if call.fields.iter().any(|(given, _)| *given == field) {
             return Err(format!("{word} is given a second time"));
         }
         let typed = words
             .next()
             .ok_or_else(|| format!("{word} has no number"))?;
-        columns[field.column] = field.number(typed, names)?;
-        fields.push((field, typed.to_string()));
+        call.set(field, field.number(typed, names)?, typed);
     }
-    let missing = kind
-        .fields
-        .iter()
-        .find(|wanted| fields.iter().all(|(given, _)| given != *wanted));
-    match missing {
-        None => Ok(Some(Typed {
-            line: at,
-            columns,
-            fields,
-        })),
+    let given = |wanted: &Field| call.fields.iter().any(|(given, _)| given == wanted);
+    match kind.fields.iter().find(|wanted| !given(wanted)) {
+        None => Ok(Some(call)),
         Some(field) => Err(format!("{name} needs {}", field.name)),
     }
 }
@@ -273,17 +320,19 @@ revoke caller 1 target 2 holder 3 rights 8
 
     #[test]
     fn names_stand_for_the_numbers_of_domains_and_endpoints() {
-        let given = "domain 0 link\ndomain 1 loader\ndomain 2 7\nendpoint 3 loader";
+        let given = "domain 0 link\ndomain 1 loader\nendpoint 3 loader";
         let names = Names::given(given);
         let columns = |line: &str| read(line, &names).map(|calls| calls[0].columns);
         let send = columns("send caller loader endpoint loader message 5");
         assert_eq!(send, Ok([2, 1, 0, 3, 5]));
         let grant = columns("grant caller link target loader recipient link rights 1");
         assert_eq!(grant, Ok([6, 0, 1, 0, 1]));
-        // A number is taken as one, also where it is a name.
         assert_eq!(columns("my-rights caller 7"), Ok([5, 7, 0, 0, 0]));
+        let set = columns("remove caller link target loader rights SEND+REVOKE");
+        assert_eq!(set, Ok([7, 0, 1, 0, 9]));
+        assert_eq!(columns("link sends 5 to loader"), Ok([2, 0, 0, 3, 5]));
         let told = columns("my-rights caller belts").unwrap_err();
-        assert!(told.ends_with("no number: 17 or 0x11 is one, and nothing has this name"));
+        assert!(told.ends_with("no number: no domain has this name"));
         assert!(columns("look-up caller link name loader").is_err());
         assert!(columns("send caller link endpoint link message 5").is_err());
     }

@@ -89,23 +89,13 @@ pub fn letters(set: u32) -> String {
     held.map(|(_, letter, _)| *letter).collect()
 }
 
-/// A set of rights in words, as `SEND, GRANT and REMOVE`.
+/// A set of rights in words, as `SEND+GRANT`.
 pub fn rights_in_words(set: u32) -> String {
     if set == 0 || set > right::ALL {
         return format!("the rights {set}");
     }
-    let held: Vec<&str> = NAMED_RIGHTS
-        .iter()
-        .filter(|(bit, ..)| set & bit != 0)
-        .map(|(.., name)| *name)
-        .collect();
-    match held.as_slice() {
-        [first @ .., before, last] => {
-            let first: String = first.iter().map(|word| format!("{word}, ")).collect();
-            format!("{first}{before} and {last}")
-        }
-        _ => held.concat(),
-    }
+    let held = NAMED_RIGHTS.iter().filter(|(bit, ..)| set & bit != 0);
+    held.map(|(.., name)| *name).collect::<Vec<_>>().join("+")
 }
 
 /// What a call asks for.
@@ -483,11 +473,11 @@ mod tests {
         );
         assert_eq!(
             told(0x7042_0003),
-            "domain 1 gives up SEND and GRANT on domain 2"
+            "domain 1 gives up SEND+GRANT on domain 2"
         );
         assert_eq!(
             told(0x6042_0007),
-            "domain 1 grants domain 0 SEND, GRANT and REMOVE on domain 2"
+            "domain 1 grants domain 0 SEND+GRANT+REMOVE on domain 2"
         );
         assert_eq!(
             told(0x7042_0011),

@@ -6,12 +6,15 @@ use crate::line::explain::table_fault;
 use crate::line::input::{read_text, read_typed, shown, typed, Input, INPUT_BYTES_MAX};
 use crate::line::names::Names;
 use crate::line::text;
+use crate::output::complain;
 
 /// What was given: the bytes for `linerun`, and the names that a text gives with them.
 #[derive(Debug, Clone, PartialEq, Eq)]
 pub struct Given {
     pub bytes: Vec<u8>,
     pub names: Names,
+    /// What is lawful and probably not meant.
+    pub warnings: Vec<String>,
 }
 
 impl Given {
@@ -47,12 +50,17 @@ pub fn read_names(path: impl AsRef<Path>) -> Result<Names, String> {
 fn read_by(path: &Path, read: fn(&str) -> Result<Given, String>) -> Result<Given, String> {
     read_typed(path, |mut bytes| {
         if let Some(text) = typed(&bytes)? {
-            return read(text);
+            let given = read(text)?;
+            for warning in &given.warnings {
+                complain!("{}: {warning}", shown(path));
+            }
+            return Ok(given);
         }
         bytes.truncate(INPUT_BYTES_MAX);
         Ok(Given {
             bytes,
             names: Names::none(),
+            warnings: Vec::new(),
         })
     })
 }

@@ -3,10 +3,12 @@
 //! back from one.
 
 pub mod calls;
+pub mod described;
 pub mod dump;
 pub mod explain;
 pub mod given;
 pub mod input;
 pub mod names;
+pub mod sentences;
 pub mod text;
 pub mod turns;

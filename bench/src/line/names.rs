@@ -4,6 +4,7 @@
 use std::collections::BTreeMap;
 use std::fmt::Display;
 
+use crate::line::calls::number;
 use reference::table::{domains, endpoints, header_is_right, DOMAINS_MAX, ENDPOINTS_MAX};
 
 /// The most characters of a name.
@@ -86,6 +87,24 @@ impl Names {
         }
     }
 
+    /// What is said of a word that no domain is called.
+    pub fn no_domain(&self, word: &str) -> String {
+        not_called(
+            ("domain", &self.domains),
+            ("an endpoint", &self.endpoints),
+            word,
+        )
+    }
+
+    /// What is said of a word that no endpoint is called.
+    pub fn no_endpoint(&self, word: &str) -> String {
+        not_called(
+            ("endpoint", &self.endpoints),
+            ("a domain", &self.domains),
+            word,
+        )
+    }
+
     /// The domain of a name, where there is one.
     pub fn domain_called(&self, name: &str) -> Option<usize> {
         called(&self.domains, name)
@@ -111,6 +130,25 @@ impl Names {
         domains.chain(endpoints).collect()
     }
 
+    /// Gives a domain its name; what is wrong with it otherwise.
+    pub fn name_domain(&mut self, domain: usize, name: &str) -> Result<(), String> {
+        give(&mut self.domains, "domain", domain, name)
+    }
+
+    /// Gives an endpoint its name; what is wrong with it otherwise.
+    pub fn name_endpoint(&mut self, endpoint: usize, name: &str) -> Result<(), String> {
+        give(&mut self.endpoints, "endpoint", endpoint, name)
+    }
+
+    /// The same, with a name for each of so many domains and endpoints: one that has none is
+    /// called by its number behind a letter.
+    pub fn completed(&self, domains: usize, endpoints: usize) -> Names {
+        Names {
+            domains: completed(&self.domains, "d", domains),
+            endpoints: completed(&self.endpoints, "e", endpoints),
+        }
+    }
+
     /// Takes in what a line gives, as `domain 0 link`; what is wrong with it
     /// otherwise. `sizes` are how many domains and endpoints there are.
     fn add(&mut self, line: &[&str], sizes: (usize, usize)) -> Result<(), String> {
@@ -125,16 +163,43 @@ impl Names {
             _ => (&mut self.endpoints, sizes.1),
         };
         let number = number_of(what, number, size)?;
-        check_name(name)?;
-        if names.contains_key(&number) {
-            return Err(format!("{what} {number} has a name already"));
-        }
-        if let Some(other) = called(names, name) {
-            return Err(format!("`{name}` is the name of {what} {other} already"));
-        }
-        names.insert(number, name.to_string());
-        Ok(())
+        give(names, what, number, name)
     }
+}
+
+/// Adds a name to those of its kind, unless there is something wrong with it.
+fn give(
+    names: &mut BTreeMap<usize, String>,
+    what: &str,
+    number: usize,
+    name: &str,
+) -> Result<(), String> {
+    check_name(name)?;
+    if names.contains_key(&number) {
+        return Err(format!("{what} {number} has a name already"));
+    }
+    if let Some(other) = called(names, name) {
+        return Err(format!("`{name}` is the name of {what} {other} already"));
+    }
+    names.insert(number, name.to_string());
+    Ok(())
+}
+
+/// The names with one for each number below `size`.
+fn completed(
+    names: &BTreeMap<usize, String>,
+    letter: &str,
+    size: usize,
+) -> BTreeMap<usize, String> {
+    let mut all = names.clone();
+    for number in 0..size {
+        let mut name = format!("{letter}{number}");
+        while !all.contains_key(&number) && called(&all, &name).is_some() {
+            name.push('-');
+        }
+        all.entry(number).or_insert(name);
+    }
+    all
 }
 
 /// The lines of a text that give names, taken apart, each with its number.
@@ -229,7 +294,45 @@ fn called(names: &BTreeMap<usize, String>, name: &str) -> Option<usize> {
     found.map(|(number, _)| *number)
 }
 
+/// What is said of a word that is none of the names wanted: whether it is one of the others,
+/// or the nearest that is wanted.
+fn not_called(
+    (wanted, names): (&str, &BTreeMap<usize, String>),
+    (other, others): (&str, &BTreeMap<usize, String>),
+    word: &str,
+) -> String {
+    let nearest = names
+        .values()
+        .map(|name| (distance(name, word), name))
+        .min();
+    let hint = match nearest {
+        _ if called(others, word).is_some() => format!(", but {other} has it"),
+        Some((steps, name)) if steps <= 1 + word.len() / 4 => format!("; did you mean `{name}`?"),
+        _ => String::new(),
+    };
+    format!("no {wanted} has this name{hint}")
+}
+
+/// How many letters must be altered, added or left out to make one word of another.
+fn distance(one: &str, other: &str) -> usize {
+    let other: Vec<char> = other.chars().collect();
+    let mut row: Vec<usize> = (0..=other.len()).collect();
+    for letter in one.chars() {
+        let mut diagonal = row[0];
+        row[0] += 1;
+        for (place, &same) in other.iter().enumerate() {
+            let altered = diagonal + usize::from(same != letter);
+            diagonal = row[place + 1];
+            row[place + 1] = altered.min(diagonal + 1).min(row[place] + 1);
+        }
+    }
+    row[other.len()]
+}
+
 fn check_name(name: &str) -> Result<(), String> {
+    if number(name).is_some() {
+        return Err(format!("`{name}` is a number, so it can't be a name"));
+    }
     let right = |byte: u8| byte.is_ascii_alphanumeric() || byte == b'-' || byte == b'_';
     if !name.bytes().all(right) {
         return Err(format!(
@@ -325,6 +428,11 @@ mod tests {
         assert!(wrong("endpoint 0 a b", (3, 2)).contains("`endpoint 0 NAME`"));
         assert!(wrong("domain 0 a.b", (3, 2)).starts_with("`a.b` is no name"));
         assert!(wrong("domain 0 \u{E9}", (3, 2)).contains("is no name"));
+        assert_eq!(
+            wrong("domain 0 7", (3, 2)),
+            "`7` is a number, so it can't be a name"
+        );
+        assert!(wrong("domain 0 0x1F", (3, 2)).contains("is a number"));
         let longest = "n".repeat(24);
         assert!(Names::none()
             .add(&["domain", "0", &longest], (1, 0))
@@ -341,6 +449,36 @@ mod tests {
         assert_eq!(twice, "`link` is the name of domain 0 already");
         // A domain and its endpoint may be called the same.
         Names::given("domain 0 link\nendpoint 0 link");
+    }
+
+    #[test]
+    fn the_nearest_name_is_suggested() {
+        let names = Names::given("domain 0 link\ndomain 1 drive-a\nendpoint 0 routes");
+        assert_eq!(
+            names.no_domain("drive-b"),
+            "no domain has this name; did you mean `drive-a`?"
+        );
+        assert_eq!(
+            names.no_domain("lnik"),
+            "no domain has this name; did you mean `link`?"
+        );
+        assert_eq!(
+            names.no_domain("routes"),
+            "no domain has this name, but an endpoint has it"
+        );
+        assert_eq!(
+            names.no_endpoint("link"),
+            "no endpoint has this name, but a domain has it"
+        );
+        assert_eq!(names.no_endpoint("belts"), "no endpoint has this name");
+        assert_eq!(
+            (
+                distance("", "abc"),
+                distance("abc", "abd"),
+                distance("ab", "ba")
+            ),
+            (3, 1, 2)
+        );
     }
 
     #[test]

@@ -1,8 +1,10 @@
-//! Words as text, the way document 01 writes them, and back.
+//! Words as text, the way document 01 writes them, and back. A text that describes the line
+//! is read by [`described`].
 //!
 //! The help of `bench words` says what a text looks like.
 
 use crate::line::calls;
+use crate::line::described;
 use crate::line::given::Given;
 use crate::line::input::Input;
 use crate::line::names::{Names, Namings};
@@ -99,16 +101,25 @@ fn items(words: &[u32]) -> Vec<String> {
 /// What a text stands for, with the names that it gives, or what is wrong with it and
 /// in which line.
 pub fn read(text: &str) -> Result<Given, String> {
+    if described::is_described(text) {
+        return described::read(text);
+    }
     parts_of(text, false)?.given()
 }
 
 /// The same of a text whose list may stand without a table, which is then empty.
 pub fn read_list(text: &str) -> Result<Given, String> {
+    if described::is_described(text) {
+        return described::read(text);
+    }
     parts_of(text, true)?.given()
 }
 
 /// The names that a text gives; there need be no words in it.
 pub fn read_names(text: &str) -> Result<Names, String> {
+    if described::is_described(text) {
+        return described::read(text).map(|given| given.names);
+    }
     let parts = parts_of(text, true)?;
     parts.names()
 }
@@ -150,6 +161,7 @@ impl Parts<'_> {
         Ok(Given {
             bytes: self.bytes(),
             names: self.names()?,
+            warnings: Vec::new(),
         })
     }
 

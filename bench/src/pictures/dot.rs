@@ -204,7 +204,7 @@ mod tests {
         );
         assert!(graph.contains("0 (after the list 1) lost"), "{graph}");
         assert!(
-            graph.contains("d1 -> d2 [label=\"SEND, GRANT and REMOVE\""),
+            graph.contains("d1 -> d2 [label=\"SEND+GRANT+REMOVE\""),
             "{graph}"
         );
     }

@@ -131,15 +131,14 @@ mod tests {
     #[test]
     fn what_the_worked_example_could_come_to() {
         let printed = potential_in_words(&TABLE_T, &Names::none());
-        let wanted =
-            "  domain 0 on domain 2: holds nothing; could come to SEND, GRANT and REMOVE, \
-                      by calls of domain 1\n    domain 1 grants domain 0 SEND, GRANT and REMOVE on \
+        let wanted = "  domain 0 on domain 2: holds nothing; could come to SEND+GRANT+REMOVE, \
+                      by calls of domain 1\n    domain 1 grants domain 0 SEND+GRANT+REMOVE on \
                       domain 2\n";
         assert!(printed.contains(wanted), "{printed}");
         let named = Names::given("domain 0 link\ndomain 2 drives");
         let printed = potential_in_words(&TABLE_T, &named);
         assert!(printed.contains("  domain 0 (link) on domain 2 (drives): holds nothing"));
-        assert!(printed.contains("    domain 1 grants domain 0 (link) SEND, GRANT"));
+        assert!(printed.contains("    domain 1 grants domain 0 (link) SEND+GRANT+REMOVE"));
     }
 
     /// By calls of its own alone nobody comes to more.
@@ -166,7 +165,7 @@ mod tests {
         let printed = potential_in_words(&table, &Names::none());
         assert_eq!(printed.matches("; could come to ").count(), 56);
         assert_eq!(printed.matches(", by calls of ").count(), 40);
-        let end = "\n  domain 7 on domain 7: holds nothing; could come to SEND, GRANT, REMOVE and \
+        let end = "\n  domain 7 on domain 7: holds nothing; could come to SEND+GRANT+REMOVE+\
                    REVOKE\n  (the calls for the last 16 pairs aren't printed)\n  no list of calls \
                    gives anybody else more\n";
         assert!(printed.ends_with(end), "{printed}");

@@ -418,7 +418,7 @@ mod tests {
         );
         assert!(!page.contains("This list altered none."), "{page}");
         let twice = line(vec![0x6042_0001, 0x6042_0003, 0x8042_0003]);
-        let both = "none before and after, SEND, then SEND and GRANT in between</li>";
+        let both = "none before and after, SEND, then SEND+GRANT in between</li>";
         has(&page_of(&twice), &[both]);
         has(
             &page_of(&line(vec![0x5000_0000])),

@@ -1,0 +1,376 @@
+//! A line described in words: its domains, endpoints, rights and calls by their names, and
+//! back.
+//!
+//! The help of `bench words` says what such a text looks like.
+
+mod heads;
+
+use reference::calls::LIST_WORDS_MAX;
+use reference::table::{capacity, domains, endpoints, lost, name, owner, rights, waiting};
+use reference::table::{endpoint_words, SLOTS_PLACE};
+use reference::words::content;
+use reference::writer::to_columns;
+
+use crate::line::calls::{self, Typed};
+use crate::line::explain::rights_in_words;
+use crate::line::given::Given;
+use crate::line::input::Input;
+use crate::line::names::Names;
+use crate::line::sentences::{self, items_of, Item, Wrong};
+use crate::line::text::{lines_of, words_of};
+use heads::Heads;
+
+/// What is wrong with a text: where, and what.
+type Problem = (usize, usize, String);
+
+/// What one text says, and what is wrong with it.
+#[derive(Default)]
+struct Reader {
+    heads: Heads,
+    list: Vec<u32>,
+    problems: Vec<Problem>,
+    warnings: Vec<String>,
+}
+
+/// Whether a text describes a line in words, rather than giving its words.
+pub fn is_described(text: &str) -> bool {
+    lines_of(text).any(|(_, line)| {
+        let items: Vec<&str> = line.split_whitespace().collect();
+        match items.as_slice() {
+            ["calls"] | ["rights", ..] | ["domain", _] => true,
+            ["endpoint", _, field, ..] => heads::is_endpoint_field(field),
+            _ => false,
+        }
+    })
+}
+
+/// The line that a text describes, or everything that is wrong with it.
+pub fn read(text: &str) -> Result<Given, String> {
+    let mut reader = Reader::default();
+    let lines: Vec<(usize, Vec<Item>)> = lines_of(text)
+        .map(|(number, line)| (number, items_of(line)))
+        .filter(|(_, items)| !items.is_empty())
+        .collect();
+    let is_calls = |(_, items): &(usize, Vec<Item>)| items.len() == 1 && items[0].text == "calls";
+    let end = lines.iter().position(is_calls).unwrap_or(lines.len());
+    for (number, items) in &lines[..end] {
+        let read = reader.heads.read(*number, items);
+        reader.note(*number, read);
+    }
+    let resolved = reader.heads.resolve();
+    reader.problems.extend(resolved);
+    for (number, items) in lines.iter().skip(end + 1) {
+        let read = reader.call(*number, items);
+        reader.note(*number, read);
+    }
+    reader.given()
+}
+
+impl Reader {
+    fn note(&mut self, line: usize, read: Result<(), Wrong>) {
+        if let Err((column, why)) = read {
+            self.problems.push((line, column, why));
+        }
+    }
+
+    /// Takes in a call: a sentence, a line as `bench write` takes it, or words as they stand.
+    fn call(&mut self, line: usize, items: &[Item]) -> Result<(), Wrong> {
+        let first = items[0].column;
+        let words = match items[0].text {
+            "words" => words_as_they_stand(&items[1..])?,
+            kind if calls::is_kind(kind) && !is_sentence(items) => {
+                let joined: Vec<&str> = items.iter().map(|item| item.text).collect();
+                let call = calls::read_line(&joined.join(" "), line, self.heads.names());
+                let call = call.map_err(|why| (first, why))?;
+                call.map_or(Ok(Vec::new()), |call| self.written(first, &call))?
+            }
+            _ => {
+                let call = sentences::read(items, line, self.heads.names())?;
+                self.written(first, &call)?
+            }
+        };
+        self.list.extend(words);
+        match self.list.len() {
+            0..=LIST_WORDS_MAX => Ok(()),
+            _ => Err((first, "the list has more than 4,096 words here".to_string())),
+        }
+    }
+
+    /// The words of a call whose fields are within their bits, with a warning of each number
+    /// that the table hasn't.
+    fn written(&mut self, column: usize, call: &Typed) -> Result<Vec<u32>, Wrong> {
+        if let Some(why) = call.too_large() {
+            return Err((column, why));
+        }
+        let beyond = call.beyond(self.heads.sizes());
+        let line = call.line;
+        let warned = beyond
+            .iter()
+            .map(|what| format!("line {line}: the table has no {what}"));
+        self.warnings.extend(warned);
+        let mut space = [0; 2];
+        let (_, words) = reference::writer::write_columns(&call.columns, &mut space);
+        Ok(space[..words].to_vec())
+    }
+
+    fn given(self) -> Result<Given, String> {
+        let mut problems = self.problems;
+        if problems.is_empty() {
+            let input = Input {
+                table: self.heads.table(),
+                list: self.list,
+            };
+            return Ok(Given {
+                bytes: input.to_bytes(),
+                names: self.heads.names().clone(),
+                warnings: self.warnings,
+            });
+        }
+        problems.sort();
+        let lines = problems
+            .iter()
+            .map(|(line, column, why)| format!("line {line}, column {column}: {why}"));
+        Err(lines.collect::<Vec<_>>().join("\n"))
+    }
+}
+
+fn is_sentence(items: &[Item]) -> bool {
+    items
+        .get(1)
+        .is_some_and(|item| sentences::is_verb(item.text))
+}
+
+fn words_as_they_stand(items: &[Item]) -> Result<Vec<u32>, Wrong> {
+    let mut words = Vec::new();
+    for item in items {
+        words.extend(words_of(item.text).map_err(|why| (item.column, why))?);
+    }
+    Ok(words)
+}
+
+/// The text of an accepted table and a list. What the text gives no name has its number
+/// behind a letter.
+pub fn write(input: &Input, names: &Names) -> String {
+    let table = &input.table;
+    let names = names.completed(domains(table), endpoints(table));
+    let mut text = String::new();
+    for domain in 0..domains(table) {
+        text += &format!("domain {}\n", named(names.domain_name(domain)));
+    }
+    for endpoint in 0..endpoints(table) {
+        text += &endpoint_line(table, endpoint, &names);
+    }
+    for holder in 0..domains(table) {
+        text += &rights_lines(table, holder, &names);
+    }
+    text + &call_lines(&input.list, &names)
+}
+
+fn named(name: Option<&str>) -> &str {
+    name.expect("each has a name")
+}
+
+fn endpoint_line(table: &[u32], endpoint: usize, names: &Names) -> String {
+    let mut line = format!(
+        "endpoint {} owner {} capacity {}",
+        named(names.endpoint_name(endpoint)),
+        named(names.domain_name(owner(table, endpoint))),
+        capacity(table, endpoint)
+    );
+    if name(table, endpoint) as usize != endpoint + 1 {
+        line += &format!(" name {}", name(table, endpoint));
+    }
+    if lost(table, endpoint) != 0 {
+        line += &format!(" lost {}", lost(table, endpoint));
+    }
+    let slots = &endpoint_words(table, endpoint)[SLOTS_PLACE..];
+    let messages = slots.iter().take(waiting(table, endpoint));
+    let messages: String = messages
+        .map(|&slot| format!(" {}", content(slot)))
+        .collect();
+    if !messages.is_empty() {
+        line += &format!(" waiting{messages}");
+    }
+    line + "\n"
+}
+
+fn rights_lines(table: &[u32], holder: usize, names: &Names) -> String {
+    let targets = (0..domains(table)).filter(|&target| rights(table, holder, target) != 0);
+    let lines = targets.map(|target| {
+        format!(
+            "rights {} on {}: {}\n",
+            named(names.domain_name(holder)),
+            named(names.domain_name(target)),
+            rights_in_words(rights(table, holder, target))
+        )
+    });
+    lines.collect()
+}
+
+/// The calls, a sentence each; what no sentence says, as its words.
+fn call_lines(list: &[u32], names: &Names) -> String {
+    let calls = reference::cut(list);
+    let values = reference::read(list);
+    let lines = calls.iter().zip(&values).map(|(call, value)| {
+        let said = to_columns(value).map(|columns| sentences::write(&columns, names));
+        let words = || {
+            call.words()
+                .iter()
+                .map(|word| format!(" {word:08X}"))
+                .collect::<String>()
+        };
+        format!(
+            "  {}\n",
+            said.unwrap_or_else(|| format!("words{}", words()))
+        )
+    });
+    let lines: String = lines.collect();
+    match lines.is_empty() {
+        true => String::new(),
+        false => format!("calls\n{lines}"),
+    }
+}
+
+#[cfg(test)]
+mod tests {
+    use super::*;
+    use reference::generate::{self, Rng};
+
+    const LINE: &str = "\
+# a small line
+domain link
+domain loader
+domain drive-a
+endpoint routes  owner loader  capacity 4
+endpoint moves-a owner drive-a capacity 8  name 18 lost 3 waiting 5 6
+rights loader on drive-a: SEND+GRANT
+rights link on loader: SEND
+calls
+  link sends 65 to routes
+  grant caller loader target drive-a recipient link rights SEND
+  words F0000009
+";
+
+    fn input(text: &str) -> Input {
+        Input::parse(&read(text).unwrap().bytes).unwrap()
+    }
+
+    fn problems(text: &str) -> Vec<String> {
+        read(text)
+            .unwrap_err()
+            .lines()
+            .map(str::to_string)
+            .collect()
+    }
+
+    #[test]
+    fn a_line_in_words_is_its_table_and_list() {
+        assert!(is_described(LINE));
+        let given = input(LINE);
+        let table = [
+            0x1000_0302,
+            0x2000_0000,
+            0x2000_0001,
+            0x2000_0000,
+            0x2000_0000,
+            0x2000_0000,
+            0x2000_0003,
+            0x2000_0000,
+            0x2000_0000,
+            0x2000_0000,
+        ];
+        assert_eq!(given.table[..10], table);
+        assert_eq!(
+            given.table[10..14],
+            [0x3000_0001, 0x4000_0104, 0x5000_0000, 0x6000_0000]
+        );
+        assert_eq!(
+            given.table[22..26],
+            [0x3000_0012, 0x4000_0208, 0x5000_0002, 0x6000_0003]
+        );
+        assert_eq!(given.table[26..29], [0xF000_0005, 0xF000_0006, EMPTY]);
+        assert_eq!(
+            given.list,
+            [0x2000_0000, 0xF000_0041, 0x6042_0001, 0xF000_0009]
+        );
+        assert_eq!(reference::table::check_table(&given.table), 0);
+    }
+
+    const EMPTY: u32 = reference::words::EMPTY_SLOT;
+
+    #[test]
+    fn drawn_lines_go_both_ways() {
+        let mut rng = Rng::new(46);
+        for _ in 0..400 {
+            let table = generate::table(&mut rng, 16, 32);
+            let list = generate::list(&mut rng, &table, 60);
+            let line = Input { table, list };
+            let text = write(&line, &Names::none());
+            assert_eq!(input(&text), line, "{text}");
+            let names = read(&text).unwrap().names;
+            assert_eq!(write(&line, &names), text);
+        }
+    }
+
+    #[test]
+    fn words_as_text_describe_no_line() {
+        assert!(!is_described(
+            "table 10000100 20000000\ndomain 0 link\nendpoint 1 a\nlist"
+        ));
+        assert!(is_described("calls\n"));
+    }
+
+    #[test]
+    fn everything_that_is_wrong_is_reported_at_once() {
+        let wrong = problems(
+            "domain link\ndomain 7\nendpoint a owner lnik capacity 9\nendpoint b owner lnik \
+             capacity 2\nrights link on belt: SEND\nrights link on link: SEND+SIT\ncalls\n\
+             link sends 5 to c\nlink sends 5 at b",
+        );
+        let starts = [
+            "line 2, column 8: `7` is a number, so it can't be a name",
+            "line 3, column 18: `lnik`: no domain has this name; did you mean `link`?",
+            "line 3, column 32: `9` is no number from 1 to 8",
+            "line 4, column 18: `lnik`: no domain has this name; did you mean `link`?",
+            "line 5, column 16: `belt`: no domain has this name",
+            "line 6, column 22: `SEND+SIT` is no set of rights",
+            "line 8, column 17: endpoint is `c`, which is no number: no endpoint has this name",
+            "line 9, column 14: `to` is wanted here, not `at`",
+        ];
+        for (wrong, start) in wrong.iter().zip(starts) {
+            assert!(wrong.starts_with(start), "{wrong} is no {start}");
+        }
+        assert_eq!(wrong.len(), starts.len(), "{wrong:?}");
+    }
+
+    #[test]
+    fn repeated_names_and_rights_are_wrong() {
+        let wrong = problems("domain a\ndomain a\nrights 0 on 0: SEND\nrights 0 on 0: GRANT");
+        assert_eq!(
+            wrong[0],
+            "line 2, column 8: `a` is the name of domain 0 already"
+        );
+        assert_eq!(
+            wrong[1],
+            "line 4, column 13: these rights are given already"
+        );
+        let wrong = problems(
+            "domain a\nendpoint e owner a capacity 1 name 2\nendpoint f owner a capacity 1",
+        );
+        let same = "line 3, column 1: its name is 2, as that of endpoint 0 (e): give it another";
+        assert!(wrong[0].starts_with(same), "{}", wrong[0]);
+    }
+
+    #[test]
+    fn numbers_outside_the_table_are_warned_of() {
+        let given =
+            read("domain a\nendpoint e owner a capacity 1\ncalls\n9 sends 5 to e\na sends 5 to 7")
+                .unwrap();
+        let warned = [
+            "line 4: the table has no domain 9",
+            "line 5: the table has no endpoint 7",
+        ];
+        assert_eq!(given.warnings, warned);
+        assert!(read(LINE).unwrap().warnings.is_empty());
+    }
+}
