@@ -22,4 +22,5 @@ pub mod Counts
 pub mod Refused
 pub mod Promise
 pub mod WordClaims
+pub mod CallClaims
 pub mod PromiseClaims

@@ -21,6 +21,7 @@ pub mod Promise
 pub mod SameParts
 pub mod MachineClaims
 pub mod WordClaims
+pub mod CallClaims
 pub mod PromiseClaims
 pub mod Examples
 pub mod CodeExamples

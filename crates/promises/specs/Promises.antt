@@ -21,6 +21,7 @@ use Rattle.linetotals_report.specs.Claims as linetotals-report-claims
 use Rattle.linetotals_theory.specs.Examples as linetotals-theory-examples
 use Rattle.linetotals_theory.specs.Sheet as linetotals-theory-sheet
 use Rattle.machine.specs.AnyWordsExamples as machine-any-words-examples
+use Rattle.machine.specs.CallClaims as machine-call-claims
 use Rattle.machine.specs.CodeExamples as machine-code-examples
 use Rattle.machine.specs.CountExamples as machine-count-examples
 use Rattle.machine.specs.Examples as machine-examples
@@ -123,6 +124,16 @@ pub record Promises : Type 0 where
   pub D-entry-refusal : machine-promise-claims.EveryRefusedRunChangesNothing
   -- "Where none fails, the code is 0": a call that no place of its kind refuses has an answer with the code 0, on any table.
   pub D-unrefused-zero : machine-word-claims.EveryUnrefusedAnsweredZero
+  -- A call that isn't refused had what it requires, on any table: a send SEND on the endpoint's owner; a receive is by the owner, and a
+  -- message waits; a grant GRANT and all that it gives, a remove REMOVE and all that it clears, a revoke REVOKE, and a grant and a
+  -- revoke some right on the recipient or holder, unless that is the caller.
+  pub D-requires : machine-call-claims.EveryCallRequires
+  -- A call is refused by a code from 10 to 23, on any table.
+  pub D-refusal-codes : machine-call-claims.EveryRefusalCode
+  -- The check of any words as a table has the code 0 or one from 2 to 5.
+  pub D-table-codes : machine-call-claims.EveryTableCode
+  -- The entry's code is at most 6, for arbitrary words.
+  pub D-entry-codes : machine-call-claims.EveryEntryCode
   -- ---- Document 01, "Influence": what a call may alter, and what its answer may depend on
   -- A call on an accepted table leaves an accepted table, with the same unchanging parts.
   pub I-stays-accepted : machine-machine-claims.EveryCallStaysAccepted

@@ -26,6 +26,7 @@ use Rattle.linetotals_theory.proofs.MostLists as linetotals-theory-most-lists-p
 use Rattle.linetotals_theory.proofs.RunLaws as linetotals-theory-run-laws-proofs
 use Rattle.linetotals_theory.proofs.SheetLaws as linetotals-theory-sheet-laws-proofs
 use Rattle.kernel.proofs.AskedAfterStep as kernel-asked-after-step-proofs
+use Rattle.machine.proofs.CallClaims as machine-call-claims-proofs
 use Rattle.machine.proofs.Consistency as machine-consistency-proofs
 use Rattle.machine.proofs.Counts as machine-counts-proofs
 use Rattle.machine.proofs.Exactly as machine-exactly-proofs
@@ -106,6 +107,10 @@ returns c =
       D-refusals = machine-refused-proofs.refusal-changes-nothing;
       D-entry-refusal = machine-promise-claims-proofs.refused-run;
       D-unrefused-zero = machine-word-claims-proofs.unrefused-zero;
+      D-requires = machine-call-claims-proofs.requires;
+      D-refusal-codes = machine-call-claims-proofs.refusal-code;
+      D-table-codes = machine-call-claims-proofs.table-code;
+      D-entry-codes = machine-call-claims-proofs.entry-code-most;
       I-stays-accepted = machine-step-proofs.stays-accepted;
       I-run-stays-accepted = machine-step-proofs.run-accepted;
       I-promised-accepted = machine-promise-claims-proofs.promised-accepted;
