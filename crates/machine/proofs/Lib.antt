@@ -23,4 +23,5 @@ pub mod Refused
 pub mod Promise
 pub mod WordClaims
 pub mod CallClaims
+pub mod QueueClaims
 pub mod PromiseClaims

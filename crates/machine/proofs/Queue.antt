@@ -366,6 +366,32 @@ module _ (q : List ℕ) (twelve : length q ≡ 12) (some : waiting q ≢ 0) (mos
       ap payload (withLost-count (sendWithSpace (received q) m) after-send _)
       ∙ payload-word 6 (min (lost q + 1) mostLost) (omega arith)
 
+  -- its words: the lost count, the waiting count, the slot of the newcomer, and every other as after a receive
+  pub sendToFull-lost-word : getD (sendToFull q m) 3 0 ≡ word 6 (min (lost q + 1) mostLost)
+  unfolding sendToFull
+  sendToFull-lost-word = withLost-count (sendWithSpace (received q) m) after-send _
+
+  sendToFull-before-lost : (k : ℕ) → k ≢ 3 → getD (sendToFull q m) k 0 ≡ getD (sendWithSpace (received q) m) k 0
+  unfolding sendToFull
+  sendToFull-before-lost k a = withLost-other (sendWithSpace (received q) m) after-send (min (lost q + 1) mostLost) k a
+
+  pub sendToFull-count : getD (sendToFull q m) 2 0 ≡ word 5 (waiting q)
+  sendToFull-count =
+      let same : waiting (received q) + 1 ≡ waiting q = omega (arith, received-waiting q twelve some most) in
+      sendToFull-before-lost 2 (omega arith) ∙ sendWithSpace-count (received q) after-receive m ∙ ap (word 5) same
+
+  pub sendToFull-newcomer : getD (sendToFull q m) (3 + waiting q) 0 ≡ word 15 m
+  sendToFull-newcomer =
+      let last : 3 + waiting q ≡ 4 + waiting (received q) = omega (arith, received-waiting q twelve some most) in
+      sendToFull-before-lost (3 + waiting q) (omega arith)
+      ∙ ap (λ (k : ℕ). getD (sendWithSpace (received q) m) k 0) last
+      ∙ sendWithSpace-slot (received q) after-receive m room
+
+  pub sendToFull-other : (k : ℕ) → k ≢ 2 → k ≢ 3 → k ≢ 3 + waiting q → getD (sendToFull q m) k 0 ≡ getD (received q) k 0
+  sendToFull-other k a b c =
+      let last : 4 + waiting (received q) ≡ 3 + waiting q = omega (arith, received-waiting q twelve some most) in
+      sendToFull-before-lost k b ∙ sendWithSpace-other (received q) after-receive m k a (λ e. c (e ∙ last))
+
   pub sendToFull-length : length (sendToFull q m) ≡ 12
   unfolding sendToFull
   sendToFull-length = simp length-set after-send

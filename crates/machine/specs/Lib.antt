@@ -22,6 +22,7 @@ pub mod SameParts
 pub mod MachineClaims
 pub mod WordClaims
 pub mod CallClaims
+pub mod QueueClaims
 pub mod PromiseClaims
 pub mod Examples
 pub mod CodeExamples

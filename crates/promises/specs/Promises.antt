@@ -30,6 +30,7 @@ use Rattle.machine.specs.MachineClaims as machine-machine-claims
 use Rattle.machine.specs.Promise as machine-promise
 use Rattle.machine.specs.PromiseClaims as machine-promise-claims
 use Rattle.machine.specs.PurgeExamples as machine-purge-examples
+use Rattle.machine.specs.QueueClaims as machine-queue-claims
 use Rattle.machine.specs.TableExamples as machine-table-examples
 use Rattle.machine.specs.WordClaims as machine-word-claims
 use Rattle.machine_limits.specs.Rows as machine-limits-rows
@@ -146,6 +147,19 @@ pub record Promises : Type 0 where
   -- that its row names, the rights word of a grant, a remove or a revoke, or a waiting, lost or slot word of the endpoint that a
   -- send or a receive has.
   pub I-alters-named : machine-word-claims.EveryCallAltersNamed
+  -- "A send with space fills the slot at the waiting count and waiting rises by 1": on an accepted table these two words are written, and
+  -- every other word of the table stays.
+  pub I-send-with-space : machine-queue-claims.EverySendWithSpace
+  -- Document 02 (a), "a full queue is now to drop its oldest message and put the newcomer last; lost still rises by 1": on an accepted
+  -- table the other messages move up, the newcomer has the last slot that they had, lost rises by 1, staying at its largest, and every
+  -- other word of the table stays.
+  pub I-send-to-full : machine-queue-claims.EverySendToFull
+  -- "A receive lowers waiting by 1, and the slot that comes free is F0000000": on an accepted table the other messages move up, and every
+  -- other word of the table stays, the lost count too.
+  pub I-receive-takes-out : machine-queue-claims.EveryReceiveTakesOut
+  -- No other call alters an endpoint, on an accepted table: its twelve words stay unless the call is an unrefused send to it or receive
+  -- from it.
+  pub I-other-leaves-queue : machine-queue-claims.EveryOtherLeavesQueue
   -- "A call may alter only what belongs to domains its caller influences", on an accepted table.
   pub I-alters-only : machine-machine-claims.EveryCallAltersOnly
   -- A call's answer depends only on its own words, its caller's part and the unchanging parts, on an accepted table and any

@@ -34,6 +34,7 @@ use Rattle.machine.proofs.Examples as machine-examples-proofs
 use Rattle.machine.proofs.Noninterference as machine-noninterference-proofs
 use Rattle.machine.proofs.Promise as machine-promise-proofs
 use Rattle.machine.proofs.PromiseClaims as machine-promise-claims-proofs
+use Rattle.machine.proofs.QueueClaims as machine-queue-claims-proofs
 use Rattle.machine.proofs.Refused as machine-refused-proofs
 use Rattle.machine.proofs.Step as machine-step-proofs
 use Rattle.machine.proofs.Trail as machine-trail-proofs
@@ -115,6 +116,10 @@ returns c =
       I-run-stays-accepted = machine-step-proofs.run-accepted;
       I-promised-accepted = machine-promise-claims-proofs.promised-accepted;
       I-alters-named = machine-word-claims-proofs.alters-named;
+      I-send-with-space = machine-queue-claims-proofs.send-with-space;
+      I-send-to-full = machine-queue-claims-proofs.send-to-full;
+      I-receive-takes-out = machine-queue-claims-proofs.receive-takes-out;
+      I-other-leaves-queue = machine-queue-claims-proofs.other-leaves-queue;
       I-alters-only = machine-step-proofs.alters-only;
       I-answer-depends = machine-consistency-proofs.answer-depends;
       I-each-right = machine-trail-proofs.each-right;
