@@ -24,4 +24,5 @@ pub mod Promise
 pub mod WordClaims
 pub mod CallClaims
 pub mod QueueClaims
+pub mod AnswerClaims
 pub mod PromiseClaims

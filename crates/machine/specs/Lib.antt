@@ -23,6 +23,7 @@ pub mod MachineClaims
 pub mod WordClaims
 pub mod CallClaims
 pub mod QueueClaims
+pub mod AnswerClaims
 pub mod PromiseClaims
 pub mod Examples
 pub mod CodeExamples

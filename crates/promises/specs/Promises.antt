@@ -20,6 +20,7 @@ use Rattle.linetotals_input.specs.Examples as linetotals-input-examples
 use Rattle.linetotals_report.specs.Claims as linetotals-report-claims
 use Rattle.linetotals_theory.specs.Examples as linetotals-theory-examples
 use Rattle.linetotals_theory.specs.Sheet as linetotals-theory-sheet
+use Rattle.machine.specs.AnswerClaims as machine-answer-claims
 use Rattle.machine.specs.AnyWordsExamples as machine-any-words-examples
 use Rattle.machine.specs.CallClaims as machine-call-claims
 use Rattle.machine.specs.CodeExamples as machine-code-examples
@@ -111,6 +112,13 @@ pub record Promises : Type 0 where
   -- "Rights on target t in bits 4t to 4t+3 of the first data word; targets 8 to 15 likewise in the second": of the number that is
   -- made of a domain's rights on eight targets in an accepted table; no right is shown on what is no domain.
   pub D-rights-digits : machine-word-claims.EveryRightsDigits
+  -- "A send answers 0 whether or not there was space", and so does a revoke "whether the holder had them or not": not refused, a send, a
+  -- grant, a remove and a revoke answer 0 and two zero words, a receive the oldest message and the lost count, my endpoints and my rights
+  -- the numbers of the two claims above, on any table.
+  pub D-answers-by-kind : machine-answer-claims.EveryUnrefusedAnswer
+  -- A look up that no place before 15 refuses finds an endpoint exactly where that has the name, and answers its index; it is refused by
+  -- 15 exactly where none has the name, on an accepted table.
+  pub D-look-up : machine-answer-claims.EveryLookUp
   -- ---- Document 01, "Where each number is checked": a refusal is by its number and changes nothing
   -- What the entry leaves keeps the promise of a run, for arbitrary words.
   pub D-entry-keeps : machine-promise.EveryEntryKeeps

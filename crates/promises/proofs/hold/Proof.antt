@@ -26,6 +26,7 @@ use Rattle.linetotals_theory.proofs.MostLists as linetotals-theory-most-lists-p
 use Rattle.linetotals_theory.proofs.RunLaws as linetotals-theory-run-laws-proofs
 use Rattle.linetotals_theory.proofs.SheetLaws as linetotals-theory-sheet-laws-proofs
 use Rattle.kernel.proofs.AskedAfterStep as kernel-asked-after-step-proofs
+use Rattle.machine.proofs.AnswerClaims as machine-answer-claims-proofs
 use Rattle.machine.proofs.CallClaims as machine-call-claims-proofs
 use Rattle.machine.proofs.Consistency as machine-consistency-proofs
 use Rattle.machine.proofs.Counts as machine-counts-proofs
@@ -103,6 +104,8 @@ returns c =
       D-answer-word = machine-word-claims-proofs.answer-word;
       D-owned-bits = machine-word-claims-proofs.owned-bits;
       D-rights-digits = machine-word-claims-proofs.rights-digits;
+      D-answers-by-kind = machine-answer-claims-proofs.unrefused-answer;
+      D-look-up = machine-answer-claims-proofs.look-up;
       D-entry-keeps = machine-promise-proofs.promise-kept;
       D-refused-exactly = machine-exactly-proofs.refused-exactly;
       D-refusals = machine-refused-proofs.refusal-changes-nothing;
