@@ -46,6 +46,10 @@ everyCode =
     ∷ answered (0x2000_0001 ∷ []) (0x2000_000D ∷ 0 ∷ 0 ∷ [])
     -- 14
     ∷ answered (0x1000_0000 ∷ []) (0x1000_000E ∷ 0 ∷ 0 ∷ [])
+    -- 14, before 16: a send to endpoint 3
+    ∷ answered (0x2000_0300 ∷ []) (0x2000_000E ∷ 0 ∷ 0 ∷ [])
+    -- 13, before 16: field A of a receive from endpoint 3
+    ∷ answered (0x3001_0300 ∷ []) (0x3000_000D ∷ 0 ∷ 0 ∷ [])
     -- 15: no endpoint is named 7
     ∷ answered (0x10C0_0000 ∷ 0xF000_0007 ∷ []) (0x10C0_000F ∷ 0 ∷ 0 ∷ [])
     -- look up: the endpoint named 6 is 2
@@ -103,18 +107,19 @@ everyCode =
     -- 22: the right is held, or both of two are, and REMOVE is not
     ∷ answered (0x7001_0001 ∷ []) (0x7000_0016 ∷ 0 ∷ 0 ∷ [])
     ∷ answered (0x7001_0003 ∷ []) (0x7000_0016 ∷ 0 ∷ 0 ∷ [])
-    -- 13: field B of a remove
+    -- 13: field B of a remove; before 20, of a remove on target 4
     ∷ answered (0x7081_0101 ∷ []) (0x7080_000D ∷ 0 ∷ 0 ∷ [])
+    ∷ answered (0x7004_0101 ∷ []) (0x7000_000D ∷ 0 ∷ 0 ∷ [])
     -- a remove of two rights at once
     ∷ answered (0x7081_0003 ∷ []) (0x7080_0000 ∷ 0 ∷ 0 ∷ [])
     ∷ []
 
 abbrev pub codeRows : List Row
 codeRows =
-    leaves fourDomains (callWords everyCode) (spaceOf 111) (spaceOf 4)
+    leaves fourDomains (callWords everyCode) (spaceOf 120) (spaceOf 4)
     (record {
       code = 0;
-      calls = 37;
+      calls = 40;
       table = set (set fourDomains 10 0x2000_0004) 21 0xF000_000A;
       answers = callAnswers everyCode;
       holders = 2 ∷ 7 ∷ 5 ∷ 0 ∷ [];
