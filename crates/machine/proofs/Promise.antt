@@ -1,7 +1,6 @@
 -- Every function that leaves what the entry leaves keeps the whole promise (specs/Promise): what is claimed of every run
 -- holds of the words that it left. Assumes nothing.
 use mathlib.Core.Path.{_≡_, refl, sym, ap, subst, _∙_}
-use mathlib.Core.Bool.{not}
 use mathlib.Core.List.{List, _++_}
 use Prim.Native.Nat.{ℕ, _*_, _<_, _≤_, zero-le}
 use native.Mathlib.Nat.{le-trans}
@@ -10,7 +9,7 @@ use borrow.Author.Tests.{eqb-true, eq-eqb, ne-eqb, lt-ltb, le-ltb, ltb-false}
 use lib.Dec.{eqb, ltb}
 use lib.ListN.{length, drop}
 use Rattle.machine.specs.Table.{domains, endpoints}
-use Rattle.machine.specs.Check.{headerOk, lengthOk, rightsOk, endpointsOk, tableCode, Accepted}
+use Rattle.machine.specs.Check.{tableCode, Accepted}
 use Rattle.machine.specs.Call.{split}
 use Rattle.machine.specs.Run as machine
 use Rattle.machine.specs.Entry.{Outcome, longestList, holdersCode, spaceCode, entryCode, Runs, refusal, ran, entry}
@@ -23,6 +22,7 @@ use Rattle.machine.proofs.Counts.{counts-conserved, fifo-order}
 use Rattle.machine.proofs.Trail.{rights-provenance}
 use Rattle.machine.proofs.Noninterference.{noninterference}
 use Rattle.machine.proofs.Refused.{refusal-changes-nothing}
+use Rattle.machine.proofs.CallClaims.{entry-code-most}
 
 -- a list that runs has an accepted table
 pub runs-accepted : (t ws : List ℕ) (size lent : ℕ) → Runs t ws size lent → Accepted t
@@ -171,13 +171,5 @@ calls-few t ws space holders =
     (λ _. zero-le)
 
 pub code-small : (t ws space holders : List ℕ) → entry t ws space holders .code ≤ 6
-unfolding entryCode tableCode spaceCode holdersCode
 code-small t ws space holders =
-    subst (λ (x : ℕ). x ≤ 6) (sym (entry-code t ws space holders))
-    (cond-elim (λ (x : ℕ). x ≤ 6) (ltb longestList (length ws)) (λ _. omega arith)
-    (λ _. cond-elim (λ (x : ℕ). x ≤ 6) (eqb (tableCode t) 0) (λ _. cond-elim (λ (x : ℕ). x ≤ 6) (ltb (length space) (3 * length (split ws))) (λ _. omega arith)
-    (λ _. cond-elim (λ (x : ℕ). x ≤ 6) (eqb (length holders) (domains t)) (λ _. omega arith) (λ _. omega arith)))
-    (λ _. cond-elim (λ (x : ℕ). x ≤ 6) (not (headerOk t)) (λ _. omega arith)
-    (λ _. cond-elim (λ (x : ℕ). x ≤ 6) (not (lengthOk t)) (λ _. omega arith)
-    (λ _. cond-elim (λ (x : ℕ). x ≤ 6) (not (rightsOk t)) (λ _. omega arith)
-    (λ _. cond-elim (λ (x : ℕ). x ≤ 6) (not (endpointsOk t)) (λ _. omega arith) (λ _. omega arith)))))))
+    subst (λ (x : ℕ). x ≤ 6) (sym (entry-code t ws space holders)) (entry-code-most t ws (length space) (length holders))
