@@ -25,4 +25,5 @@ pub mod WordClaims
 pub mod CallClaims
 pub mod QueueClaims
 pub mod AnswerClaims
+pub mod Shortcuts
 pub mod PromiseClaims

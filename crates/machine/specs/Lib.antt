@@ -32,3 +32,4 @@ pub mod FieldExamples
 pub mod AnyWordsExamples
 pub mod PurgeExamples
 pub mod CountExamples
+pub mod Shortcuts

@@ -32,6 +32,7 @@ use Rattle.machine.specs.Promise as machine-promise
 use Rattle.machine.specs.PromiseClaims as machine-promise-claims
 use Rattle.machine.specs.PurgeExamples as machine-purge-examples
 use Rattle.machine.specs.QueueClaims as machine-queue-claims
+use Rattle.machine.specs.Shortcuts as machine-shortcuts
 use Rattle.machine.specs.TableExamples as machine-table-examples
 use Rattle.machine.specs.WordClaims as machine-word-claims
 use Rattle.machine_limits.specs.Rows as machine-limits-rows
@@ -187,6 +188,17 @@ pub record Promises : Type 0 where
   -- "Working out influence from the last table alone: a right used and then removed is missed": with source sets by the table at the
   -- end the rule is false.
   pub N-last-table-fails : machine-purge-examples.LastTableRuleFails
+  -- "Telling a sender that the queue is full: the receiver then reaches the sender": with such answers the rule is false.
+  pub N-showing-full-fails : machine-shortcuts.ShowingFullFails
+  -- "Letting a refused send give up its second word as a stray: the cutting would depend on rights": by one rights word the same list has
+  -- other calls.
+  pub N-giving-up-fails : machine-shortcuts.GivingUpFails
+  -- "Refusing a grant because the recipient already has the right: the recipient's rights show": with such answers the rule is false.
+  pub N-refusing-held-fails : machine-shortcuts.RefusingHeldFails
+  -- "Several pass the striking rule alone": a kernel that refuses every call and leaves its table passes it,
+  pub N-refusing-all-passes : machine-shortcuts.RefusingAllPasses
+  -- but its answers are not the machine's, so that no function which keeps the promise of a run gives them.
+  pub N-refusing-all-differs : machine-shortcuts.RefusingAllDiffers
   -- ---- Document 01, "Conditions of acceptance", 2: a kernel "inventing lost or call counts" is rejected
   -- Each call is answered by three words, on any table.
   pub C-answers : machine-machine-claims.EveryRunAnswered

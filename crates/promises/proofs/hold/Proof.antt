@@ -37,6 +37,7 @@ use Rattle.machine.proofs.Promise as machine-promise-proofs
 use Rattle.machine.proofs.PromiseClaims as machine-promise-claims-proofs
 use Rattle.machine.proofs.QueueClaims as machine-queue-claims-proofs
 use Rattle.machine.proofs.Refused as machine-refused-proofs
+use Rattle.machine.proofs.Shortcuts as machine-shortcuts-proofs
 use Rattle.machine.proofs.Step as machine-step-proofs
 use Rattle.machine.proofs.Trail as machine-trail-proofs
 use Rattle.machine.proofs.WordClaims as machine-word-claims-proofs
@@ -130,6 +131,11 @@ returns c =
       N-noninterference = machine-noninterference-proofs.noninterference;
       N-purge-rows = machine-examples-proofs.every-purge-row;
       N-last-table-fails = machine-examples-proofs.last-table-rule-fails;
+      N-showing-full-fails = machine-shortcuts-proofs.showing-full-fails;
+      N-giving-up-fails = machine-shortcuts-proofs.giving-up-fails;
+      N-refusing-held-fails = machine-shortcuts-proofs.refusing-held-fails;
+      N-refusing-all-passes = machine-shortcuts-proofs.refusing-all-passes;
+      N-refusing-all-differs = machine-shortcuts-proofs.refusing-all-differs;
       C-answers = machine-counts-proofs.answers-length;
       C-counts-conserved = machine-counts-proofs.counts-conserved;
       C-fifo-order = machine-counts-proofs.fifo-order;
