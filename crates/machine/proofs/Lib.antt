@@ -25,5 +25,6 @@ pub mod WordClaims
 pub mod CallClaims
 pub mod QueueClaims
 pub mod AnswerClaims
+pub mod AsBefore
 pub mod Shortcuts
 pub mod PromiseClaims

@@ -24,6 +24,7 @@ pub mod WordClaims
 pub mod CallClaims
 pub mod QueueClaims
 pub mod AnswerClaims
+pub mod AsBefore
 pub mod PromiseClaims
 pub mod Examples
 pub mod CodeExamples

@@ -22,6 +22,7 @@ use Rattle.linetotals_theory.specs.Examples as linetotals-theory-examples
 use Rattle.linetotals_theory.specs.Sheet as linetotals-theory-sheet
 use Rattle.machine.specs.AnswerClaims as machine-answer-claims
 use Rattle.machine.specs.AnyWordsExamples as machine-any-words-examples
+use Rattle.machine.specs.AsBefore as machine-as-before
 use Rattle.machine.specs.CallClaims as machine-call-claims
 use Rattle.machine.specs.CodeExamples as machine-code-examples
 use Rattle.machine.specs.CountExamples as machine-count-examples
@@ -279,6 +280,9 @@ pub record Promises : Type 0 where
   -- Document 02 (d), "the same as before", of table words: of an endpoint's twelve words that the check accepts, with a message
   -- waiting, a receive leaves what it leaves where all the slots after the first move up.
   pub Q-as-before : machine-word-claims.EveryReceiveAsBefore
+  -- "Every answer and every table word is the same as before": a run from an accepted table leaves the same table and answers as one in
+  -- which each receive, and each send to a full queue, moves all the slots up.
+  pub Q-run-as-before : machine-as-before.EveryRunAsBefore
   -- Words and what a receive leaves of them, with messages in the slots from the waiting count on too.
   pub Q-receive-rows : queue-later-slots.EveryReceive queue-later-slots.receiveRows
   -- Which words a send is done with, on both sides of each test.

@@ -27,6 +27,7 @@ use Rattle.linetotals_theory.proofs.RunLaws as linetotals-theory-run-laws-proof
 use Rattle.linetotals_theory.proofs.SheetLaws as linetotals-theory-sheet-laws-proofs
 use Rattle.kernel.proofs.AskedAfterStep as kernel-asked-after-step-proofs
 use Rattle.machine.proofs.AnswerClaims as machine-answer-claims-proofs
+use Rattle.machine.proofs.AsBefore as machine-as-before-proofs
 use Rattle.machine.proofs.CallClaims as machine-call-claims-proofs
 use Rattle.machine.proofs.Consistency as machine-consistency-proofs
 use Rattle.machine.proofs.Counts as machine-counts-proofs
@@ -170,6 +171,7 @@ returns c =
       Q-later-slots = queue-later-slots-proofs.later-slots-stay;
       Q-move-up = queue-later-slots-proofs.waiting-move-up;
       Q-as-before = machine-word-claims-proofs.receive-as-before;
+      Q-run-as-before = machine-as-before-proofs.run-as-before;
       Q-receive-rows = queue-later-slots-proofs.every-receive;
       Q-send-rows = queue-examples-proofs.every-send-row;
       E-sheet = totals-theory-totals-laws-proofs.sheet-holds;
