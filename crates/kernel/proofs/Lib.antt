@@ -8,3 +8,4 @@ pub mod Outcomes
 pub mod OutcomeLaws
 pub mod LastToFirst
 pub mod AskedAfterStep
+pub mod StepIsRun

@@ -12,6 +12,7 @@ use Rattle.isolation_theory.specs.ComponentExamples as isolation-theory-compone
 use Rattle.isolation_theory.specs.LineExamples as isolation-theory-line-examples
 use Rattle.isolation_theory.specs.TwoLines as isolation-theory-two-lines
 use Rattle.kernel.specs.AskedAfterStep as kernel-asked-after-step
+use Rattle.kernel.specs.StepIsRun as kernel-step-is-run
 use Rattle.linerun_input.specs.Stage as linerun-input-stage
 use Rattle.linerun_report.specs.Cursor as linerun-report-cursor
 use Rattle.linerun_report.specs.Examples as linerun-report-examples
@@ -124,6 +125,9 @@ pub record Promises : Type 0 where
   -- ---- Document 01, "Where each number is checked": a refusal is by its number and changes nothing
   -- What the entry leaves keeps the promise of a run, for arbitrary words.
   pub D-entry-keeps : machine-promise.EveryEntryKeeps
+  -- A step is a run of one call: where a list is one call and the answer space has three words, what the kernel's step leaves is what any
+  -- function leaves that keeps the promise of a run: the same code, table and holders, and, where neither is refused, the same answer.
+  pub D-step-is-run : kernel-step-is-run.StepIsRun
   -- "The first failing place decides": on any table, a call is refused by a code exactly where the first place of its kind that
   -- refuses, in the order of the paper's table, has it, and where none refuses the decision is its row.
   pub D-refused-exactly : machine-machine-claims.EveryCallRefusedExactly

@@ -26,6 +26,7 @@ use Rattle.linetotals_theory.proofs.MostLists as linetotals-theory-most-lists-p
 use Rattle.linetotals_theory.proofs.RunLaws as linetotals-theory-run-laws-proofs
 use Rattle.linetotals_theory.proofs.SheetLaws as linetotals-theory-sheet-laws-proofs
 use Rattle.kernel.proofs.AskedAfterStep as kernel-asked-after-step-proofs
+use Rattle.kernel.proofs.StepIsRun as kernel-step-is-run-proofs
 use Rattle.machine.proofs.AnswerClaims as machine-answer-claims-proofs
 use Rattle.machine.proofs.AsBefore as machine-as-before-proofs
 use Rattle.machine.proofs.CallClaims as machine-call-claims-proofs
@@ -109,6 +110,7 @@ returns c =
       D-answers-by-kind = machine-answer-claims-proofs.unrefused-answer;
       D-look-up = machine-answer-claims-proofs.look-up;
       D-entry-keeps = machine-promise-proofs.promise-kept;
+      D-step-is-run = kernel-step-is-run-proofs.step-is-run;
       D-refused-exactly = machine-exactly-proofs.refused-exactly;
       D-refusals = machine-refused-proofs.refusal-changes-nothing;
       D-entry-refusal = machine-promise-claims-proofs.refused-run;
