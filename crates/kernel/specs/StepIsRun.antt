@@ -8,8 +8,8 @@ use Rattle.machine.specs.Promise.{RunPromise}
 use Rattle.kernel.specs.Step.{stepCode, stepWords, StepPromise}
 use Rattle.kernel.specs.declared.Stepped.{Stepped}
 
--- A step is a run of one call: where the list ws is the call c and the answer space has three words, what a step leaves and what any
--- function leaves that keeps the promise of a run are the same, code, table, holders and, where neither is refused, answer.
+-- A step is a run of one call: where the list ws is the call c and the answer space has three words, what a step leaves and what
+-- any function leaves that keeps the promise of a run are the same, code, table, holders and, where neither is refused, answer.
 abbrev pub StepIsRun : Type 0
 StepIsRun =
     (t ws space holders : List ℕ) (c : Call) (r : Stepped) (stepTable stepHolders : List ℕ) (code calls : ℕ) (answers end kept : List ℕ)

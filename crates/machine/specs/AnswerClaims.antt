@@ -1,5 +1,5 @@
--- Claims about the answer of a call that isn't refused, in closed statements about any table, or about accepted ones where a claim says
--- so (document 01, 'The calls': the column 'Done when not refused'). Each is the type of a theorem in proofs/AnswerClaims.
+-- Claims about the answer of a call that isn't refused, in closed statements about any table, or about accepted ones where a claim
+-- says so (document 01, 'The calls': the column 'Done when not refused'). Each is the type of a theorem in proofs/AnswerClaims.
 use Prim.Native.Nat.{ℕ, _<_, _≤_}
 use mathlib.Core.Path.{_≡_}
 use mathlib.Core.List.{List, [], _∷_}

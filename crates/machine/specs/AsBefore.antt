@@ -1,5 +1,5 @@
--- "Every answer and every table word is the same as before" (document 02 (d)): the machine with a receive that moves all the slots up,
--- and the claim that its runs from accepted tables are the same.
+-- "Every answer and every table word is the same as before" (document 02 (d)): the machine with a receive that moves all the slots
+-- up, and the claim that its runs from accepted tables are the same.
 use Prim.Native.Nat.{ℕ, _+_, _-_, min}
 use mathlib.Core.Path.{_≡_}
 use mathlib.Core.Bool.{cond}

@@ -39,8 +39,8 @@ pub record SentToFull (t t′ : List ℕ) (p count lost message : ℕ) : Type 0 
   pub before : (i : ℕ) → i < p + 3 → getD t′ i 0 ≡ getD t i 0
   pub later : (i : ℕ) → p + (4 + count) ≤ i → getD t′ i 0 ≡ getD t i 0
 
--- "A full queue is now to drop its oldest message and put the newcomer last. Lost still rises by 1" (document 02 (a)), staying at its
--- largest.
+-- "A full queue is now to drop its oldest message and put the newcomer last. Lost still rises by 1" (document 02 (a)), staying at
+-- its largest.
 abbrev pub EverySendToFull : Type 0
 EverySendToFull =
     (t : List ℕ) (c : Call) (e message : ℕ)
@@ -49,8 +49,8 @@ EverySendToFull =
     → hasSpace (endpoint t e) ≡ false
     → SentToFull t (step t c) (endpointAt (domains t) e) (waiting (endpoint t e)) (min (lost (endpoint t e) + 1) mostLost) message
 
--- Likewise: the oldest of count messages leaves, the others move up by one slot, the slot that comes free is empty, waiting falls by
--- 1, and every other word of the table stays, the lost count too.
+-- Likewise: the oldest of count messages leaves, the others move up by one slot, the slot that comes free is empty, waiting falls
+-- by 1, and every other word of the table stays, the lost count too.
 pub record TakenOut (t t′ : List ℕ) (p count : ℕ) : Type 0 where
   pub waiting : getD t′ (p + 2) 0 ≡ word 5 (count - 1)
   pub moved : (i : ℕ) → i + 1 < count → getD t′ (p + (4 + i)) 0 ≡ getD t (p + (5 + i)) 0

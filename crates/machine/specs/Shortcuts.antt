@@ -1,5 +1,5 @@
--- "Shortcuts that break it" (document 01), the first, the third and the fourth: each as a definition beside the machine's, and the claim
--- that with it a rule of the paper is false. (The second, by the last table alone, is in specs/PurgeExamples.)
+-- "Shortcuts that break it" (document 01), the first, the third and the fourth: each as a definition beside the machine's, and the
+-- claim that with it a rule of the paper is false. (The second, by the last table alone, is in specs/PurgeExamples.)
 use Prim.Native.Nat.{ℕ, _<_}
 use mathlib.Core.Path.{_≡_}
 use mathlib.Core.Bool.{cond, not, _&&_}

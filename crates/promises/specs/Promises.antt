@@ -115,18 +115,19 @@ pub record Promises : Type 0 where
   -- "Rights on target t in bits 4t to 4t+3 of the first data word; targets 8 to 15 likewise in the second": of the number that is
   -- made of a domain's rights on eight targets in an accepted table; no right is shown on what is no domain.
   pub D-rights-digits : machine-word-claims.EveryRightsDigits
-  -- "A send answers 0 whether or not there was space", and so does a revoke "whether the holder had them or not": not refused, a send, a
-  -- grant, a remove and a revoke answer 0 and two zero words, a receive the oldest message and the lost count, my endpoints and my rights
-  -- the numbers of the two claims above, on any table.
+  -- "A send answers 0 whether or not there was space", and so does a revoke "whether the holder had them or not": not refused, a
+  -- send, a grant, a remove and a revoke answer 0 and two zero words, a receive the oldest message and the lost count, my endpoints
+  -- and my rights the numbers of the two claims above, on any table.
   pub D-answers-by-kind : machine-answer-claims.EveryUnrefusedAnswer
-  -- A look up that no place before 15 refuses finds an endpoint exactly where that has the name, and answers its index; it is refused by
-  -- 15 exactly where none has the name, on an accepted table.
+  -- A look up that no place before 15 refuses finds an endpoint exactly where that has the name, and answers its index; it is
+  -- refused by 15 exactly where none has the name, on an accepted table.
   pub D-look-up : machine-answer-claims.EveryLookUp
   -- ---- Document 01, "Where each number is checked": a refusal is by its number and changes nothing
   -- What the entry leaves keeps the promise of a run, for arbitrary words.
   pub D-entry-keeps : machine-promise.EveryEntryKeeps
-  -- A step is a run of one call: where a list is one call and the answer space has three words, what the kernel's step leaves is what any
-  -- function leaves that keeps the promise of a run: the same code, table and holders, and, where neither is refused, the same answer.
+  -- A step is a run of one call: where a list is one call and the answer space has three words, what the kernel's step leaves is
+  -- what any function leaves that keeps the promise of a run: the same code, table and holders, and, where neither is refused, the
+  -- same answer.
   pub D-step-is-run : kernel-step-is-run.StepIsRun
   -- "The first failing place decides": on any table, a call is refused by a code exactly where the first place of its kind that
   -- refuses, in the order of the paper's table, has it, and where none refuses the decision is its row.
@@ -139,9 +140,9 @@ pub record Promises : Type 0 where
   pub D-entry-refusal : machine-promise-claims.EveryRefusedRunChangesNothing
   -- "Where none fails, the code is 0": a call that no place of its kind refuses has an answer with the code 0, on any table.
   pub D-unrefused-zero : machine-word-claims.EveryUnrefusedAnsweredZero
-  -- A call that isn't refused had what it requires, on any table: a send SEND on the endpoint's owner; a receive is by the owner, and a
-  -- message waits; a grant GRANT and all that it gives, a remove REMOVE and all that it clears, a revoke REVOKE, and a grant and a
-  -- revoke some right on the recipient or holder, unless that is the caller.
+  -- A call that isn't refused had what it requires, on any table: a send SEND on the endpoint's owner; a receive is by the owner,
+  -- and a message waits; a grant GRANT and all that it gives, a remove REMOVE and all that it clears, a revoke REVOKE, and a grant
+  -- and a revoke some right on the recipient or holder, unless that is the caller.
   pub D-requires : machine-call-claims.EveryCallRequires
   -- A call is refused by a code from 10 to 23, on any table.
   pub D-refusal-codes : machine-call-claims.EveryRefusalCode
@@ -161,18 +162,18 @@ pub record Promises : Type 0 where
   -- that its row names, the rights word of a grant, a remove or a revoke, or a waiting, lost or slot word of the endpoint that a
   -- send or a receive has.
   pub I-alters-named : machine-word-claims.EveryCallAltersNamed
-  -- "A send with space fills the slot at the waiting count and waiting rises by 1": on an accepted table these two words are written, and
-  -- every other word of the table stays.
+  -- "A send with space fills the slot at the waiting count and waiting rises by 1": on an accepted table these two words are
+  -- written, and every other word of the table stays.
   pub I-send-with-space : machine-queue-claims.EverySendWithSpace
-  -- Document 02 (a), "a full queue is now to drop its oldest message and put the newcomer last; lost still rises by 1": on an accepted
-  -- table the other messages move up, the newcomer has the last slot that they had, lost rises by 1, staying at its largest, and every
-  -- other word of the table stays.
+  -- Document 02 (a), "a full queue is now to drop its oldest message and put the newcomer last; lost still rises by 1": on an
+  -- accepted table the other messages move up, the newcomer has the last slot that they had, lost rises by 1, staying at its
+  -- largest, and every other word of the table stays.
   pub I-send-to-full : machine-queue-claims.EverySendToFull
-  -- "A receive lowers waiting by 1, and the slot that comes free is F0000000": on an accepted table the other messages move up, and every
-  -- other word of the table stays, the lost count too.
+  -- "A receive lowers waiting by 1, and the slot that comes free is F0000000": on an accepted table the other messages move up, and
+  -- every other word of the table stays, the lost count too.
   pub I-receive-takes-out : machine-queue-claims.EveryReceiveTakesOut
-  -- No other call alters an endpoint, on an accepted table: its twelve words stay unless the call is an unrefused send to it or receive
-  -- from it.
+  -- No other call alters an endpoint, on an accepted table: its twelve words stay unless the call is an unrefused send to it or
+  -- receive from it.
   pub I-other-leaves-queue : machine-queue-claims.EveryOtherLeavesQueue
   -- "A call may alter only what belongs to domains its caller influences", on an accepted table.
   pub I-alters-only : machine-machine-claims.EveryCallAltersOnly
@@ -195,10 +196,11 @@ pub record Promises : Type 0 where
   pub N-last-table-fails : machine-purge-examples.LastTableRuleFails
   -- "Telling a sender that the queue is full: the receiver then reaches the sender": with such answers the rule is false.
   pub N-showing-full-fails : machine-shortcuts.ShowingFullFails
-  -- "Letting a refused send give up its second word as a stray: the cutting would depend on rights": by one rights word the same list has
-  -- other calls.
+  -- "Letting a refused send give up its second word as a stray: the cutting would depend on rights": by one rights word the same
+  -- list has other calls.
   pub N-giving-up-fails : machine-shortcuts.GivingUpFails
-  -- "Refusing a grant because the recipient already has the right: the recipient's rights show": with such answers the rule is false.
+  -- "Refusing a grant because the recipient already has the right: the recipient's rights show": with such answers the rule is
+  -- false.
   pub N-refusing-held-fails : machine-shortcuts.RefusingHeldFails
   -- "Several pass the striking rule alone": a kernel that refuses every call and leaves its table passes it,
   pub N-refusing-all-passes : machine-shortcuts.RefusingAllPasses
@@ -284,8 +286,8 @@ pub record Promises : Type 0 where
   -- Document 02 (d), "the same as before", of table words: of an endpoint's twelve words that the check accepts, with a message
   -- waiting, a receive leaves what it leaves where all the slots after the first move up.
   pub Q-as-before : machine-word-claims.EveryReceiveAsBefore
-  -- "Every answer and every table word is the same as before": a run from an accepted table leaves the same table and answers as one in
-  -- which each receive, and each send to a full queue, moves all the slots up.
+  -- "Every answer and every table word is the same as before": a run from an accepted table leaves the same table and answers as
+  -- one in which each receive, and each send to a full queue, moves all the slots up.
   pub Q-run-as-before : machine-as-before.EveryRunAsBefore
   -- Words and what a receive leaves of them, with messages in the slots from the waiting count on too.
   pub Q-receive-rows : queue-later-slots.EveryReceive queue-later-slots.receiveRows
