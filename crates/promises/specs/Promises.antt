@@ -551,6 +551,16 @@ pub record Promises : Type 0 where
   -- The calls of a domain that were served, and then those still pending, are those that were pending, and then those that it
   -- handed in: none is lost, none is served twice, and each is served in its order.
   pub M-in-order : turns-theory-claims.InOrder
+  -- "Goes up and round to 0, and serves the oldest call of the first domain that has one": a turn among n domains serves a call of a
+  -- domain exactly where the call is its oldest and no domain that is searched before it, from the place of the turn upward and then
+  -- from 0, has one pending.
+  pub M-serves-first : turns-theory-claims.ServesFirst
+  -- "A turn starts after the domain served last .. the first turn of all starts at 0": after any history the place of the turn is after
+  -- the domain served last, or where it was if no call was served; at the beginning it is 0.
+  pub M-starts-after-last : turns-theory-claims.StartsAfterLast
+  -- "Words of served calls are used again": after a turn that served a call of a domain, which had at most 16 words pending, that domain
+  -- can hand in a call that is no longer.
+  pub M-words-used-again : turns-theory-claims.ServedWordsUsedAgain
   -- A turn is idle exactly where none of the n domains has a call pending.
   pub M-idle-exactly : turns-theory-claims.IdleExactly
   -- With none pending on an accepted table, a turn that is lent n holders has code 0 and leaves table, pending calls and place as
@@ -575,6 +585,17 @@ pub record Promises : Type 0 where
   pub M-words-hand-in : turns-claims.EveryHandIn
   -- A turn, in a state of the right length: likewise.
   pub M-words-turn : turns-claims.EveryTurn
+  -- A turn that keeps its promise and served a call: by the state's words that it was lent, its domain is the first that has one
+  -- pending and the call is its oldest; in those that it left the call is gone and the place of the turn is after the domain.
+  pub M-words-served-next : turns-claims.EveryServedNext
+  -- "Nothing changes", of the words that are left as the contracts promise: a beginning that is refused leaves the state and the holders
+  -- as they were,
+  pub M-words-begin-refused : turns-claims.RefusedBeginChangesNothing
+  -- handing in that is refused leaves the state,
+  pub M-words-hand-in-refused : turns-claims.RefusedHandInChangesNothing
+  -- and a turn that serves no call, since it is refused or idle, leaves the table, the state, the holders and the words lent for an
+  -- answer.
+  pub M-words-turn-unserved : turns-claims.UnservedTurnChangesNothing
   -- Events that keep the promises of their functions match a history: codes, turns, answers, holders, the calls accepted, and at the
   -- end the table, what is pending and the place of the turn, from any state of the right length.
   pub M-word-history : turns-word-history.EveryWordHistory

@@ -4,5 +4,6 @@ pub mod Serves
 pub mod Outcomes
 pub mod Examples
 pub mod Claims
+pub mod OneEvent
 pub mod WordHistory
 pub mod Service

@@ -29,14 +29,15 @@ unfolding afterEvent
 refused-changes-nothing l e h = rw h
 
 -- a turn that is idle serves nobody
-not-idle : {d : ℕ} {c : Call} → serves d c ≡ idle → ⊥
+pub not-idle : {d : ℕ} {c : Call} → serves d c ≡ idle → ⊥
 not-idle p = true≢false (ap servesOne p)
   where
     servesOne : Turn → Bool
     servesOne idle = false
     servesOne (serves d c) = true
 
-no-words : (s : Turns) (d : ℕ) → turns.waits s d ≡ false → s .pending d ≡ []
+-- a domain that doesn't wait has no word pending
+pub no-words : (s : Turns) (d : ℕ) → turns.waits s d ≡ false → s .pending d ≡ []
 unfolding turns.waits
 no-words s d h = go (s .pending d) h
   where

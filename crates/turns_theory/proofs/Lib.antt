@@ -2,4 +2,5 @@
 pub mod Pending
 pub mod Histories
 pub mod InTime
+pub mod Order
 pub mod Examples

@@ -2,18 +2,18 @@
 -- proofs/.
 use Prim.Native.Nat.{ℕ, _+_, _*_, _<_, _≤_}
 use mathlib.Core.Path.{_≡_}
-use mathlib.Core.Bool.{Bool, true, false, _&&_}
+use mathlib.Core.Bool.{Bool, true, false, cond, _&&_, _||_}
 use mathlib.Core.List.{List, [], _∷_, _++_}
-use lib.Dec.{eqb, ltb}
-use lib.ListN.{length, getD, take}
+use lib.Dec.{eqb, leb, ltb}
+use lib.ListN.{length, getD, take, drop}
 use Rattle.machine.specs.Table.{domains}
 use Rattle.machine.specs.Check.{Accepted}
 use Rattle.machine.specs.Call.{Call, callerOf, split}
 use Rattle.machine.specs.Run as machine
 use Rattle.machine.specs.DomainSet.{calledBy}
 use Rattle.machine.specs.RunClaims.{Noninterference}
-use Rattle.turns_theory.specs.Turns.{Turns, Turn, begun, mostPending, turnOf, Turn.idle, Turn.serves}
-use Rattle.turns_theory.specs.History.{Layer, Event, eventCode, afterEvent, layerAfter, turnsOf, answersServed, holdersThroughout, handedInBy, served, servedOf, holdersEach, Event.turn}
+use Rattle.turns_theory.specs.Turns.{Turns, Turn, begun, mostPending, isOneOf, turnOf, width, Turn.idle, Turn.serves}
+use Rattle.turns_theory.specs.History.{Layer, Event, eventCode, nextTurn, afterEvent, layerAfter, turnsOf, answersServed, holdersThroughout, handedInBy, served, servedOf, holdersEach, Event.handIn, Event.turn}
 
 -- Among the turns ts, one of the first m serves the call c of the domain d, and those before it serve of d the calls earlier, which
 -- are none where c was the oldest.
@@ -99,6 +99,47 @@ IdleChangesNothing =
 -- A refused event changes nothing.
 abbrev pub RefusedChangesNothing : Type 0
 RefusedChangesNothing = (l : Layer) (e : Event) → eqb (eventCode l e) 0 ≡ false → afterEvent l e ≡ l
+
+-- ---- the order of turns
+
+-- searched from a place upward and then from 0, the index e comes before d
+unfoldable pub comesBefore : ℕ → ℕ → ℕ → Bool
+comesBefore place e d = cond (leb place d) (leb place e && ltb e d) (leb place e || ltb e d)
+
+-- d is the first of the n domains that has a call pending, searched from the place of the turn on, and c is the oldest of its calls.
+pub record NextServed (n : ℕ) (s : Turns) (d : ℕ) (c : Call) : Type 0 where
+  pub below : d < n
+  pub oldest : split (s .pending d) ≡ c ∷ split (drop (width c) (s .pending d))
+  pub first : (e : ℕ) → e < n → comesBefore (s .place) e d ≡ true → s .pending e ≡ []
+
+-- A turn serves a call of a domain exactly where that domain is the next to be served and the call is its oldest.
+abbrev pub ServesFirst : Type 0
+ServesFirst =
+    (n : ℕ) (s : Turns) (d : ℕ) (c : Call)
+    → (turnOf n s ≡ serves d c → NextServed n s d c) × (NextServed n s d c → turnOf n s ≡ serves d c)
+
+-- where the turn after others starts: after the domain served last, or at the place before them where none served a call
+unfoldable pub placeAfter : ℕ → List Turn → ℕ
+placeAfter place [] = place
+placeAfter place (idle ∷ ts) = placeAfter place ts
+placeAfter place (serves d c ∷ ts) = placeAfter (d + 1) ts
+
+-- A turn starts after the domain served last, and the first turn of all starts at 0.
+abbrev pub StartsAfterLast : Type 0
+StartsAfterLast =
+    (begun .place ≡ 0) × ((l : Layer) (es : List Event) → layerAfter l es .turns .place ≡ placeAfter (l .turns .place) (turnsOf l es))
+
+-- Words of served calls are used again: once a call of a domain is served, the domain can hand in one that is no longer, however
+-- many words it had pending.
+abbrev pub ServedWordsUsedAgain : Type 0
+ServedWordsUsedAgain =
+    (l : Layer) (space lent d : ℕ) (c : Call) (ws : List ℕ)
+    → eventCode l (turn space lent) ≡ 0
+    → nextTurn l ≡ serves d c
+    → length (l .turns .pending d) ≤ mostPending
+    → isOneOf d (split ws) ≡ true
+    → length ws ≤ width c
+    → eventCode (afterEvent l (turn space lent)) (handIn d ws) ≡ 0
 
 -- ---- what a history from the beginning can make
 

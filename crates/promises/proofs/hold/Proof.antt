@@ -66,12 +66,14 @@ use Rattle.totals_theory.proofs.Examples as totals-theory-examples-proofs
 use Rattle.totals_theory.proofs.TotalsLaws as totals-theory-totals-laws-proofs
 use Rattle.turns.proofs.Claims as turns-claims-proofs
 use Rattle.turns.proofs.Examples as turns-examples-proofs
+use Rattle.turns.proofs.OneEvent as turns-one-event-proofs
 use Rattle.turns.proofs.Service as turns-service-proofs
 use Rattle.turns.proofs.WordHistory as turns-word-history-proofs
 use Rattle.turns_state.proofs.Examples as turns-state-examples-proofs
 use Rattle.turns_theory.proofs.Examples as turns-theory-examples-proofs
 use Rattle.turns_theory.proofs.Histories as turns-theory-histories-proofs
 use Rattle.turns_theory.proofs.InTime as turns-theory-in-time-proofs
+use Rattle.turns_theory.proofs.Order as turns-theory-order-proofs
 use Rattle.working_load.proofs.Loaded as working-load-loaded-proofs
 use Rattle.working_load.proofs.Stored as working-load-stored-proofs
 use Rattle.working_theory.proofs.Simulation as working-theory-simulation-proofs
@@ -288,6 +290,9 @@ returns c =
       M-one-list = turns-theory-histories-proofs.as-one-list;
       M-noninterference = turns-theory-histories-proofs.history-noninterference;
       M-in-order = turns-theory-histories-proofs.in-order;
+      M-serves-first = turns-theory-order-proofs.serves-first;
+      M-starts-after-last = turns-theory-order-proofs.starts-after-last;
+      M-words-used-again = turns-theory-order-proofs.served-words-used-again;
       M-idle-exactly = turns-theory-histories-proofs.idle-exactly;
       M-idle = turns-theory-histories-proofs.idle-changes-nothing;
       M-refused = turns-theory-histories-proofs.refused-changes-nothing;
@@ -299,6 +304,10 @@ returns c =
       M-words-begin = turns-claims-proofs.begins;
       M-words-hand-in = turns-claims-proofs.every-hand-in;
       M-words-turn = turns-claims-proofs.every-turn;
+      M-words-served-next = turns-one-event-proofs.every-served-next;
+      M-words-begin-refused = turns-one-event-proofs.refused-begin-changes-nothing;
+      M-words-hand-in-refused = turns-one-event-proofs.refused-hand-in-changes-nothing;
+      M-words-turn-unserved = turns-one-event-proofs.unserved-turn-changes-nothing;
       M-word-history = turns-word-history-proofs.every-word-history;
       M-words-served-in-time = turns-service-proofs.served-in-time-by-words;
       M-words-every-call-served = turns-service-proofs.every-call-served-by-words;
