@@ -34,9 +34,9 @@ use Rattle.machine.proofs.Noninterference.{Alike, conditions, same-view}
 use Rattle.reachability.specs.Chain.{Chain.end, Chain.link, among}
 use Rattle.reachability.proofs.Bits.{some-bit, same-bits}
 use Rattle.reachability.proofs.Chain.{chain-trans, relation-closed-exactly}
-use Rattle.isolation_theory.specs.Component.{joined, component, Connected, EveryComponent, EveryComponentShared, ComponentsStay, callsFrom, componentCalls}
-use Rattle.isolation_theory.specs.Component.{EveryRunComponentsStay, EveryRunComponentNoninterference}
-use Rattle.isolation_theory.specs.Component.{EveryPromisedRunComponentsStay, EveryPromisedRunComponentNoninterference, EveryComponentOfDomains}
+use Rattle.isolation_theory.specs.Component.{joined, component, Connected, EveryComponent, EveryComponentShared, ComponentsStay, ComponentsWithin, callsFrom, componentCalls}
+use Rattle.isolation_theory.specs.Component.{EveryRunComponentsStay, EveryRunComponentsWithin, EveryRunComponentNoninterference}
+use Rattle.isolation_theory.specs.Component.{EveryPromisedRunComponentsStay, EveryPromisedRunComponentsWithin, EveryPromisedRunComponentNoninterference, EveryComponentOfDomains}
 use Rattle.isolation_theory.proofs.Ran.{ran-accepted, ran-table, ran-answers}
 
 pub every-component : EveryComponent
@@ -155,6 +155,32 @@ components-stay t cs a u v lu lv i =
 pub promised-components-stay : EveryPromisedRunComponentsStay
 promised-components-stay t ws p =
     subst (ComponentsStay t) (sym (ran-table t ws p)) (components-stay t (split ws) (ran-accepted t ws p))
+
+-- ---- components lie within those of the start
+
+module _ (t s : List ℕ) (w : Within t s) where
+  -- a join at the end connects at the start
+  join-within : (a b : ℕ) → among (domains s) (joined s) a b ≡ true → Connected t b a
+  unfolding among joined
+  join-within a b l =
+      let both = and-left (ltb a (domains s) && ltb b (domains s)) _ l in
+      let la : a < domains t = subst (λ n. a < n) (w .count) (ltb-true _ _ (and-left (ltb a (domains s)) _ both)) in
+      let lb : b < domains t = subst (λ n. b < n) (w .count) (ltb-true _ _ (and-right (ltb a (domains s)) _ both)) in
+      ⊎-elim (λ r. w .right a b la lb r) (λ r. connected-back t (w .right b a lb la r))
+      (or-cases (reaches s a b) (reaches s b a) (and-right (ltb a (domains s) && ltb b (domains s)) _ l))
+
+  connected-within : {d v : ℕ} → Connected s d v → Connected t d v
+  connected-within end = end
+  connected-within (link {u = a} {v = b} l c) = chain-trans (connected-within c) (join-within a b l)
+
+pub components-within : EveryRunComponentsWithin
+components-within t cs a d v b h =
+    let w = run-within t t cs (start-within t a) in
+    every-component t d v .1 (connected-within t (machine.run t cs) w (every-component (machine.run t cs) d v .0 h))
+
+pub promised-components-within : EveryPromisedRunComponentsWithin
+promised-components-within t ws p =
+    subst (ComponentsWithin t) (sym (ran-table t ws p)) (components-within t (split ws) (ran-accepted t ws p))
 
 pub component-of-domains : EveryComponentOfDomains
 component-of-domains t d u b h = connected-below t b (every-component t d u .0 h)

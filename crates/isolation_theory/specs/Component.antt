@@ -44,6 +44,11 @@ abbrev pub ComponentsStay : List ℕ → List ℕ → Type 0
 ComponentsStay t end =
     (u v : ℕ) → u < domains t → v < domains t → influences end u v ≡ true → hasBit (component t u) v ≡ true
 
+-- Components only come apart: what is connected with a domain at the end was connected with it in the table t.
+abbrev pub ComponentsWithin : List ℕ → List ℕ → Type 0
+ComponentsWithin t end =
+    (d v : ℕ) → d < domains t → hasBit (component end d) v ≡ true → hasBit (component t d) v ≡ true
+
 -- the calls whose caller is in a set, given as bits; a stray has no caller
 unfoldable pub callsFrom : ℕ → List Call → List Call
 callsFrom set [] = []
@@ -69,6 +74,9 @@ ComponentNoninterference t cs answers end =
 abbrev pub EveryRunComponentsStay : Type 0
 EveryRunComponentsStay = (t : List ℕ) (cs : List Call) → Accepted t → ComponentsStay t (machine.run t cs)
 
+abbrev pub EveryRunComponentsWithin : Type 0
+EveryRunComponentsWithin = (t : List ℕ) (cs : List Call) → Accepted t → ComponentsWithin t (machine.run t cs)
+
 abbrev pub EveryRunComponentNoninterference : Type 0
 EveryRunComponentNoninterference =
     (t : List ℕ) (cs : List Call) (rest : List ℕ)
@@ -79,6 +87,9 @@ EveryRunComponentNoninterference =
 
 abbrev pub EveryPromisedRunComponentsStay : Type 0
 EveryPromisedRunComponentsStay = (t ws : List ℕ) (p : PromisedRun t ws) → ComponentsStay t (p .end)
+
+abbrev pub EveryPromisedRunComponentsWithin : Type 0
+EveryPromisedRunComponentsWithin = (t ws : List ℕ) (p : PromisedRun t ws) → ComponentsWithin t (p .end)
 
 abbrev pub EveryPromisedRunComponentNoninterference : Type 0
 EveryPromisedRunComponentNoninterference =

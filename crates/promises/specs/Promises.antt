@@ -384,10 +384,14 @@ pub record Promises : Type 0 where
   -- No run from an accepted table lets influence cross components: at its end no domain influences one outside the component that
   -- it had at the start.
   pub J-stay : isolation-theory-component.EveryRunComponentsStay
+  -- So components only come apart: the component of a domain after any run lies within the one that it had at the start.
+  pub J-within : isolation-theory-component.EveryRunComponentsWithin
   -- From an accepted table: without every call whose caller is not in d's component, d sees the same.
   pub J-noninterference : isolation-theory-component.EveryRunComponentNoninterference
   -- The same of the words that the kernel left, for any list that runs,
   pub J-run-stay : isolation-theory-component.EveryPromisedRunComponentsStay
+  -- the component of a domain in the table left lies within the one that it had at the start,
+  pub J-run-within : isolation-theory-component.EveryPromisedRunComponentsWithin
   -- and d sees the same without the calls from outside its component.
   pub J-run-noninterference : isolation-theory-component.EveryPromisedRunComponentNoninterference
   -- Tables and their components.
