@@ -484,6 +484,11 @@ pub record Promises : Type 0 where
   pub K-repair-mended : repair-theory-repair-claims.EveryRepairMended
   -- A refusal alters neither the table nor the list.
   pub K-refusal-alters-nothing : repair-theory-repair-claims.EveryRefusalAltersNothing
+  -- "33 .. then 34 if the lent list is too short": 33 exactly where mending is not enough, then 34 exactly where the list has fewer than
+  -- two words for each word that mending alters, else 0.
+  pub K-codes : repair-theory-repair-claims.EveryRepairCode
+  -- A list of twice as many words as the table has is enough.
+  pub K-twice-is-enough : repair-theory-repair-claims.TwiceTheTableIsEnough
   -- A sound table stays and yields an empty list.
   pub K-sound-table-stays : repair-theory-repair-claims.EverySoundTableStays
   -- No holder has a right at the end that its word didn't show before, read by its bits or in any other reading in which 20000000

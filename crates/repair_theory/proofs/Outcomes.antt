@@ -1,10 +1,10 @@
 -- The outcome of a repair: a refusal or a repaired table (specs/Repair), and its count is small. Assumes nothing.
-use Prim.Native.Nat.{ℕ, _*_, _≤_}
-use mathlib.Core.Path.{_≡_, refl}
-use mathlib.Core.Bool.{Bool, true, false, cond, not}
+use Prim.Native.Nat.{ℕ, _*_, _<_, _≤_}
+use mathlib.Core.Path.{_≡_, refl, sym, _∙_}
+use mathlib.Core.Bool.{Bool, true, false, cond, not, true≢false}
 use mathlib.Core.List.{List}
 use native.Mathlib.Omega.{arith}
-use borrow.Author.Tests.{ltb-false, eqb-true, eqb-false}
+use borrow.Author.Tests.{ltb-true, ltb-false, eqb-true, eqb-false}
 use lib.Dec.{eqb, ltb}
 use lib.ListN.{length}
 use Rattle.machine.proofs.Bools.{cond-elim}
@@ -14,6 +14,7 @@ use Rattle.repair_theory.proofs.Mended.{mended-length}
 use Rattle.repair_theory.proofs.Claims.{mended-accepted}
 use Rattle.repair_theory.specs.Changes.{differing, changes}
 use Rattle.repair_theory.specs.Repair.{altered, alteredCount, repairCode, RepairOutcome, refusal, repaired, repair}
+use Rattle.repair_theory.specs.RepairClaims.{CodeExactly}
 use Rattle.repair_theory.proofs.Changes.{lists-numbers, pairs-length}
 
 -- two words for each word altered
@@ -29,6 +30,33 @@ altered-few t = lists-numbers (length t) _ .few
 -- a table that can be mended has at most 641 words
 pub mendable-small : (t : List ℕ) → mendable t ≡ true → length t ≤ 641
 mendable-small t can = omega (arith, mended-length t, accepted-short (mended t) (mended-accepted t can))
+
+-- which code is for what
+pub code-exactly : (t : List ℕ) (size : ℕ) → CodeExactly t size (repairCode t size)
+unfolding repairCode
+code-exactly t size = go (mendable t) refl (ltb size (length (altered t))) refl
+  where
+    go : (a : Bool) → mendable t ≡ a → (b : Bool) → ltb size (length (altered t)) ≡ b → CodeExactly t size (cond (not a) 33 (cond b 34 0))
+    go true can true short =
+        let less : size < 2 * alteredCount t = omega (arith, ltb-true size (length (altered t)) short, altered-length t) in
+        record {
+          unmendable = (λ e. absurd (omega (arith, e)), λ cannot. absurd (true≢false (sym can ∙ cannot)));
+          tooShort = (λ e. (can, less), λ e. refl);
+          repaired = (λ e. absurd (omega (arith, e)), λ both. absurd (omega (arith, both .1, less)));
+        }
+    go true can false long =
+        let room : 2 * alteredCount t ≤ size = omega (arith, ltb-false size (length (altered t)) long, altered-length t) in
+        record {
+          unmendable = (λ e. absurd (omega (arith, e)), λ cannot. absurd (true≢false (sym can ∙ cannot)));
+          tooShort = (λ e. absurd (omega (arith, e)), λ both. absurd (omega (arith, both .1, room)));
+          repaired = (λ e. (can, room), λ e. refl);
+        }
+    go false cannot b _ =
+        record {
+          unmendable = (λ e. cannot, λ e. refl);
+          tooShort = (λ e. absurd (omega (arith, e)), λ both. absurd (true≢false (sym (both .0) ∙ cannot)));
+          repaired = (λ e. absurd (omega (arith, e)), λ both. absurd (true≢false (sym (both .0) ∙ cannot)));
+        }
 
 -- where the code is 0 mending is enough and there is room for the pairs
 not-refused : (t : List ℕ) (size : ℕ) → repairCode t size ≡ 0 → (mendable t ≡ true) × (length (altered t) ≤ size)

@@ -6,11 +6,12 @@ use mathlib.Core.List.{List, [], _++_}
 use native.Mathlib.Nat.{not-suc-le-zero}
 use native.Mathlib.Decide.{decLt}
 use native.Mathlib.Omega.{arith}
-use borrow.Author.Tests.{eqb-false, eq-eqb, ne-eqb, not-true, le-ltb}
+use borrow.Author.Tests.{eqb-true, eqb-false, eq-eqb, ne-eqb, not-true, le-ltb}
+use lib.Dec.{eqb}
 use lib.ListN.{length, getD, take, drop, length-append, length-drop, List·getD-append, List·getD-eq-default}
 use lib.Seq.{take-at, drop-at}
 use Rattle.machine.specs.Check.{headerOk, lengthOk, tableCode, Accepted}
-use Rattle.machine.proofs.Bools.{and-left, and-right}
+use Rattle.machine.proofs.Bools.{and-left, and-right, cond-elim}
 use Rattle.repair_theory.specs.Mend.{mended, mendable}
 use Rattle.repair_theory.specs.Claims.{Mended, AddsNoRight, AddsNoRightInAnyReading, AltersOnlyBroken}
 use Rattle.repair_theory.proofs.Mended.{mended-length}
@@ -18,9 +19,9 @@ use Rattle.repair_theory.proofs.Claims.{each-part-mended, accepted-exac
 use Rattle.repair_theory.specs.Changes.{differing, changePairs, changes, putBack}
 use Rattle.repair_theory.specs.Repair.{altered, alteredCount, repairCode, RepairOutcome, refusal, repaired, repair}
 use Rattle.repair_theory.specs.RepairClaims as claims
-use Rattle.repair_theory.specs.RepairClaims.{PromisedRepair, ReportsChanges, ReportedExactly}
+use Rattle.repair_theory.specs.RepairClaims.{PromisedRepair, CodeExactly, ReportsChanges, ReportedExactly}
 use Rattle.repair_theory.proofs.Changes.{Lists, none-listed, lists-numbers, pairs-length, pairs-place, pairs-content, put-back-changes, differsAt}
-use Rattle.repair_theory.proofs.Outcomes.{altered-length, repair-elim}
+use Rattle.repair_theory.proofs.Outcomes.{altered-length, altered-few, code-exactly, repair-elim}
 
 -- the outcome that was promised
 abbrev outcomeOf : {t list : List ℕ} → PromisedRepair t list → RepairOutcome
@@ -56,6 +57,23 @@ every-refusal-alters-nothing t list =
     promised t list (λ o. (o .code ≡ 0 → ⊥) → (o .count ≡ 0) × (o .table ≡ t) × (o .list ≡ list))
     (λ _ _ refused. absurd (refused refl))
     (λ n _ _ _. (refl, refl, refl))
+
+-- ---- the code
+
+-- the code of a repair is the one for its table and the length of its list
+repair-code : (t list : List ℕ) → repair t list .code ≡ repairCode t (length list)
+unfolding repair repaired refusal
+repair-code t list =
+    let n = repairCode t (length list) in
+    cond-elim (λ (o : RepairOutcome). o .code ≡ n) (eqb n 0) (λ none. sym (eqb-true n 0 none)) (λ _. refl)
+
+pub every-repair-code : claims.EveryRepairCode
+every-repair-code t list r =
+    subst (CodeExactly t (length list)) (sym (r .kept .sameCode ∙ repair-code t list)) (code-exactly t (length list))
+
+pub twice-the-table-is-enough : claims.TwiceTheTableIsEnough
+twice-the-table-is-enough t list r can long =
+    every-repair-code t list r .repaired .1 (can, omega (arith, long, altered-few t))
 
 -- ---- the rights
 

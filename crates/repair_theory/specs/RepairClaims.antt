@@ -1,13 +1,16 @@
 -- What is claimed of a repair (document 02 (k)): of whoever keeps the promise, for arbitrary words as a table and any lent list.
 -- Each claim that begins with `Every` is closed and the type of a theorem in proofs/RepairClaims.
-use Prim.Native.Nat.{ℕ, _+_, _*_, _<_}
+use Prim.Native.Nat.{ℕ, _+_, _*_, _<_, _≤_}
 use mathlib.Core.Path.{_≡_}
+use mathlib.Core.Bool.{true, false}
+use mathlib.Core.Logic.{_↔_}
 use mathlib.Core.List.{List}
 use lib.ListN.{length, getD, take, drop}
 use Rattle.machine.specs.Check.{Accepted}
 use Rattle.repair_theory.specs.Claims.{Mended, AddsNoRight, AddsNoRightInAnyReading, AltersOnlyBroken}
 use Rattle.repair_theory.specs.Changes.{putBack}
-use Rattle.repair_theory.specs.Repair.{RepairPromise}
+use Rattle.repair_theory.specs.Mend.{mendable}
+use Rattle.repair_theory.specs.Repair.{alteredCount, RepairPromise}
 
 -- A repair of the table t with the lent words list, by whoever keeps the promise.
 pub record PromisedRepair (t list : List ℕ) : Type 0 where
@@ -32,6 +35,24 @@ EveryRefusalAltersNothing =
     (t list : List ℕ) (r : PromisedRepair t list)
     → (r .code ≡ 0 → ⊥)
     → (r .count ≡ 0) × (r .end ≡ t) × (r .reported ≡ list)
+
+-- The code of a repair of the table t with so many words lent: 33 exactly where mending is not enough; then 34 exactly where there
+-- are fewer than two words for each word that mending alters; else 0.
+pub record CodeExactly (t : List ℕ) (size code : ℕ) : Type 0 where
+  pub unmendable : (code ≡ 33) ↔ (mendable t ≡ false)
+  pub tooShort : (code ≡ 34) ↔ ((mendable t ≡ true) × (size < 2 * alteredCount t))
+  pub repaired : (code ≡ 0) ↔ ((mendable t ≡ true) × (2 * alteredCount t ≤ size))
+
+abbrev pub EveryRepairCode : Type 0
+EveryRepairCode = (t list : List ℕ) (r : PromisedRepair t list) → CodeExactly t (length list) (r .code)
+
+-- Twice as many words as the table has are enough.
+abbrev pub TwiceTheTableIsEnough : Type 0
+TwiceTheTableIsEnough =
+    (t list : List ℕ) (r : PromisedRepair t list)
+    → mendable t ≡ true
+    → 2 * length t ≤ length list
+    → r .code ≡ 0
 
 -- A sound table stays and yields an empty list.
 abbrev pub EverySoundTableStays : Type 0
