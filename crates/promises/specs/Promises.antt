@@ -246,6 +246,9 @@ pub record Promises : Type 0 where
   pub W-writes-back : writer-theory-claims.WritesBack
   -- What is written, the reader takes past the four.
   pub W-taken-by-reader : writer-theory-claims.TakenByReader
+  -- The reader's four are the machine's: a call that it takes past 10, 11, 13 and 14 is refused by none of them, on any table, and one
+  -- that it doesn't take past them is refused by one of them on every table, unless by 12, which is tested before 13 and 14.
+  pub W-four : writer-theory-list-claims.FourOfTheMachine
   -- Where the code is 0, decoding as many words as the answer says gives the calls that were passed.
   pub W-written-reads-back : writer-theory-list-claims.WrittenReadsBack
   -- A list that is read as calls past the four is written as it came, where there is space for it and it isn't longer than a
@@ -253,6 +256,11 @@ pub record Promises : Type 0 where
   pub W-written-as-it-came : writer-theory-list-claims.WrittenAsItCame
   -- A call needs at least one word, so more than 4,096 calls are more than 4,096 words.
   pub W-each-wants-a-word : writer-theory-list-claims.EachWantsAWord
+  -- "30 .. with the number from 0 of the first such call; then 31, with 0, if the words would pass 4,096 or the lent space"; where the
+  -- code is 0, the number is that of the words written.
+  pub W-codes : writer-theory-list-claims.EveryWritingCode
+  -- "Neither writes a word", and what is written "leaves the space past" it.
+  pub W-others-left : writer-theory-list-claims.OthersLeft
   -- No table refuses a written call by 10, 11, 13 or 14, of calls that are passed as values or as rows.
   pub W-no-table-refuses : writer-theory-list-claims.NoTableRefuses
   -- So where a list that was written runs, the answer to each of its calls has another code than these.

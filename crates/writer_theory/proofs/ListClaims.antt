@@ -1,17 +1,18 @@
 -- What is claimed of the outcome of writing calls (specs/ListClaims). Assumes nothing.
 use Prim.Native.Nat.{ℕ, _+_, _≤_}
-use mathlib.Core.Path.{_≡_, refl, ap, _∙_}
+use mathlib.Core.Path.{_≡_, refl, ap, subst, _∙_}
 use mathlib.Core.Bool.{Bool, true, false, cond, _&&_}
-use mathlib.Core.List.{List, [], _∷_}
+use mathlib.Core.Logic.{_⊎_.inl, _⊎_.inr}
+use mathlib.Core.List.{List, [], _∷_, _++_}
 use mathlib.Core.Option.{Option, none, some}
 use native.Mathlib.Omega.{arith}
 use borrow.Author.Tests.{le-ltb, ltb-false, eqb-false}
 use lib.Dec.{ltb}
-use lib.ListN.{length, take, length-append, length-map}
-use lib.Seq.{take-at}
+use lib.ListN.{length, take, drop, length-append, length-map}
+use lib.Seq.{take-at, drop-at}
 use Rattle.machine.specs.Call.{split}
 use Rattle.machine.specs.Entry.{longestList}
-use Rattle.machine.proofs.Bools.{and-left, and-right, or-none-left, or-none-right, cond-elim}
+use Rattle.machine.proofs.Bools.{and-left, and-right, and-intro, or-none-left, or-none-right, cond-elim}
 use Rattle.machine.proofs.Split.{split-few}
 use Rattle.calls.specs.declared.Call.{Call}
 use Rattle.writer_theory.specs.Words.{fits, encodedWords, allFit, written}
@@ -19,8 +20,8 @@ use Rattle.writer_theory.specs.Claims.{decodedCalls, readFrom}
 use Rattle.writer_theory.proofs.FieldWords.{one-or-two}
 use Rattle.writer_theory.proofs.Reading.{reads-back}
 use Rattle.writer_theory.proofs.Writing.{writes-back}
-use Rattle.writer_theory.specs.Write.{unfitFrom, firstUnfit, tooLong, WriteOutcome, wordsWritten, wordsPut, afterUnfit, writing}
-use Rattle.writer_theory.specs.ListClaims.{WrittenReadsBack, WrittenAsItCame, EachWantsAWord}
+use Rattle.writer_theory.specs.Write.{unfitFrom, firstUnfit, tooLong, WriteOutcome, wordsWritten, refusal, wordsPut, afterUnfit, writing}
+use Rattle.writer_theory.specs.ListClaims.{WrittenReadsBack, WrittenAsItCame, EachWantsAWord, FirstUnfit, WritingCode, EveryWritingCode, OthersLeft}
 
 -- where no call is found unfit, all fit
 pub none-unfit : (i : ℕ) (cs : List Call) → unfitFrom i cs ≡ none → allFit cs ≡ true
@@ -68,6 +69,63 @@ unfolding firstUnfit writing
 written-all cs count list zero =
     let whole = written-whole (firstUnfit cs) count (written cs) list zero in
     (none-unfit 0 cs (whole .0), whole .1)
+
+-- ---- what is refused
+
+-- the first call that can't be written, where the first of the list has the index k
+first-unfit : (k : ℕ) (cs : List Call) (i : ℕ) → unfitFrom k cs ≡ some i → (j : ℕ) × (k + j ≡ i) × FirstUnfit cs j
+unfolding unfitFrom allFit
+first-unfit k [] i h = let z : _≡_ {A = ℕ} 0 1 = cc in absurd (omega arith)
+first-unfit k (c ∷ cs) i h = go (fits c) refl h (first-unfit (k + 1) cs i)
+  where
+    go : (b : Bool) → fits c ≡ b → cond b (unfitFrom (k + 1) cs) (some k) ≡ some i
+        → (unfitFrom (k + 1) cs ≡ some i → (j : ℕ) × (k + 1 + j ≡ i) × FirstUnfit cs j)
+        → (j : ℕ) × (k + j ≡ i) × FirstUnfit (c ∷ cs) j
+    go true fit e rest =
+        let (j, at, f) = rest e in (
+          j + 1,
+          omega (arith, at),
+          record {
+            before = c ∷ f .before;
+            bad = f .bad;
+            later = f .later;
+            calls = ap (λ (ds : List Call). c ∷ ds) (f .calls);
+            index = omega (arith, f .index);
+            fitting = and-intro fit (f .fitting);
+            unfit = f .unfit;
+          },
+        )
+    go false not e rest =
+        let at : k ≡ i = cc in
+        (0, omega (arith, at), record { before = []; bad = c; later = cs; calls = refl; index = refl; fitting = refl; unfit = not })
+
+-- what holds of both refusals and of words that are written holds of the writing
+writing-elim : (cs : List Call) (count : ℕ) (list : List ℕ) (P : WriteOutcome → Type 0)
+    → ((i : ℕ) → FirstUnfit cs i → P (refusal 30 i list))
+    → (allFit cs ≡ true → tooLong count (length (written cs)) (length list) ≡ true → P (refusal 31 0 list))
+    → (allFit cs ≡ true → tooLong count (length (written cs)) (length list) ≡ false → P (record { code = 0; number = length (written cs); list = written cs ++ drop (length (written cs)) list }))
+    → P (writing cs count list)
+unfolding writing firstUnfit wordsPut
+writing-elim cs count list P bad long done = go (unfitFrom 0 cs) refl
+  where
+    go : (o : Option ℕ) → unfitFrom 0 cs ≡ o → P (afterUnfit o count (written cs) list)
+    go none e = let fit = none-unfit 0 cs e in cond-elim P (tooLong count (length (written cs)) (length list)) (long fit) (done fit)
+    go (some i) e = let (j, at, f) = first-unfit 0 cs i e in let same : j ≡ i = omega (arith, at) in bad i (subst (FirstUnfit cs) same f)
+
+pub every-writing-code : EveryWritingCode
+every-writing-code cs count list =
+    writing-elim cs count list (WritingCode cs count list)
+    (λ i f. record { known = inl refl; badCall = λ _. f; passes = λ e. absurd (omega (arith, e)); done = λ e. absurd (omega (arith, e)) })
+    (λ fit long. record { known = inr (inl refl); badCall = λ e. absurd (omega (arith, e)); passes = λ _. (fit, long, refl); done = λ e. absurd (omega (arith, e)) })
+    (λ fit short. record { known = inr (inr refl); badCall = λ e. absurd (omega (arith, e)); passes = λ e. absurd (omega (arith, e)); done = λ _. (fit, short, refl) })
+
+pub others-left : OthersLeft
+others-left cs count list =
+    writing-elim cs count list
+    (λ (o : WriteOutcome). ((o .code ≡ 0 → ⊥) → o .list ≡ list) × (o .code ≡ 0 → drop (o .number) (o .list) ≡ drop (o .number) list))
+    (λ i _. (λ _. refl, λ e. absurd (omega (arith, e))))
+    (λ _ _. (λ _. refl, λ e. absurd (omega (arith, e))))
+    (λ _ _. (λ some. absurd (some refl), λ _. drop-at (written cs) (drop (length (written cs)) list) (length (written cs)) refl))
 
 pub written-reads-back : WrittenReadsBack
 written-reads-back cs count list zero =

@@ -3,6 +3,7 @@
 use Prim.Native.Nat.{ℕ, _*_, _<_, _≤_}
 use mathlib.Core.Path.{_≡_}
 use mathlib.Core.Bool.{true, false}
+use mathlib.Core.Logic.{_⊎_}
 use mathlib.Core.List.{List, _∷_, _++_}
 use lib.ListN.{length, getD, drop}
 use Rattle.machine.specs.Word.{answerCode}
@@ -11,9 +12,9 @@ use Rattle.machine.specs.Machine.{decide, code}
 use Rattle.machine.specs.Entry.{longestList}
 use Rattle.machine.specs.Promise.{RunPromise}
 use Rattle.calls.specs.declared.Call.{Call}
-use Rattle.writer_theory.specs.Words.{written}
-use Rattle.writer_theory.specs.Claims.{readFrom, ofTheFour, allPast}
-use Rattle.writer_theory.specs.Write.{WriteOutcome, wordsWritten, writing}
+use Rattle.writer_theory.specs.Words.{fits, allFit, written}
+use Rattle.writer_theory.specs.Claims.{decodedCalls, readFrom, ofTheFour, past, allPast}
+use Rattle.writer_theory.specs.Write.{tooLong, WriteOutcome, wordsWritten, writing}
 use Rattle.writer_theory.specs.Rows.{rowsHandedIn, rowsOf, writingRows}
 
 -- the outcome of writing the words ws to the start of the lent ones
@@ -41,7 +42,45 @@ WrittenAsItCame =
 abbrev pub EachWantsAWord : Type 0
 EachWantsAWord = (cs : List Call) → length cs ≤ length (written cs)
 
+-- ---- what is refused
+
+-- The call of the index i is the first of the calls cs that can't be written.
+pub record FirstUnfit (cs : List Call) (i : ℕ) : Type 0 where
+  pub before : List Call
+  pub bad : Call
+  pub later : List Call
+  pub calls : cs ≡ before ++ (bad ∷ later)
+  pub index : length before ≡ i
+  pub fitting : allFit before ≡ true
+  pub unfit : fits bad ≡ false
+
+-- What each code is for: 30 comes with the index of the first call that can't be written; then 31, with 0, where the words would
+-- pass 4,096 or the lent space; 0 with the count of words written.
+pub record WritingCode (cs : List Call) (count : ℕ) (list : List ℕ) (o : WriteOutcome) : Type 0 where
+  pub known : (o .code ≡ 30) ⊎ (o .code ≡ 31) ⊎ (o .code ≡ 0)
+  pub badCall : o .code ≡ 30 → FirstUnfit cs (o .number)
+  pub passes : o .code ≡ 31 → (allFit cs ≡ true) × (tooLong count (length (written cs)) (length list) ≡ true) × (o .number ≡ 0)
+  pub done : o .code ≡ 0 → (allFit cs ≡ true) × (tooLong count (length (written cs)) (length list) ≡ false) × (o .number ≡ length (written cs))
+
+abbrev pub EveryWritingCode : Type 0
+EveryWritingCode = (cs : List Call) (count : ℕ) (list : List ℕ) → WritingCode cs count list (writing cs count list)
+
+-- "Neither writes a word" (document 02 (c)): a refusal leaves all that was lent, and what is written leaves the space past it.
+abbrev pub OthersLeft : Type 0
+OthersLeft =
+    (cs : List Call) (count : ℕ) (list : List ℕ)
+    → ((writing cs count list .code ≡ 0 → ⊥) → writing cs count list .list ≡ list)
+    × (writing cs count list .code ≡ 0 → drop (writing cs count list .number) (writing cs count list .list) ≡ drop (writing cs count list .number) list)
+
 -- ---- the machine
+
+-- The four are the machine's: a call that the reader takes past them is refused by none of them, on any table; and one that it
+-- doesn't take past them is refused by one of them on every table, unless by 12, which is tested before 13 and 14.
+abbrev pub FourOfTheMachine : Type 0
+FourOfTheMachine =
+    (t : List ℕ) (c : machine.Call)
+    → (past (decodedCalls c) ≡ true → ofTheFour (code (decide t c)) ≡ false)
+    × (past (decodedCalls c) ≡ false → (ofTheFour (code (decide t c)) ≡ true) ⊎ (code (decide t c) ≡ 12))
 
 -- No table refuses a written call by one of the four: where the code is 0, not one of the calls into which the words are split.
 abbrev pub NoTableRefuses : Type 0
