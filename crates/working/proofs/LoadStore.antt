@@ -19,7 +19,7 @@ use Rattle.kernel.specs.Run.{AllRun}
 use Rattle.working_load.specs.Layout.{hasQueues, ringsOf, storedQueues, namesOf, ownedOf}
 use Rattle.working_load.proofs.Loaded.{loaded-represents}
 use Rattle.working_load.proofs.Stored.{store-is-table}
-use Rattle.working.specs.Run.{RepresentsTable, Left}
+use Rattle.working.specs.Run.{working, leaves, RepresentsTable, Left}
 
 -- storing rows leaves a table its length
 rows-length : (n : ℕ) (rows : List (List ℕ)) (t : List ℕ) → length (storedRows n rows t) ≡ length t
@@ -57,7 +57,7 @@ module _ (t : List ℕ) (a : Accepted t) where
         → names ≡ namesOf (n % 256) m t
         → owned ≡ ownedOf (n % 256) m t
         → holders ≡ holdersOf t
-        → RepresentsTable n m rows rings names owned holders t
+        → RepresentsTable (working n m rows rings names owned holders) t
     loaded rows lent rings names owned holders long isRows isRings isNames isOwned isHolders =
         record {
           accepted = a;
@@ -74,12 +74,12 @@ module _ (t : List ℕ) (a : Accepted t) where
         ringsAre = rw (small, isM, has-queues (length t) (length lent) refl long) refl
 
     -- the stored state is the table at the end
-    pub store : (names owned ws space : List ℕ) (k : ℕ) (rows : List (List ℕ)) (rings space′ holders t₁ t₂ : List ℕ)
-        → Left n m names owned t ws space k rows rings space′ holders
+    pub store : (rows₀ : List (List ℕ)) (rings₀ names owned holders₀ ws space : List ℕ) (k : ℕ) (rows : List (List ℕ)) (rings space′ holders t₁ t₂ : List ℕ)
+        → Left (working n m rows₀ rings₀ names owned holders₀) t ws space (leaves k rows rings space′ holders)
         → t₁ ≡ cond (hasRights n (length t)) (storedRows n rows t) t
         → t₂ ≡ cond (hasQueues (n % 256) m (length t₁) (length rings)) (storedQueues (n % 256) m rings t₁) t₁
         → AllRun t ws space k space′ t₂ holders
-    store names owned ws space k rows rings space′ holders t₁ t₂ x isT₁ isT₂ =
+    store rows₀ rings₀ names owned holders₀ ws space k rows rings space′ holders t₁ t₂ x isT₁ isT₂ =
         let ran = x .ran in
         record { count = ran .count; table = isT₂ ∙ whole ∙ ran .table; answers = ran .answers; holders = ran .holders }
       where

@@ -19,43 +19,50 @@ use Rattle.working_theory.specs.State.{namedIn, answerFrom, effectFrom, rowsAft
 use Rattle.working_theory.specs.Represents.{Represents}
 use Rattle.working_theory.proofs.Simulation.{calls-simulate}
 use Rattle.working.specs.Outcome.{StateOutcome}
-use Rattle.working.specs.Run.{RepresentsTable, Left}
+use Rattle.working.specs.Run.{WorkingState, ListOutcome, leaves, RepresentsTable, Left}
 
--- k calls of the list ws are done and the next begins at place i; rows, rings, space and p are as they are now
-pub record OnItsWay (n m : ℕ) (names owned t₀ ws space₀ p₀ : List ℕ) (rows : List (List ℕ)) (rings space p : List ℕ) (k i : ℕ) : Type 0 where
+-- The run of the list ws on the state s₀, from the table t₀: the outcome o is what the calls so far leave, and the next begins at
+-- place i.
+pub record OnItsWay (s₀ : WorkingState) (t₀ ws space₀ : List ℕ) (o : ListOutcome) (i : ℕ) : Type 0 where
   pub table : List ℕ
-  pub underway : Underway t₀ ws space₀ p₀ table space p k i
+  pub underway : Underway t₀ ws space₀ (s₀ .holders) table (o .answers) (o .holders) (o .calls) i
   pub frame : SameFrame table t₀
-  pub state : Represents n m rows rings names owned table
+  pub state : Represents (s₀ .n) (s₀ .m) (o .rows) (o .rings) (s₀ .names) (s₀ .owned) table
 
-module _ (n m : ℕ) (names hints owned ws space₀ p₀ : List ℕ) where
-  pub way-start : (rows : List (List ℕ)) (rings t : List ℕ) → RepresentsTable n m rows rings names owned p₀ t
-      → OnItsWay n m names owned t ws space₀ p₀ rows rings space₀ p₀ 0 0
-  way-start rows rings t s =
+module _ (s₀ : WorkingState) (hints ws space₀ : List ℕ) where
+  pub way-start : (t : List ℕ) → RepresentsTable s₀ t → OnItsWay s₀ t ws space₀ (leaves 0 (s₀ .rows) (s₀ .rings) space₀ (s₀ .holders)) 0
+  way-start t s =
       record {
         table = t;
-        underway = underway-start t ws space₀ p₀ (s .accepted) (s .sameHolders);
+        underway = underway-start t ws space₀ (s₀ .holders) (s .accepted) (s .sameHolders);
         frame = frame-refl t;
         state = s .state;
       }
 
-  module _ (t₀ : List ℕ) (rows : List (List ℕ)) (rings space p : List ℕ) (k i : ℕ) (y : OnItsWay n m names owned t₀ ws space₀ p₀ rows rings space p k i) where
+  module _ (t₀ : List ℕ) (o : ListOutcome) (i : ℕ) (y : OnItsWay s₀ t₀ ws space₀ o i) where
+    -- what one more call leaves on the state: its answer, the rows, the rings and the holders
+    abbrev Serves : ℕ → Second → List ℕ → List (List ℕ) → List ℕ → List ℕ → Type 0
+    Serves w s words rows′ rings′ p′ =
+        StateOutcome (s₀ .n) (s₀ .m) (o .rows) (o .rings) (namedIn (s₀ .m) (s₀ .names) hints) (s₀ .owned) (o .holders) w (decoded w s) words rows′ rings′ p′
+
     -- one more call on the state is one more on the table
     served : (w : ℕ) (s : Second) (words : List ℕ) (rows′ : List (List ℕ)) (rings′ p′ : List ℕ)
-        → StateOutcome n m rows rings (namedIn m names hints) owned p w (decoded w s) words rows′ rings′ p′
+        → Serves w s words rows′ rings′ p′
         → kernel.StepOutcome (y .table) (callOf w s) words (machine.step (y .table) (callOf w s)) p′
-        × Represents n m rows′ rings′ names owned (machine.step (y .table) (callOf w s))
+        × Represents (s₀ .n) (s₀ .m) rows′ rings′ (s₀ .names) (s₀ .owned) (machine.step (y .table) (callOf w s))
     served w s words rows′ rings′ p′ x =
         let t = y .table in
         let c = callOf w s in
-        let along = calls-simulate w s n m rows rings names hints owned t (y .underway .accepted) (y .state) in
+        let rows = o .rows in
+        let rings = o .rings in
+        let along = calls-simulate w s (s₀ .n) (s₀ .m) rows rings (s₀ .names) hints (s₀ .owned) t (y .underway .accepted) (y .state) in
         let is = along .decided in (
           record {
-            answer = x .answer ∙ ap (answerFrom w rows rings owned) is ∙ along .answer;
+            answer = x .answer ∙ ap (answerFrom w rows rings (s₀ .owned)) is ∙ along .answer;
             table = refl;
             holders = x .noted ∙ ap₂ (λ (h : List ℕ) (d : Decision). holdersAfter h (effectFrom rows rings d)) (y .underway .holders) is ∙ along .holders;
           },
-          subst₂ (λ (a : List (List ℕ)) (b : List ℕ). Represents n m a b names owned (machine.step t c))
+          subst₂ (λ (a : List (List ℕ)) (b : List ℕ). Represents (s₀ .n) (s₀ .m) a b (s₀ .names) (s₀ .owned) (machine.step t c))
               (sym (x .rowsLeft ∙ ap (λ (d : Decision). rowsAfter rows (effectFrom rows rings d)) is))
               (sym (x .ringsLeft ∙ ap (λ (d : Decision). ringsAfter rings (effectFrom rows rings d)) is))
               (along .state),
@@ -65,11 +72,11 @@ module _ (n m : ℕ) (names hints owned ws space₀ p₀ : List ℕ) where
         → (s : Second) (w : ℕ) (words : List ℕ) (rows′ : List (List ℕ)) (rings′ space′ p′ : List ℕ)
         → s ≡ secondAt ws i
         → w ≡ widthOf s
-        → StateOutcome n m rows rings (namedIn m names hints) owned p (getD ws i 0) (decoded (getD ws i 0) s) words rows′ rings′ p′
-        → length p′ ≡ length p
-        → space′ ≡ take (3 * k) space ++ (words ++ drop (3 * k + 3) space)
-        → length space′ ≡ length space
-        → OnItsWay n m names owned t₀ ws space₀ p₀ rows′ rings′ space′ p′ (k + 1) (i + w)
+        → Serves (getD ws i 0) s words rows′ rings′ p′
+        → length p′ ≡ length (o .holders)
+        → space′ ≡ take (3 * o .calls) (o .answers) ++ (words ++ drop (3 * o .calls + 3) (o .answers))
+        → length space′ ≡ length (o .answers)
+        → OnItsWay s₀ t₀ ws space₀ (leaves (o .calls + 1) rows′ rings′ space′ p′) (i + w)
     way-next l s w words rows′ rings′ space′ p′ is wide x many put long =
         let one = served (getD ws i 0) s words rows′ rings′ p′ x in
         record {
@@ -80,7 +87,7 @@ module _ (n m : ℕ) (names hints owned ws space₀ p₀ : List ℕ) where
         }
 
     -- no word is left
-    pub way-end : length ws ≤ i → Left n m names owned t₀ ws space₀ k rows rings space p
+    pub way-end : length ws ≤ i → Left s₀ t₀ ws space₀ o
     way-end past =
         record {
           end = y .table;

@@ -8,7 +8,7 @@ ghost use mathlib.Core.List.{List};
 ghost use Prim.Native.Nat.{ℕ, _*_, _≤_};
 ghost use lib.ListN.{length};
 ghost use Rattle.machine.specs.Call.{split};
-ghost use Rattle.working.specs.Run.{RepresentsTable, RepresentsSome, Left};
+ghost use Rattle.working.specs.Run.{working, leaves, RepresentsTable, RepresentsSome, Left};
 
 // Runs the calls of a list and returns how many they were.
 pub fn run_list(
@@ -23,13 +23,15 @@ pub fn run_list(
     answers: &mut [u32],
     holders: &mut [u32],
 ) -> usize
-    requires { ⌜ RepresentsSome n m (now rows) (now rings) (now names) (now owned) (now holders) ⌝ }
+    requires { ⌜ RepresentsSome (working n m (now rows) (now rings) (now names) (now owned) (now holders)) ⌝ }
     requires { ⌜ length (now list) ≤ 4096 ⌝ }
     requires { ⌜ 3 * length (split (now list)) ≤ length (now answers) ⌝ }
     ensures { λ k. ⌜ ((t : List ℕ)
-        → RepresentsTable n m (now (rows .entry)) (now (rings .entry)) (now (names .entry)) (now (owned .entry)) (now (holders .entry)) t
-        → Left n m (now (names .entry)) (now (owned .entry)) t (now (list .entry)) (now (answers .entry)) k (now (rows .exit))
-        (now (rings .exit)) (now (answers .exit)) (now (holders .exit))) ⌝ }
+        → RepresentsTable (working n m (now (rows .entry)) (now (rings .entry)) (now (names .entry)) (now (owned .entry))
+        (now (holders .entry))) t
+        → Left (working n m (now (rows .entry)) (now (rings .entry)) (now (names .entry)) (now (owned .entry)) (now (holders .entry))) t
+        (now (list .entry)) (now (answers .entry))
+        (leaves k (now (rows .exit)) (now (rings .exit)) (now (answers .exit)) (now (holders .exit)))) ⌝ }
 {
     let mut calls: usize = 0;
     let mut i: usize = 0;

@@ -81,7 +81,7 @@ returns c =
     let run = c .before .before .before .before .before .before .before .before .before .before .before .before .before .before .before .before in
     let endpoints = run .before .before .before .before .before .before .before .before .before .before .before .before .before .before .before .before .before .before .before .before .before .before .before .before .before .before in
     let domains = endpoints .before .before in
-    store _ (domains .before .before .before .before .before .before .before .pre .0) _ _ (domains .domains .ensures) (endpoints .endpoints .ensures) _ _ _ _ _ _ _ _ _ _ _
+    store _ (domains .before .before .before .before .before .before .before .pre .0) _ _ (domains .domains .ensures) (endpoints .endpoints .ensures) _ _ _ _ _ _ _ _ _ _ _ _ _ _
     (run .run-list .ensures _ (run-list-requires (run .before) (run .run-list .lifetimes) .0 .stands))
     (c .before .before .before .before .before .before .before .store .ensures)
     (c .before .before .store-rings .ensures)

@@ -10,14 +10,16 @@ use Rattle.machine.proofs.Split.{split-few}
 use Rattle.calls.proofs.SplitAt.{split-at, wide}
 use Rattle.answers.proofs.Space.{lent-back}
 use Rattle.kernel.proofs.RunInvariant.{room}
-use Rattle.working.specs.Run.{RepresentsTable}
+use Rattle.working.specs.Run.{working, leaves, RepresentsTable}
 use Rattle.working.proofs.RunInvariant.{OnItsWay, way-start, way-next, way-end}
 use Rattle.working.proofs.run_list.run_list.Statement.{statement}
 use Rattle.working.proofs.run_list.run_list.Tie as tie
 
 abbrev Inv-loop : tie.InvT-loop
 Inv-loop n m rows₀ rings₀ names hints owned list answers₀ holders₀ calls₀ i₀ rows rings answers holders calls i =
-    (t : List ℕ) → RepresentsTable n m rows₀ rings₀ names owned holders₀ t → OnItsWay n m names owned t list answers₀ holders₀ rows rings answers holders calls i
+    (t : List ℕ)
+    → RepresentsTable (working n m rows₀ rings₀ names owned holders₀) t
+    → OnItsWay (working n m rows₀ rings₀ names owned holders₀) t list answers₀ (leaves calls rows rings answers holders) i
 
 abbrev μ-loop : tie.MeasureT-loop
 μ-loop n m rows₀ rings₀ names hints owned list answers₀ holders₀ calls₀ i₀ rows rings answers holders calls i = length list - i
@@ -44,7 +46,7 @@ next-place c =
     (rw (c .width .ensures, second .second-at .ensures) (split-at (at .before .before .before .before .before .args .list .now) (at .loop .i) (second .before .before .loop-test .taken) .within), omega (arith, c .width .ensures, wide (second .second-at .result)))
 
 loop-holds : tie.Need-loop-holds Inv-loop μ-loop
-loop-holds c t s = way-start _ _ _ (c .before .before .before .before .args .hints .now) _ _ _ _ _ _ t s
+loop-holds c t s = way-start _ (c .before .before .before .before .args .hints .now) _ _ t s
 
 mul-first : tie.Need-mul-first Inv-loop μ-loop
 mul-first c = search needs
@@ -97,7 +99,7 @@ loop-again c t s =
     let call = put .before .before .before .before .before .before in
     let width = call .before .before .before .before in
     let at = width .before .before .before in
-    way-next _ _ _ _ _ _ _ _ _ _ _ _ _ _ _ (at .before .loop .inv t s) (at .loop-test .taken) _ _ _ _ _ _ _ (width .before .second-at .ensures) (width .width .ensures) (call .serve .ensures)
+    way-next _ _ _ _ _ _ _ (at .before .loop .inv t s) (at .loop-test .taken) _ _ _ _ _ _ _ (width .before .second-at .ensures) (width .width .ensures) (call .serve .ensures)
     (call .serve .kept .1 .1 .1 .1 .1 .1 .1 .0)
     (lent-back _ _ _ _ (next-room at) (put .put .ensures))
     (search needs)
@@ -114,7 +116,7 @@ same-length-3 : tie.Need-same-length-3 Inv-loop μ-loop
 same-length-3 c = c .before .loop .inv _ (c .before .before .before .before .before .before .pre .0 .stands) .underway .holdersSize
 
 returns : tie.Need-returns Inv-loop μ-loop
-returns c t s = way-end _ _ _ (c .before .before .before .before .before .before .args .hints .now) _ _ _ _ _ _ _ _ _ _ _ (c .before .loop .inv t s) (c .loop-test .left)
+returns c t s = way-end _ (c .before .before .before .before .before .before .args .hints .now) _ _ _ _ _ (c .before .loop .inv t s) (c .loop-test .left)
 
 pub run-list-spec : {M : Type 1} → statement M
 run-list-spec =
