@@ -4,7 +4,7 @@ use mathlib.Core.Path.{_≡_, refl, sym, ap, subst, _∙_}
 use mathlib.Core.Bool.{Bool, true, false, cond, _&&_, _||_, false≢true}
 use mathlib.Core.Logic.{_⊎_, _⊎_.inl, _⊎_.inr, ⊎-elim}
 use mathlib.Core.List.{List, [], _∷_, _++_, map}
-use mathlib.Core.Option.{Option, none, some}
+use mathlib.Core.Option.{Option, some}
 use Prim.Native.Nat.{ℕ, zero, suc, _<_, _≤_}
 use native.Mathlib.Nat.{not-suc-le-zero}
 use native.Mathlib.Omega.{arith}
@@ -22,7 +22,9 @@ use Rattle.machine.specs.Influence.{reaches}
 use Rattle.machine.specs.DomainSet.{member}
 use Rattle.machine.specs.Purge.{reachesAny, joinedBy, sources}
 use Rattle.machine.specs.Run.{run}
-use Rattle.machine.proofs.Bools.{or-cases, or-right, cond-elim}
+use Rattle.unwinding.proofs.Unwinding.{member-first, grows, reaches-member}
+use Rattle.machine.proofs.Bools.{and-intro, or-cases, or-right}
+use Rattle.machine.proofs.Purge.{tables, reaches-any, joined-by}
 use Rattle.machine.proofs.Below.{below-or-last}
 use Rattle.potential_theory.specs.Claims.{DoneBy, AllDoneBy}
 use Rattle.potential_theory.proofs.Grant.{AllAlone}
@@ -30,24 +32,14 @@ use Rattle.influence_theory.specs.Lists.{askWord}
 
 -- ---- members and sources, call by call
 
-pub member-first : (v : ℕ) (vs : List ℕ) → member v (v ∷ vs) ≡ true
-unfolding member
-member-first v vs = ap (λ b. b || member v vs) (eq-eqb v v refl)
-
-member-rest : (v w : ℕ) (vs : List ℕ) → member v vs ≡ true → member v (w ∷ vs) ≡ true
-unfolding member
-member-rest v w vs m = or-right (eqb v w) (member v vs) m
-
 member-cases : (v w : ℕ) (vs : List ℕ) → member v (w ∷ vs) ≡ true → (v ≡ w) ⊎ (member v vs ≡ true)
 unfolding member
 member-cases v w vs m = ⊎-elim (λ e. inl (eqb-true v w e)) inr (or-cases (eqb v w) (member v vs) m)
 
 -- a set only grows by a call
 stays-joined : (t : List ℕ) (q : Option ℕ) (vs : List ℕ) (v : ℕ) → member v vs ≡ true → member v (joinedBy t q vs) ≡ true
-unfolding joinedBy
-stays-joined t none vs v m = m
-stays-joined t (some u) vs v m =
-    cond-elim (λ xs. member v xs ≡ true) (ltb u (domains t) && reachesAny t u vs) (λ _. member-rest v u vs m) (λ _. m)
+stays-joined t q vs v m =
+    subst (λ xs. member v xs ≡ true) (joined-by (domains t) t q vs) (grows (tables (domains t)) t q vs v m)
 
 -- so sources over the later calls are sources over all
 pub sources-stay :
@@ -58,13 +50,15 @@ unfolding sources run
 sources-stay t [] ds d v m = m
 sources-stay t (c ∷ cs) ds d v m = stays-joined t (callerOf c) _ v (sources-stay (step t c) cs ds d v m)
 
-reaches-any : (t : List ℕ) (u v : ℕ) (vs : List ℕ) → member v vs ≡ true → reaches t u v ≡ true → reachesAny t u vs ≡ true
-unfolding reachesAny member
-reaches-any t u v [] m r = absurd (false≢true m)
-reaches-any t u v (w ∷ vs) m r =
-    ⊎-elim (λ e. ap (λ b. b || reachesAny t u vs) (subst (λ x. reaches t u x ≡ true) e r))
-    (λ m′. or-right (reaches t u w) (reachesAny t u vs) (reaches-any t u v vs m′ r))
-    (member-cases v w vs m)
+-- a domain that has a right on a member joins
+reaches-some :
+    (t : List ℕ) (u v : ℕ) (vs : List ℕ)
+    → u < domains t
+    → member v vs ≡ true
+    → reaches t u v ≡ true
+    → (ltb u (domains t) && reachesAny t u vs) ≡ true
+reaches-some t u v vs below m r =
+    sym (reaches-any (domains t) t u vs) ∙ reaches-member (tables (domains t)) t u vs v m (and-intro (lt-ltb u (domains t) below) r)
 
 -- ---- the word
 
@@ -126,7 +120,7 @@ module _ (u : ℕ) (small : u < 64) where
         → member u (sources t (one (askWord u) ∷ cs) d) ≡ true
     unfolding joinedBy
     ask-joins cs d v m r =
-        rw (asked cs d, lt-ltb u (domains t) below, reaches-any t u v (sources t cs d) m r) (member-first u (sources t cs d))
+        rw (asked cs d, reaches-some t u v (sources t cs d) below m r) (member-first u (sources t cs d))
 
 -- ---- asks one after the other
 

@@ -19,6 +19,7 @@ use Rattle.machine.specs.Run as machine
 use Rattle.machine.specs.Influence.{reaches}
 use Rattle.machine.specs.DomainSet.{member}
 use Rattle.machine.specs.Purge.{sources}
+use Rattle.unwinding.proofs.Unwinding.{member-first}
 use Rattle.machine.proofs.Accepted.{accepted-counts}
 use Rattle.machine.proofs.Below.{words-length}
 use Rattle.reachability.specs.Closure.{rounds, closed}
@@ -34,7 +35,7 @@ use Rattle.potential_theory.proofs.Lists.{list-ran, list-most}
 use Rattle.influence_theory.specs.Influence.{couldReach, couldInfluence}
 use Rattle.influence_theory.specs.Lists.{askWord, askRound, askRounds, influenceList}
 use Rattle.influence_theory.specs.Claims.{EveryInfluenceListMakesAll, EverySourceExactly}
-use Rattle.influence_theory.proofs.Asks.{member-first, sources-stay, AllActors, asks-alone, asks-keep}
+use Rattle.influence_theory.proofs.Asks.{sources-stay, AllActors, asks-alone, asks-keep}
 use Rattle.influence_theory.proofs.Asks.{asks-done, asks-stay, asks-join, all-actors, is-actor, actors-few}
 use Rattle.influence_theory.proofs.Exact.{link-of, every-could-influence}
 use Rattle.influence_theory.proofs.Sound.{source-could-influence}

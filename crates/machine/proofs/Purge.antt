@@ -64,7 +64,7 @@ module _ (n : ℕ) where
           sym (and-true (ltb u (domains t)) ∙ lt-ltb u (domains t) (subst (λ w. w < domains t) (sym (eqb-true u v e)) k))
       go false e = refl
 
-  reaches-any :
+  pub reaches-any :
       (t : List ℕ) (u : ℕ) (vs : List ℕ)
       → unwinding.reachesMember (tables n) t u vs ≡ (ltb u (domains t) && reachesAny t u vs)
   unfolding unwinding.reachesMember reachesAny
@@ -73,7 +73,7 @@ module _ (n : ℕ) where
       ap (λ b. (ltb u (domains t) && reaches t u v) || b) (reaches-any t u vs)
       ∙ sym (and-or-distrib-left (ltb u (domains t)) (reaches t u v) (reachesAny t u vs))
 
-  joined-by : (t : List ℕ) (q : Option ℕ) (vs : List ℕ) → unwinding.withCaller (tables n) t q vs ≡ joinedBy t q vs
+  pub joined-by : (t : List ℕ) (q : Option ℕ) (vs : List ℕ) → unwinding.withCaller (tables n) t q vs ≡ joinedBy t q vs
   unfolding unwinding.withCaller joinedBy
   joined-by t none vs = refl
   joined-by t (some u) vs = ap (λ b. cond b (u ∷ vs) vs) (reaches-any t u vs)

@@ -33,7 +33,7 @@ contra true b f e = absurd (true≢false (sym (f refl) ∙ e))
 contra false b f e = refl
 
 -- Members of a set, and callers.
-member-first : (v : ℕ) (vs : List ℕ) → member v (v ∷ vs) ≡ true
+pub member-first : (v : ℕ) (vs : List ℕ) → member v (v ∷ vs) ≡ true
 unfolding member
 member-first v vs = ap (λ b. b || member v vs) (eq-eqb v v refl)
 
@@ -75,7 +75,7 @@ module _ (M : StateMachine) where
   open StateMachine M using (State, Call, step, caller, reaches)
 
   -- u reaches a set where it reaches a member, and only there
-  reaches-member :
+  pub reaches-member :
       (s : State) (u : ℕ) (vs : List ℕ) (v : ℕ) → member v vs ≡ true → reaches s u v ≡ true → reachesMember M s u vs ≡ true
   unfolding reachesMember member
   reaches-member s u [] v m r = absurd (false≢true m)
