@@ -63,6 +63,7 @@ use Rattle.turns_state.specs.Examples as turns-state-examples
 use Rattle.turns_theory.specs.Claims as turns-theory-claims
 use Rattle.turns_theory.specs.Examples as turns-theory-examples
 use Rattle.working_load.specs.Claims as working-load-claims
+use Rattle.working_load.specs.Run as working-load-run
 use Rattle.working_theory.specs.Represents as working-theory-represents
 use Rattle.working_theory.specs.TwoRuns as working-theory-two-runs
 use Rattle.writer_theory.specs.Claims as writer-theory-claims
@@ -532,6 +533,9 @@ pub record Promises : Type 0 where
   pub L-loaded : working-load-claims.LoadedRepresents
   -- A state stored to an accepted table is the accepted table that it represents, where both have the same unchanging parts.
   pub L-stored : working-load-claims.StoreIsTable
+  -- Loaded once and stored once, at the end: a state loaded from an accepted table, on which any calls run one after the other with no
+  -- table beside it, gives the machine's answers and, stored after them, the machine's table.
+  pub L-loaded-once : working-load-run.EveryRunLoadedOnce
   -- Rows loaded from an accepted table represent its rights.
   pub L-rights-loaded : rights-matrix-theory-claims.LoadedRights
   -- What is put into rows is held.

@@ -5,3 +5,4 @@ pub mod StoreLoop
 pub mod Gathering
 pub mod Loaded
 pub mod Stored
+pub mod Run

@@ -75,6 +75,7 @@ use Rattle.turns_theory.proofs.Histories as turns-theory-histories-proofs
 use Rattle.turns_theory.proofs.InTime as turns-theory-in-time-proofs
 use Rattle.turns_theory.proofs.Order as turns-theory-order-proofs
 use Rattle.working_load.proofs.Loaded as working-load-loaded-proofs
+use Rattle.working_load.proofs.Run as working-load-run-proofs
 use Rattle.working_load.proofs.Stored as working-load-stored-proofs
 use Rattle.working_theory.proofs.Simulation as working-theory-simulation-proofs
 use Rattle.working_theory.proofs.TwoRuns as working-theory-two-runs-proofs
@@ -282,6 +283,7 @@ returns c =
       L-simulates = working-theory-simulation-proofs.calls-simulate;
       L-loaded = working-load-loaded-proofs.loaded-represents;
       L-stored = working-load-stored-proofs.store-is-table;
+      L-loaded-once = working-load-run-proofs.every-run-loaded-once;
       L-rights-loaded = rights-matrix-theory-rights-proofs.loaded-rights;
       L-rights-put = rights-matrix-theory-rights-proofs.put-is-held;
       L-rights-stored = rights-matrix-theory-rights-proofs.stored-rights;
