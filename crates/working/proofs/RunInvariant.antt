@@ -18,7 +18,7 @@ use Rattle.kernel.proofs.RunInvariant.{Underway, underway-start, underway-next,
 use Rattle.working_theory.specs.State.{namedIn, answerFrom, effectFrom, rowsAfter, ringsAfter}
 use Rattle.working_theory.specs.Represents.{Represents}
 use Rattle.working_theory.proofs.Simulation.{calls-simulate}
-use Rattle.working.specs.Outcome.{StateOutcome}
+use Rattle.working.specs.Outcome.{reads, answered, StateOutcome}
 use Rattle.working.specs.Run.{WorkingState, ListOutcome, leaves, RepresentsTable, Left}
 
 -- The run of the list ws on the state s₀, from the table t₀: the outcome o is what the calls so far leave, and the next begins at
@@ -43,7 +43,8 @@ module _ (s₀ : WorkingState) (hints ws space₀ : List ℕ) where
     -- what one more call leaves on the state: its answer, the rows, the rings and the holders
     abbrev Serves : ℕ → Second → List ℕ → List (List ℕ) → List ℕ → List ℕ → Type 0
     Serves w s words rows′ rings′ p′ =
-        StateOutcome (s₀ .n) (s₀ .m) (o .rows) (o .rings) (namedIn (s₀ .m) (s₀ .names) hints) (s₀ .owned) (o .holders) w (decoded w s) words rows′ rings′ p′
+        StateOutcome (reads (s₀ .n) (s₀ .m) (o .rows) (o .rings) (namedIn (s₀ .m) (s₀ .names) hints) (s₀ .owned) (o .holders)) w (decoded w s)
+        (answered words rows′ rings′ p′)
 
     -- one more call on the state is one more on the table
     served : (w : ℕ) (s : Second) (words : List ℕ) (rows′ : List (List ℕ)) (rings′ p′ : List ℕ)

@@ -20,7 +20,7 @@ use Rattle.calls.specs.declared.Call.the-variants.{LookUp, Send, Receive, MyEnd
 use Rattle.rules.specs.Range.{callerNumber, refusedNumbers, endpointNumbers, grantNumbers, removeNumbers, callNumbers}
 use Rattle.rules.specs.Access.{Reading, sendAccess, receiveAccess, grantAccess, revokeAccess, removeAccess, accessBy, decidedBy}
 use Rattle.holders.specs.Noted.{holdersAfter}
-use Rattle.working.specs.Outcome.{StateOutcome}
+use Rattle.working.specs.Outcome.{StateRead, reads, CallOutcome, answered, StateOutcome}
 use Rattle.working_theory.specs.State.{nobody, readingFrom, firstFrom, secondFrom, answerFrom, effectFrom, rowsAfter, ringsAfter}
 
 -- the row of a call's kind
@@ -92,30 +92,30 @@ module _ (n m w : ℕ) (rows : List (List ℕ)) (rings : List ℕ) (named : ℕ 
   quiet-served : (rows₁ : List (List ℕ)) (rings₁ owned₁ words : List ℕ) (call : Call)
       → Row (Quiet rows₁ rings₁ owned₁) call
       → words ≡ answerFrom w rows₁ rings₁ owned₁ (decidedBy n m reading call)
-      → StateOutcome n m rows rings named owned holders w call words rows rings holders
+      → StateOutcome (reads n m rows rings named owned holders) w call (answered words rows rings holders)
   unfolding reading
   quiet-served rows₁ rings₁ owned₁ words call row reported =
       let q = decided-elim (Quiet rows₁ rings₁ owned₁) (quiet-refused rows₁ rings₁ owned₁) n m reading call row in
       record { answer = reported ∙ q .same; rowsLeft = q .rowsStay; ringsLeft = q .ringsStay; noted = q .holdersStay }
 
   module _ (words : List ℕ) (u : ℕ) where
-    pub served-refused : (k : Refusal) → words ≡ answerWord (one w) (code (refusedNumbers n u k (machine.refused (numberOf k)))) ∷ 0 ∷ 0 ∷ [] → StateOutcome n m rows rings named owned holders w (Refused u k) words rows rings holders
+    pub served-refused : (k : Refusal) → words ≡ answerWord (one w) (code (refusedNumbers n u k (machine.refused (numberOf k)))) ∷ 0 ∷ 0 ∷ [] → StateOutcome (reads n m rows rings named owned holders) w (Refused u k) (answered words rows rings holders)
     unfolding callNumbers accessBy reading answerFrom firstFrom secondFrom code
     served-refused k reported =
         quiet-served [] [] [] words (Refused u k) tt
         (reported ∙ decided-elim (λ (d : Decision). answerWord (one w) (code d) ∷ 0 ∷ 0 ∷ [] ≡ answerFrom w [] [] [] d) (λ _. refl) n m reading (Refused u k) tt)
 
-    pub served-look-up : (x : ℕ) → words ≡ answerFrom w [] [] [] (decidedBy n m (readingFrom [] [] named) (LookUp u x)) → StateOutcome n m rows rings named owned holders w (LookUp u x) words rows rings holders
+    pub served-look-up : (x : ℕ) → words ≡ answerFrom w [] [] [] (decidedBy n m (readingFrom [] [] named) (LookUp u x)) → StateOutcome (reads n m rows rings named owned holders) w (LookUp u x) (answered words rows rings holders)
     unfolding callNumbers accessBy reading answerFrom firstFrom secondFrom code effectFrom rowsAfter ringsAfter holdersAfter
     served-look-up x reported =
         quiet-served [] [] [] words (LookUp u x) (λ e. record { same = refl; rowsStay = refl; ringsStay = refl; holdersStay = refl }) reported
 
-    pub served-endpoints : words ≡ answerFrom w [] [] owned (decidedBy n 0 (readingFrom [] [] nobody) (MyEndpoints u)) → StateOutcome n m rows rings named owned holders w (MyEndpoints u) words rows rings holders
+    pub served-endpoints : words ≡ answerFrom w [] [] owned (decidedBy n 0 (readingFrom [] [] nobody) (MyEndpoints u)) → StateOutcome (reads n m rows rings named owned holders) w (MyEndpoints u) (answered words rows rings holders)
     unfolding callNumbers accessBy reading answerFrom firstFrom secondFrom code effectFrom rowsAfter ringsAfter holdersAfter
     served-endpoints reported =
         quiet-served [] [] owned words (MyEndpoints u) (record { same = refl; rowsStay = refl; ringsStay = refl; holdersStay = refl }) reported
 
-    pub served-rights : words ≡ answerFrom w rows [] [] (decidedBy n 0 (readingFrom [] [] nobody) (MyRights u)) → StateOutcome n m rows rings named owned holders w (MyRights u) words rows rings holders
+    pub served-rights : words ≡ answerFrom w rows [] [] (decidedBy n 0 (readingFrom [] [] nobody) (MyRights u)) → StateOutcome (reads n m rows rings named owned holders) w (MyRights u) (answered words rows rings holders)
     unfolding callNumbers accessBy reading answerFrom firstFrom secondFrom code effectFrom rowsAfter ringsAfter holdersAfter
     served-rights reported =
         quiet-served rows [] [] words (MyRights u) (record { same = refl; rowsStay = refl; ringsStay = refl; holdersStay = refl }) reported
@@ -134,19 +134,19 @@ module _ (n m w : ℕ) (rows : List (List ℕ)) (rings : List ℕ) (named : ℕ 
   queue-served : (words rings′ : List ℕ) (call : Call)
       → Row OnQueue call
       → RingsOutcome (decidedBy n m reading call) w rings words rings′
-      → StateOutcome n m rows rings named owned holders w call words rows rings′ holders
+      → StateOutcome (reads n m rows rings named owned holders) w call (answered words rows rings′ holders)
   unfolding reading
   queue-served words rings′ call row s =
       let q = decided-elim OnQueue queue-refused n m reading call row in
       record { answer = s .answer ∙ q .same; rowsLeft = q .rowsStay; ringsLeft = s .left ∙ q .ringsSame; noted = q .holdersStay }
 
   module _ (words rings′ : List ℕ) (u e : ℕ) where
-    pub served-send : (message : ℕ) → RingsOutcome (decidedBy n m (readingFrom rows rings nobody) (Send u e message)) w rings words rings′ → StateOutcome n m rows rings named owned holders w (Send u e message) words rows rings′ holders
+    pub served-send : (message : ℕ) → RingsOutcome (decidedBy n m (readingFrom rows rings nobody) (Send u e message)) w rings words rings′ → StateOutcome (reads n m rows rings named owned holders) w (Send u e message) (answered words rows rings′ holders)
     unfolding callNumbers accessBy reading answerFrom firstFrom secondFrom code effectFrom rowsAfter ringsAfter holdersAfter
     served-send message s =
         queue-served words rings′ (Send u e message) (record { same = refl; rowsStay = refl; ringsSame = refl; holdersStay = refl }) s
 
-    pub served-receive : RingsOutcome (decidedBy n m (readingFrom [] rings nobody) (Receive u e)) w rings words rings′ → StateOutcome n m rows rings named owned holders w (Receive u e) words rows rings′ holders
+    pub served-receive : RingsOutcome (decidedBy n m (readingFrom [] rings nobody) (Receive u e)) w rings words rings′ → StateOutcome (reads n m rows rings named owned holders) w (Receive u e) (answered words rows rings′ holders)
     unfolding callNumbers accessBy reading answerFrom firstFrom secondFrom code effectFrom rowsAfter ringsAfter holdersAfter
     served-receive s =
         queue-served words rings′ (Receive u e) (record { same = refl; rowsStay = refl; ringsSame = refl; holdersStay = refl }) s
@@ -164,7 +164,7 @@ module _ (n m w : ℕ) (rows : List (List ℕ)) (rings : List ℕ) (named : ℕ 
   rights-served : (words : List ℕ) (rows′ : List (List ℕ)) (holders′ : List ℕ) (call : Call)
       → Row OnRights call
       → RightsOutcome (decidedBy n m reading call) w rows holders words rows′ holders′
-      → StateOutcome n m rows rings named owned holders w call words rows′ rings holders′
+      → StateOutcome (reads n m rows rings named owned holders) w call (answered words rows′ rings holders′)
   unfolding reading
   rights-served words rows′ holders′ call row s =
       let q = decided-elim OnRights rights-refused n m reading call row in
@@ -176,23 +176,18 @@ module _ (n m w : ℕ) (rows : List (List ℕ)) (rings : List ℕ) (named : ℕ 
       }
 
   module _ (words : List ℕ) (rows′ : List (List ℕ)) (holders′ : List ℕ) (u g : ℕ) where
-    pub served-grant : (h r : ℕ) → RightsOutcome (decidedBy n 0 (readingFrom rows [] nobody) (Grant u g h r)) w rows holders words rows′ holders′ → StateOutcome n m rows rings named owned holders w (Grant u g h r) words rows′ rings holders′
+    pub served-grant : (h r : ℕ) → RightsOutcome (decidedBy n 0 (readingFrom rows [] nobody) (Grant u g h r)) w rows holders words rows′ holders′ → StateOutcome (reads n m rows rings named owned holders) w (Grant u g h r) (answered words rows′ rings holders′)
     unfolding callNumbers accessBy reading answerFrom firstFrom secondFrom code effectFrom ringsAfter
     served-grant h r s = rights-served words rows′ holders′ (Grant u g h r) (record { same = refl; altered = refl; ringsStay = refl }) s
 
-    pub served-remove : (r : ℕ) → RightsOutcome (decidedBy n 0 (readingFrom rows [] nobody) (Remove u g r)) w rows holders words rows′ holders′ → StateOutcome n m rows rings named owned holders w (Remove u g r) words rows′ rings holders′
+    pub served-remove : (r : ℕ) → RightsOutcome (decidedBy n 0 (readingFrom rows [] nobody) (Remove u g r)) w rows holders words rows′ holders′ → StateOutcome (reads n m rows rings named owned holders) w (Remove u g r) (answered words rows′ rings holders′)
     unfolding callNumbers accessBy reading answerFrom firstFrom secondFrom code effectFrom ringsAfter
     served-remove r s = rights-served words rows′ holders′ (Remove u g r) (record { same = refl; altered = refl; ringsStay = refl }) s
 
-    pub served-revoke : (h r : ℕ) → RightsOutcome (decidedBy n 0 (readingFrom rows [] nobody) (Revoke u g h r)) w rows holders words rows′ holders′ → StateOutcome n m rows rings named owned holders w (Revoke u g h r) words rows′ rings holders′
+    pub served-revoke : (h r : ℕ) → RightsOutcome (decidedBy n 0 (readingFrom rows [] nobody) (Revoke u g h r)) w rows holders words rows′ holders′ → StateOutcome (reads n m rows rings named owned holders) w (Revoke u g h r) (answered words rows′ rings holders′)
     unfolding callNumbers accessBy reading answerFrom firstFrom secondFrom code effectFrom ringsAfter
     served-revoke h r s = rights-served words rows′ holders′ (Revoke u g h r) (record { same = refl; altered = refl; ringsStay = refl }) s
 
 -- what holds of a call holds of the same call
-pub here : {n m w : ℕ} {rows : List (List ℕ)} {rings : List ℕ} {named : ℕ → Option ℕ} {owned holders : List ℕ} {call x y : Call} {words : List ℕ} {rows′ : List (List ℕ)} {rings′ holders′ : List ℕ}
-    → call ≡ x
-    → call ≡ y
-    → StateOutcome n m rows rings named owned holders w x words rows′ rings′ holders′
-    → StateOutcome n m rows rings named owned holders w y words rows′ rings′ holders′
-here {n} {m} {w} {rows} {rings} {named} {owned} {holders} {call} {x} {y} {words} {rows′} {rings′} {holders′} is same s =
-    subst (λ (c : Call). StateOutcome n m rows rings named owned holders w c words rows′ rings′ holders′) (sym is ∙ same) s
+pub here : {s : StateRead} {w : ℕ} {call x y : Call} {o : CallOutcome} → call ≡ x → call ≡ y → StateOutcome s w x o → StateOutcome s w y o
+here {s} {w} {call} {x} {y} {o} is same at-x = subst (λ (c : Call). StateOutcome s w c o) (sym is ∙ same) at-x

@@ -16,7 +16,7 @@ use working_rights_calls::revoke;
 ghost use Rattle.answers.specs.Answer.{answerWords};
 ghost use Rattle.calls.specs.Decode.{decoded};
 ghost use Rattle.working_theory.specs.State.{namedIn};
-ghost use Rattle.working.specs.Outcome.{StateOutcome};
+ghost use Rattle.working.specs.Outcome.{reads, answered, StateOutcome};
 
 // Serves the call of a first word and, if there is one, a second, and returns its answer.
 pub fn serve(
@@ -31,9 +31,11 @@ pub fn serve(
     first: u32,
     second: Second,
 ) -> Answer
-    ensures { λ a. ⌜ StateOutcome n m (now (rows .entry)) (now (rings .entry)) (namedIn m (now (names .entry)) (now (hints .entry)))
-        (now (owned .entry)) (now (holders .entry)) first (decoded first second) (answerWords a) (now (rows .exit)) (now (rings .exit))
-        (now (holders .exit)) ⌝ }
+    ensures { λ a. ⌜ StateOutcome
+        (reads n m (now (rows .entry)) (now (rings .entry)) (namedIn m (now (names .entry)) (now (hints .entry))) (now (owned .entry))
+        (now (holders .entry)))
+        first (decoded first second)
+        (answered (answerWords a) (now (rows .exit)) (now (rings .exit)) (now (holders .exit))) ⌝ }
 {
     let call = decode(first, second);
     match call {
