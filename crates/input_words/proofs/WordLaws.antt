@@ -2,12 +2,12 @@
 use Prim.Native.Nat.{ℕ, zero, suc, _+_, _*_, _/_, _%_, _^_, _≤_, _<_}
 use mathlib.Core.Path.{_≡_, refl, sym, ap, ap₂, _∙_}
 use mathlib.Core.List.{List, [], _∷_, _++_}
-use native.Mathlib.Nat.{add-assoc, mod-eq-of-lt, div-add-mod', div-div-eq-div-mul}
+use native.Mathlib.Nat.{add-assoc, div-one, mod-eq-of-lt, div-add-mod', div-div-eq-div-mul}
 use native.Mathlib.Omega.{arith}
 use lib.Dec.{lit<}
 use lib.ListN.{length, getD, take, drop, List·getD-eq-default, List·getD-append}
 use lib.Seq.{getD-drop, take-append-le}
-use Rattle.input_words.specs.Bytes.{wordOf, wordAt, wordsOf, bytesOf}
+use Rattle.input_words.specs.Bytes.{wordOf, wordAt, wordsOf, bytesOf, EveryLittleEndian}
 
 pub length-wordsOf : (bytes : List ℕ) → length (wordsOf bytes) ≡ length bytes / 4
 unfolding wordsOf
@@ -70,7 +70,7 @@ take-wordsOf-append k bytes more h =
 joined : (w a b c p q r : ℕ) → a * 256 + p ≡ w → b * 256 + q ≡ a → c * 256 + r ≡ b → wordOf p q r c ≡ w
 joined w a b c p q r e f g = omega arith
 
-word-of-bytes : (w : ℕ) → w < 2 ^ 32 → wordOf (w % 256) (w / 256 % 256) (w / 65536 % 256) (w / 16777216 % 256) ≡ w
+pub word-of-bytes : (w : ℕ) → w < 2 ^ 32 → wordOf (w % 256) (w / 256 % 256) (w / 65536 % 256) (w / 16777216 % 256) ≡ w
 word-of-bytes w h =
     let top : w / 16777216 < 256 = omega arith in
     rw (mod-eq-of-lt top)
@@ -88,3 +88,19 @@ pub length-bytesOf : (ws : List ℕ) → length (bytesOf ws) ≡ 4 * length ws
 unfolding bytesOf
 length-bytesOf [] = refl
 length-bytesOf (w ∷ ws) = let ih = length-bytesOf ws in omega arith
+
+-- byte k of word i
+byte-of-word : (ws : List ℕ) (i k : ℕ) → i < length ws → k < 4 → getD (bytesOf ws) (4 * i + k) 0 ≡ getD ws i 0 / 256 ^ k % 256
+unfolding bytesOf
+byte-of-word [] i k l few = absurd (omega arith)
+byte-of-word (w ∷ ws) zero zero l few = ap (λ x. x % 256) (sym (div-one w))
+byte-of-word (w ∷ ws) zero (suc zero) l few = refl
+byte-of-word (w ∷ ws) zero (suc (suc zero)) l few = refl
+byte-of-word (w ∷ ws) zero (suc (suc (suc zero))) l few = refl
+byte-of-word (w ∷ ws) zero (suc (suc (suc (suc k)))) l few = absurd (omega arith)
+byte-of-word (w ∷ ws) (suc i) k l few =
+    let place : 4 * suc i + k ≡ suc (suc (suc (suc (4 * i + k)))) = omega arith in
+    rw place (byte-of-word ws i k (omega arith) few)
+
+pub little-endian : EveryLittleEndian
+little-endian ws words = record { four = length-bytesOf ws; byteIs = byte-of-word ws; back = wordsOf-bytesOf ws words }

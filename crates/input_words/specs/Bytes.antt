@@ -1,7 +1,8 @@
 -- Bytes as words and words as bytes (document 01, 'Into firmware and onto the bench': little-endian words).
-use Prim.Native.Nat.{ℕ, _+_, _*_, _/_, _%_}
+use Prim.Native.Nat.{ℕ, _+_, _*_, _/_, _%_, _^_, _<_}
+use mathlib.Core.Path.{_≡_}
 use mathlib.Core.List.{List, [], _∷_}
-use lib.ListN.{getD}
+use lib.ListN.{length, getD}
 
 -- the word of four bytes, the lowest first
 abbrev pub wordOf : ℕ → ℕ → ℕ → ℕ → ℕ
@@ -23,3 +24,16 @@ wordsOf (a ∷ b ∷ c ∷ d ∷ bytes) = wordOf a b c d ∷ wordsOf bytes
 unfoldable pub bytesOf : List ℕ → List ℕ
 bytesOf [] = []
 bytesOf (w ∷ ws) = (w % 256) ∷ (w / 256 % 256) ∷ (w / 65536 % 256) ∷ (w / 16777216 % 256) ∷ bytesOf ws
+
+-- each is a word of 32 bits
+abbrev pub AllWords : List ℕ → Type 0
+AllWords ws = (i : ℕ) → getD ws i 0 < 2 ^ 32
+
+-- What little-endian means: each word has four bytes, of which byte k counts 256 ^ k, and the words of the bytes are these words.
+pub record LittleEndian (ws : List ℕ) : Type 0 where
+  pub four : length (bytesOf ws) ≡ 4 * length ws
+  pub byteIs : (i k : ℕ) → i < length ws → k < 4 → getD (bytesOf ws) (4 * i + k) 0 ≡ getD ws i 0 / 256 ^ k % 256
+  pub back : wordsOf (bytesOf ws) ≡ ws
+
+abbrev pub EveryLittleEndian : Type 0
+EveryLittleEndian = (ws : List ℕ) → AllWords ws → LittleEndian ws

@@ -1,12 +1,12 @@
 -- How a program's input gives a table: a word with the table's length in words, then the table's words (document 01, 'Into
 -- firmware and onto the bench', and the first three conditions of code 7). Also when the bytes of an input were needed.
-use Prim.Native.Nat.{ℕ, _+_, _-_, _*_, _<_}
+use Prim.Native.Nat.{ℕ, _+_, _-_, _*_, _<_, _≤_}
 use mathlib.Core.Bool.{Bool, cond, _||_}
-use mathlib.Core.List.{List}
+use mathlib.Core.List.{List, _∷_}
 use lib.ListN.{length, take, drop}
 use lib.Dec.{ltb}
 use Rattle.machine.specs.Table.{lengthFor}
-use Rattle.input_words.specs.Bytes.{wordAt, wordsOf}
+use Rattle.input_words.specs.Bytes.{wordAt, wordsOf, bytesOf, AllWords}
 
 -- the most words that a table has: those of 16 domains and 32 endpoints, 641
 abbrev pub longestTable : ℕ
@@ -31,6 +31,15 @@ tableOf bytes = take (tableLength bytes) (wordsOf (drop 4 bytes))
 
 unfoldable pub afterTable : List ℕ → List ℕ
 afterTable bytes = drop (tableEnd bytes) bytes
+
+-- the bytes of words in an input, with their count before them
+unfoldable pub withLength : List ℕ → List ℕ
+withLength ws = bytesOf (length ws ∷ ws)
+
+-- words that can be a table in an input, accepted or not: there are no more than the longest table has
+pub record TableWords (t : List ℕ) : Type 0 where
+  pub words : AllWords t
+  pub short : length t ≤ longestTable
 
 -- how many more bytes to read, where the input so far is these: first the length word, then the table that it announces
 unfoldable pub tableWanted : List ℕ → ℕ

@@ -1,19 +1,19 @@
--- Two refusals of `linerun` for every input. A list one word too long gives code 1, whatever is wrong with the table and whatever
--- follows. Code 6 never comes, since there is space for every list that is short enough, and a word for each domain of a table that
--- is accepted. Assumes nothing.
-use Prim.Native.Nat.{ℕ, _*_, _≤_, _<_}
-use mathlib.Core.Path.{_≡_, sym, _∙_}
+-- Refusals of `linerun` for every input. What is refused prints the first line alone. A list one word too long gives code 1,
+-- whatever is wrong with the table and whatever follows. Code 6 never comes, since there is space for every list that is short
+-- enough, and a word for each domain of a table that is accepted. Assumes nothing.
+use Prim.Native.Nat.{ℕ, _-_, _*_, _≤_, _<_}
+use mathlib.Core.Path.{_≡_, refl, sym, ap, _∙_}
 use mathlib.Core.Bool.{not}
-use mathlib.Core.List.{List, append-nil}
+use mathlib.Core.List.{List, _++_, append-nil}
 use borrow.Author.Tests.{eqb-true, ltb-true, ltb-false}
 use native.Mathlib.Nat.{min-eq-left}
 use native.Mathlib.Omega.{arith}
 use lib.Dec.{eqb, ltb}
-use lib.ListN.{length, length-take, length-replicate}
+use lib.ListN.{length, length-append, length-take, length-replicate}
 use Rattle.machine.specs.Call.{split}
 use Rattle.machine.specs.Table.{domains}
 use Rattle.machine.specs.Check.{headerOk, lengthOk, rightsOk, endpointsOk, tableCode, Accepted}
-use Rattle.machine.specs.Entry.{longestList, spaceCode, entryCode, refusal, entry}
+use Rattle.machine.specs.Entry.{Outcome, longestList, spaceCode, entryCode, refusal, ran, entry}
 use Rattle.machine.proofs.Bools.{cond-elim}
 use Rattle.machine.proofs.Split.{split-few}
 use Rattle.machine.proofs.Accepted.{accepted-counts}
@@ -21,11 +21,12 @@ use Rattle.machine.proofs.Promise.{entry-code, entry-refused, code-long, holder
 use Rattle.input_words.specs.Bytes.{wordsOf}
 use Rattle.input_words.specs.TableInput.{tableOf, afterTable}
 use Rattle.input_words.proofs.WordLaws.{length-wordsOf}
-use Rattle.input_words.proofs.TableLaws.{Whole, whole-table}
-use Rattle.linerun_input.specs.Input.{listWordsRead, listOf, unreadable}
+use Rattle.input_words.proofs.TableLaws.{Whole, whole, whole-table, whole-more, afterTable-more}
+use Rattle.linerun_input.specs.Input.{listWordsRead, listOf, unreadable, wanted}
 use Rattle.linerun_text.specs.Lines.{firstLine}
 use Rattle.linerun_report.specs.Lines.{callLines, allLines}
-use Rattle.linerun_report.specs.Report.{answerSpace, holdersSpace, outcomeLines, answered, report, NeverSix}
+use Rattle.linerun_report.specs.Report.{answerSpace, holdersSpace, outcomeLines, answered, report}
+use Rattle.linerun_report.specs.Report.{EveryLongListStops, EveryRefusedAlone, NeverSix}
 use Rattle.linerun_input.proofs.InputLaws.{no-left-over}
 
 -- where there are as many list words as are read, the list is one word too long
@@ -38,8 +39,7 @@ long bytes h =
       length-wordsOf (afterTable bytes),
     )
 
-pub one-word-too-many : (bytes : List ℕ) → Whole bytes → 4 * listWordsRead ≤ length (afterTable bytes)
-    → report bytes ≡ firstLine 0 1
+one-word-too-many : (bytes : List ℕ) → Whole bytes → 4 * listWordsRead ≤ length (afterTable bytes) → report bytes ≡ firstLine 0 1
 unfolding report answered unreadable outcomeLines allLines callLines refusal
 one-word-too-many bytes w h =
     let t = tableOf bytes in
@@ -47,6 +47,40 @@ one-word-too-many bytes w h =
     let one : entryCode t ws (length answerSpace) (length (holdersSpace t)) ≡ 1 = code-long t ws _ _ (long bytes h) in
     let refused = entry-refused t ws answerSpace (holdersSpace t) (λ z. omega arith) in
     simp (whole-table bytes w, no-left-over (afterTable bytes) h, refused, one, append-nil)
+
+pub long-list-stops : EveryLongListStops
+unfolding wanted
+long-list-stops bytes e h =
+    let w : Whole bytes = whole bytes e in
+    let none : 4 * listWordsRead - length (afterTable bytes) ≡ 0 = omega arith in
+    record {
+      stops = simp (e, none);
+      one =
+          λ more.
+          one-word-too-many (bytes ++ more) (whole-more bytes more w)
+          (omega (arith, ap length (afterTable-more bytes more w), length-append (afterTable bytes) more));
+    }
+
+-- an outcome without calls has the first line alone
+no-calls : (o : Outcome) → o .calls ≡ 0 → outcomeLines o ≡ firstLine 0 (o .code)
+unfolding outcomeLines allLines callLines
+no-calls o none = rw none (append-nil (firstLine 0 (o .code)))
+
+pub refused-alone : EveryRefusedAlone
+unfolding report answered entry refusal ran
+refused-alone bytes code = no-calls (answered bytes answerSpace) (calls code)
+  where
+    t : List ℕ
+    t = tableOf bytes
+
+    calls : 0 < answered bytes answerSpace .code → answered bytes answerSpace .calls ≡ 0
+    calls =
+        cond-elim (λ (o : Outcome). 0 < o .code → o .calls ≡ 0) (unreadable bytes) (λ _ _. refl)
+        (λ _.
+        cond-elim (λ (o : Outcome). 0 < o .code → o .calls ≡ 0)
+        (eqb (entryCode t (listOf bytes) (length answerSpace) (length (holdersSpace t))) 0)
+        (λ _ some. absurd (omega arith))
+        (λ _ _. refl))
 
 -- Code 6 comes from an answer space that is too small, and one with three words for each word of the longest list never is.
 no-table-six : (t : List ℕ) → tableCode t ≡ 6 → ⊥

@@ -1,14 +1,15 @@
 -- The report as the functions make it: the two cases of the definition, and how many calls there are. Where the reading stops
 -- before the input ends, no further byte makes a difference to it. Assumes nothing.
-use Prim.Native.Nat.{ℕ, zero, suc, _-_, _*_, _≤_, min, zero-le}
+use Prim.Native.Nat.{ℕ, zero, suc, _-_, _*_, _%_, _≤_, min, zero-le}
 use mathlib.Core.Path.{_≡_, refl, sym, ap, _∙_}
-use mathlib.Core.Bool.{Bool, true, false}
+use mathlib.Core.Bool.{Bool, true, false, and-false}
 use mathlib.Core.List.{List, [], _∷_, _++_, append-nil}
-use borrow.Author.Tests.{ltb-false}
+use borrow.Author.Tests.{ltb-false, eq-eqb}
 use native.Mathlib.Nat.{not-suc-le-zero, le-of-suc-le-suc, min-le-right, sub-zero}
 use native.Mathlib.Omega.{arith}
 use lib.Dec.{eqb, ltb}
 use lib.ListN.{length, take, drop, replicate, length-append}
+use lib.Seq.{take-all}
 use Rattle.machine.specs.Table.{domains}
 use Rattle.machine.specs.Entry.{Outcome, longestList, entryCode, refusal, ran, entry}
 use Rattle.machine.specs.Call.{split}
@@ -17,12 +18,15 @@ use Rattle.machine.specs.Promise.{RunPromise}
 use Rattle.machine.proofs.Bools.{cond-elim}
 use Rattle.machine.proofs.Counts.{answers-length}
 use Rattle.machine.proofs.Promise.{calls-few}
-use Rattle.input_words.specs.TableInput.{noTable, tableOf, afterTable}
+use Rattle.input_words.specs.Bytes.{wordsOf, bytesOf, AllWords}
+use Rattle.input_words.specs.TableInput.{noTable, tableOf, afterTable, withLength, TableWords}
+use Rattle.input_words.proofs.WordLaws.{wordsOf-bytesOf, length-bytesOf}
+use Rattle.input_words.proofs.GivenTable.{given-whole, given-table, given-rest}
 use Rattle.input_words.proofs.TableLaws.{Whole, whole, whole-table, no-more, no-table-more, whole-more, tableOf-more, afterTable-more}
-use Rattle.linerun_input.specs.Input.{listWordsRead, listOf, unreadable, wanted, Reads}
+use Rattle.linerun_input.specs.Input.{listWordsRead, listOf, leftOver, unreadable, wanted, Reads}
 use Rattle.linerun_input.proofs.InputLaws.{no-left-over, listOf-more}
 use Rattle.linerun_report.specs.Lines.{allLines}
-use Rattle.linerun_report.specs.Report.{answerSpace, holdersSpace, outcomeLines, answered, report, NothingFollows, Follows}
+use Rattle.linerun_report.specs.Report.{answerSpace, holdersSpace, outcomeLines, answered, report, NothingFollows, EveryWordsReported, Follows}
 use Rattle.linerun_report.specs.Cursor.{callsOf, codeOf, firstOf, Prints}
 use Rattle.linerun_report.specs.declared.Lines.{Lines}
 
@@ -99,6 +103,31 @@ nothing-follows bytes more done = go (noTable bytes) refl
           tableOf-more bytes more w,
           listOf-more bytes more w full,
         )
+
+-- a table and a list as words: they are what is run
+listOf-words : (t ws : List ℕ) → TableWords t → AllWords ws → length ws ≤ longestList → listOf (withLength t ++ bytesOf ws) ≡ ws
+unfolding listOf
+listOf-words t ws given words short =
+    ap (λ l. take listWordsRead (wordsOf l)) (given-rest t (bytesOf ws) given)
+    ∙ ap (take listWordsRead) (wordsOf-bytesOf ws words)
+    ∙ take-all listWordsRead ws (omega arith)
+
+none-left-over : (ws : List ℕ) → leftOver (bytesOf ws) ≡ false
+unfolding leftOver
+none-left-over ws =
+    let whole : length (bytesOf ws) % 4 ≡ 0 = omega (arith, length-bytesOf ws) in
+    rw (eq-eqb _ _ whole) (and-false (ltb (length (bytesOf ws)) (4 * listWordsRead)))
+
+pub words-reported : EveryWordsReported
+unfolding report answered unreadable
+words-reported t ws given words short =
+    simp (
+      whole-table _ (given-whole t (bytesOf ws) given),
+      given-rest t (bytesOf ws) given,
+      none-left-over ws,
+      given-table t (bytesOf ws) given,
+      listOf-words t ws given words short,
+    )
 
 -- so what is printed for the bytes read is the whole input's report
 pub prints : (bytes : List ℕ) (inputEnded : Bool) {l : Lines} {answers : List ℕ} → Reads bytes inputEnded

@@ -1,13 +1,15 @@
 -- `linerun` as one definition: from the bytes read to the bytes written (document 01, 'Into firmware and onto the bench').
-use Prim.Native.Nat.{ℕ, _*_, _≤_, min}
+use Prim.Native.Nat.{ℕ, _*_, _<_, _≤_, min}
 use mathlib.Core.Path.{_≡_}
-use mathlib.Core.Bool.{Bool, true, cond}
+use mathlib.Core.Bool.{Bool, true, false, cond}
 use mathlib.Core.List.{List, [], _++_}
 use lib.ListN.{length, replicate}
 use Rattle.machine.specs.Table.{domains}
 use Rattle.machine.specs.Entry.{Outcome, refusal, entry, longestList}
-use Rattle.input_words.specs.TableInput.{tableOf}
-use Rattle.linerun_input.specs.Input.{listOf, unreadable, wanted}
+use Rattle.input_words.specs.Bytes.{bytesOf, AllWords}
+use Rattle.input_words.specs.TableInput.{noTable, tableOf, afterTable, withLength, TableWords}
+use Rattle.linerun_input.specs.Input.{listWordsRead, listOf, unreadable, wanted}
+use Rattle.linerun_text.specs.Lines.{firstLine}
 use Rattle.linerun_report.specs.Lines.{allLines}
 
 -- an answer space that is never too small: three words for each call of the longest list
@@ -40,6 +42,25 @@ EverySpace = (bytes space : List ℕ) → 3 * longestList ≤ length space → o
 -- Where no further byte is wanted, what follows changes nothing.
 abbrev pub NothingFollows : Type 0
 NothingFollows = (bytes more : List ℕ) → wanted bytes ≡ 0 → report (bytes ++ more) ≡ report bytes
+
+-- A table and a list that isn't longer than a list may be, as little-endian words: what is printed are the lines of what the entry
+-- answers for them.
+abbrev pub EveryWordsReported : Type 0
+EveryWordsReported = (t ws : List ℕ) → TableWords t → AllWords ws → length ws ≤ longestList
+    → report (withLength t ++ bytesOf ws) ≡ outcomeLines (entry t ws answerSpace (holdersSpace t))
+
+-- After a whole list word 4,097 no more is wanted, and what is printed is the first line with code 1 alone, whatever is wrong with
+-- the table and whatever follows.
+pub record StopsByOne (bytes : List ℕ) : Type 0 where
+  pub stops : wanted bytes ≡ 0
+  pub one : (more : List ℕ) → report (bytes ++ more) ≡ firstLine 0 1
+
+abbrev pub EveryLongListStops : Type 0
+EveryLongListStops = (bytes : List ℕ) → noTable bytes ≡ false → 4 * listWordsRead ≤ length (afterTable bytes) → StopsByOne bytes
+
+-- What is refused prints the first line alone, with its code and no calls.
+abbrev pub EveryRefusedAlone : Type 0
+EveryRefusedAlone = (bytes : List ℕ) → 0 < answered bytes answerSpace .code → report bytes ≡ firstLine 0 (answered bytes answerSpace .code)
 
 -- Code 6 never comes.
 abbrev pub NeverSix : Type 0

@@ -7,6 +7,7 @@ use Rattle.holders_theory.specs.Claims as holders-theory-claims
 use Rattle.holders_theory.specs.Examples as holders-theory-examples
 use Rattle.influence_theory.specs.Claims as influence-theory-claims
 use Rattle.influence_theory.specs.Examples as influence-theory-examples
+use Rattle.input_words.specs.Bytes as input-words-bytes
 use Rattle.isolation_theory.specs.Component as isolation-theory-component
 use Rattle.isolation_theory.specs.ComponentExamples as isolation-theory-component-examples
 use Rattle.isolation_theory.specs.LineExamples as isolation-theory-line-examples
@@ -19,6 +20,7 @@ use Rattle.linerun_report.specs.Examples as linerun-report-examples
 use Rattle.linerun_report.specs.Report as linerun-report-report
 use Rattle.linetotals_input.specs.Examples as linetotals-input-examples
 use Rattle.linetotals_report.specs.Claims as linetotals-report-claims
+use Rattle.linetotals_theory.specs.Claims as linetotals-theory-claims
 use Rattle.linetotals_theory.specs.Examples as linetotals-theory-examples
 use Rattle.linetotals_theory.specs.Sheet as linetotals-theory-sheet
 use Rattle.machine.specs.AnswerClaims as machine-answer-claims
@@ -53,6 +55,7 @@ use Rattle.ring_theory.specs.Claims as ring-theory-claims
 use Rattle.ring_theory.specs.Examples as ring-theory-examples
 use Rattle.rules.specs.Readings as rules-readings
 use Rattle.table_check_bytes.specs.Bytes as table-check-bytes-bytes
+use Rattle.text.specs.Decimal as text-decimal
 use Rattle.totals_add.specs.Tallied as totals-add-tallied
 use Rattle.totals_theory.specs.Claims as totals-theory-claims
 use Rattle.totals_theory.specs.Examples as totals-theory-examples
@@ -221,6 +224,18 @@ pub record Promises : Type 0 where
   -- ---- The program linerun
   -- Inputs and what linerun prints, byte for byte.
   pub P-linerun-rows : linerun-report-examples.EveryRow linerun-report-examples.rows
+  -- "Little-endian words": a word of 32 bits has four bytes, of which byte k counts 256 ^ k, and the words of these bytes are the
+  -- words.
+  pub P-little-endian : input-words-bytes.EveryLittleEndian
+  -- "All decimal": a number is written as its digits, whose value it is, the first of them not 0 unless the number is.
+  pub P-decimal : text-decimal.EveryDecimal
+  -- "The table's length in words, the table, then the list to the end": of such an input, with up to 641 table words and up to
+  -- 4,096 list words, linerun prints what the entry answers for this table and this list.
+  pub P-linerun-words : linerun-report-report.EveryWordsReported
+  -- "It stops reading at list word 4,097 and gives 1, whatever bytes follow or are left over", and whatever is wrong with the table.
+  pub P-linerun-long-list : linerun-report-report.EveryLongListStops
+  -- "An entry refusal or 7 prints the first line only, with N 0".
+  pub P-linerun-refused-alone : linerun-report-report.EveryRefusedAlone
   -- Before linerun reads anything, its stage is that after no byte.
   pub P-linerun-start : linerun-input-stage.EveryStart
   -- Parts that are read in order, each of at most as many bytes as are wanted, give the stage after their concatenation.
@@ -321,6 +336,19 @@ pub record Promises : Type 0 where
   pub E-sheet-rows : linetotals-theory-examples.EveryRow linetotals-theory-examples.rows
   -- Rows: a byte after 65,536 empty lists gives 1, and after 65,535 it is a length word cut short.
   pub E-most-lists : linetotals-theory-examples.EveryMostListsRow
+  -- "The table as linerun takes it, then each list with its length in words before it": such an input, with up to 65,536 lists, gives
+  -- just this table and these lists, and for an accepted table their totals are printed with code 0.
+  pub E-input-read : linetotals-theory-claims.EveryInputRead
+  -- "A refused list changes nothing and ends the sheet with the totals so far and its number": "1, before 7, for a length word above
+  -- 4,096 or any length word after the 65,536th; 7 also for a list or length word cut short", of every such input and what follows it.
+  pub E-list-refused : linetotals-theory-claims.EveryListRefused
+  -- No input gives more than 65,536 lists.
+  pub E-input-few : linetotals-theory-claims.EveryInputFew
+  -- "A table refused by 7 or 2 to 5 prints that line alone, with N 0"; lists end with 0, 1 or 7.
+  pub E-codes : linetotals-theory-claims.EveryCode
+  -- Whatever follows, the sheet stays: after a length word of the table above 641, after a refused table, "before any list is looked
+  -- at", and after code 1.
+  pub E-refusal-final : linetotals-theory-claims.EveryRefusalFinal
   -- Where linetotals wants no further byte, what follows changes nothing.
   pub E-nothing-follows : linetotals-theory-sheet.NothingFollows
   -- The lines that linetotals prints for an accepted table have the totals of all calls as one list, and these balance.

@@ -9,6 +9,7 @@ use Rattle.influence_theory.proofs.Lists as influence-theory-lists-proofs
 use Rattle.influence_theory.proofs.Purged as influence-theory-purged-proofs
 use Rattle.influence_theory.proofs.Sound as influence-theory-sound-proofs
 use Rattle.influence_theory.proofs.TwoLines as influence-theory-two-lines-proofs
+use Rattle.input_words.proofs.WordLaws as input-words-word-laws-proofs
 use Rattle.isolation_theory.proofs.Component as isolation-theory-component-proofs
 use Rattle.isolation_theory.proofs.ComponentExamples as isolation-theory-component-examples-proofs
 use Rattle.isolation_theory.proofs.LineExamples as isolation-theory-line-examples-proofs
@@ -22,6 +23,8 @@ use Rattle.linerun_report.proofs.SpaceLaws as linerun-report-space-laws-proofs
 use Rattle.linetotals_input.proofs.Examples as linetotals-input-examples-proofs
 use Rattle.linetotals_report.proofs.Reading as linetotals-report-reading-proofs
 use Rattle.linetotals_theory.proofs.Examples as linetotals-theory-examples-proofs
+use Rattle.linetotals_theory.proofs.InputLaws as linetotals-theory-input-laws-proofs
+use Rattle.linetotals_theory.proofs.InputRead as linetotals-theory-input-read-proofs
 use Rattle.linetotals_theory.proofs.MostLists as linetotals-theory-most-lists-proofs
 use Rattle.linetotals_theory.proofs.RunLaws as linetotals-theory-run-laws-proofs
 use Rattle.linetotals_theory.proofs.SheetLaws as linetotals-theory-sheet-laws-proofs
@@ -61,6 +64,7 @@ use Rattle.ring_theory.proofs.Examples as ring-theory-examples-proofs
 use Rattle.ring_theory.proofs.Simulation as ring-theory-simulation-proofs
 use Rattle.rules.proofs.Readings as rules-readings-proofs
 use Rattle.table_check_bytes.proofs.Laws as table-check-bytes-laws-proofs
+use Rattle.text.proofs.DecimalClaim as text-decimal-claim-proofs
 use Rattle.totals_add.proofs.TallyLaws as totals-add-tally-laws-proofs
 use Rattle.totals_theory.proofs.Examples as totals-theory-examples-proofs
 use Rattle.totals_theory.proofs.TotalsLaws as totals-theory-totals-laws-proofs
@@ -147,6 +151,11 @@ returns c =
       C-fifo-order = machine-counts-proofs.fifo-order;
       R-same-decision = rules-readings-proofs.same-decision;
       P-linerun-rows = linerun-report-examples-proofs.every-row;
+      P-little-endian = input-words-word-laws-proofs.little-endian;
+      P-decimal = text-decimal-claim-proofs.every-decimal;
+      P-linerun-words = linerun-report-report-laws-proofs.words-reported;
+      P-linerun-long-list = linerun-report-refusals-proofs.long-list-stops;
+      P-linerun-refused-alone = linerun-report-refusals-proofs.refused-alone;
       P-linerun-start = linerun-input-stage-laws-proofs.starts;
       P-linerun-step = linerun-input-stage-laws-proofs.steps;
       P-linerun-parts = linerun-report-cursor-laws-proofs.parts-are-report;
@@ -190,6 +199,11 @@ returns c =
       E-input-rows = linetotals-input-examples-proofs.every-row;
       E-sheet-rows = linetotals-theory-examples-proofs.every-row;
       E-most-lists = linetotals-theory-most-lists-proofs.most-lists-row;
+      E-input-read = linetotals-theory-input-read-proofs.input-read;
+      E-list-refused = linetotals-theory-input-read-proofs.list-refused;
+      E-input-few = linetotals-theory-input-laws-proofs.input-few;
+      E-codes = linetotals-theory-input-laws-proofs.every-code;
+      E-refusal-final = linetotals-theory-input-laws-proofs.refusal-final;
       E-nothing-follows = linetotals-theory-sheet-laws-proofs.nothing-follows;
       E-printed = linetotals-theory-sheet-laws-proofs.printed-conserved;
       E-lists-run = linetotals-theory-run-laws-proofs.every-list-runs;
