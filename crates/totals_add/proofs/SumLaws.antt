@@ -102,16 +102,16 @@ size k f is = ap length is ∙ words-length k f
 pub record CountsOf (t ws answers before sends receives after : List ℕ) : Type 0 where
   pub countable : Countable t ws answers before
   pub beforeSize : length before ≡ 32
-  pub sendsAre : sends ≡ wordsBelow 256 (λ e. sentTo e (split ws) answers)
-  pub receivesAre : receives ≡ wordsBelow 256 (λ e. receivedFrom e (split ws) answers)
+  pub sendsAre : sends ≡ wordsBelow 32 (λ e. sentTo e (split ws) answers)
+  pub receivesAre : receives ≡ wordsBelow 32 (λ e. receivedFrom e (split ws) answers)
   pub afterIs : after ≡ wordsBelow 32 (λ e. waiting (endpoint t e))
 
 module _ {t ws answers before sends receives after : List ℕ} (x : CountsOf t ws answers before sends receives after) where
   pub sent-at : (e : ℕ) → e < endpoints t → getD sends e 0 ≡ sentTo e (split ws) answers
-  sent-at e l = word-at 256 (λ e. sentTo e (split ws) answers) e (omega (arith, x .countable .few)) (x .sendsAre)
+  sent-at e l = word-at 32 (λ e. sentTo e (split ws) answers) e (omega (arith, x .countable .few)) (x .sendsAre)
 
   pub received-at : (e : ℕ) → e < endpoints t → getD receives e 0 ≡ receivedFrom e (split ws) answers
-  received-at e l = word-at 256 (λ e. receivedFrom e (split ws) answers) e (omega (arith, x .countable .few)) (x .receivesAre)
+  received-at e l = word-at 32 (λ e. receivedFrom e (split ws) answers) e (omega (arith, x .countable .few)) (x .receivesAre)
 
   after-at : (e : ℕ) → e < endpoints t → getD after e 0 ≡ waiting (endpoint t e)
   after-at e l = word-at 32 (λ e. waiting (endpoint t e)) e (omega (arith, x .countable .few)) (x .afterIs)
@@ -120,8 +120,8 @@ module _ {t ws answers before sends receives after : List ℕ} (x : CountsOf t w
   can-balance m is =
       record {
         few = omega (arith, x .countable .few);
-        sentSize = omega (arith, size 256 (λ e. sentTo e (split ws) answers) (x .sendsAre));
-        receivedSize = omega (arith, size 256 (λ e. receivedFrom e (split ws) answers) (x .receivesAre));
+        sentSize = omega (arith, size 32 (λ e. sentTo e (split ws) answers) (x .sendsAre));
+        receivedSize = omega (arith, size 32 (λ e. receivedFrom e (split ws) answers) (x .receivesAre));
         beforeSize = omega (arith, x .beforeSize);
         afterSize = omega (arith, size 32 (λ e. waiting (endpoint t e)) (x .afterIs));
         enough =

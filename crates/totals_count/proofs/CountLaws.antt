@@ -25,12 +25,12 @@ use Rattle.calls.proofs.SplitAt.{first-of, split-at}
 
 -- the next call begins at index i of the list, its answer at index at of the answers
 pub record Counting (is : Kind → Bool) (list answers counts : List ℕ) (at i : ℕ) : Type 0 where
-  pub sum : (e : ℕ) → e < 256 → getD counts e 0 + countDone is e (split (drop i list)) (drop at answers) ≡ countDone is e (split list) answers
-  pub size : length counts ≡ 256
+  pub sum : (e : ℕ) → e < 32 → getD counts e 0 + countDone is e (split (drop i list)) (drop at answers) ≡ countDone is e (split list) answers
+  pub size : length counts ≡ 32
 
-pub counting-start : (is : Kind → Bool) (list answers : List ℕ) → Counting is list answers (replicate 256 0) 0 0
+pub counting-start : (is : Kind → Bool) (list answers : List ℕ) → Counting is list answers (replicate 32 0) 0 0
 counting-start is list answers =
-    record { sum = λ e l. omega (arith, getD-replicate {A = ℕ} 256 e 0 0 l); size = length-replicate {A = ℕ} 256 0 }
+    record { sum = λ e l. omega (arith, getD-replicate {A = ℕ} 32 e 0 0 l); size = length-replicate {A = ℕ} 32 0 }
 
 -- 1 for a call of the kind k that was answered 0, by its first word and its answer's
 abbrev pub one : ℕ → ℕ → ℕ → ℕ
@@ -77,11 +77,11 @@ module _ {is : Kind → Bool} {list answers counts : List ℕ} {at i : ℕ} (k :
       (ap (countDone is f rest) (drop-drop 3 at answers))
 
   -- the count with the call fits the list
-  pub counted-few : getD counts (namedAt list i) 0 + addsAt list answers at i k ≤ length list
-  counted-few =
+  pub counted-few : namedAt list i < 32 → getD counts (namedAt list i) 0 + addsAt list answers at i k ≤ length list
+  counted-few small =
       let e = namedAt list i in
       let here = rw (eq-eqb e e refl) at (left-at e) in
-      omega (arith, here, x .sum e (omega arith), done-few is e (split list) answers, split-few list)
+      omega (arith, here, x .sum e small, done-few is e (split list) answers, split-few list)
 
   pub counting-next : {added : ℕ} → added ≡ addsAt list answers at i k
       → Counting is list answers (set counts (namedAt list i) (getD counts (namedAt list i) 0 + added)) (at + 3) (i + widthOf (secondAt list i))
@@ -93,7 +93,7 @@ module _ {is : Kind → Bool} {list answers counts : List ℕ} {at i : ℕ} (k :
       v : ℕ
       v = getD counts e 0 + added
 
-      sum : (f : ℕ) → f < 256 → getD (set counts e v) f 0 + countDone is f (split (drop (i + widthOf (secondAt list i)) list)) (drop (at + 3) answers) ≡ countDone is f (split list) answers
+      sum : (f : ℕ) → f < 32 → getD (set counts e v) f 0 + countDone is f (split (drop (i + widthOf (secondAt list i)) list)) (drop (at + 3) answers) ≡ countDone is f (split list) answers
       sum f l =
           ⊎-elim
           (λ same.
@@ -105,15 +105,26 @@ module _ {is : Kind → Bool} {list answers counts : List ℕ} {at i : ℕ} (k :
           omega (arith, here, getD-set-other counts e f v 0 (λ p. other (sym p)), x .sum f l))
           (equal-either e f)
 
+  -- a call that names an endpoint which no table has
+  pub counting-other : 32 ≤ namedAt list i → Counting is list answers counts (at + 3) (i + widthOf (secondAt list i))
+  counting-other above =
+      record {
+        sum =
+            λ f l.
+            let here = rw (ne-eqb (namedAt list i) f (λ same. absurd (omega arith))) at (left-at f) in
+            omega (arith, here, x .sum f l);
+        size = x .size;
+      }
+
 -- no call is left
 pub counting-end : {is : Kind → Bool} {list answers counts : List ℕ} {at i : ℕ} → Counting is list answers counts at i → length list ≤ i
-    → counts ≡ wordsBelow 256 (λ e. countDone is e (split list) answers)
+    → counts ≡ wordsBelow 32 (λ e. countDone is e (split list) answers)
 unfolding countDone split
 counting-end {is} {list} {answers} {counts} {at} {i} x past =
-    ext-getD 0 counts (wordsBelow 256 (λ e. countDone is e (split list) answers)) (x .size ∙ sym (words-length 256 _))
+    ext-getD 0 counts (wordsBelow 32 (λ e. countDone is e (split list) answers)) (x .size ∙ sym (words-length 32 _))
     (λ e l.
-    let few : e < 256 = omega (arith, x .size) in
-    omega (arith, rw (drop-of-length-le list past) at (x .sum e few), words-at 256 (λ e. countDone is e (split list) answers) e 0 few))
+    let few : e < 32 = omega (arith, x .size) in
+    omega (arith, rw (drop-of-length-le list past) at (x .sum e few), words-at 32 (λ e. countDone is e (split list) answers) e 0 few))
 
 -- a send is of kind 2, and a receive of kind 3
 pub sends-are : Numbered isSend 2

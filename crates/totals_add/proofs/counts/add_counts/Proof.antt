@@ -36,10 +36,10 @@ count-calls-requires : tie.Need-count-calls-requires
 count-calls-requires c κs = tt
 
 slice-aggregate-losses : tie.Need-slice-aggregate-losses
-slice-aggregate-losses c = sym (size 256 _ (c .before .before .before .count-calls .ensures .sentIs))
+slice-aggregate-losses c = sym (size 32 _ (c .before .before .before .count-calls .ensures .sentIs))
 
 slice-aggregate-losses-2 : tie.Need-slice-aggregate-losses-2
-slice-aggregate-losses-2 c = sym (size 256 _ (c .before .before .before .before .count-calls .ensures .receivedIs))
+slice-aggregate-losses-2 c = sym (size 32 _ (c .before .before .before .before .count-calls .ensures .receivedIs))
 
 slice-aggregate-losses-3 : tie.Need-slice-aggregate-losses-3
 slice-aggregate-losses-3 c = sym (c .before .before .before .before .before .before .before .before .before .before .before .good .1 .1 .1 .0 .1 .0 .1)
@@ -51,13 +51,13 @@ losses-requires : tie.Need-losses-requires
 losses-requires c κs = can-balance (counts-of c) _ (c .before .before .before .before .before .before .before .before .endpoints .ensures)
 
 slice-aggregate-add-each : tie.Need-slice-aggregate-add-each
-slice-aggregate-add-each c = sym (size 256 _ (c .before .before .before .before .before .before .before .before .before .before .before .count-calls .ensures .sentIs))
+slice-aggregate-add-each c = sym (size 32 _ (c .before .before .before .before .before .before .before .before .before .before .before .count-calls .ensures .sentIs))
 
 add-each-requires : tie.Need-add-each-requires
 add-each-requires c κs = let x = can-balance (counts-of (c .before .before .before .before .before)) _ (c .before .before .before .before .before .before .before .before .before .before .before .before .before .endpoints .ensures) in (x .few, omega (arith, x .few, x .sentSize))
 
 slice-aggregate-add-each-2 : tie.Need-slice-aggregate-add-each-2
-slice-aggregate-add-each-2 c = sym (size 256 _ (c .before .before .before .before .before .before .before .before .before .before .before .before .before .count-calls .ensures .receivedIs))
+slice-aggregate-add-each-2 c = sym (size 32 _ (c .before .before .before .before .before .before .before .before .before .before .before .before .before .count-calls .ensures .receivedIs))
 
 add-each-requires-2 : tie.Need-add-each-requires-2
 add-each-requires-2 c κs = let x = can-balance (counts-of (c .before .before .before .before .before .before .before)) _ (c .before .before .before .before .before .before .before .before .before .before .before .before .before .before .before .endpoints .ensures) in (x .few, omega (arith, x .few, x .receivedSize))
