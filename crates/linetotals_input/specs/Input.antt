@@ -35,7 +35,7 @@ unfoldable pub headWanted : ℕ → ℕ
 headWanted zero = 1
 headWanted (suc left) = 4
 
--- a list of n words at the front of bytes, and others after it, where `left` more lists may come; 7 where it is cut short
+-- a list of n words at the front of bytes, and the others after it, of which `left` may come; 7 where it is cut short
 unfoldable pub listFirst : ℕ → ℕ → List ℕ → Lists → Lists
 listFirst left n bytes others =
     cond (ltb (length bytes) (4 * n)) (stopped 7 (4 * n - length bytes + headWanted left))
@@ -49,11 +49,10 @@ listsFrom zero (b ∷ bytes) = stopped 1 0
 listsFrom (suc left) [] = stopped 0 4
 listsFrom (suc left) (b ∷ bytes) =
     let n = wordAt (b ∷ bytes) 0 in
-    let behind = drop 4 (b ∷ bytes) in
-    let others = listsFrom left (drop (4 * n) behind) in
-    let first = listFirst left n behind others in
+    let afterWord = drop 4 (b ∷ bytes) in
+    let others = listsFrom left (drop (4 * n) afterWord) in
     cond (ltb (length (b ∷ bytes)) 4) (stopped 7 (4 - length (b ∷ bytes)))
-    (cond (ltb longestList n) (stopped 1 0) first)
+    (cond (ltb longestList n) (stopped 1 0) (listFirst left n afterWord others))
 
 -- the lists of a whole input
 abbrev pub listsOf : List ℕ → Lists

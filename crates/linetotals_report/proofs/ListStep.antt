@@ -177,20 +177,20 @@ module _ {n : ℕ} {bytes : List ℕ} {x : State} (l : Listing n bytes x) (space
   tally′ : Tally
   tally′ = tallyWith (tableAt x) ws (x .stage .tally)
 
-  added : ListAdded (tableAt x) ws (x .answers) (take (domains (tableAt x)) (x .holders)) 0 (o .calls) (o .answers) (o .table) (o .holders) (x .stage .tally) tally′
+  added : ListAdded (tableAt x) ws (x .answers) (take (domains (tableAt x)) (x .holders)) o (x .stage .tally) tally′
   unfolding addedIfRun tallyWith o tally′
   added =
       record {
-        run = rw no-code at (promise-kept (tableAt x) ws (x .answers) (take (domains (tableAt x)) (x .holders)));
-        sentAdded = refl;
-        receivedAdded = refl;
-        lostAdded = refl;
+        run = promise-kept (tableAt x) ws (x .answers) (take (domains (tableAt x)) (x .holders));
+        sentAdded = rw no-code refl;
+        receivedAdded = rw no-code refl;
+        lostAdded = rw no-code refl;
       }
 
   tallied′ : Tallied t (l .lists ++ (ws ∷ [])) tally′ (o .table)
-  unfolding t
+  unfolding t o
   tallied′ =
-      every-tally-list-by-list (tableOf (l .head)) .goesOn _ _ _ _ _ _ _ _ _ _ _ _ (l .counted .known .accepted) (l .counted .tallied) (omega (arith, l .going .count)) added refl
+      every-tally-list-by-list (tableOf (l .head)) .goesOn _ _ _ _ _ _ _ _ (l .counted .known .accepted) (l .counted .tallied) (omega (arith, l .going .count)) added no-code
 
   left-table : o .table ≡ run (tableAt x) (split ws)
   unfolding o ran

@@ -92,13 +92,13 @@ module _ (x : State) (n : ℕ) (bytes : List ℕ) (all : 4 * n ≤ length bytes)
       go false e = simp e
 
   -- the parts that are lent for it: the table, the list, and the words for the holders, of which there are `lent`
-  pub list-left : {ws t holders : List ℕ} {code calls lent : ℕ} {answers end kept : List ℕ} {tally′ : Tally} {r : Stage} {list : List ℕ}
+  pub list-left : {ws t holders : List ℕ} {o : Outcome} {lent : ℕ} {tally′ : Tally} {r : Stage} {list : List ℕ}
       → ws ≡ wordsOf (take (4 * n) bytes) → t ≡ tableAt x → lent ≡ min (domains t) (length (x .holders)) → holders ≡ take lent (x .holders)
-      → ListAdded t ws (x .answers) holders code calls answers end kept (x .stage .tally) tally′
-      → r ≡ listRan (x .stage) code tally′ (drop (4 * n) bytes) → list ≡ overwrite 0 (wordsOf (take (4 * n) bytes)) (x .list)
-      → Left (listRead n x bytes) r (end ++ drop (x .stage .words) (x .table)) list answers (kept ++ drop lent (x .holders))
+      → ListAdded t ws (x .answers) holders o (x .stage .tally) tally′
+      → r ≡ listRan (x .stage) (o .code) tally′ (drop (4 * n) bytes) → list ≡ overwrite 0 (wordsOf (take (4 * n) bytes)) (x .list)
+      → Left (listRead n x bytes) r (o .table ++ drop (x .stage .words) (x .table)) list (o .answers) (o .holders ++ drop lent (x .holders))
   unfolding listRead listWhole
-  list-left {kept = kept} ws-is t-is lent-is holders-are y is list-is =
+  list-left ws-is t-is lent-is holders-are y is list-is =
       let d = domains (tableAt x) in
       let least = lent-is ∙ ap (λ (u : List ℕ). min (domains u) (length (x .holders))) t-is in
       let z = rw (ws-is, t-is, holders-are ∙ take-least _ d (x .holders) least) at y in

@@ -52,11 +52,22 @@ lengthRead s bytes =
 abbrev pub waitingAt : List ℕ → List ℕ
 waitingAt t = wordsBelow 32 (λ e. waiting (endpoint t e))
 
+-- the stage after an accepted table t, before any list
+abbrev pub listsFollow : List ℕ → Stage
+listsFollow t =
+    record {
+      phase = FirstLength;
+      words = length t;
+      endpoints = endpoints t;
+      count = 0;
+      start = waitingAt t;
+      tally = noTotals;
+    }
+
 -- after the table t: its code where it is refused, else the lists follow
 unfoldable pub tableChecked : Stage → List ℕ → Stage
 tableChecked s t =
-    let lists : Stage = record { phase = FirstLength; words = length t; endpoints = endpoints t; count = 0; start = waitingAt t; tally = noTotals } in
-    cond (eqb (tableCode t) 0) lists (inPhase (Over (tableCode t)) s)
+    cond (eqb (tableCode t) 0) (listsFollow t) (inPhase (Over (tableCode t)) s)
 
 -- after the table's n words: 7 where they are cut short
 unfoldable pub tableRead : ℕ → Stage → List ℕ → Stage

@@ -21,7 +21,9 @@ use Rattle.linetotals_input.specs.Input.{Lists, listsOf, wanted}
 unfoldable pub totalsLine : List ℕ → List (List ℕ) → ℕ → List ℕ
 totalsLine t lists e =
     let counted = totals e t lists in
-    endpointLine e (counted .sent) (counted .received) (counted .lost) (waiting (endpoint t e)) (waiting (endpoint (tableAfterLists t lists) e))
+    let start = waiting (endpoint t e) in
+    let end = waiting (endpoint (tableAfterLists t lists) e) in
+    endpointLine e (counted .sent) (counted .received) (counted .lost) start end
 
 -- the lines of the endpoints below k, lowest index first
 unfoldable pub endpointLines : List ℕ → List (List ℕ) → ℕ → List ℕ

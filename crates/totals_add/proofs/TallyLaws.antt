@@ -9,7 +9,7 @@ use lib.ListN.{length, getD, length-append, replicate}
 use Rattle.machine.specs.Below.{wordsBelow}
 use Rattle.machine.specs.Table.{endpoints}
 use Rattle.machine.specs.Check.{Accepted}
-use Rattle.machine.specs.Entry.{longestList}
+use Rattle.machine.specs.Entry.{Outcome, longestList}
 use Rattle.machine.proofs.Below.{words-length, words-at, words-same}
 use Rattle.machine.proofs.Step.{run-accepted}
 use Rattle.totals_theory.specs.Totals.{Totals, noCounts, together, listTotals, tableAfterLists, totals, callsOf}
@@ -96,20 +96,25 @@ module _ (t : List ℕ) (lists : List (List ℕ)) (ws : List ℕ) (short : lengt
         lost = omega (arith, lost-goes-on e, one .lost, few .lost);
       }
 
-module _ {t : List ℕ} {lists : List (List ℕ)} {ws space holders : List ℕ} {code calls : ℕ} {answers table end kept : List ℕ} {tally tally′ : Tally} (a : Accepted t) (x : Tallied t lists tally table) (many : length lists < mostAdded) (y : ListAdded table ws space holders code calls answers end kept tally tally′) (z : code ≡ 0) where
-  of : RunOf table ws answers end
+module _ {t : List ℕ} {lists : List (List ℕ)} {table ws space holders : List ℕ} {o : Outcome} {tally tally′ : Tally}
+    (a : Accepted t)
+    (x : Tallied t lists tally table)
+    (many : length lists < mostAdded)
+    (y : ListAdded table ws space holders o tally tally′)
+    (z : o .code ≡ 0) where
+  of : RunOf table ws (o .answers) (o .table)
   of = run-of (y .run) z
 
   fewer : (e : ℕ) → Few (totals e t (more lists ws)) (longestList * length (more lists ws))
   fewer e = few-go-on t lists ws (of .short) e (x .few e)
 
   -- what a part of the tally grows by
-  part-added : {xs xs′ : List ℕ} (f g h : ℕ → ℕ) → xs ≡ ofEndpoints (endpoints t) f → xs′ ≡ addedIfRun code table xs g → ((e : ℕ) → h e ≡ f e + g e) → ((e : ℕ) → h e < 2 ^ 64) → xs′ ≡ ofEndpoints (endpoints t) h
+  part-added : {xs xs′ : List ℕ} (f g h : ℕ → ℕ) → xs ≡ ofEndpoints (endpoints t) f → xs′ ≡ addedIfRun (o .code) table xs g → ((e : ℕ) → h e ≡ f e + g e) → ((e : ℕ) → h e < 2 ^ 64) → xs′ ≡ ofEndpoints (endpoints t) h
   unfolding addedIfRun
   part-added {xs} {xs′} f g h is grows sum fits =
       rw (z, is, x .tableIs, after-endpoints t lists a) at grows ∙ of-added (endpoints t) f g h sum fits
 
-  goes-on : Tallied t (more lists ws) tally′ end
+  goes-on : Tallied t (more lists ws) tally′ (o .table)
   unfolding tallyOf
   goes-on =
       let count = length-append lists (ws ∷ []) in
@@ -125,4 +130,4 @@ module _ {t : List ℕ} {lists : List (List ℕ)} {ws space holders : List ℕ} 
 
 pub every-tally-list-by-list : EveryTallyListByList
 every-tally-list-by-list t =
-    record { begins = begins t; goesOn = λ lists ws space holders code calls answers table end kept tally tally′ a x many y z. goes-on a x many y z }
+    record { begins = begins t; goesOn = λ lists table ws space holders o tally tally′ a x many y z. goes-on a x many y z }

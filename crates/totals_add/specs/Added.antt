@@ -7,7 +7,8 @@ use lib.Dec.{eqb, ltb}
 use lib.ListN.{length, getD, replicate}
 use Rattle.machine.specs.Below.{wordsBelow}
 use Rattle.machine.specs.Table.{endpoints}
-use Rattle.machine.specs.Promise.{RunPromise}
+use Rattle.machine.specs.Entry.{Outcome}
+use Rattle.machine.specs.Promise.{Keeps}
 use Rattle.totals_theory.specs.Totals.{listTotals}
 use Rattle.totals_add.specs.declared.Tally.{Tally}
 
@@ -24,10 +25,10 @@ addedBelow m xs f =
 unfoldable pub addedIfRun : ℕ → List ℕ → List ℕ → (ℕ → ℕ) → List ℕ
 addedIfRun code t xs f = cond (eqb code 0) (addedBelow (endpoints t) xs f) xs
 
--- What adding the list ws, run from the table t, to a tally leaves: all that a run promises, and the tally with what the list
--- counts. A refused list leaves the tally as it is.
-pub record ListAdded (t ws space holders : List ℕ) (code calls : ℕ) (answers end kept : List ℕ) (tally tally′ : Tally) : Type 0 where
-  pub run : RunPromise t ws space holders code calls answers end kept
-  pub sentAdded : tally′ .sent ≡ addedIfRun code t (tally .sent) (λ e. listTotals e t ws .sent)
-  pub receivedAdded : tally′ .received ≡ addedIfRun code t (tally .received) (λ e. listTotals e t ws .received)
-  pub lostAdded : tally′ .lost ≡ addedIfRun code t (tally .lost) (λ e. listTotals e t ws .lost)
+-- What adding the list ws, run from the table t, to a tally leaves: the outcome o, which keeps all that a run promises, and the tally
+-- with what the list counts. A refused list leaves the tally as it is.
+pub record ListAdded (t ws space holders : List ℕ) (o : Outcome) (tally tally′ : Tally) : Type 0 where
+  pub run : Keeps t ws space holders o
+  pub sentAdded : tally′ .sent ≡ addedIfRun (o .code) t (tally .sent) (λ e. listTotals e t ws .sent)
+  pub receivedAdded : tally′ .received ≡ addedIfRun (o .code) t (tally .received) (λ e. listTotals e t ws .received)
+  pub lostAdded : tally′ .lost ≡ addedIfRun (o .code) t (tally .lost) (λ e. listTotals e t ws .lost)

@@ -9,7 +9,7 @@ use lib.ListN.{length}
 use Rattle.machine.specs.Below.{wordsBelow}
 use Rattle.machine.specs.Table.{endpoints}
 use Rattle.machine.specs.Check.{Accepted}
-use Rattle.machine.specs.Entry.{longestList}
+use Rattle.machine.specs.Entry.{Outcome, longestList}
 use Rattle.totals_theory.specs.Totals.{totals, tableAfterLists}
 use Rattle.totals_theory.specs.Claims.{Few}
 use Rattle.totals_add.specs.declared.Tally.{Tally}
@@ -41,13 +41,13 @@ mostAdded = 4503599627370495
 -- A tally begins as that of no list. A list that is added and not refused makes it that of one list more.
 pub record AddedOneByOne (t : List ℕ) : Type 0 where
   pub begins : Tallied t [] noTotals t
-  pub goesOn : (lists : List (List ℕ)) (ws space holders : List ℕ) (code calls : ℕ) (answers table end kept : List ℕ) (tally tally′ : Tally)
+  pub goesOn : (lists : List (List ℕ)) (table ws space holders : List ℕ) (o : Outcome) (tally tally′ : Tally)
       → Accepted t
       → Tallied t lists tally table
       → length lists < mostAdded
-      → ListAdded table ws space holders code calls answers end kept tally tally′
-      → code ≡ 0
-      → Tallied t (lists ++ (ws ∷ [])) tally′ end
+      → ListAdded table ws space holders o tally tally′
+      → o .code ≡ 0
+      → Tallied t (lists ++ (ws ∷ [])) tally′ (o .table)
 
 abbrev pub EveryTallyListByList : Type 0
 EveryTallyListByList = (t : List ℕ) → AddedOneByOne t

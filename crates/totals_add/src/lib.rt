@@ -45,8 +45,15 @@ pub fn add_list(
     holders: &mut [u32],
     tally: Tally,
 ) -> Added
-    ensures { λ r. ⌜ ListAdded (now (table .entry)) (now (list .entry)) (now (answers .entry)) (now (holders .entry)) (ranCode (r .ran))
-        (ranCalls (r .ran)) (now (answers .exit)) (now (table .exit)) (now (holders .exit)) tally (r .tally) ⌝ }
+    ensures { λ r. ⌜ ListAdded (now (table .entry)) (now (list .entry)) (now (answers .entry)) (now (holders .entry))
+        (record {
+          code = ranCode (r .ran);
+          calls = ranCalls (r .ran);
+          table = now (table .exit);
+          answers = now (answers .exit);
+          holders = now (holders .exit);
+        })
+        tally (r .tally) ⌝ }
 {
     let before = waiting_counts(table);
     let ran = run_by_length(table, list, answers, holders);
