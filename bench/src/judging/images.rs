@@ -53,10 +53,6 @@ fn report(kernel: &Kernel, draws: &Draws, found: &Found) -> String {
             "Only behind the images before it: by itself this image is right.\n",
         ),
     };
-    let rows = bytes.chunks(16).enumerate().map(|(row, bytes)| {
-        let hex: Vec<String> = bytes.iter().map(|byte| format!("{byte:02X}")).collect();
-        format!("{:04X}  {}\n", 16 * row, hex.join(" "))
-    });
     format!(
         "{head} in table image {number} of seed {seed}, {len}:\n  {told}\n{before}\
          To see it again: bench fuzz --kernel {kernel} --seed {seed} --from {from} --cases 0 \
@@ -65,8 +61,17 @@ fn report(kernel: &Kernel, draws: &Draws, found: &Found) -> String {
         seed = draws.seed,
         kernel = kernel.name,
         len = counted(bytes.len(), "byte"),
-        rows = rows.collect::<String>(),
+        rows = rows(&bytes),
     )
+}
+
+/// Bytes in rows of sixteen, each with its place.
+pub fn rows(bytes: &[u8]) -> String {
+    let rows = bytes.chunks(16).enumerate().map(|(row, bytes)| {
+        let hex: Vec<String> = bytes.iter().map(|byte| format!("{byte:02X}")).collect();
+        format!("{:04X}  {}\n", 16 * row, hex.join(" "))
+    });
+    rows.collect()
 }
 
 /// Whether an image is wrong with none tried before it.

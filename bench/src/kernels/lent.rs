@@ -232,6 +232,18 @@ impl Edges {
             holders: left_of(holders, Forbidden::AroundHolders)?,
         })
     }
+
+    /// A kernel's check of an image that ends where nothing may be read; of one that is too
+    /// long for that, as it is.
+    pub fn check(&mut self, kernel: &Kernel, image: &[u8]) -> u32 {
+        match self.table.last_bytes(image.len()) {
+            Some(space) => {
+                space.copy_from_slice(image);
+                kernel.table_check(space)
+            }
+            None => kernel.table_check(image),
+        }
+    }
 }
 
 /// Words at the end of a space, with words before them that nobody was lent.

@@ -109,6 +109,14 @@ impl Guarded {
             slice::from_raw_parts_mut(first, words)
         })
     }
+
+    /// The last bytes, so many; nothing where there aren't as many.
+    pub fn last_bytes(&mut self, bytes: usize) -> Option<&mut [u8]> {
+        let place = self.bytes.checked_sub(bytes)?;
+        // SAFETY: the bytes from there to the end are this one's memory, borrowed with it
+        // alone.
+        Some(unsafe { slice::from_raw_parts_mut(self.start.cast::<u8>().add(place), bytes) })
+    }
 }
 
 impl Drop for Guarded {

@@ -40,7 +40,10 @@ pub fn with_drills(kernel: &Kernel, line: &[u32], verdicts: Verdicts) -> Verdict
     let each = each.map(|(drill, cases)| format!("{}: {cases}", drill.what));
     let runs = counted(drilled.cases.iter().sum::<u64>(), "run");
     let first = vec![
-        format!("drills on {FAMILY}, {runs} in one process, each with every word compared"),
+        format!(
+            "drills on {FAMILY}, {runs} in one process, checks of images among them, each with \
+             every word compared"
+        ),
         format!("of these: {}", each.collect::<Vec<_>>().join("; ")),
         orders::in_words(),
     ];

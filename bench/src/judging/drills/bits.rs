@@ -11,7 +11,7 @@ use reference::table::{
 use reference::words::word;
 
 use super::tables::{spread, Shape, DOMAINS};
-use super::{Tables, Take};
+use super::{Given, Tables, Take};
 use crate::judging::exercise::planner::{
     grant, look_up, my_endpoints, my_rights, receive, remove, revoke, send,
 };
@@ -24,7 +24,7 @@ const OF_A_KIND: usize = 6;
 /// A run of some words on a table.
 pub fn run_of(table: &[u32], list: Vec<u32>, take: &mut Take) {
     let table = table.to_vec();
-    take(case_of(&Input { table, list }));
+    take(Given::Run(case_of(&Input { table, list })));
 }
 
 /// The drill of calls: each bit of each word of calls that are done turned, each caller in

@@ -10,7 +10,7 @@ use reference::table::{
     WAITING_PLACE,
 };
 
-use super::{Tables, Take};
+use super::{Given, Tables, Take};
 use crate::cases::Case;
 use crate::judging::variants::holders_for;
 
@@ -71,6 +71,13 @@ fn at_last_endpoint(table: &mut [u32], at: usize, with: fn(u32) -> u32) {
     }
 }
 
+/// A table with a damage.
+fn with_damage(table: &[u32], damage: &Damage) -> Vec<u32> {
+    let mut table = table.to_vec();
+    damage(&mut table);
+    table
+}
+
 /// The drill, on the line's table and on two others.
 pub fn entries(tables: &Tables, take: &mut Take) {
     for table in tables.few() {
@@ -88,11 +95,7 @@ fn damaged(table: &[u32]) -> Vec<Vec<u32>> {
     let mut all = vec![table.to_vec()];
     for damages in [&ENDPOINTS[..], &RIGHTS, &LENGTHS, &HEADERS] {
         let with = |table: &Vec<u32>| {
-            let each = damages.iter().map(|damage| {
-                let mut table = table.clone();
-                damage(&mut table);
-                table
-            });
+            let each = damages.iter().map(|damage| with_damage(table, damage));
             each.collect::<Vec<_>>()
         };
         all = all.iter().flat_map(with).collect();
@@ -111,12 +114,12 @@ fn spaces(table: &[u32], sound: &[u32], words: usize, take: &mut Take) {
         for count in [holders.len(), holders.len() - 1, holders.len() + 1, 0] {
             let mut holders = holders.clone();
             holders.resize(count, 0xC0DE_0099);
-            take(Case {
+            take(Given::Run(Case {
                 table: table.to_vec(),
                 list: list.clone(),
                 answers: (0..space as u32).map(|place| 0xC0DE_0000 | place).collect(),
                 holders,
-            });
+            }));
         }
     }
 }

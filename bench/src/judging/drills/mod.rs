@@ -12,6 +12,7 @@
 
 mod bits;
 mod entries;
+mod images;
 mod names;
 pub mod orders;
 mod queues;
@@ -21,9 +22,6 @@ mod sizes;
 pub mod tables;
 mod walks;
 
-use reference::check_bytes;
-use reference::words::to_bytes;
-
 use crate::cases::Case;
 use crate::judging::compare::{difference, refusal_difference, separate_run};
 use crate::judging::report::{self, cut_down, Cut};
@@ -32,10 +30,19 @@ use crate::kernels::child::{self, watch, Board};
 use crate::kernels::lent::{run_here, Edges, Failure, Stopped};
 use crate::progress::Progress;
 
+use images::Image;
 use tables::family;
 
-/// Takes cases, one after another.
-type Take<'a> = dyn FnMut(Case) + 'a;
+/// What a kernel is given: a run, after which the table's image is checked too, or an image
+/// alone.
+#[derive(Clone)]
+pub enum Given {
+    Run(Case),
+    Image(Image),
+}
+
+/// Takes what is given, one after another.
+type Take<'a> = dyn FnMut(Given) + 'a;
 
 /// A drill: what it goes through, and its cases on the line's table and on the family.
 pub struct Drill {
@@ -72,7 +79,7 @@ impl Tables {
 }
 
 /// All drills, in the order in which they are gone through.
-pub const DRILLS: [Drill; 11] = [
+pub const DRILLS: [Drill; 12] = [
     Drill {
         what: "the fields of calls at their edges in every combination",
         cases: orders::calls,
@@ -92,6 +99,10 @@ pub const DRILLS: [Drill; 11] = [
     Drill {
         what: "headers, owners, capacities and waiting counts of every number",
         cases: bits::numbers,
+    },
+    Drill {
+        what: "images of every length",
+        cases: images::images,
     },
     Drill {
         what: "names at every endpoint, near each other and repeated",
@@ -186,13 +197,13 @@ impl Trial<'_> {
     /// around it or ends where nothing may be read.
     fn one_drill(&mut self, tables: &Tables, place: usize) -> bool {
         let (mut count, mut right) = (0, true);
-        (DRILLS[place].cases)(tables, &mut |case| {
+        (DRILLS[place].cases)(tables, &mut |given| {
             if !right {
                 return;
             }
             self.board.announce(self.number);
             count += 1;
-            let wrong = self.wrong_with(&case);
+            let wrong = self.wrong_with(&given);
             self.number += 1;
             if let Some(wrong) = wrong {
                 self.leave(REFUSAL, &wrong.refusal.unwrap_or_default());
@@ -209,29 +220,40 @@ impl Trial<'_> {
         self.board.leave(place, bytes.map(u64::from));
     }
 
-    /// What is wrong with the kernel's run of a case, or with its check of the image that
-    /// the table is.
-    fn wrong_with(&mut self, case: &Case) -> Option<Wrong> {
+    /// What is wrong with what the kernel makes of what it is given.
+    fn wrong_with(&mut self, given: &Given) -> Option<Wrong> {
+        let kernel = self.kernel;
+        match given {
+            Given::Run(case) => match self.run(case) {
+                Err(wrong) => Some(wrong),
+                Ok(code) => Image::of_run(case, code).difference(kernel).map(in_both),
+            },
+            Given::Image(image) => image
+                .difference(kernel)
+                .or_else(|| image.difference_at_the_edge(kernel, &mut self.edges))
+                .map(in_both),
+        }
+    }
+
+    /// What the kernel's run of a case ends with, or what is wrong with it.
+    fn run(&mut self, case: &Case) -> Result<u32, Wrong> {
         let ran = match self.number % 4 {
             AMID => run_here(self.kernel, case),
             _ => self.edges.run(self.kernel, case),
         };
-        let ran = match ran {
-            Ok(ran) => ran,
-            Err(failure) => return Some(failed(failure)),
+        let ran = ran.map_err(failed)?;
+        let alone = |word| Wrong {
+            refusal: None,
+            word,
         };
-        let right = match separate_run(case) {
-            Ok(right) => right,
-            Err(word) => {
-                let refusal = None;
-                return Some(Wrong { refusal, word });
-            }
-        };
-        if let Some(word) = difference(case, &ran, &right) {
-            let refusal = refusal_difference(case, &ran, &right);
-            return Some(Wrong { refusal, word });
+        let right = separate_run(case).map_err(alone)?;
+        match difference(case, &ran, &right) {
+            None => Ok(ran.outcome.code),
+            Some(word) => Err(Wrong {
+                refusal: refusal_difference(case, &ran, &right),
+                word,
+            }),
         }
-        image_difference(self.kernel, &case.table).map(in_both)
     }
 }
 
@@ -247,14 +269,6 @@ fn failed(failure: Failure) -> Wrong {
     in_both(failure.to_string())
 }
 
-/// A table's image checked at an odd address, where a word stands at no place of its own.
-fn image_difference(kernel: &Kernel, table: &[u32]) -> Option<String> {
-    let bytes = [&[0xA5][..], &to_bytes(table)].concat();
-    let (code, should) = (kernel.table_check(&bytes[1..]), check_bytes(&bytes[1..]));
-    (code != should)
-        .then(|| format!("the table's image is checked with {code}, it should be {should}"))
-}
-
 /// The text that was left from a place on.
 fn text_left(board: &Board, place: usize) -> String {
     let bytes = board.left(place..place + REPORTED_MAX);
@@ -265,19 +279,19 @@ fn text_left(board: &Board, place: usize) -> String {
     String::from_utf8_lossy(&bytes).into_owned()
 }
 
-/// The drill and the case of a number, and which of the drill's it is.
-fn case_of_number(tables: &Tables, wanted: u64) -> (&'static str, u64, Case) {
+/// The drill and what it gives by a number, and which of the drill's it is.
+fn given_of_number(tables: &Tables, wanted: u64) -> (&'static str, u64, Given) {
     let mut number = 0;
     for drill in &DRILLS {
         let (first, mut found) = (number, None);
-        (drill.cases)(tables, &mut |case| {
+        (drill.cases)(tables, &mut |given| {
             if number == wanted {
-                found = Some(case);
+                found = Some(given);
             }
             number += 1;
         });
-        if let Some(case) = found {
-            return (drill.what, wanted - first, case);
+        if let Some(given) = found {
+            return (drill.what, wanted - first, given);
         }
     }
     unreachable!("a drill announced the number")
@@ -285,19 +299,12 @@ fn case_of_number(tables: &Tables, wanted: u64) -> (&'static str, u64, Case) {
 
 /// What is reported of the case that differs, with its words cut down.
 fn differs(kernel: &Kernel, tables: &Tables, board: &Board) -> Wrong {
-    let (what, number, case) = case_of_number(tables, board.announced());
-    let wrong = |case: &Case, limit| match child::run(kernel, case, limit) {
-        Err(failure) => Some(failure.to_string()),
-        Ok(ran) => match separate_run(case) {
-            Ok(right) => difference(case, &ran, &right),
-            Err(why) => Some(why),
-        },
+    let (what, number, given) = given_of_number(tables, board.announced());
+    let shown = match given {
+        Given::Run(case) => shorter(kernel, &case),
+        Given::Image(image) => image.in_words(),
     };
-    let shorter = cut_down(&case, Cut::Calls, child::LIMIT, wrong);
-    let shorter = shorter.unwrap_or_else(|| {
-        "Only after the runs before it in one process: by itself this run is right.".to_string()
-    });
-    let reported = |why: String| format!("{what}, case {number}: {why}\n{shorter}");
+    let reported = |why: String| format!("{what}, case {number}: {why}\n{shown}");
     let refusal = Some(text_left(board, REFUSAL)).filter(|text| !text.is_empty());
     Wrong {
         refusal: refusal.map(reported),
@@ -305,11 +312,30 @@ fn differs(kernel: &Kernel, tables: &Tables, board: &Board) -> Wrong {
     }
 }
 
+/// A run with which something is wrong, cut down.
+fn shorter(kernel: &Kernel, case: &Case) -> String {
+    let wrong = |case: &Case, limit| match child::run(kernel, case, limit) {
+        Err(failure) => Some(failure.to_string()),
+        Ok(ran) => match separate_run(case) {
+            Ok(right) => difference(case, &ran, &right),
+            Err(why) => Some(why),
+        },
+    };
+    let shorter = cut_down(case, Cut::Calls, child::LIMIT, wrong);
+    shorter.unwrap_or_else(|| {
+        "Only after the runs before it in one process: by itself this run is right.".to_string()
+    })
+}
+
 /// The same of a case that the kernel stops at.
 fn stops(kernel: &Kernel, tables: &Tables, board: &Board, stopped: Stopped) -> Wrong {
-    let (what, number, case) = case_of_number(tables, board.announced());
-    let failure = Failure::Stopped(stopped);
-    let why = report::failed(kernel, &case, failure, child::LIMIT);
+    let (what, number, given) = given_of_number(tables, board.announced());
+    let why = match given {
+        Given::Run(case) => {
+            report::failed(kernel, &case, Failure::Stopped(stopped), child::LIMIT)
+        }
+        Given::Image(image) => format!("{stopped}\n{}", image.in_words()),
+    };
     let at = match board.announced() % 4 {
         AMID => "",
         _ => ", with nothing to be read past what is lent",

@@ -11,9 +11,8 @@ use reference::machine::refusal;
 use reference::table::{domains, endpoints, name};
 use reference::words::{word, CONTENT_MAX};
 
+use super::bits::run_of;
 use super::{Tables, Take};
-use crate::judging::variants::case_of;
-use crate::line::input::Input;
 
 /// The widths of the fields A, B and C.
 const A_BITS: u32 = 6;
@@ -105,10 +104,7 @@ pub fn calls(tables: &Tables, take: &mut Take) {
                 .partition(|call| refusal(table, call).is_some());
             together(table, &refused, take);
             for call in done {
-                take(case_of(&Input {
-                    table: table.to_vec(),
-                    list: call.words(),
-                }));
+                run_of(table, call.words(), take);
             }
         }
     }
@@ -121,13 +117,10 @@ fn together(table: &[u32], calls: &[Call], take: &mut Take) {
         list.extend(call.words());
         list.push(call_word(MY_RIGHTS, 0, 0, 0, 0));
         if list.len() >= TOGETHER {
-            let list = std::mem::take(&mut list);
-            let table = table.to_vec();
-            take(case_of(&Input { table, list }));
+            run_of(table, std::mem::take(&mut list), take);
         }
     }
-    let table = table.to_vec();
-    take(case_of(&Input { table, list }));
+    run_of(table, list, take);
 }
 
 /// The places where a kind of call can fail, in their order.

@@ -6,7 +6,7 @@ use reference::table::{domains, endpoints, right};
 
 use super::bits::run_of;
 use super::tables::{spread, Shape};
-use super::{Tables, Take};
+use super::{Given, Tables, Take};
 use crate::cases::Case;
 use crate::judging::exercise::planner::{grant, look_up, my_endpoints, my_rights, receive, send};
 use crate::judging::variants::case_of;
@@ -50,7 +50,7 @@ pub fn one_after_another(tables: &Tables, take: &mut Take) {
             0 => &cases[number / 40 % cases.len()],
             _ => small[number % small.len()],
         };
-        take(case.clone());
+        take(Given::Run(case.clone()));
     }
 }
 

@@ -6,7 +6,7 @@ use reference::calls::{cut, Call, LIST_WORDS_MAX};
 use reference::entry::ANSWER_WORDS;
 use reference::table::domains;
 
-use super::{Tables, Take};
+use super::{Given, Tables, Take};
 use crate::cases::Case;
 use crate::judging::exercise::planner::{look_up, my_rights, send};
 use crate::judging::variants::holders_for;
@@ -72,7 +72,7 @@ fn spaces(table: &[u32], list: &[u32], all: bool, take: &mut Take) {
     ];
     let near = near.into_iter().filter(|_| all);
     for space in [enough, enough + 5000].into_iter().chain(near) {
-        take(lent(table, list, space, domains(table)));
+        take(Given::Run(lent(table, list, space, domains(table))));
     }
 }
 
@@ -96,12 +96,13 @@ fn holders(table: &[u32], take: &mut Take) {
     for words in [0, 1, 5, LIST_WORDS_MAX] {
         let list = filled(FILLS[0], words, 0);
         for count in (0..=18).chain(far) {
-            take(lent(table, &list, ANSWER_WORDS * words, count));
+            let case = lent(table, &list, ANSWER_WORDS * words, count);
+            take(Given::Run(case));
         }
     }
     let list = filled(FILLS[0], 5, 0);
     for space in [256, 257, 65_536, 65_537, 65_550, 65_551, 131_072] {
-        take(lent(table, &list, space, n));
+        take(Given::Run(lent(table, &list, space, n)));
     }
 }
 
@@ -110,9 +111,9 @@ fn lengths(table: &[u32], take: &mut Take) {
     let list = filled(FILLS[0], 5, 0);
     for more in [256, 512, 1024, 4096, 16_384, 65_536] {
         let longer = [table, &vec![0xF000_0000; more]].concat();
-        take(Case {
+        take(Given::Run(Case {
             table: longer,
             ..lent(table, &list, 15, domains(table))
-        });
+        }));
     }
 }
