@@ -10,6 +10,7 @@
 //! table, the answers and the holders are compared with the separate machine's. All cases
 //! run in one child process, so that what a kernel keeps between runs shows too.
 
+mod alike;
 mod bits;
 mod entries;
 mod images;
@@ -79,7 +80,7 @@ impl Tables {
 }
 
 /// All drills, in the order in which they are gone through.
-pub const DRILLS: [Drill; 12] = [
+pub const DRILLS: [Drill; 13] = [
     Drill {
         what: "the fields of calls at their edges in every combination",
         cases: orders::calls,
@@ -99,6 +100,10 @@ pub const DRILLS: [Drill; 12] = [
     Drill {
         what: "headers, owners, capacities and waiting counts of every number",
         cases: bits::numbers,
+    },
+    Drill {
+        what: "table words damaged alike, two or more at once",
+        cases: alike::alike,
     },
     Drill {
         what: "images of every length",
