@@ -12,6 +12,7 @@
 
 mod alike;
 mod bits;
+mod ends;
 mod entries;
 mod images;
 mod names;
@@ -80,7 +81,7 @@ impl Tables {
 }
 
 /// All drills, in the order in which they are gone through.
-pub const DRILLS: [Drill; 13] = [
+pub const DRILLS: [Drill; 14] = [
     Drill {
         what: "the fields of calls at their edges in every combination",
         cases: orders::calls,
@@ -124,6 +125,10 @@ pub const DRILLS: [Drill; 13] = [
     Drill {
         what: "sizes around each limit",
         cases: sizes::sizes,
+    },
+    Drill {
+        what: "answer spaces that are short, for lists of every kind of word",
+        cases: ends::ends,
     },
     Drill {
         what: "lists of calls that are done, after every call",
