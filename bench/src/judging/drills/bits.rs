@@ -59,7 +59,7 @@ fn turned(table: &[u32], call: Call, take: &mut Take) {
 }
 
 /// Some calls of each kind that are done on a table, from both ends of its numbers.
-fn done(table: &[u32]) -> Vec<Call> {
+pub fn done(table: &[u32]) -> Vec<Call> {
     let mut found = Vec::new();
     for calls in candidates(table) {
         let done: Vec<Call> = calls

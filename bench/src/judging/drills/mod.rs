@@ -22,6 +22,7 @@ mod rights;
 mod runs;
 mod sizes;
 pub mod tables;
+mod unused;
 mod walks;
 
 use crate::cases::Case;
@@ -81,7 +82,7 @@ impl Tables {
 }
 
 /// All drills, in the order in which they are gone through.
-pub const DRILLS: [Drill; 14] = [
+pub const DRILLS: [Drill; 15] = [
     Drill {
         what: "the fields of calls at their edges in every combination",
         cases: orders::calls,
@@ -129,6 +130,10 @@ pub const DRILLS: [Drill; 14] = [
     Drill {
         what: "answer spaces that are short, for lists of every kind of word",
         cases: ends::ends,
+    },
+    Drill {
+        what: "unused fields of every two numbers, and every two bits of calls that are done",
+        cases: unused::unused,
     },
     Drill {
         what: "lists of calls that are done, after every call",

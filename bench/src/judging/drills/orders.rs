@@ -15,9 +15,9 @@ use super::bits::run_of;
 use super::{Tables, Take};
 
 /// The widths of the fields A, B and C.
-const A_BITS: u32 = 6;
-const B_BITS: u32 = 8;
-const C_BITS: u32 = 8;
+pub const A_BITS: u32 = 6;
+pub const B_BITS: u32 = 8;
+pub const C_BITS: u32 = 8;
 
 /// So many words of refused calls are put into one list.
 const TOGETHER: usize = 240;
