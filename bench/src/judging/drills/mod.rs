@@ -16,6 +16,7 @@ mod ends;
 mod entries;
 mod images;
 mod names;
+mod neighbours;
 pub mod orders;
 mod queues;
 mod rights;
@@ -82,7 +83,7 @@ impl Tables {
 }
 
 /// All drills, in the order in which they are gone through.
-pub const DRILLS: [Drill; 15] = [
+pub const DRILLS: [Drill; 16] = [
     Drill {
         what: "the fields of calls at their edges in every combination",
         cases: orders::calls,
@@ -134,6 +135,10 @@ pub const DRILLS: [Drill; 15] = [
     Drill {
         what: "unused fields of every two numbers, and every two bits of calls that are done",
         cases: unused::unused,
+    },
+    Drill {
+        what: "calls of small numbers, each after each",
+        cases: neighbours::neighbours,
     },
     Drill {
         what: "lists of calls that are done, after every call",
