@@ -15,7 +15,7 @@ use crate::cases::Case;
 use crate::judging::variants::holders_for;
 
 /// What is done to a table, where anything is.
-type Damage = fn(&mut Vec<u32>);
+pub type Damage = fn(&mut Vec<u32>);
 
 /// Word 0 as it is, with another kind, with a bit of its spare ones, with no domain, with
 /// one too many, and with one endpoint too many; and no table at all.
@@ -71,8 +71,14 @@ fn at_last_endpoint(table: &mut [u32], at: usize, with: fn(u32) -> u32) {
     }
 }
 
+/// Each damage that is one, to be done by itself.
+pub fn single_damages() -> impl Iterator<Item = &'static Damage> {
+    let all = [&HEADERS[..], &LENGTHS, &RIGHTS, &ENDPOINTS];
+    all.into_iter().flat_map(|damages| &damages[1..])
+}
+
 /// A table with a damage.
-fn with_damage(table: &[u32], damage: &Damage) -> Vec<u32> {
+pub fn with_damage(table: &[u32], damage: &Damage) -> Vec<u32> {
     let mut table = table.to_vec();
     damage(&mut table);
     table

@@ -10,6 +10,7 @@
 //! table, the answers and the holders are compared with the separate machine's. All cases
 //! run in one child process, so that what a kernel keeps between runs shows too.
 
+mod after;
 mod alike;
 mod bits;
 mod ends;
@@ -37,11 +38,12 @@ use crate::progress::Progress;
 use images::Image;
 use tables::family;
 
-/// What a kernel is given: a run, after which the table's image is checked too, or an image
-/// alone.
+/// What a kernel is given: a run, after which the table's image is checked too; a run that
+/// another one follows at once; or an image alone.
 #[derive(Clone)]
 pub enum Given {
     Run(Case),
+    Next(Case),
     Image(Image),
 }
 
@@ -83,7 +85,7 @@ impl Tables {
 }
 
 /// All drills, in the order in which they are gone through.
-pub const DRILLS: [Drill; 16] = [
+pub const DRILLS: [Drill; 17] = [
     Drill {
         what: "the fields of calls at their edges in every combination",
         cases: orders::calls,
@@ -139,6 +141,10 @@ pub const DRILLS: [Drill; 16] = [
     Drill {
         what: "calls of small numbers, each after each",
         cases: neighbours::neighbours,
+    },
+    Drill {
+        what: "a list of each kind after each refusal of the entry and after each other",
+        cases: after::after,
     },
     Drill {
         what: "lists of calls that are done, after every call",
@@ -248,6 +254,7 @@ impl Trial<'_> {
                 Err(wrong) => Some(wrong),
                 Ok(code) => Image::of_run(case, code).difference(kernel).map(in_both),
             },
+            Given::Next(case) => self.run(case).err(),
             Given::Image(image) => image
                 .difference(kernel)
                 .or_else(|| image.difference_at_the_edge(kernel, &mut self.edges))
@@ -321,7 +328,7 @@ fn given_of_number(tables: &Tables, wanted: u64) -> (&'static str, u64, Given) {
 fn differs(kernel: &Kernel, tables: &Tables, board: &Board) -> Wrong {
     let (what, number, given) = given_of_number(tables, board.announced());
     let shown = match given {
-        Given::Run(case) => shorter(kernel, &case),
+        Given::Run(case) | Given::Next(case) => shorter(kernel, &case),
         Given::Image(image) => image.in_words(),
     };
     let reported = |why: String| format!("{what}, case {number}: {why}\n{shown}");
@@ -351,7 +358,7 @@ fn shorter(kernel: &Kernel, case: &Case) -> String {
 fn stops(kernel: &Kernel, tables: &Tables, board: &Board, stopped: Stopped) -> Wrong {
     let (what, number, given) = given_of_number(tables, board.announced());
     let why = match given {
-        Given::Run(case) => {
+        Given::Run(case) | Given::Next(case) => {
             report::failed(kernel, &case, Failure::Stopped(stopped), child::LIMIT)
         }
         Given::Image(image) => format!("{stopped}\n{}", image.in_words()),
