@@ -5,12 +5,12 @@ use reference::calls::{Call, STRAY};
 use reference::generate::call_word;
 use reference::machine::refusal;
 use reference::table::{
-    domains, endpoint_place, endpoints, name, right, rights, HEADER, INFO, INFO_PLACE, SLOTS,
-    SLOTS_PLACE, WAITING, WAITING_PLACE,
+    domains, endpoint_place, endpoints, name, right, rights, DOMAINS_MAX, HEADER, INFO, INFO_PLACE,
+    SLOTS, SLOTS_PLACE, WAITING, WAITING_PLACE,
 };
 use reference::words::word;
 
-use super::tables::{spread, Shape, DOMAINS};
+use super::tables::{spread, Shape};
 use super::{Given, Tables, Take};
 use crate::judging::exercise::planner::{
     grant, look_up, my_endpoints, my_rights, receive, remove, revoke, send,
@@ -132,7 +132,7 @@ pub fn tables(tables: &Tables, take: &mut Take) {
 /// capacity, and each slot with something in it at each waiting count.
 pub fn numbers(_: &Tables, take: &mut Take) {
     headers(take);
-    for n in DOMAINS {
+    for n in 1..=DOMAINS_MAX {
         let table = Shape::new(n, 2).words();
         let place = endpoint_place(&table, 1) + INFO_PLACE;
         for number in 0..256 {

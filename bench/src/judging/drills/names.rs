@@ -1,9 +1,12 @@
-//! Names at every endpoint, names that differ in one bit, and names that repeat.
+//! Names at every endpoint, names that differ in one bit, names that are near each other, far
+//! apart or drawn, names of one byte again and again, and names that repeat.
 
+use reference::generate::Rng;
+use reference::table::ENDPOINTS_MAX;
 use reference::words::CONTENT_MAX;
 
 use super::bits::run_of;
-use super::tables::Shape;
+use super::tables::{patterns, Shape};
 use super::{Tables, Take};
 use crate::judging::exercise::planner::look_up;
 
@@ -23,6 +26,54 @@ pub fn names(_: &Tables, take: &mut Take) {
         }
         near(m, take);
         at_the_ends(m, take);
+        filled(m, take);
+    }
+    for m in 2..=ENDPOINTS_MAX {
+        (0..m - 1).for_each(|e| repeated(m, e, m - 1, take));
+    }
+    sets(take);
+}
+
+/// Names that are each power of two apart, and names that are drawn.
+fn sets(take: &mut Take) {
+    for (bit, by) in (0..28).map(|bit| (bit, 1 << bit)) {
+        let name = |e: usize| (1 + (e as u32 & (CONTENT_MAX >> bit)) * by) & CONTENT_MAX;
+        each_repeated(name, take);
+    }
+    let rng = &mut Rng::new(76);
+    for _ in 0..DRAWN {
+        let names: Vec<u32> = (0..ENDPOINTS_MAX)
+            .map(|_| (rng.word() >> 4).max(1))
+            .collect();
+        each_repeated(|e| names[e], take);
+    }
+}
+
+/// So many sets of names are drawn.
+const DRAWN: usize = 40;
+
+/// As many endpoints as there can be with these names, and then with each of them again at
+/// the last one.
+fn each_repeated(name: impl Fn(usize) -> u32, take: &mut Take) {
+    let mut shape = Shape::new(2, ENDPOINTS_MAX);
+    for (e, queue) in shape.queues.iter_mut().enumerate() {
+        queue.name = name(e);
+    }
+    looked_up(&shape, take);
+    for e in 0..ENDPOINTS_MAX - 1 {
+        shape.queues[ENDPOINTS_MAX - 1].name = name(e);
+        run_of(&shape.words(), Vec::new(), take);
+    }
+}
+
+/// Each name that is one byte again and again, where it is absent and where it is there.
+fn filled(m: usize, take: &mut Take) {
+    let absent = patterns().flat_map(|name| look_up(0, name).words());
+    run_of(&Shape::new(2, m).words(), absent.collect(), take);
+    for name in patterns() {
+        let mut shape = Shape::new(2, m);
+        shape.queues[m - 1].name = name;
+        looked_up(&shape, take);
     }
 }
 

@@ -1,26 +1,30 @@
 //! Queues in every state: each waiting count of each capacity, each lost count around a
-//! power of two, messages of one bit, of none and of all, the same message twice; at each
-//! endpoint, by each owner.
+//! power of two, messages of one bit, of none, of all and of one byte again and again, the
+//! same message twice and one that waits already; at each endpoint, by each owner and each
+//! sender.
 
-use reference::table::{right, ENDPOINTS_MAX, SLOTS};
+use reference::table::{right, DOMAINS_MAX, ENDPOINTS_MAX, SLOTS};
 use reference::words::CONTENT_MAX;
 
 use super::bits::run_of;
-use super::tables::{spread, Shape};
+use super::tables::{patterns, spread, Shape};
 use super::{Tables, Take};
-use crate::judging::exercise::planner::{my_endpoints, receive, send};
+use crate::judging::exercise::planner::{look_up, my_endpoints, receive, send};
 
 /// The drill.
 pub fn queues(_: &Tables, take: &mut Take) {
     for capacity in 1..=SLOTS {
         for waits in 0..=capacity {
             state(capacity, waits, take);
+            sent_again(capacity, waits, take);
         }
         lost_counts(capacity, take);
     }
     messages(take);
     for e in 0..ENDPOINTS_MAX {
         endpoint(e, take);
+        (0..DOMAINS_MAX).for_each(|sender| only_sender(e, sender, take));
+        (0..=SLOTS).for_each(|waits| waiting_at(e, waits, take));
     }
 }
 
@@ -57,14 +61,24 @@ fn state(capacity: usize, waits: usize, take: &mut Take) {
     }
 }
 
-/// A full queue with each lost count below, at and above a power of two: one loss, three,
-/// and a receive that shows the count.
+/// Each message that waits already sent once more.
+fn sent_again(capacity: usize, waits: usize, take: &mut Take) {
+    let table = one_queue(capacity, waits).words();
+    for message in (0..waits).map(spread) {
+        let list = [send(0, 1, message).words(), receive(1, 1).words()].concat();
+        run_of(&table, list, take);
+    }
+}
+
+/// A full queue with each lost count below, at and above a power of two and of each pattern:
+/// one loss, three, and a receive that shows the count.
 fn lost_counts(capacity: usize, take: &mut Take) {
     let powers =
         (0..=28).flat_map(|bit| [(1 << bit) - 2, (1 << bit) - 1, 1 << bit, (1 << bit) + 1]);
-    for lost in powers.filter(|lost| (0..=i64::from(CONTENT_MAX)).contains(lost)) {
+    let powers = powers.filter(|lost| (0..=i64::from(CONTENT_MAX)).contains(lost));
+    for lost in powers.map(|lost| lost as u32).chain(patterns()) {
         let mut shape = one_queue(capacity, capacity);
-        shape.queues[1].lost = lost as u32;
+        shape.queues[1].lost = lost;
         for losses in [0, 1, 3] {
             let sends = (0..losses).map(|number| send(0, 1, spread(number)));
             let calls = sends.chain([receive(1, 1), receive(1, 1)]);
@@ -74,14 +88,17 @@ fn lost_counts(capacity: usize, take: &mut Take) {
     }
 }
 
-/// Messages of no bit, of each bit alone, of all but one and of all, sent, pushed out and
-/// received; each of them twice in a row.
+/// Messages of no bit, of each bit alone, of all but one, of all and of patterns, sent, pushed
+/// out and received; each of them twice in a row, to an endpoint of that name.
 fn messages(take: &mut Take) {
     let alone = (0..28).map(|bit| 1 << bit);
     let but_one = (0..28).map(|bit| CONTENT_MAX ^ 1 << bit);
-    for message in alone.chain(but_one).chain([0, CONTENT_MAX]) {
+    let all = alone.chain(but_one).chain([0, CONTENT_MAX]);
+    for message in all.chain(patterns()) {
         for capacity in [1, 2, 8] {
-            let table = one_queue(capacity, 0).words();
+            let mut shape = one_queue(capacity, 0);
+            shape.queues[1].name = message.max(1);
+            let table = shape.words();
             let sends = [message, message, message ^ 1, message];
             let calls = sends.map(|message| send(0, 1, message)).into_iter();
             let calls = calls.chain((0..4).map(|_| receive(1, 1)));
@@ -94,21 +111,48 @@ fn messages(take: &mut Take) {
     }
 }
 
-/// An endpoint among as many as there can be, owned by each domain in turn: filled by its
-/// owner, read by it and by another, and asked for.
+/// An endpoint with so many waiting: one is received, one sent and one received.
+fn waiting_at(e: usize, waits: usize, take: &mut Take) {
+    let mut shape = Shape::new(1, ENDPOINTS_MAX).give(0, 0, right::SEND);
+    shape.queues[e].messages = (0..waits).map(spread).collect();
+    let calls = [receive(0, e), send(0, e, spread(waits)), receive(0, e)];
+    let list = calls.iter().flat_map(|call| call.words()).collect();
+    run_of(&shape.words(), list, take);
+}
+
+/// An endpoint to which all domains send, and one of them alone may.
+fn only_sender(e: usize, sender: usize, take: &mut Take) {
+    let owner = (sender + e) % DOMAINS_MAX;
+    let mut shape = Shape::new(DOMAINS_MAX, ENDPOINTS_MAX)
+        .with_rights(|_, _| right::ALL & !right::SEND)
+        .give(sender, owner, right::SEND);
+    shape.queues[e].owner = owner;
+    let sends = (0..DOMAINS_MAX).map(|caller| send(caller, e, spread(caller)));
+    let list = sends.flat_map(|call| call.words()).collect();
+    run_of(&shape.words(), list, take);
+}
+
+/// An endpoint among as many as there can be, owned by each domain in turn, which has no
+/// other: looked up, filled by its owner and by one that owns none, read by it and by another,
+/// and asked for.
 fn endpoint(e: usize, take: &mut Take) {
     for owner in 0..16 {
-        let mut shape = Shape::new(16, ENDPOINTS_MAX).give(owner, owner, right::SEND);
+        let (other, third) = ((owner + 1) % 16, (owner + 2) % 16);
+        let mut shape = Shape::new(16, ENDPOINTS_MAX)
+            .give(owner, owner, right::SEND)
+            .give(third, owner, right::SEND);
         for (place, queue) in shape.queues.iter_mut().enumerate() {
-            queue.owner = if place == e { owner } else { (owner + 1) % 16 };
+            queue.owner = if place == e { owner } else { other };
             queue.messages = vec![spread(place)];
         }
-        let other = (owner + 1) % 16;
         let calls = [
             my_endpoints(owner),
             my_endpoints(other),
+            look_up(owner, spread(e)),
+            look_up(third, spread(e)),
             send(owner, e, spread(owner)),
             send(other, e, spread(owner)),
+            send(third, e, spread(third)),
             receive(other, e),
             receive(owner, e),
             receive(owner, e),

@@ -1,10 +1,11 @@
 //! Rights in every state: a grant, a remove and a revoke of each set, whatever the caller
 //! has on the target and on the other domain and the other domain has on the target; with
-//! any two or all three of them the same domain. And each right of each holder on each
-//! target of the largest table.
+//! any two or all three of them the same domain. And on as many domains as there can be,
+//! each right of each holder on each target, and each caller with each target and each other
+//! domain.
 
 use reference::calls::Call;
-use reference::table::right;
+use reference::table::{right, DOMAINS_MAX};
 
 use super::bits::run_of;
 use super::tables::Shape;
@@ -44,8 +45,9 @@ pub fn rights(_: &Tables, take: &mut Take) {
             }
         }
     }
-    for (holder, target) in (0..256).map(|both| (both / 16, both % 16)) {
+    for (holder, target) in (0..DOMAINS_MAX).flat_map(|h| (0..DOMAINS_MAX).map(move |t| (h, t))) {
         alone(holder, target, take);
+        (0..DOMAINS_MAX).for_each(|caller| three(caller, target, holder, take));
     }
 }
 
@@ -92,10 +94,28 @@ fn used(call: Call, caller: usize, other: usize, set: u32) -> Vec<u32> {
     calls.iter().flat_map(Call::words).collect()
 }
 
+/// A caller with all rights on a target and on another domain, and nobody else with any:
+/// they are given on, taken back in part and given up in part.
+fn three(caller: usize, target: usize, other: usize, take: &mut Take) {
+    let shape = Shape::new(DOMAINS_MAX, 0)
+        .give(caller, other, right::ALL)
+        .give(caller, target, right::ALL);
+    let calls = [
+        grant(caller, target, other, right::ALL),
+        my_rights(other),
+        revoke(caller, target, other, right::SEND | right::GRANT),
+        my_rights(other),
+        remove(caller, target, right::REMOVE),
+        my_rights(caller),
+    ];
+    let list = calls.iter().flat_map(Call::words).collect();
+    run_of(&shape.words(), list, take);
+}
+
 /// One holder with rights on one target of the largest table, and nobody else with any:
 /// asked for by both, used, given on to oneself, given up and taken back.
 fn alone(holder: usize, target: usize, take: &mut Take) {
-    for set in right::EACH.into_iter().chain([right::ALL]) {
+    for set in 1..=right::ALL {
         let table = Shape::new(16, 16).give(holder, target, set).words();
         let calls = [
             my_rights(holder),

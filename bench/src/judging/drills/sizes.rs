@@ -1,14 +1,18 @@
 //! Sizes around each limit: of lists, of answer spaces, of the words for the holders and of
 //! tables; far above them too, where a length that is kept in a byte or in two would be a
-//! lawful one again.
+//! lawful one again. And each length that a list may have, and each size that a table may
+//! have, with queues of each capacity.
 
-use reference::calls::{cut, Call, LIST_WORDS_MAX};
+use reference::calls::{cut, Call, LIST_WORDS_MAX, STRAY};
 use reference::entry::ANSWER_WORDS;
-use reference::table::domains;
+use reference::generate::call_word;
+use reference::table::{domains, right, DOMAINS_MAX, ENDPOINTS_MAX, SLOTS};
 
+use super::bits::{ask_all, run_of};
+use super::tables::{spread, Shape};
 use super::{Given, Tables, Take};
 use crate::cases::Case;
-use crate::judging::exercise::planner::{look_up, my_rights, send};
+use crate::judging::exercise::planner::{grant, look_up, my_rights, receive, remove, revoke, send};
 use crate::judging::variants::holders_for;
 
 /// The lengths of lists.
@@ -20,23 +24,95 @@ const LISTS: [usize; 26] = [
 /// Lengths of which the low bytes are those of a lawful one.
 const FAR: [usize; 6] = [65_536, 65_537, 65_541, 69_632, 69_633, 131_075];
 
-/// The drill, on the line's table and on two others.
+/// The drill: on the line's table and on two others, then on tables of every size.
 pub fn sizes(tables: &Tables, take: &mut Take) {
     for table in tables.few() {
-        for words in LISTS {
-            for fill in FILLS {
-                for first in [0, 1] {
-                    let list = filled(fill, words, first);
-                    spaces(table, &list, words < 130 || words > 4090, take);
-                }
-            }
+        around_limits(table, take);
+    }
+    long_lists(take);
+    every_length(take);
+    every_count(take);
+    for (n, m) in (1..=DOMAINS_MAX).flat_map(|n| (0..=ENDPOINTS_MAX).map(move |m| (n, m))) {
+        every_capacity(n, m, take);
+    }
+}
+
+fn around_limits(table: &[u32], take: &mut Take) {
+    for words in LISTS {
+        for (fill, first) in FILLS.iter().flat_map(|&fill| [(fill, 0), (fill, 1)]) {
+            let list = filled(fill, words, first);
+            spaces(table, &list, words < 130 || words > 4090, take);
         }
-        for words in FAR {
-            spaces(table, &filled(FILLS[0], words, 0), false, take);
-            spaces(table, &filled(FILLS[1], words, 0), false, take);
+    }
+    for words in FAR {
+        spaces(table, &filled(FILLS[0], words, 0), false, take);
+        spaces(table, &filled(FILLS[1], words, 0), false, take);
+    }
+    holders(table, take);
+    lengths(table, take);
+}
+
+/// A list of every length up to one word too many.
+fn every_length(take: &mut Take) {
+    for words in 0..=LIST_WORDS_MAX + 1 {
+        let list = vec![my_rights(0).first; words];
+        run_of(&Shape::new(1, 0).words(), list, take);
+    }
+}
+
+/// Every number of domains with every number of words for the holders up to some more.
+fn every_count(take: &mut Take) {
+    for (n, count) in (1..=DOMAINS_MAX).flat_map(|n| (0..=DOMAINS_MAX + 2).map(move |c| (n, c))) {
+        let (table, list) = (Shape::new(n, 1).words(), my_rights(0).words());
+        take(Given::Run(lent(&table, &list, ANSWER_WORDS, count)));
+    }
+}
+
+/// The longest lists of one kind of call each, so that each kind is met at every place of a
+/// list: of a word alone, and of calls that are done.
+fn long_lists(take: &mut Take) {
+    let table = Shape::new(2, 2).with_rights(|_, _| right::ALL).words();
+    let alone = (0..=STRAY).map(|kind| vec![call_word(kind, 0, 0, 0, 0)]);
+    let calls = [
+        look_up(0, spread(0)).words(),
+        send(0, 0, 1).words(),
+        [send(0, 0, 1).words(), receive(0, 0).words()].concat(),
+        grant(0, 1, 1, right::SEND).words(),
+        revoke(0, 1, 1, right::SEND).words(),
+        [
+            grant(0, 1, 1, right::ALL).words(),
+            remove(1, 1, right::ALL).words(),
+        ]
+        .concat(),
+    ];
+    for words in alone.chain(calls) {
+        for less in 0..2 {
+            let list = words.iter().copied().cycle().take(LIST_WORDS_MAX - less);
+            run_of(&table, list.collect(), take);
         }
-        holders(table, take);
-        lengths(table, take);
+    }
+}
+
+/// A table of a size with queues of each capacity: everybody asks for everything, every name
+/// is looked up, every queue is sent to and received from, and the last domain gives on a
+/// right, takes it back and gives it up.
+fn every_capacity(n: usize, m: usize, take: &mut Take) {
+    for capacity in 1..=SLOTS {
+        let mut shape = Shape::new(n, m).with_rights(|_, _| right::ALL);
+        for queue in &mut shape.queues {
+            queue.capacity = capacity;
+            queue.messages = (1..capacity).map(spread).collect();
+        }
+        let (table, last) = (shape.words(), n - 1);
+        let names = (0..m).flat_map(|e| look_up(last, spread(e)).words());
+        let rights = [
+            revoke(last, last, 0, right::SEND),
+            grant(last, last, 0, right::SEND),
+            remove(last, 0, right::ALL),
+        ];
+        let rights = rights.iter().flat_map(Call::words);
+        let list = ask_all(&table).into_iter().chain(names).chain(rights);
+        run_of(&table, list.collect(), take);
     }
 }
 

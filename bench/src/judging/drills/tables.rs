@@ -32,6 +32,12 @@ pub fn spread(number: usize) -> u32 {
     (number as u32 + 1).wrapping_mul(0x9E3_779B) & CONTENT_MAX
 }
 
+/// The numbers of 28 bits that are one byte again and again, as a space is that was filled
+/// with it.
+pub fn patterns() -> impl Iterator<Item = u32> {
+    (0..=0xFF).map(|byte| byte * 0x0101_0101 & CONTENT_MAX)
+}
+
 impl Shape {
     /// A table on which nobody has a right, and each queue is empty and holds eight.
     pub fn new(n: usize, m: usize) -> Shape {
