@@ -726,11 +726,11 @@ fn a_table_on_which_everything_can_be_shown_leaves_nothing_unshown() {
 #[test]
 fn the_drills_and_the_campaign_are_reported_with_their_tables() {
     let input = file("drills.bin", &example());
-    let list = printed(&["commission", &input, "--campaign", "1"]);
+    let list = printed(&["commission", &input, "--campaign", "500"]);
     for part in [
         "    drills on this table, and tables of n 1, 2, 8, 9, 15 and 16 with m 0, 1, 31 and 32",
         "    two refusals of one call at once: 53 pairs by 8 kinds; never both: 14 and 15 of kind 1",
-        "    a campaign of 1 s with seed 1: ",
+        "    a campaign with seed 1: 500 runs and 2000 table images, drawn\n",
         "    what no run from outside can show: ",
     ] {
         assert!(list.contains(part), "{list}");

@@ -7,7 +7,7 @@ mod asked;
 use std::ffi::OsString;
 use std::path::Path;
 use std::process::exit;
-use std::time::{Duration, SystemTime};
+use std::time::SystemTime;
 
 use crate::args::Options;
 use crate::cases::Case;
@@ -31,7 +31,7 @@ use crate::reports::facts::{Judged, Report, Source};
 use crate::reports::sha256::sha256;
 
 pub const HELP: &str = "\
-bench commission FILE [--struck D] [--seed S] [--campaign T] [--kernel NAME]
+bench commission FILE [--struck D] [--seed S] [--campaign N] [--kernel NAME]
                       [--report OUT] [--json OUT]
 bench commission FILE --answers A --left T [--struck D] [--report OUT]
                       [--json OUT]
@@ -53,11 +53,13 @@ allows.
 Where no line failed, the drills follow: finite sets gone through whole, on this
 table and on tables of the checklist's own (n 1, 2, 8, 9, 15 and 16 with m 0, 1,
 31 and 32), since a kernel takes any table. They have every combination of two
-refusals, every bit of every field, queues and rights in every state, sizes
-around each limit, and more than 100,000 runs in one process, with every word
-compared after each. Then a campaign: runs and table images that are drawn as by
-`bench fuzz`, for T seconds. Both are judged by lines 1 and 2. A line of
-progress is shown on a terminal only.
+refusals, every bit of every field, queues and rights in every state, images of
+every length, words damaged alike, each kind of call after each, each run after
+each refusal, sizes around each limit, and more than 100,000 runs in one
+process, with every word compared after each. Then a campaign: N runs and four
+table images for each, drawn as by `bench fuzz`; the same ones on every machine.
+Both are judged by lines 1 and 2. A line of progress is shown on a terminal
+only.
 
 Each line says passed, with what it stands on, or failed with the first
 difference. What this table and list don't allow to be shown, and what holds
@@ -78,7 +80,8 @@ exercise; what one run can't show is said as `not shown`.
   --struck D     list the calls that are struck for domain D, a number or a name
   --seed S       the seed that the variants and the campaign are drawn from
                  (default 1)
-  --campaign T   the seconds that the campaign takes (default 10; 0 for none)
+  --campaign N   the runs of the campaign (default 50,000, some ten seconds of a
+                 processor; 0 for none)
   --kernel NAME  balkwizu (default), balkwizu-working, balkwizu-by-length,
                  plain-gcc, plain-clang, or wrong-NAME, which has the fault of
                  bench/c/wrong/NAME.edit
@@ -165,9 +168,9 @@ impl Commissioned<'_> {
         })
     }
 
-    /// A kernel's verdicts: on this table and list, by the drills, and by a campaign for a
-    /// time.
-    fn by_kernel(&self, kernel: Kernel, seed: u64, campaign: Duration) -> (Judged, Verdicts) {
+    /// A kernel's verdicts: on this table and list, by the drills, and by a campaign of so
+    /// many runs.
+    fn by_kernel(&self, kernel: Kernel, seed: u64, campaign: u64) -> (Judged, Verdicts) {
         self.tell_head(kernel.title);
         let list = Checklist::new(kernel, self.input, self.names, seed);
         say!("exercise made from this table: {}", list.size());

@@ -2,7 +2,6 @@
 //! filed.
 
 use std::path::Path;
-use std::time::Duration;
 
 use reference::table::domains;
 
@@ -26,14 +25,14 @@ pub struct Asked<'a> {
 
 /// What the lines are judged on.
 pub enum On<'a> {
-    /// A kernel, with the seed of the variants and the time of the campaign.
-    Kernel(Kernel, u64, Duration),
+    /// A kernel, with the seed of the variants and the runs of the campaign.
+    Kernel(Kernel, u64, u64),
     /// The files of the words that were read back from a line.
     ReadBack { answers: &'a Path, left: &'a Path },
 }
 
-/// The seconds of a campaign where nothing else is asked for.
-const CAMPAIGN: u64 = 10;
+/// The runs of a campaign where nothing else is asked for: some ten seconds of one processor.
+const CAMPAIGN: u64 = 50_000;
 
 /// The options that take a value.
 pub const VALUED: [&str; 8] = [
@@ -101,7 +100,7 @@ fn on(options: &Options) -> Result<On<'_>, String> {
             let kernel = kernel(options.text("--kernel").unwrap_or("balkwizu"))?;
             let seed = options.number("--seed")?.unwrap_or(1);
             let campaign = options.number("--campaign")?.unwrap_or(CAMPAIGN);
-            return Ok(On::Kernel(kernel, seed, Duration::from_secs(campaign)));
+            return Ok(On::Kernel(kernel, seed, campaign));
         }
         _ => return Err("--answers and --left are given together".to_string()),
     };

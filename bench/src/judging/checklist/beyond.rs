@@ -2,7 +2,7 @@
 //! campaign of drawn runs. Both are for a kernel with which nothing was found wrong so far:
 //! what is wrong with one of them fails line 2, and line 1 where it is a refusal.
 
-use std::time::{Duration, Instant};
+use std::time::Duration;
 
 use super::{Found, Line, Verdicts};
 use crate::judging::drills::{go_through, orders, Wrong, DRILLS};
@@ -23,8 +23,7 @@ const FAMILY: &str =
     "this table, and tables of n 1, 2, 8, 9, 15 and 16 with m 0, 1, 31 and 32 and capacities \
      1 to 8";
 
-/// So many runs of the campaign are drawn at a time, and so many images for each.
-const AT_A_TIME: u64 = 512;
+/// So many table images are drawn for each run of the campaign.
 const IMAGES: u64 = 4;
 
 /// How long one run of the campaign may take.
@@ -51,39 +50,33 @@ pub fn with_drills(kernel: &Kernel, line: &[u32], verdicts: Verdicts) -> Verdict
     added(verdicts, [first, second], drilled.wrong)
 }
 
-/// Tries drawn runs and table images for a time, where no line failed.
-pub fn with_campaign(kernel: &Kernel, seed: u64, time: Duration, verdicts: Verdicts) -> Verdicts {
-    if verdicts.summary().failed != 0 || time.is_zero() {
+/// Tries so many drawn runs, and table images, where no line failed.
+pub fn with_campaign(kernel: &Kernel, seed: u64, runs: u64, verdicts: Verdicts) -> Verdicts {
+    if verdicts.summary().failed != 0 || runs == 0 {
         return verdicts;
     }
-    let began = Instant::now();
-    let (mut next, mut tally, mut wrong) = (0, Tally::default(), None);
-    while began.elapsed() < time && wrong.is_none() {
-        wrong = tried(kernel, seed, next, &mut tally).err();
-        next += AT_A_TIME;
-    }
-    let tried = vec![format!(
-        "a campaign of {} s with seed {seed}: {} and {}, drawn",
-        time.as_secs(),
-        counted(next, "run"),
-        counted(IMAGES * next, "table image")
+    let told = vec![format!(
+        "a campaign with seed {seed}: {} and {}, drawn",
+        counted(runs, "run"),
+        counted(IMAGES.saturating_mul(runs), "table image")
     )];
-    let wrong = wrong.map(|word| Wrong {
+    let wrong = tried(kernel, seed, runs).err().map(|word| Wrong {
         refusal: word.starts_with("STOPPED").then(|| word.clone()),
         word,
     });
-    added(verdicts, [tried.clone(), tried], wrong)
+    added(verdicts, [told.clone(), told], wrong)
 }
 
-/// Draws runs and images from a number on; the first that is wrong.
-fn tried(kernel: &Kernel, seed: u64, next: u64, tally: &mut Tally) -> Result<(), String> {
-    let draws = |times: u64| Draws {
+/// Draws runs and images; the first that is wrong.
+fn tried(kernel: &Kernel, seed: u64, runs: u64) -> Result<(), String> {
+    let draws = |count: u64| Draws {
         seed,
-        numbers: times * next..times * (next + AT_A_TIME),
+        numbers: 0..count,
         limit: LIMIT,
     };
-    try_runs(kernel, &draws(1), tally)?;
-    try_images(kernel, &draws(IMAGES), tally)
+    let mut tally = Tally::default();
+    try_runs(kernel, &draws(runs), &mut tally)?;
+    try_images(kernel, &draws(IMAGES.saturating_mul(runs)), &mut tally)
 }
 
 /// The verdicts with what lines 1 and 2 stand on besides, or with what is wrong.
@@ -128,18 +121,15 @@ mod tests {
 
     #[test]
     fn a_campaign_is_counted_and_what_it_finds_fails_line_2() {
-        let time = Duration::from_millis(200);
-        let right = with_limits(with_campaign(&PROVED, 1, time, own(PROVED)));
+        let right = with_limits(with_campaign(&PROVED, 1, 200, own(PROVED)));
         let found = right.lines[1].judged.as_ref().expect("it passes");
         let [.., campaign, limits] = &found.stands_on[..] else {
             panic!("{:?}", found.stands_on)
         };
-        assert!(
-            campaign.starts_with("a campaign of 0 s with seed 1: "),
-            "{campaign}"
-        );
+        let told = "a campaign with seed 1: 200 runs and 800 table images, drawn";
+        assert_eq!(campaign, told);
         assert_eq!(limits, BLACK_BOX);
-        let wrong = with_campaign(&faulty::WRONG_ANSWER, 1, time, own(PROVED));
+        let wrong = with_campaign(&faulty::WRONG_ANSWER, 1, 200, own(PROVED));
         assert!(wrong.lines[0].judged.is_ok());
         let why = wrong.lines[1].judged.as_ref().unwrap_err();
         assert!(why.starts_with("DIFFERENCE in run "), "{why}");
