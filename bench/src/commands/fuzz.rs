@@ -281,7 +281,12 @@ mod tests {
     #[test]
     fn parts_follow_one_another_until_the_time_is_over() {
         let mut way = OnTheWay::default();
-        let time = Duration::from_millis(400);
+        // The first part alone is tried where there is no time at all.
+        let began = Instant::now();
+        let least = try_for(&small(PROVED), Duration::ZERO, &mut way).unwrap();
+        assert_eq!(least.runs.numbers, 0..16);
+        // Many times what that took, so that more are tried on a busy machine too.
+        let time = 20 * began.elapsed();
         let began = Instant::now();
         let tried = try_for(&small(PROVED), time, &mut way).unwrap();
         assert!(began.elapsed() >= time);
@@ -294,9 +299,6 @@ mod tests {
             told.starts_with(&format!("tried: {} runs, ", 16 * parts)),
             "{told}"
         );
-        // The first part alone is tried where there is no time at all.
-        let least = try_for(&small(PROVED), Duration::ZERO, &mut way).unwrap();
-        assert_eq!(least.runs.numbers, 0..16);
     }
 
     #[test]

@@ -13,8 +13,9 @@ use reference::words::{word, EMPTY_SLOT};
 
 use crate::cases::Case;
 
-/// How long smaller tables are tried.
-const TIME: Duration = Duration::from_secs(3);
+/// How long smaller tables are tried; in tests, which want the smallest on a busy machine
+/// too, longer.
+const TIME: Duration = Duration::from_secs(if cfg!(test) { 120 } else { 3 });
 
 /// Where a call's caller and its fields A and B begin.
 const CALLER: u32 = 22;

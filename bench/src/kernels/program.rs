@@ -234,9 +234,9 @@ fn ended(status: ExitStatus) -> End {
 mod tests {
     use super::*;
 
-    /// Long enough for what a shell does at once, and longer than anything here takes that
-    /// comes to its end.
-    const SOON: Duration = Duration::from_secs(2);
+    /// Long enough for what a shell does at once on a busy machine, and longer than anything
+    /// here takes that comes to its end.
+    const SOON: Duration = Duration::from_secs(6);
     const LATE: Duration = Duration::from_secs(120);
 
     /// The input at once, and the pipe closed behind it.
@@ -343,7 +343,7 @@ mod tests {
         assert_eq!(waits.printed, b"abc\n");
         let closes = endless("echo abc; exec sleep 600 >&- 2>&-");
         let told = closes.end.fault().unwrap();
-        assert_eq!(told, "it was stopped: it had not ended after 2 s");
+        assert_eq!(told, "it was stopped: it had not ended after 6 s");
     }
 
     #[test]
