@@ -37,23 +37,24 @@ fn one_queue(capacity: usize, waits: usize) -> Shape {
     shape
 }
 
-/// A queue in one state: a send, a receive, and up to twice as many of each as it holds, in
-/// both orders.
+/// A queue in one state, whose owner may send to itself or has no right at all: a send, a
+/// receive, and up to twice as many of each as it holds, in both orders.
 fn state(capacity: usize, waits: usize, take: &mut Take) {
-    let table = one_queue(capacity, waits).words();
+    let shape = one_queue(capacity, waits);
+    both_orders(&shape.words(), capacity, take);
+    both_orders(&shape.give(1, 1, 0).words(), capacity, take);
+}
+
+fn both_orders(table: &[u32], capacity: usize, take: &mut Take) {
     for sends in 0..=2 * capacity {
         for receives in [0, 1, 2, capacity, 2 * capacity] {
             let put = (0..sends).map(|number| send(number % 2, 1, spread(50 + number)));
             let taken = (0..receives).map(|_| receive(1, 1));
             let one_way = put.clone().chain(taken.clone());
-            run_of(
-                &table,
-                one_way.flat_map(|call| call.words()).collect(),
-                take,
-            );
+            run_of(table, one_way.flat_map(|call| call.words()).collect(), take);
             let other_way = taken.chain(put);
             run_of(
-                &table,
+                table,
                 other_way.flat_map(|call| call.words()).collect(),
                 take,
             );

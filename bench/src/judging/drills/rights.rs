@@ -95,7 +95,8 @@ fn used(call: Call, caller: usize, other: usize, set: u32) -> Vec<u32> {
 }
 
 /// A caller with all rights on a target and on another domain, and nobody else with any:
-/// they are given on, taken back in part and given up in part.
+/// they are given on, taken back in part and given up in part; and the rest is taken back
+/// too, which leaves the other domain none.
 fn three(caller: usize, target: usize, other: usize, take: &mut Take) {
     let shape = Shape::new(DOMAINS_MAX, 0)
         .give(caller, other, right::ALL)
@@ -107,9 +108,11 @@ fn three(caller: usize, target: usize, other: usize, take: &mut Take) {
         my_rights(other),
         remove(caller, target, right::REMOVE),
         my_rights(caller),
+        revoke(caller, target, other, right::ALL),
     ];
-    let list = calls.iter().flat_map(Call::words).collect();
-    run_of(&shape.words(), list, take);
+    let words = |calls: &[Call]| calls.iter().flat_map(Call::words).collect();
+    run_of(&shape.words(), words(&calls[..calls.len() - 1]), take);
+    run_of(&shape.words(), words(&calls), take);
 }
 
 /// One holder with rights on one target of the largest table, and nobody else with any:
