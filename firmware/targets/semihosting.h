@@ -9,7 +9,7 @@
 #define ASK "hlt #0xf000"
 #define REGISTER(number) __asm__("x" #number)
 #elif defined(__riscv)
-#define ASK ".option push\n.option norvc\n.balign 16\nslli x0, x0, 31\nebreak\nsrai x0, x0, 7\n.option pop"
+#define ASK ".option push\n.balign 16\n.option norvc\nslli x0, x0, 31\nebreak\nsrai x0, x0, 7\n.option pop"
 #define REGISTER(number) __asm__("a" #number)
 #else
 #ifdef BARE
