@@ -69,23 +69,25 @@ static uint32_t table_check(uint8_t *bytes, uint8_t *there, uint32_t length)
 }
 
 #define LENT(i) space[i], head.length[i]
+/* The word that a function returns, by itself or in a structure. */
+#define WORD(result) (*(const uint32_t *)&(__typeof__(result)[1]){ result })
 
 static uint64_t call(uint32_t function, const uint32_t *argument)
 {
     switch (function) {
     case TABLE_CHECK: return table_check((uint8_t *)space[0], image + argument[1], argument[0]);
-    case RUN: return balkwizu_run(LENT(0), LENT(1), LENT(2), LENT(3));
-    case RUN_WORKING: return balkwizu_run_working(LENT(0), LENT(1), LENT(2), LENT(3));
-    case RUN_BY_LENGTH: return balkwizu_run_by_length(LENT(0), LENT(1), LENT(2), LENT(3));
-    case WHO_REACHES: return balkwizu_who_reaches(LENT(0), argument[0]);
-    case COMPONENT: return balkwizu_component(LENT(0), argument[0]);
+    case RUN: return WORD(balkwizu_run(LENT(0), LENT(1), LENT(2), LENT(3)));
+    case RUN_WORKING: return WORD(balkwizu_run_working(LENT(0), LENT(1), LENT(2), LENT(3)));
+    case RUN_BY_LENGTH: return WORD(balkwizu_run_by_length(LENT(0), LENT(1), LENT(2), LENT(3)));
+    case WHO_REACHES: return WORD(balkwizu_who_reaches(LENT(0), argument[0]));
+    case COMPONENT: return WORD(balkwizu_component(LENT(0), argument[0]));
     case POTENTIAL: return balkwizu_potential(LENT(0), argument[0], LENT(1));
-    case COULD_INFLUENCE: return balkwizu_could_influence(LENT(0), argument[0], argument[1]);
-    case REPAIR: return balkwizu_repair(LENT(0), LENT(1));
-    case WRITE: return balkwizu_write(LENT(0), LENT(1));
+    case COULD_INFLUENCE: return WORD(balkwizu_could_influence(LENT(0), argument[0], argument[1]));
+    case REPAIR: return WORD(balkwizu_repair(LENT(0), LENT(1)));
+    case WRITE: return (balkwizu_write)(LENT(0), LENT(1));
     case TURNS_BEGIN: return balkwizu_turns_begin(LENT(0), LENT(1), LENT(2));
     case HAND_IN: return balkwizu_hand_in(LENT(0), LENT(1), argument[0], LENT(2));
-    default: return balkwizu_turn(LENT(0), LENT(1), LENT(2), LENT(3));
+    default: return WORD(balkwizu_turn(LENT(0), LENT(1), LENT(2), LENT(3)));
     }
 }
 
