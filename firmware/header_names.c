@@ -23,10 +23,11 @@ static unsigned compared, differ;
 /* The three runs, which do the same: what a run does is compared with each. */
 static const struct {
     const char *name;
-    uint32_t (*run)(uint32_t *table, size_t table_len,
-                    const uint32_t *list, size_t list_len,
-                    uint32_t *answers, size_t answers_len,
-                    uint32_t *holders, size_t holders_len);
+    balkwizu_result (*run)(
+        uint32_t *BALKWIZU_RESTRICT table, uint64_t table_len,
+        const uint32_t *BALKWIZU_RESTRICT list, uint64_t list_len,
+        uint32_t *BALKWIZU_RESTRICT answers, uint64_t answers_len,
+        uint32_t *BALKWIZU_RESTRICT holders, uint64_t holders_len) BALKWIZU_NOEXCEPT;
 } runs[] = {
     { "balkwizu_run", balkwizu_run },
     { "balkwizu_run_working", balkwizu_run_working },
@@ -47,26 +48,28 @@ static void is(const char *what, uint64_t found, uint64_t wanted)
 /* Compares and names a value by the text of its expression. */
 #define IS(found, wanted) is(#found, BALKWIZU_WORD(found), BALKWIZU_WORD(wanted))
 #define IS_LONG(found, wanted) is(#found, found, wanted) /* 64 bits */
+#define IS_RESULT(found, wanted) is(#found, (found).word, BALKWIZU_WORD(wanted))
 
 static void put_table_t(void)
 {
     memcpy(table, example_table, sizeof example_table);
 }
 
-static uint32_t run(size_t table_words, const uint32_t *calls, size_t words)
+static balkwizu_result run(size_t table_words, const uint32_t *calls, size_t words)
 {
     return runs[in_use].run(table, table_words, calls, words, answers, WORDS(answers),
                             holders, balkwizu_table_domains(table));
 }
 
 /* L on T, with so many words for answers and holders. */
-static uint32_t run_l(size_t answer_words, size_t holder_words)
+static balkwizu_result run_l(size_t answer_words, size_t holder_words)
 {
     return runs[in_use].run(table, EXAMPLE_TABLE_WORDS,
                             example_list, EXAMPLE_LIST_WORDS,
                             answers, answer_words, holders, holder_words);
 }
 
+static uint32_t check(size_t words) BALKWIZU_MUST_USE;
 static uint32_t check(size_t words)
 {
     return balkwizu_table_check((const uint8_t *)table, 4 * words);
@@ -149,7 +152,7 @@ static const uint32_t lines_of_l[][5] = {
 static void answers_to_l(void)
 {
     put_table_t();
-    uint32_t result = run(EXAMPLE_TABLE_WORDS, example_list, EXAMPLE_LIST_WORDS);
+    balkwizu_result result = run(EXAMPLE_TABLE_WORDS, example_list, EXAMPLE_LIST_WORDS);
     IS(BALKWIZU_RUN_CODE(result), BALKWIZU_OK);
     IS(BALKWIZU_RUN_CALLS(result), WORDS(lines_of_l));
     for (size_t i = 0; i < WORDS(lines_of_l); i++) {
@@ -204,7 +207,7 @@ static void messages_that_wait(void)
         BALKWIZU_REMOVE(1, 2, BALKWIZU_RIGHT_REMOVE),
         BALKWIZU_REMOVE(1, 2, BALKWIZU_RIGHT_REMOVE),
     };
-    IS(run(EXAMPLE_TABLE_WORDS, calls, WORDS(calls)), 0x00060000);
+    IS_RESULT(run(EXAMPLE_TABLE_WORDS, calls, WORDS(calls)), 0x00060000);
     IS(balkwizu_answer_endpoint(answers), 1);
     IS(code_of(4), 0);
     IS(code_of(5), 22);
@@ -278,11 +281,11 @@ static void edges(void)
     static const uint32_t p10[] = { BALKWIZU_REMOVE(1, 2, 3) };
     put_table_t();
     IS(check(EXAMPLE_TABLE_WORDS), BALKWIZU_OK);
-    IS(run(EXAMPLE_TABLE_WORDS, list, 0), 0);
-    IS(run_l(26, 3), BALKWIZU_WRONG_SPACE);
-    IS(run_l(27, 2), BALKWIZU_WRONG_SPACE);
-    IS(run_l(27, 4), BALKWIZU_WRONG_SPACE);
-    IS(run_l(27, 3), 0x00090000);
+    IS_RESULT(run(EXAMPLE_TABLE_WORDS, list, 0), 0);
+    IS_RESULT(run_l(26, 3), BALKWIZU_WRONG_SPACE);
+    IS_RESULT(run_l(27, 2), BALKWIZU_WRONG_SPACE);
+    IS_RESULT(run_l(27, 4), BALKWIZU_WRONG_SPACE);
+    IS_RESULT(run_l(27, 3), 0x00090000);
     IS(check(33), BALKWIZU_TABLE_BAD_LENGTH);
     IS(check_with(0, 0x10001101), BALKWIZU_TABLE_BAD_HEADER);
     IS(check_with(0, 0x10000002), BALKWIZU_TABLE_BAD_HEADER);
@@ -295,7 +298,7 @@ static void edges(void)
     run(EXAMPLE_TABLE_WORDS, p10, WORDS(p10));
     IS(code_of(0), 0);
     IS(balkwizu_table_rights(table, 1, 2), BALKWIZU_RIGHT_REMOVE);
-    IS(run(EXAMPLE_TABLE_WORDS, list, WORDS(list)), BALKWIZU_LIST_TOO_LONG);
+    IS_RESULT(run(EXAMPLE_TABLE_WORDS, list, WORDS(list)), BALKWIZU_LIST_TOO_LONG);
     IS(BALKWIZU_LIST_TOO_LONG, 1);
     IS(BALKWIZU_TABLE_BAD_HEADER, 2);
     IS(BALKWIZU_TABLE_BAD_LENGTH, 3);
@@ -337,7 +340,7 @@ static void largest_table(void)
     };
     put_largest_table();
     IS(check(BALKWIZU_TABLE_WORDS_MAX), 0);
-    IS(run(BALKWIZU_TABLE_WORDS_MAX, calls, WORDS(calls)), 0x00060000);
+    IS_RESULT(run(BALKWIZU_TABLE_WORDS_MAX, calls, WORDS(calls)), 0x00060000);
     for (uint32_t target = 0; target < 16; target++) {
         IS(balkwizu_answer_rights(answers, target), target);
         IS(balkwizu_table_rights(table, 15, target), target == 14 ? 12 : target);
@@ -361,7 +364,7 @@ static void largest_table(void)
 }
 
 /* On T domains 0 and 1 are joined, and 1 and 2; 2 has no right itself. */
-static uint32_t component(size_t words, uint32_t domain)
+static balkwizu_result component(size_t words, uint32_t domain)
 {
     return balkwizu_component(table, words, domain);
 }
@@ -369,17 +372,17 @@ static uint32_t component(size_t words, uint32_t domain)
 static void components_of_t(void)
 {
     put_table_t();
-    IS(component(EXAMPLE_TABLE_WORDS, 2), 0x00070000);
-    IS(component(EXAMPLE_TABLE_WORDS, 3), BALKWIZU_NOT_A_DOMAIN);
+    IS_RESULT(component(EXAMPLE_TABLE_WORDS, 2), 0x00070000);
+    IS_RESULT(component(EXAMPLE_TABLE_WORDS, 3), BALKWIZU_NOT_A_DOMAIN);
     IS(BALKWIZU_NOT_A_DOMAIN, 32);
-    IS(component(33, 0), BALKWIZU_TABLE_BAD_LENGTH);
+    IS_RESULT(component(33, 0), BALKWIZU_TABLE_BAD_LENGTH);
     table[BALKWIZU_RIGHTS_AT(3, 1, 2)] = BALKWIZU_TABLE_RIGHTS(0);
-    uint32_t apart = component(EXAMPLE_TABLE_WORDS, 0);
+    balkwizu_result apart = component(EXAMPLE_TABLE_WORDS, 0);
     IS(BALKWIZU_COMPONENT_CODE(apart), BALKWIZU_OK);
     IS(BALKWIZU_COMPONENT_HAS(apart, 0), 1);
     IS(BALKWIZU_COMPONENT_HAS(apart, 1), 1);
     IS(BALKWIZU_COMPONENT_HAS(apart, 2), 0);
-    IS(component(EXAMPLE_TABLE_WORDS, 2), 0x00040000);
+    IS_RESULT(component(EXAMPLE_TABLE_WORDS, 2), 0x00040000);
 }
 
 /* The holders of T, after an empty list and after L, which gives 0 a right on 2: on T 0
@@ -388,22 +391,22 @@ static void holders_of_t(void)
 {
     put_table_t();
     memset(holders, 0xFF, sizeof holders);
-    IS(run(EXAMPLE_TABLE_WORDS, list, 0), 0);
+    IS_RESULT(run(EXAMPLE_TABLE_WORDS, list, 0), 0);
     IS(holders[0], 2);
     IS(holders[1], 1);
     IS(holders[2], 2);
     IS(holders[3], 0xFFFFFFFF);
-    IS(balkwizu_who_reaches(holders, 3, 2), 0x00070000);
-    IS(run_l(27, 3), 0x00090000);
+    IS_RESULT(balkwizu_who_reaches(holders, 3, 2), 0x00070000);
+    IS_RESULT(run_l(27, 3), 0x00090000);
     IS(holders[2], 3);
-    uint32_t reached = balkwizu_who_reaches(holders, 3, 0);
+    balkwizu_result reached = balkwizu_who_reaches(holders, 3, 0);
     IS(BALKWIZU_REACHES_CODE(reached), BALKWIZU_OK);
     IS(BALKWIZU_REACHES(reached, 0), 1);
     IS(BALKWIZU_REACHES(reached, 1), 1);
     IS(BALKWIZU_REACHES(reached, 2), 0);
-    IS(balkwizu_who_reaches(holders, 3, 3), BALKWIZU_NOT_A_DOMAIN);
-    IS(balkwizu_who_reaches(holders, 1, 0), BALKWIZU_NOT_A_DOMAIN); /* bit 1 of one */
-    IS(balkwizu_who_reaches(holders, 0, 0), BALKWIZU_NOT_A_DOMAIN);
+    IS_RESULT(balkwizu_who_reaches(holders, 3, 3), BALKWIZU_NOT_A_DOMAIN);
+    IS_RESULT(balkwizu_who_reaches(holders, 1, 0), BALKWIZU_NOT_A_DOMAIN); /* bit 1 of one */
+    IS_RESULT(balkwizu_who_reaches(holders, 0, 0), BALKWIZU_NOT_A_DOMAIN);
 }
 
 /* On T domain 1 has SEND on 0 and SEND, GRANT and REMOVE on 2: it could give 0 these
@@ -426,7 +429,7 @@ static void potential_of_t(void)
 
 /* On T nobody could influence 0 and 1 but these two, and all could influence 2; where 1
  * doesn't act, 0 can't. */
-static uint32_t could_influence(size_t words, uint32_t actors, uint32_t domain)
+static balkwizu_result could_influence(size_t words, uint32_t actors, uint32_t domain)
 {
     return balkwizu_could_influence(table, words, actors, domain);
 }
@@ -434,17 +437,17 @@ static uint32_t could_influence(size_t words, uint32_t actors, uint32_t domain)
 static void influence_of_t(void)
 {
     put_table_t();
-    IS(could_influence(EXAMPLE_TABLE_WORDS, 7, 2), 0x00070000);
-    uint32_t first = could_influence(EXAMPLE_TABLE_WORDS, 7, 0);
+    IS_RESULT(could_influence(EXAMPLE_TABLE_WORDS, 7, 2), 0x00070000);
+    balkwizu_result first = could_influence(EXAMPLE_TABLE_WORDS, 7, 0);
     IS(BALKWIZU_INFLUENCE_CODE(first), BALKWIZU_OK);
     IS(BALKWIZU_COULD_INFLUENCE(first, 0), 1);
     IS(BALKWIZU_COULD_INFLUENCE(first, 1), 1);
     IS(BALKWIZU_COULD_INFLUENCE(first, 2), 0);
-    IS(could_influence(EXAMPLE_TABLE_WORDS, 5, 2), 0x00040000);
-    IS(could_influence(EXAMPLE_TABLE_WORDS, 5, 1), 0x00030000);
-    IS(could_influence(EXAMPLE_TABLE_WORDS, 7, 3), BALKWIZU_NOT_A_DOMAIN);
-    IS(could_influence(EXAMPLE_TABLE_WORDS, 8, 2), BALKWIZU_NOT_A_DOMAIN);
-    IS(could_influence(33, 8, 3), BALKWIZU_TABLE_BAD_LENGTH);
+    IS_RESULT(could_influence(EXAMPLE_TABLE_WORDS, 5, 2), 0x00040000);
+    IS_RESULT(could_influence(EXAMPLE_TABLE_WORDS, 5, 1), 0x00030000);
+    IS_RESULT(could_influence(EXAMPLE_TABLE_WORDS, 7, 3), BALKWIZU_NOT_A_DOMAIN);
+    IS_RESULT(could_influence(EXAMPLE_TABLE_WORDS, 8, 2), BALKWIZU_NOT_A_DOMAIN);
+    IS_RESULT(could_influence(33, 8, 3), BALKWIZU_TABLE_BAD_LENGTH);
 }
 
 /* T with a broken rights word and more waiting than there is room for, and T with a
@@ -454,9 +457,9 @@ static void repair_of_t(void)
     uint32_t changes[BALKWIZU_CHANGES_WORDS_MAX];
     IS(check_with(6, 0x20000010), BALKWIZU_TABLE_BAD_RIGHTS);
     table[24] = 0x50000002;
-    IS(balkwizu_repair(table, EXAMPLE_TABLE_WORDS, changes, 3),
+    IS_RESULT(balkwizu_repair(table, EXAMPLE_TABLE_WORDS, changes, 3),
        BALKWIZU_CHANGES_TOO_SHORT);
-    uint32_t result = balkwizu_repair(table, EXAMPLE_TABLE_WORDS, changes, 4);
+    balkwizu_result result = balkwizu_repair(table, EXAMPLE_TABLE_WORDS, changes, 4);
     IS(BALKWIZU_REPAIR_CODE(result), BALKWIZU_OK);
     IS(BALKWIZU_REPAIR_ALTERED(result), 2);
     IS(changes[0], 6);
@@ -467,7 +470,7 @@ static void repair_of_t(void)
     IS(table[24], 0x50000000);
     IS(check(EXAMPLE_TABLE_WORDS), BALKWIZU_OK);
     table[10] = 0x30000000;
-    IS(balkwizu_repair(table, EXAMPLE_TABLE_WORDS, changes, 0),
+    IS_RESULT(balkwizu_repair(table, EXAMPLE_TABLE_WORDS, changes, 0),
        BALKWIZU_NOT_REPAIRABLE);
     IS(BALKWIZU_NOT_REPAIRABLE, 33);
     IS(BALKWIZU_CHANGES_TOO_SHORT, 34);
@@ -575,7 +578,7 @@ static uint32_t hand_in(size_t words, uint32_t domain, const uint32_t *call, siz
     return balkwizu_hand_in(table, EXAMPLE_TABLE_WORDS, state, words, domain, call, len);
 }
 
-static uint32_t turn(size_t words, size_t holder_words, size_t answer_words)
+static balkwizu_result turn(size_t words, size_t holder_words, size_t answer_words)
 {
     return balkwizu_turn(table, EXAMPLE_TABLE_WORDS, state, words, holders, holder_words,
                          answers, answer_words);
@@ -621,8 +624,8 @@ static void turns_of_t(void)
     static const uint32_t alone[] = { BALKWIZU_LOOK_UP(0) };
     begin_on_t();
     memset(holders, 0x77, sizeof holders);
-    IS(turn(52, 3, 3), 0); /* idle: nothing is written */
-    IS(turn(52, 3, 0), 0); /* and no space for an answer is needed */
+    IS_RESULT(turn(52, 3, 3), 0); /* idle: nothing is written */
+    IS_RESULT(turn(52, 3, 0), 0); /* and no space for an answer is needed */
     IS(answers[0], 0x77777777);
     IS(holders[0], 0x77777777);
     IS(hand_in(52, 1, grant, 1), BALKWIZU_OK);
@@ -630,22 +633,20 @@ static void turns_of_t(void)
     IS(hand_in(52, 0, alone, 1), BALKWIZU_OK);
     IS(state[BALKWIZU_TURNS_COUNT_AT(0)], 3);
     IS(state[BALKWIZU_TURNS_COUNT_AT(1) + 1], 0x60420001);
-    uint32_t result = turn(52, 3, 4);
+    balkwizu_result result = turn(52, 3, 4);
     IS(BALKWIZU_TURN_CODE(result), BALKWIZU_OK);
     IS(BALKWIZU_TURN_SERVED(result), 1);
     IS(answers[0], 0x20000011); /* before the grant: 17 */
     IS(answers[3], 0x77777777);
     IS(holders[2], 2);
     IS(state[0], 1);
-    IS(turn(52, 3, 3), 0x00010000); /* the grant */
+    IS_RESULT(turn(52, 3, 3), 0x00010000); /* the grant */
     IS(answers[0], 0x60400000);
     IS(holders[2], 3);
-    IS(turn(52, 3, 3), 0x00010000); /* the look up, without its second word: 14 */
+    IS_RESULT(turn(52, 3, 3), 0x00010000); /* the look up, without its second word: 14 */
     IS(answers[0], 0x1000000E);
     IS(state[BALKWIZU_TURNS_COUNT_AT(0)], 0);
-    IS(turn(52, 3, 3), 0);
-    IS(BALKWIZU_TURN_CODE(0xFFFFFFFF), 65535);
-    IS(BALKWIZU_TURN_SERVED(0xFFFFFFFF), 65535);
+    IS_RESULT(turn(52, 3, 3), 0);
 }
 
 static void turns_refused(void)
@@ -663,16 +664,16 @@ static void turns_refused(void)
         IS(hand_in(52, 1, call, 1), BALKWIZU_OK);
     IS(hand_in(52, 1, call, 1), BALKWIZU_NO_ROOM);
     IS(hand_in(53, 1, call, 1), BALKWIZU_BAD_TURNS);
-    IS(turn(51, 2, 3), BALKWIZU_WRONG_SPACE);
-    IS(turn(51, 3, 2), BALKWIZU_BAD_TURNS);
-    IS(turn(51, 3, 3), BALKWIZU_BAD_TURNS);
-    IS(turn(52, 3, 2), BALKWIZU_WRONG_SPACE);
+    IS_RESULT(turn(51, 2, 3), BALKWIZU_WRONG_SPACE);
+    IS_RESULT(turn(51, 3, 2), BALKWIZU_BAD_TURNS);
+    IS_RESULT(turn(51, 3, 3), BALKWIZU_BAD_TURNS);
+    IS_RESULT(turn(52, 3, 2), BALKWIZU_WRONG_SPACE);
     IS(begin(51, 2), BALKWIZU_WRONG_SPACE);
     IS(begin(4 * 52, 3), BALKWIZU_BAD_TURNS); /* a length in bytes */
     IS(state[BALKWIZU_TURNS_COUNT_AT(1)], 16);
     table[9] = 0x20000010; /* P6 */
     IS(hand_in(51, 3, call, 2), BALKWIZU_TABLE_BAD_RIGHTS);
-    IS(turn(51, 2, 2), BALKWIZU_TABLE_BAD_RIGHTS);
+    IS_RESULT(turn(51, 2, 2), BALKWIZU_TABLE_BAD_RIGHTS);
     IS(begin(51, 2), BALKWIZU_TABLE_BAD_RIGHTS);
     IS(answers[0], 0x77777777);
     IS(state[0], 0);
@@ -696,8 +697,6 @@ static void whole_fields(void)
     IS(BALKWIZU_ANSWER_CODE(answer[0]), 65535);
     for (uint32_t target = 0; target < 16; target++)
         IS(balkwizu_answer_rights(answer, target), target);
-    IS(BALKWIZU_RUN_CODE(0xFFFFFFFF), 65535);
-    IS(BALKWIZU_RUN_CALLS(0xFFFFFFFF), 65535);
     IS(balkwizu_table_domains(sizes), 255);
     IS(balkwizu_table_endpoints(sizes), 255);
     IS(balkwizu_table_rights(words, 0, 0), 0x0FFFFFFF);
@@ -707,6 +706,22 @@ static void whole_fields(void)
     IS(balkwizu_table_waiting(words, 0), 0x0FFFFFFF);
     IS(balkwizu_table_lost(words, 0), 0x0FFFFFFF);
     IS(balkwizu_table_message(words, 0, 0), 0x0FFFFFFF);
+}
+
+/* A result whose two halves differ in each bit, taken apart by every name. */
+static void whole_results(void)
+{
+    const balkwizu_result result = { 0xA5A55A5A };
+    IS(BALKWIZU_RUN_CODE(result), 0x5A5A);
+    IS(BALKWIZU_RUN_CALLS(result), 0xA5A5);
+    IS(BALKWIZU_REACHES_CODE(result), 0x5A5A);
+    IS(BALKWIZU_COMPONENT_CODE(result), 0x5A5A);
+    IS(BALKWIZU_INFLUENCE_CODE(result), 0x5A5A);
+    IS(BALKWIZU_REPAIR_CODE(result), 0x5A5A);
+    IS(BALKWIZU_REPAIR_ALTERED(result), 0xA5A5);
+    IS(BALKWIZU_TURN_CODE(result), 0x5A5A);
+    IS(BALKWIZU_TURN_SERVED(result), 0xA5A5);
+    IS(sizeof result, 4); /* as long as the word that the archives return */
 }
 
 /* The header is of the archive's release; no paper has its number. */
@@ -751,6 +766,7 @@ int main(void)
     turns_of_t();
     turns_refused();
     whole_fields();
+    whole_results();
     printf("%u compared, %u differ\n", compared, differ);
     return differ != 0;
 }

@@ -54,6 +54,13 @@ __asm__(".text\n"
         "    pop %rbp\n"
         "    ret\n");
 
+/* The code in what a function returns that isn't the one which writes a list: one code,
+   or the low half of a balkwizu_result. */
+static inline uint32_t returned_code(uint64_t returned)
+{
+    return (uint32_t)returned & 0xFFFFu;
+}
+
 /* The largest table: every right for everybody, and empty queues of eight. */
 static inline void make_largest_table(uint32_t *table)
 {

@@ -28,7 +28,7 @@ static void print_answer(uint32_t number, const uint32_t *answer)
 /* The panel's question: who has a chain of rights to the domain. */
 static void print_reach(uint32_t n, uint32_t domain)
 {
-    uint32_t result = balkwizu_who_reaches(holders, n, domain);
+    balkwizu_result result = balkwizu_who_reaches(holders, n, domain);
     uint32_t code = BALKWIZU_REACHES_CODE(result);
     if (code != BALKWIZU_OK) {
         printf("domain %u: %s\n", (unsigned)domain, code_meaning(code));
@@ -45,7 +45,7 @@ int main(void)
 {
     memcpy(table, example_table, sizeof table);
     uint32_t n = balkwizu_table_domains(table);
-    uint32_t result =
+    balkwizu_result result =
         balkwizu_run(table, EXAMPLE_TABLE_WORDS, example_list, EXAMPLE_LIST_WORDS,
                      answers, sizeof answers / sizeof *answers, holders, n);
     uint32_t code = BALKWIZU_RUN_CODE(result), calls = BALKWIZU_RUN_CALLS(result);

@@ -116,8 +116,7 @@ static int tell(const char *name, const struct call *call, size_t most)
     uint64_t result;
     bytes_taken(call, &result);
     size_t bytes = bytes_taken(call, &result);
-    /* The check's code is in the same bits. */
-    return say(name, bytes, most, BALKWIZU_RUN_CODE(result));
+    return say(name, bytes, most, returned_code(result));
 }
 
 /* The same of the function that writes a list. */
@@ -154,7 +153,7 @@ static int tell_turn(const struct call *turn)
         bytes_taken(turn, &result);
         size_t bytes = bytes_taken(turn, &result);
         most = bytes > most ? bytes : most;
-        refused |= BALKWIZU_TURN_CODE(result);
+        refused |= returned_code(result);
     }
     pending[0] = pending[1] = 0;
     return say("balkwizu_turn", most, BALKWIZU_TURN_STACK_BYTES, refused);

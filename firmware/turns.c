@@ -80,14 +80,15 @@ static void interrupts_on(void)
 
 /* A turn, with interrupts that come in the middle of it: they are taken when
  * interrupts are on again. */
-static uint32_t turn(int interrupts)
+static balkwizu_result turn(int interrupts)
 {
     interrupts_off();
     in_turn = 1;
     if (interrupts)
         raise(SIGUSR1);
-    uint32_t result = balkwizu_turn(table, TABLE_WORDS, state, STATE_WORDS, holders,
-                                    DOMAINS, answer, BALKWIZU_ANSWER_WORDS);
+    balkwizu_result result =
+        balkwizu_turn(table, TABLE_WORDS, state, STATE_WORDS, holders, DOMAINS,
+                      answer, BALKWIZU_ANSWER_WORDS);
     in_turn = 0;
     interrupts_on();
     return result;
@@ -103,7 +104,7 @@ static int tell_arrivals(const char *when, int told)
     return told;
 }
 
-static void tell_turn(unsigned number, uint32_t result)
+static void tell_turn(unsigned number, balkwizu_result result)
 {
     uint32_t code = BALKWIZU_TURN_CODE(result);
     if (code != BALKWIZU_OK)
@@ -172,7 +173,7 @@ int main(void)
         for (int k = 0; k < turns[i].before; k++)
             raise(SIGUSR1);
         told = tell_arrivals("between turns:", told);
-        uint32_t result = turn(turns[i].during);
+        balkwizu_result result = turn(turns[i].during);
         refused |= BALKWIZU_TURN_CODE(result) != BALKWIZU_OK;
         wrong |= !holders_are_right();
         tell_turn(i + 1, result);

@@ -30,6 +30,30 @@
 #include <stddef.h>
 #include <stdint.h>
 
+#if !defined(__BYTE_ORDER__) || __BYTE_ORDER__ != __ORDER_LITTLE_ENDIAN__
+#error "balkwizu.h: the archives are for little-endian processors"
+#endif
+#if defined(_WIN32) ||                                                         \
+    (!(defined(__x86_64__) && !defined(__ILP32__)) &&                          \
+     !(defined(__aarch64__) && !defined(__ILP32__)) &&                         \
+     !(defined(__riscv) && __riscv_xlen == 64) &&                              \
+     !(defined(__arm__) && defined(__ARM_EABI__) && __ARM_ARCH >= 7))
+#error "balkwizu.h: no archive is made for this processor and its calling convention"
+#endif
+
+/*
+ * What the declarations say beyond their types: whoever calls has to look at what is
+ * returned, no two lent parts overlap (C alone can say it), and no function throws.
+ */
+#define BALKWIZU_MUST_USE __attribute__((warn_unused_result))
+#ifdef __cplusplus
+#define BALKWIZU_RESTRICT
+#define BALKWIZU_NOEXCEPT noexcept
+#else
+#define BALKWIZU_RESTRICT restrict
+#define BALKWIZU_NOEXCEPT
+#endif
+
 #ifdef __cplusplus
 extern "C" {
 #endif
@@ -132,6 +156,16 @@ extern "C" {
 #define BALKWIZU_WORD(number) ((uint32_t)(number))
 #endif
 #define BALKWIZU_CONTENT(word) (BALKWIZU_WORD(word) & 0x0FFFFFFFu)
+
+/*
+ * What a function returns that has two things to say: a code in bits 15-0 of the word,
+ * which is 0 where all is well, and in bits 31-16 what is written at the function. It is
+ * a structure so that the whole can't be taken for the code: a comparison of it with
+ * BALKWIZU_OK doesn't compile. It is returned in the register in which the word would be.
+ */
+typedef struct {
+    uint32_t word;
+} balkwizu_result;
 
 /* Every number that the kernel answers with, named by what is wrong. */
 enum balkwizu_code {
@@ -456,8 +490,8 @@ static inline uint32_t balkwizu_answer_rights(const uint32_t *answer,
 }
 
 /* What balkwizu_run and the two other runs return, taken apart. */
-#define BALKWIZU_RUN_CODE(result) (BALKWIZU_WORD(result) & 0xFFFFu)
-#define BALKWIZU_RUN_CALLS(result) (BALKWIZU_WORD(result) >> 16)
+#define BALKWIZU_RUN_CODE(result) ((result).word & 0xFFFFu)
+#define BALKWIZU_RUN_CALLS(result) ((result).word >> 16)
 
 /*
  * Which release the archive is of, as BALKWIZU_VERSION has it of the header. A header
@@ -468,7 +502,8 @@ static inline uint32_t balkwizu_answer_rights(const uint32_t *answer,
  *
  *     assert(balkwizu_version() == BALKWIZU_VERSION);
  */
-uint32_t balkwizu_version(void);
+uint32_t balkwizu_version(void)
+    BALKWIZU_NOEXCEPT BALKWIZU_MUST_USE;
 
 /*
  * The check of a table image: len bytes, little-endian words, as they stand in
@@ -491,7 +526,9 @@ uint32_t balkwizu_version(void);
  *     assert(balkwizu_table_check(image, 4 * table_len) == BALKWIZU_OK);
  *     assert(balkwizu_table_check(image, 3) == BALKWIZU_TABLE_BAD_HEADER);
  */
-uint32_t balkwizu_table_check(const uint8_t *bytes, size_t len);
+uint32_t balkwizu_table_check(
+    const uint8_t *BALKWIZU_RESTRICT bytes, uint64_t len)
+    BALKWIZU_NOEXCEPT BALKWIZU_MUST_USE;
 
 /*
  * Runs a list of calls on a table. Words are in the processor's own byte order.
@@ -532,8 +569,8 @@ uint32_t balkwizu_table_check(const uint8_t *bytes, size_t len);
  *         BALKWIZU_RECEIVE(1, 0),
  *     };
  *     uint32_t answers[2 * BALKWIZU_ANSWER_WORDS], holders[2];
- *     uint32_t result = balkwizu_run(table, table_len, list, 3,
- *                                    answers, 2 * BALKWIZU_ANSWER_WORDS, holders, 2);
+ *     balkwizu_result result = balkwizu_run(table, table_len, list, 3,
+ *                                           answers, 2 * BALKWIZU_ANSWER_WORDS, holders, 2);
  *     assert(BALKWIZU_RUN_CODE(result) == BALKWIZU_OK);
  *     assert(BALKWIZU_RUN_CALLS(result) == 2);
  *     const uint32_t *received = answers + BALKWIZU_ANSWER_AT(1);
@@ -541,10 +578,12 @@ uint32_t balkwizu_table_check(const uint8_t *bytes, size_t len);
  *     assert(balkwizu_answer_message(received) == 5);
  *     assert(holders[1] == 1); // domain 0 alone has a right on domain 1
  */
-uint32_t balkwizu_run(uint32_t *table, size_t table_len,
-                      const uint32_t *list, size_t list_len,
-                      uint32_t *answers, size_t answers_len,
-                      uint32_t *holders, size_t holders_len);
+balkwizu_result balkwizu_run(
+    uint32_t *BALKWIZU_RESTRICT table, uint64_t table_len,
+    const uint32_t *BALKWIZU_RESTRICT list, uint64_t list_len,
+    uint32_t *BALKWIZU_RESTRICT answers, uint64_t answers_len,
+    uint32_t *BALKWIZU_RESTRICT holders, uint64_t holders_len)
+    BALKWIZU_NOEXCEPT BALKWIZU_MUST_USE;
 
 /*
  * The same run in a working layout, for long lists. All that is said of balkwizu_run
@@ -568,15 +607,17 @@ uint32_t balkwizu_run(uint32_t *table, size_t table_len,
  *
  *     const uint32_t list[] = { BALKWIZU_MY_RIGHTS(0) };
  *     uint32_t answer[BALKWIZU_ANSWER_WORDS], holders[2];
- *     uint32_t result = balkwizu_run_working(table, table_len, list, 1, answer,
- *                                            BALKWIZU_ANSWER_WORDS, holders, 2);
+ *     balkwizu_result result = balkwizu_run_working(table, table_len, list, 1, answer,
+ *                                                   BALKWIZU_ANSWER_WORDS, holders, 2);
  *     assert(BALKWIZU_RUN_CODE(result) == BALKWIZU_OK);
  *     assert(balkwizu_answer_rights(answer, 1) == BALKWIZU_RIGHT_SEND);
  */
-uint32_t balkwizu_run_working(uint32_t *table, size_t table_len,
-                              const uint32_t *list, size_t list_len,
-                              uint32_t *answers, size_t answers_len,
-                              uint32_t *holders, size_t holders_len);
+balkwizu_result balkwizu_run_working(
+    uint32_t *BALKWIZU_RESTRICT table, uint64_t table_len,
+    const uint32_t *BALKWIZU_RESTRICT list, uint64_t list_len,
+    uint32_t *BALKWIZU_RESTRICT answers, uint64_t answers_len,
+    uint32_t *BALKWIZU_RESTRICT holders, uint64_t holders_len)
+    BALKWIZU_NOEXCEPT BALKWIZU_MUST_USE;
 
 /*
  * The same run once more, which chooses by the list's length: a list of 128 words or
@@ -592,20 +633,22 @@ uint32_t balkwizu_run_working(uint32_t *table, size_t table_len,
  *
  *     const uint32_t list[] = { BALKWIZU_LOOK_UP(0), BALKWIZU_SECOND(17) };
  *     uint32_t answer[BALKWIZU_ANSWER_WORDS], holders[2];
- *     uint32_t result = balkwizu_run_by_length(table, table_len, list, 2, answer,
- *                                              BALKWIZU_ANSWER_WORDS, holders, 2);
+ *     balkwizu_result result = balkwizu_run_by_length(table, table_len, list, 2, answer,
+ *                                                     BALKWIZU_ANSWER_WORDS, holders, 2);
  *     assert(BALKWIZU_RUN_CODE(result) == BALKWIZU_OK);
  *     assert(balkwizu_answer_endpoint(answer) == 0);
  */
-uint32_t balkwizu_run_by_length(uint32_t *table, size_t table_len,
-                                const uint32_t *list, size_t list_len,
-                                uint32_t *answers, size_t answers_len,
-                                uint32_t *holders, size_t holders_len);
+balkwizu_result balkwizu_run_by_length(
+    uint32_t *BALKWIZU_RESTRICT table, uint64_t table_len,
+    const uint32_t *BALKWIZU_RESTRICT list, uint64_t list_len,
+    uint32_t *BALKWIZU_RESTRICT answers, uint64_t answers_len,
+    uint32_t *BALKWIZU_RESTRICT holders, uint64_t holders_len)
+    BALKWIZU_NOEXCEPT BALKWIZU_MUST_USE;
 
 /* What balkwizu_who_reaches returns, taken apart. */
-#define BALKWIZU_REACHES_CODE(result) (BALKWIZU_WORD(result) & 0xFFFFu)
+#define BALKWIZU_REACHES_CODE(result) ((result).word & 0xFFFFu)
 #define BALKWIZU_REACHES(result, domain)                                       \
-    ((BALKWIZU_WORD(result) >> (16 + (domain))) & 1u)
+    (((result).word >> (16 + (domain))) & 1u)
 
 /*
  * Who can reach a domain: every domain with a chain of rights to it, of any length,
@@ -626,17 +669,19 @@ uint32_t balkwizu_run_by_length(uint32_t *table, size_t table_len,
  * Example:
  *
  *     const uint32_t holders[] = { 0, 1 }; // as the run above leaves them
- *     uint32_t result = balkwizu_who_reaches(holders, 2, 1);
+ *     balkwizu_result result = balkwizu_who_reaches(holders, 2, 1);
  *     assert(BALKWIZU_REACHES_CODE(result) == BALKWIZU_OK);
  *     assert(BALKWIZU_REACHES(result, 0) == 1);
  */
-uint32_t balkwizu_who_reaches(const uint32_t *holders, size_t holders_len,
-                              uint32_t domain);
+balkwizu_result balkwizu_who_reaches(
+    const uint32_t *BALKWIZU_RESTRICT holders, uint64_t holders_len,
+    uint32_t domain)
+    BALKWIZU_NOEXCEPT BALKWIZU_MUST_USE;
 
 /* What balkwizu_component returns, taken apart. */
-#define BALKWIZU_COMPONENT_CODE(result) (BALKWIZU_WORD(result) & 0xFFFFu)
+#define BALKWIZU_COMPONENT_CODE(result) ((result).word & 0xFFFFu)
 #define BALKWIZU_COMPONENT_HAS(result, domain)                                 \
-    ((BALKWIZU_WORD(result) >> (16 + (domain))) & 1u)
+    (((result).word >> (16 + (domain))) & 1u)
 
 /*
  * The component of a domain in a table: two domains are joined when either has a
@@ -661,12 +706,14 @@ uint32_t balkwizu_who_reaches(const uint32_t *holders, size_t holders_len,
  *
  * Example:
  *
- *     uint32_t result = balkwizu_component(table, table_len, 0);
+ *     balkwizu_result result = balkwizu_component(table, table_len, 0);
  *     assert(BALKWIZU_COMPONENT_CODE(result) == BALKWIZU_OK);
  *     assert(BALKWIZU_COMPONENT_HAS(result, 1) == 1);
  */
-uint32_t balkwizu_component(const uint32_t *table, size_t table_len,
-                            uint32_t domain);
+balkwizu_result balkwizu_component(
+    const uint32_t *BALKWIZU_RESTRICT table, uint64_t table_len,
+    uint32_t domain)
+    BALKWIZU_NOEXCEPT BALKWIZU_MUST_USE;
 
 /* Where the rights that a holder could ever have on a target are told. */
 #define BALKWIZU_POTENTIAL_AT(n, holder, target) ((holder) * (n) + (target))
@@ -704,13 +751,16 @@ uint32_t balkwizu_component(const uint32_t *table, size_t table_len,
  *     assert(rights[BALKWIZU_POTENTIAL_AT(2, 0, 1)] == BALKWIZU_RIGHT_SEND);
  *     assert(rights[BALKWIZU_POTENTIAL_AT(2, 1, 0)] == 0); // and there never is one
  */
-uint32_t balkwizu_potential(const uint32_t *table, size_t table_len,
-                            uint32_t actors, uint32_t *rights, size_t rights_len);
+uint32_t balkwizu_potential(
+    const uint32_t *BALKWIZU_RESTRICT table, uint64_t table_len,
+    uint32_t actors,
+    uint32_t *BALKWIZU_RESTRICT rights, uint64_t rights_len)
+    BALKWIZU_NOEXCEPT BALKWIZU_MUST_USE;
 
 /* What balkwizu_could_influence returns, taken apart. */
-#define BALKWIZU_INFLUENCE_CODE(result) (BALKWIZU_WORD(result) & 0xFFFFu)
+#define BALKWIZU_INFLUENCE_CODE(result) ((result).word & 0xFFFFu)
 #define BALKWIZU_COULD_INFLUENCE(result, domain)                               \
-    ((BALKWIZU_WORD(result) >> (16 + (domain))) & 1u)
+    (((result).word >> (16 + (domain))) & 1u)
 
 /*
  * Who could ever influence a domain by any list of calls that only the actors make, of
@@ -744,18 +794,21 @@ uint32_t balkwizu_potential(const uint32_t *table, size_t table_len,
  * Example:
  *
  *     uint32_t everybody = 3; // both domains act
- *     uint32_t result = balkwizu_could_influence(table, table_len, everybody, 1);
+ *     balkwizu_result result = balkwizu_could_influence(table, table_len, everybody, 1);
  *     assert(BALKWIZU_INFLUENCE_CODE(result) == BALKWIZU_OK);
  *     assert(BALKWIZU_COULD_INFLUENCE(result, 0) == 1);
  *     result = balkwizu_could_influence(table, table_len, everybody, 0);
  *     assert(BALKWIZU_COULD_INFLUENCE(result, 1) == 0); // by no list of calls
  */
-uint32_t balkwizu_could_influence(const uint32_t *table, size_t table_len,
-                                  uint32_t actors, uint32_t domain);
+balkwizu_result balkwizu_could_influence(
+    const uint32_t *BALKWIZU_RESTRICT table, uint64_t table_len,
+    uint32_t actors,
+    uint32_t domain)
+    BALKWIZU_NOEXCEPT BALKWIZU_MUST_USE;
 
 /* What balkwizu_repair returns, taken apart, and the most that it can ask for. */
-#define BALKWIZU_REPAIR_CODE(result) (BALKWIZU_WORD(result) & 0xFFFFu)
-#define BALKWIZU_REPAIR_ALTERED(result) (BALKWIZU_WORD(result) >> 16)
+#define BALKWIZU_REPAIR_CODE(result) ((result).word & 0xFFFFu)
+#define BALKWIZU_REPAIR_ALTERED(result) ((result).word >> 16)
 #define BALKWIZU_CHANGES_WORDS_MAX 1152
 
 /*
@@ -786,15 +839,17 @@ uint32_t balkwizu_could_influence(const uint32_t *table, size_t table_len,
  *
  *     static uint32_t changes[BALKWIZU_CHANGES_WORDS_MAX];
  *     table[1] = 0x20000037u; // as a worn card gives it back
- *     uint32_t result = balkwizu_repair(table, table_len,
- *                                       changes, BALKWIZU_CHANGES_WORDS_MAX);
+ *     balkwizu_result result = balkwizu_repair(table, table_len,
+ *                                              changes, BALKWIZU_CHANGES_WORDS_MAX);
  *     assert(BALKWIZU_REPAIR_CODE(result) == BALKWIZU_OK);
  *     assert(BALKWIZU_REPAIR_ALTERED(result) == 1);
  *     assert(table[1] == BALKWIZU_TABLE_RIGHTS(0));
  *     assert(changes[0] == 1 && changes[1] == 0x20000037u);
  */
-uint32_t balkwizu_repair(uint32_t *table, size_t table_len,
-                         uint32_t *changes, size_t changes_len);
+balkwizu_result balkwizu_repair(
+    uint32_t *BALKWIZU_RESTRICT table, uint64_t table_len,
+    uint32_t *BALKWIZU_RESTRICT changes, uint64_t changes_len)
+    BALKWIZU_NOEXCEPT BALKWIZU_MUST_USE;
 
 /*
  * A call as balkwizu_write takes it: five words, here called columns. They are its
@@ -880,8 +935,10 @@ static inline uint64_t balkwizu_write_number(uint64_t result)
  *     assert(BALKWIZU_WRITE_NUMBER(result) == 3);
  *     assert(list[0] == BALKWIZU_SEND(0, 0) && list[1] == BALKWIZU_SECOND(5));
  */
-uint64_t balkwizu_write(const uint32_t *calls, size_t calls_len,
-                        uint32_t *list, size_t list_len);
+uint64_t balkwizu_write(
+    const uint32_t *BALKWIZU_RESTRICT calls, uint64_t calls_len,
+    uint32_t *BALKWIZU_RESTRICT list, uint64_t list_len)
+    BALKWIZU_NOEXCEPT BALKWIZU_MUST_USE;
 
 /*
  * Turns: a layer above the kernel for a line on which each domain hands in its calls
@@ -928,7 +985,8 @@ uint64_t balkwizu_write(const uint32_t *calls, size_t calls_len,
  *
  *     assert(balkwizu_turns_version() == BALKWIZU_VERSION);
  */
-uint32_t balkwizu_turns_version(void);
+uint32_t balkwizu_turns_version(void)
+    BALKWIZU_NOEXCEPT BALKWIZU_MUST_USE;
 
 /*
  * Begins: nothing is pending, the first turn of all starts at 0, and the holders are
@@ -951,9 +1009,11 @@ uint32_t balkwizu_turns_version(void);
  *   - nobody else reads or writes state or holders, and nobody writes the table, during
  *     the call: no other core, interrupt or transfer.
  */
-uint32_t balkwizu_turns_begin(const uint32_t *table, size_t table_len,
-                              uint32_t *state, size_t state_len,
-                              uint32_t *holders, size_t holders_len);
+uint32_t balkwizu_turns_begin(
+    const uint32_t *BALKWIZU_RESTRICT table, uint64_t table_len,
+    uint32_t *BALKWIZU_RESTRICT state, uint64_t state_len,
+    uint32_t *BALKWIZU_RESTRICT holders, uint64_t holders_len)
+    BALKWIZU_NOEXCEPT BALKWIZU_MUST_USE;
 
 /*
  * Hands in the words of one call for a domain: they go behind those that are pending.
@@ -978,13 +1038,16 @@ uint32_t balkwizu_turns_begin(const uint32_t *table, size_t table_len,
  *   - nobody else reads or writes the state, and nobody writes table or words, during
  *     the call: no other core, interrupt or transfer.
  */
-uint32_t balkwizu_hand_in(const uint32_t *table, size_t table_len,
-                          uint32_t *state, size_t state_len, uint32_t domain,
-                          const uint32_t *words, size_t words_len);
+uint32_t balkwizu_hand_in(
+    const uint32_t *BALKWIZU_RESTRICT table, uint64_t table_len,
+    uint32_t *BALKWIZU_RESTRICT state, uint64_t state_len,
+    uint32_t domain,
+    const uint32_t *BALKWIZU_RESTRICT words, uint64_t words_len)
+    BALKWIZU_NOEXCEPT BALKWIZU_MUST_USE;
 
 /* What balkwizu_turn returns, taken apart. */
-#define BALKWIZU_TURN_CODE(result) (BALKWIZU_WORD(result) & 0xFFFFu)
-#define BALKWIZU_TURN_SERVED(result) (BALKWIZU_WORD(result) >> 16)
+#define BALKWIZU_TURN_CODE(result) ((result).word & 0xFFFFu)
+#define BALKWIZU_TURN_SERVED(result) ((result).word >> 16)
 
 /*
  * A turn: starts after the domain served last, goes up and round to 0, and serves the
@@ -1023,18 +1086,20 @@ uint32_t balkwizu_hand_in(const uint32_t *table, size_t table_len,
  *     code = balkwizu_hand_in(table, table_len,
  *                             state, BALKWIZU_TURNS_WORDS(2), 0, call, 2);
  *     assert(code == BALKWIZU_OK);
- *     uint32_t result = balkwizu_turn(table, table_len,
- *                                     state, BALKWIZU_TURNS_WORDS(2), holders, 2,
- *                                     answer, BALKWIZU_ANSWER_WORDS);
+ *     balkwizu_result result = balkwizu_turn(table, table_len,
+ *                                            state, BALKWIZU_TURNS_WORDS(2), holders, 2,
+ *                                            answer, BALKWIZU_ANSWER_WORDS);
  *     assert(BALKWIZU_TURN_CODE(result) == BALKWIZU_OK);
  *     assert(BALKWIZU_TURN_SERVED(result) == 1);
  *     assert(BALKWIZU_ANSWER_CALLER(answer[0]) == 0); // whose call it was
  *     assert(balkwizu_table_message(table, 0, 0) == 5);
  */
-uint32_t balkwizu_turn(uint32_t *table, size_t table_len,
-                       uint32_t *state, size_t state_len,
-                       uint32_t *holders, size_t holders_len,
-                       uint32_t *answer, size_t answer_len);
+balkwizu_result balkwizu_turn(
+    uint32_t *BALKWIZU_RESTRICT table, uint64_t table_len,
+    uint32_t *BALKWIZU_RESTRICT state, uint64_t state_len,
+    uint32_t *BALKWIZU_RESTRICT holders, uint64_t holders_len,
+    uint32_t *BALKWIZU_RESTRICT answer, uint64_t answer_len)
+    BALKWIZU_NOEXCEPT BALKWIZU_MUST_USE;
 
 #ifdef __cplusplus
 }

@@ -169,7 +169,7 @@ static int is_refused(const struct tried *tried, uint64_t result)
 {
     if (tried->returns == WRITTEN)
         return BALKWIZU_WRITE_CODE(result) != BALKWIZU_OK;
-    return tried->returns == CODE && BALKWIZU_RUN_CODE(result) != BALKWIZU_OK;
+    return tried->returns == CODE && returned_code(result) != BALKWIZU_OK;
 }
 
 /* In a process of its own, since a call that is disturbed may fault or not end: 0 where
