@@ -266,12 +266,80 @@ static void codes_of_calls(void)
     IS(balkwizu_answer_owns(answers + BALKWIZU_ANSWER_AT(16), 0), 1);
 }
 
+/* Each field at its largest number and one beyond it, which no other field takes. */
+static void fields_beyond_their_bits(void)
+{
+    IS(BALKWIZU_BAD_WORD, 0x0FC00000);
+    IS(BALKWIZU_BEYOND(255, 8), 0);
+    IS(BALKWIZU_BEYOND(256, 8), 1);
+    IS(BALKWIZU_FIRST(15, 63, 63, 255, 255), 0xFFFFFFFF);
+    IS(BALKWIZU_FIRST(16, 0, 0, 0, 0), BALKWIZU_BAD_WORD);
+    IS(BALKWIZU_LOOK_UP(64), BALKWIZU_BAD_WORD);
+    IS(BALKWIZU_SEND(64, 0), BALKWIZU_BAD_WORD);
+    IS(BALKWIZU_SEND(0, 256), BALKWIZU_BAD_WORD);
+    IS(BALKWIZU_RECEIVE(64, 0), BALKWIZU_BAD_WORD);
+    IS(BALKWIZU_RECEIVE(0, 256), BALKWIZU_BAD_WORD);
+    IS(BALKWIZU_MY_ENDPOINTS(64), BALKWIZU_BAD_WORD);
+    IS(BALKWIZU_MY_RIGHTS(64), BALKWIZU_BAD_WORD);
+    IS(BALKWIZU_GRANT(0, 64, 0, 1), BALKWIZU_BAD_WORD); /* not domain 1's grant */
+    IS(BALKWIZU_GRANT(1, 0, 0, 1), 0x60400001);
+    IS(BALKWIZU_GRANT(0, 0, 256, 1), BALKWIZU_BAD_WORD);
+    IS(BALKWIZU_GRANT(0, 0, 0, 256), BALKWIZU_BAD_WORD);
+    IS(BALKWIZU_REMOVE(0, 64, 1), BALKWIZU_BAD_WORD);
+    IS(BALKWIZU_REMOVE(0, 0, 256), BALKWIZU_BAD_WORD);
+    IS(BALKWIZU_REVOKE(0, 64, 0, 1), BALKWIZU_BAD_WORD);
+    IS(BALKWIZU_REVOKE(0, 0, 256, 1), BALKWIZU_BAD_WORD);
+    IS(BALKWIZU_REVOKE(0, 0, 0, 256), BALKWIZU_BAD_WORD);
+    IS(BALKWIZU_SECOND(0x0FFFFFFF), 0xFFFFFFFF);
+    IS(BALKWIZU_SECOND(0x10000000), BALKWIZU_BAD_WORD);
+    IS(BALKWIZU_SEND(-1, 0), BALKWIZU_BAD_WORD);
+    IS(BALKWIZU_MY_RIGHTS(UINT64_C(1) << 32), BALKWIZU_BAD_WORD); /* not cut to 0 */
+}
+
+/* The same of a table's words. */
+static void table_fields_beyond_their_bits(void)
+{
+    IS(BALKWIZU_TABLE_HEADER(255, 255), 0x1000FFFF);
+    IS(BALKWIZU_TABLE_HEADER(256, 0), BALKWIZU_BAD_WORD);
+    IS(BALKWIZU_TABLE_HEADER(1, 256), BALKWIZU_BAD_WORD);
+    IS(BALKWIZU_TABLE_INFO(0, 258), BALKWIZU_BAD_WORD); /* not owner 1, capacity 2 */
+    IS(BALKWIZU_TABLE_INFO(256, 1), BALKWIZU_BAD_WORD);
+    IS(BALKWIZU_TABLE_RIGHTS(0x20000001), BALKWIZU_BAD_WORD);
+    IS(BALKWIZU_TABLE_NAME(0x10000000), BALKWIZU_BAD_WORD);
+    IS(BALKWIZU_TABLE_WAITING(0x10000000), BALKWIZU_BAD_WORD);
+    IS(BALKWIZU_TABLE_LOST(-1), BALKWIZU_BAD_WORD);
+    IS(BALKWIZU_TABLE_MESSAGE(0x10000000), BALKWIZU_BAD_WORD);
+    IS(BALKWIZU_WORD_OF(7, 0x0FFFFFFF), 0x7FFFFFFF);
+    IS(BALKWIZU_WORD_OF_TWO(7, 1, 2), 0x70000102);
+}
+
 /* T with one word replaced: what the check says. */
 static uint32_t check_with(size_t place, uint32_t word)
 {
     put_table_t();
     table[place] = word;
     return check(EXAMPLE_TABLE_WORDS);
+}
+
+/* What a run and the check make of such words, as the header says it. */
+static void bad_words_are_refused(void)
+{
+    static const uint32_t calls[] = {
+        BALKWIZU_GRANT(0, 64, 0, 1),
+        BALKWIZU_SEND(0, 256), BALKWIZU_SECOND(5), /* the second word is a stray */
+        BALKWIZU_SEND(0, 0), BALKWIZU_SECOND(-1),  /* there is no second word */
+        BALKWIZU_MY_RIGHTS(0),
+    };
+    static const uint32_t codes[] = { 11, 11, 10, 14, 11, 0 };
+    put_table_t();
+    IS(BALKWIZU_RUN_CALLS(run(EXAMPLE_TABLE_WORDS, calls, WORDS(calls))), WORDS(codes));
+    for (size_t i = 0; i < WORDS(codes); i++)
+        IS(code_of(i), codes[i]);
+    IS(memcmp(table, example_table, sizeof example_table), 0);
+    IS(check_with(0, BALKWIZU_TABLE_HEADER(256 + 3, 2)), BALKWIZU_TABLE_BAD_HEADER);
+    IS(check_with(9, BALKWIZU_TABLE_RIGHTS(-1)), BALKWIZU_TABLE_BAD_RIGHTS);
+    IS(check_with(11, BALKWIZU_TABLE_INFO(0, 258)), BALKWIZU_TABLE_BAD_ENDPOINT);
+    IS(check_with(14, BALKWIZU_TABLE_MESSAGE(-1)), BALKWIZU_TABLE_BAD_ENDPOINT);
 }
 
 /* The edges P1 to P8 and P10, and a list that is too long. */
@@ -740,6 +808,7 @@ static void with_run(void)
     table_after_l();
     messages_that_wait();
     codes_of_calls();
+    bad_words_are_refused();
     edges();
     largest_table();
     holders_of_t();
@@ -751,6 +820,8 @@ int main(void)
     limits();
     words_of_t();
     words_of_l();
+    fields_beyond_their_bits();
+    table_fields_beyond_their_bits();
     for (in_use = 0; in_use < WORDS(runs); in_use++)
         with_run();
     in_use = 0;

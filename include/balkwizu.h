@@ -149,13 +149,42 @@ extern "C" {
 #define BALKWIZU_TABLE_WORDS(n, m)                                             \
     (1 + (n) * (n) + BALKWIZU_ENDPOINT_WORDS * (m))
 
-/* A number as a word, and the bits of a word below its kind. */
+/* A number as a word, cut to 32 bits, and the bits of a word below its kind. */
 #ifdef __cplusplus
 #define BALKWIZU_WORD(number) (static_cast<uint32_t>(number))
 #else
 #define BALKWIZU_WORD(number) ((uint32_t)(number))
 #endif
 #define BALKWIZU_CONTENT(word) (BALKWIZU_WORD(word) & 0x0FFFFFFFu)
+
+/*
+ * What of a number is beyond so many bits, 0 where nothing is: by 64 bits, so that nothing
+ * is cut before it is looked at. A negative number is beyond any. What is beyond four bits
+ * or more can be added up, five times, without passing 64.
+ */
+#ifdef __cplusplus
+#define BALKWIZU_BEYOND(number, bits) (static_cast<uint64_t>(number) >> (bits))
+#else
+#define BALKWIZU_BEYOND(number, bits) ((uint64_t)(number) >> (bits))
+#endif
+
+/*
+ * What each macro that makes a word gives where a number is beyond its field: kind 0,
+ * caller 63. Cutting or shifting such a number would make another call of it, or another
+ * domain's. No table has this word, and no call is served by it.
+ */
+#define BALKWIZU_BAD_WORD 0x0FC00000u
+
+/* A word of a kind: with one number of 28 bits, and with two of eight. */
+#define BALKWIZU_WORD_OF(kind, content)                                        \
+    (BALKWIZU_BEYOND(content, 28) != 0                                         \
+         ? BALKWIZU_BAD_WORD                                                   \
+         : ((BALKWIZU_WORD(kind) << 28) | BALKWIZU_WORD(content)))
+#define BALKWIZU_WORD_OF_TWO(kind, high, low)                                  \
+    (BALKWIZU_BEYOND(high, 8) + BALKWIZU_BEYOND(low, 8) != 0                   \
+         ? BALKWIZU_BAD_WORD                                                   \
+         : ((BALKWIZU_WORD(kind) << 28) | (BALKWIZU_WORD(high) << 8) |         \
+            BALKWIZU_WORD(low)))
 
 /*
  * What a function returns that has two things to say: a code in bits 15-0 of the word,
@@ -270,7 +299,11 @@ enum balkwizu_right {
  *
  * A run alters rights, waiting, lost and slot words, and no other.
  *
- * Words as constants: every field must be within its bits.
+ * The macros of a table's words are constants where what they are given is. A number
+ * beyond its field (n, m, owner and capacity have 8 bits, all others 28) makes
+ * BALKWIZU_BAD_WORD, and every check of the table refuses it: with 2 in word 0, with 4 in
+ * a rights word, with 5 in an endpoint's. What is within its field and yet wrong, 17
+ * domains say, is refused likewise.
  *
  * Table of the examples: domain 0 may send to domain 1, which owns endpoint 0, called
  * 17, with room for two messages.
@@ -284,15 +317,13 @@ enum balkwizu_right {
  *     BALKWIZU_EMPTY_SLOT, BALKWIZU_EMPTY_SLOT, BALKWIZU_EMPTY_SLOT,
  *     BALKWIZU_EMPTY_SLOT, BALKWIZU_EMPTY_SLOT
  */
-#define BALKWIZU_TABLE_HEADER(n, m)                                            \
-    (0x10000000u | (BALKWIZU_WORD(n) << 8) | BALKWIZU_WORD(m))
-#define BALKWIZU_TABLE_RIGHTS(rights) (0x20000000u | BALKWIZU_WORD(rights))
-#define BALKWIZU_TABLE_NAME(name) (0x30000000u | BALKWIZU_WORD(name))
-#define BALKWIZU_TABLE_INFO(owner, capacity)                                   \
-    (0x40000000u | (BALKWIZU_WORD(owner) << 8) | BALKWIZU_WORD(capacity))
-#define BALKWIZU_TABLE_WAITING(count) (0x50000000u | BALKWIZU_WORD(count))
-#define BALKWIZU_TABLE_LOST(count) (0x60000000u | BALKWIZU_WORD(count))
-#define BALKWIZU_TABLE_MESSAGE(message) (0xF0000000u | BALKWIZU_WORD(message))
+#define BALKWIZU_TABLE_HEADER(n, m) BALKWIZU_WORD_OF_TWO(1, n, m)
+#define BALKWIZU_TABLE_RIGHTS(rights) BALKWIZU_WORD_OF(2, rights)
+#define BALKWIZU_TABLE_NAME(name) BALKWIZU_WORD_OF(3, name)
+#define BALKWIZU_TABLE_INFO(owner, capacity) BALKWIZU_WORD_OF_TWO(4, owner, capacity)
+#define BALKWIZU_TABLE_WAITING(count) BALKWIZU_WORD_OF(5, count)
+#define BALKWIZU_TABLE_LOST(count) BALKWIZU_WORD_OF(6, count)
+#define BALKWIZU_TABLE_MESSAGE(message) BALKWIZU_WORD_OF(15, message)
 #define BALKWIZU_EMPTY_SLOT 0xF0000000u
 
 /* Where the rights of a holder on a target stand, and an endpoint's 12 words. */
@@ -414,16 +445,28 @@ static inline uint32_t balkwizu_table_message(const uint32_t *table,
  * if there had been space: the sender is never told. The owner reads it in the
  * lost count, and what waits is always the latest.
  *
- * Words as constants: every field must be within its bits (caller and target 6,
- * endpoint, recipient, holder and rights 8, name and message 28). A look up and a send are
- * directly followed by BALKWIZU_SECOND of their name or message, as in the example of
- * balkwizu_run.
+ * The macros of a list's words are constants where what they are given is. A look up and
+ * a send are directly followed by BALKWIZU_SECOND of their name or message, as in the
+ * example of balkwizu_run. Kinds have 4 bits, caller and target 6, endpoint, recipient,
+ * holder and rights 8, name and message 28. A number beyond its field makes
+ * BALKWIZU_BAD_WORD, which no run serves: it is answered with 11, BALKWIZU_UNKNOWN_KIND,
+ * for every table, and changes nothing. The words of a call may then be two calls:
+ *   - where the first word of a look up or a send is such a word, the second word after
+ *     it is a call of its own, answered with 10, BALKWIZU_STRAY;
+ *   - where BALKWIZU_SECOND makes it, the call before has no second word and is answered
+ *     with 14, and the word itself with 11.
+ * So one call more is answered, and the answers of those after it move up by one.
  */
 #define BALKWIZU_LOST_MAX 268435455
 #define BALKWIZU_FIRST(kind, caller, a, b, c)                                  \
-    ((BALKWIZU_WORD(kind) << 28) | (BALKWIZU_WORD(caller) << 22) |             \
-     (BALKWIZU_WORD(a) << 16) | (BALKWIZU_WORD(b) << 8) | BALKWIZU_WORD(c))
-#define BALKWIZU_SECOND(content) (0xF0000000u | BALKWIZU_WORD(content))
+    (BALKWIZU_BEYOND(kind, 4) + BALKWIZU_BEYOND(caller, 6) +                   \
+                 BALKWIZU_BEYOND(a, 6) + BALKWIZU_BEYOND(b, 8) +               \
+                 BALKWIZU_BEYOND(c, 8) != 0                                    \
+         ? BALKWIZU_BAD_WORD                                                   \
+         : ((BALKWIZU_WORD(kind) << 28) | (BALKWIZU_WORD(caller) << 22) |      \
+            (BALKWIZU_WORD(a) << 16) | (BALKWIZU_WORD(b) << 8) |               \
+            BALKWIZU_WORD(c)))
+#define BALKWIZU_SECOND(content) BALKWIZU_WORD_OF(15, content)
 #define BALKWIZU_LOOK_UP(caller)                                               \
     BALKWIZU_FIRST(BALKWIZU_KIND_LOOK_UP, caller, 0, 0, 0)
 #define BALKWIZU_SEND(caller, endpoint)                                        \
