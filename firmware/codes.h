@@ -32,7 +32,7 @@ static inline const char *code_meaning(uint32_t code)
             "the caller has no SEND on the endpoint's owner",
         [BALKWIZU_NOT_OWNER] = "the caller does not own the endpoint",
         [BALKWIZU_NOTHING_WAITING] = "nothing waits",
-        [BALKWIZU_NO_SUCH_DOMAIN] = "a domain named is not in the table",
+        [BALKWIZU_CALL_BAD_DOMAIN] = "a domain named is not in the table",
         [BALKWIZU_BAD_RIGHTS] = "the rights named cannot be asked for",
         [BALKWIZU_LACKS_RIGHT] = "the caller lacks a right that the call needs",
         [BALKWIZU_NOT_REPAIRABLE] =
@@ -42,8 +42,10 @@ static inline const char *code_meaning(uint32_t code)
         [BALKWIZU_BAD_CALL] =
             "a call is none, or has a field that exceeds its bits",
         [BALKWIZU_WRITTEN_TOO_LONG] = "the words would pass 4,096 or the space",
-        [BALKWIZU_NOT_A_DOMAIN] = "the number is no domain of the table",
-        [BALKWIZU_UNKNOWN_DOMAIN] = "the number is no domain of the table",
+        [BALKWIZU_BAD_QUESTION] =
+            "the question names no domain of the table, or the holders are none",
+        [BALKWIZU_HAND_IN_BAD_DOMAIN] =
+            "the domain that hands in is not in the table",
         [BALKWIZU_NOT_ONE_CALL] =
             "the words are not exactly one call, no stray, of that domain",
         [BALKWIZU_NO_ROOM] = "the domain's pending words would pass 16",

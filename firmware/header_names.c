@@ -12,8 +12,6 @@
 #include "balkwizu.h"
 #include "example.h"
 
-#define WORDS(array) (sizeof(array) / sizeof *(array))
-
 static uint32_t table[BALKWIZU_TABLE_WORDS_MAX];
 static uint32_t list[BALKWIZU_LIST_WORDS_MAX + 1];
 static uint32_t answers[BALKWIZU_ANSWER_WORDS * BALKWIZU_LIST_WORDS_MAX];
@@ -48,6 +46,7 @@ static void is(const char *what, uint64_t found, uint64_t wanted)
 /* Compares and names a value by the text of its expression. */
 #define IS(found, wanted) is(#found, BALKWIZU_WORD(found), BALKWIZU_WORD(wanted))
 #define IS_LONG(found, wanted) is(#found, found, wanted) /* 64 bits */
+#define IS_WRITTEN(found, wanted) is(#found, (found).number, wanted)
 #define IS_RESULT(found, wanted) is(#found, (found).word, BALKWIZU_WORD(wanted))
 
 static void put_table_t(void)
@@ -57,7 +56,7 @@ static void put_table_t(void)
 
 static balkwizu_result run(size_t table_words, const uint32_t *calls, size_t words)
 {
-    return runs[in_use].run(table, table_words, calls, words, answers, WORDS(answers),
+    return runs[in_use].run(table, table_words, calls, words, answers, BALKWIZU_COUNT(answers),
                             holders, balkwizu_table_domains(table));
 }
 
@@ -132,8 +131,8 @@ static void words_of_l(void)
         0x20000100, 0xF0000005, 0x60420001, 0x20000100, 0xF0000005, 0x20000100,
         0xF0000006, 0x30800100, 0x30800100, 0xF0000009, 0x50000000, 0x40800000,
     };
-    IS(EXAMPLE_LIST_WORDS, WORDS(paper));
-    for (size_t i = 0; i < WORDS(paper); i++)
+    IS(EXAMPLE_LIST_WORDS, BALKWIZU_COUNT(paper));
+    for (size_t i = 0; i < BALKWIZU_COUNT(paper); i++)
         IS(example_list[i], paper[i]);
     IS(BALKWIZU_LOOK_UP(2), 0x10800000);
     IS(BALKWIZU_REMOVE(1, 2, BALKWIZU_RIGHT_REMOVE), 0x70420004); /* P11 */
@@ -154,8 +153,8 @@ static void answers_to_l(void)
     put_table_t();
     balkwizu_result result = run(EXAMPLE_TABLE_WORDS, example_list, EXAMPLE_LIST_WORDS);
     IS(BALKWIZU_RUN_CODE(result), BALKWIZU_OK);
-    IS(BALKWIZU_RUN_CALLS(result), WORDS(lines_of_l));
-    for (size_t i = 0; i < WORDS(lines_of_l); i++) {
+    IS(BALKWIZU_RUN_CALLS(result), BALKWIZU_COUNT(lines_of_l));
+    for (size_t i = 0; i < BALKWIZU_COUNT(lines_of_l); i++) {
         const uint32_t *answer = answers + BALKWIZU_ANSWER_AT(i);
         IS(BALKWIZU_ANSWER_CALLER(answer[0]), lines_of_l[i][0]);
         IS(BALKWIZU_ANSWER_KIND(answer[0]), lines_of_l[i][1]);
@@ -207,7 +206,7 @@ static void messages_that_wait(void)
         BALKWIZU_REMOVE(1, 2, BALKWIZU_RIGHT_REMOVE),
         BALKWIZU_REMOVE(1, 2, BALKWIZU_RIGHT_REMOVE),
     };
-    IS_RESULT(run(EXAMPLE_TABLE_WORDS, calls, WORDS(calls)), 0x00060000);
+    IS_RESULT(run(EXAMPLE_TABLE_WORDS, calls, BALKWIZU_COUNT(calls)), 0x00060000);
     IS(balkwizu_answer_endpoint(answers), 1);
     IS(code_of(4), 0);
     IS(code_of(5), 22);
@@ -250,14 +249,14 @@ static void codes_of_calls(void)
         BALKWIZU_STRAY,           BALKWIZU_UNKNOWN_KIND,    BALKWIZU_UNKNOWN_CALLER,
         BALKWIZU_UNUSED_FIELD,    BALKWIZU_NO_SECOND_WORD,  BALKWIZU_NO_SUCH_NAME,
         BALKWIZU_NO_SUCH_ENDPOINT, BALKWIZU_MAY_NOT_SEND,   BALKWIZU_NOT_OWNER,
-        BALKWIZU_NOTHING_WAITING, BALKWIZU_NO_SUCH_DOMAIN,  BALKWIZU_BAD_RIGHTS,
+        BALKWIZU_NOTHING_WAITING, BALKWIZU_CALL_BAD_DOMAIN,  BALKWIZU_BAD_RIGHTS,
         BALKWIZU_LACKS_RIGHT,     BALKWIZU_OK,              BALKWIZU_MAY_NOT_GIVE,
         BALKWIZU_OK,              BALKWIZU_OK,
     };
     put_table_t();
-    IS(BALKWIZU_RUN_CALLS(run(EXAMPLE_TABLE_WORDS, calls, WORDS(calls))),
-       WORDS(codes));
-    for (size_t i = 0; i < WORDS(codes); i++)
+    IS(BALKWIZU_RUN_CALLS(run(EXAMPLE_TABLE_WORDS, calls, BALKWIZU_COUNT(calls))),
+       BALKWIZU_COUNT(codes));
+    for (size_t i = 0; i < BALKWIZU_COUNT(codes); i++)
         IS(code_of(i), codes[i]);
     for (uint32_t i = 0; i < 13; i++)
         IS(codes[i], 10 + i);
@@ -332,8 +331,8 @@ static void bad_words_are_refused(void)
     };
     static const uint32_t codes[] = { 11, 11, 10, 14, 11, 0 };
     put_table_t();
-    IS(BALKWIZU_RUN_CALLS(run(EXAMPLE_TABLE_WORDS, calls, WORDS(calls))), WORDS(codes));
-    for (size_t i = 0; i < WORDS(codes); i++)
+    IS(BALKWIZU_RUN_CALLS(run(EXAMPLE_TABLE_WORDS, calls, BALKWIZU_COUNT(calls))), BALKWIZU_COUNT(codes));
+    for (size_t i = 0; i < BALKWIZU_COUNT(codes); i++)
         IS(code_of(i), codes[i]);
     IS(memcmp(table, example_table, sizeof example_table), 0);
     IS(check_with(0, BALKWIZU_TABLE_HEADER(256 + 3, 2)), BALKWIZU_TABLE_BAD_HEADER);
@@ -361,12 +360,12 @@ static void edges(void)
     IS(check_with(9, 0x20000010), BALKWIZU_TABLE_BAD_RIGHTS);
     IS(check_with(24, 0x50000002), BALKWIZU_TABLE_BAD_ENDPOINT);
     put_table_t();
-    run(EXAMPLE_TABLE_WORDS, p8, WORDS(p8));
+    run(EXAMPLE_TABLE_WORDS, p8, BALKWIZU_COUNT(p8));
     IS(code_of(0), 14);
-    run(EXAMPLE_TABLE_WORDS, p10, WORDS(p10));
+    run(EXAMPLE_TABLE_WORDS, p10, BALKWIZU_COUNT(p10));
     IS(code_of(0), 0);
     IS(balkwizu_table_rights(table, 1, 2), BALKWIZU_RIGHT_REMOVE);
-    IS_RESULT(run(EXAMPLE_TABLE_WORDS, list, WORDS(list)), BALKWIZU_LIST_TOO_LONG);
+    IS_RESULT(run(EXAMPLE_TABLE_WORDS, list, BALKWIZU_COUNT(list)), BALKWIZU_LIST_TOO_LONG);
     IS(BALKWIZU_LIST_TOO_LONG, 1);
     IS(BALKWIZU_TABLE_BAD_HEADER, 2);
     IS(BALKWIZU_TABLE_BAD_LENGTH, 3);
@@ -408,7 +407,7 @@ static void largest_table(void)
     };
     put_largest_table();
     IS(check(BALKWIZU_TABLE_WORDS_MAX), 0);
-    IS_RESULT(run(BALKWIZU_TABLE_WORDS_MAX, calls, WORDS(calls)), 0x00060000);
+    IS_RESULT(run(BALKWIZU_TABLE_WORDS_MAX, calls, BALKWIZU_COUNT(calls)), 0x00060000);
     for (uint32_t target = 0; target < 16; target++) {
         IS(balkwizu_answer_rights(answers, target), target);
         IS(balkwizu_table_rights(table, 15, target), target == 14 ? 12 : target);
@@ -441,16 +440,38 @@ static void components_of_t(void)
 {
     put_table_t();
     IS_RESULT(component(EXAMPLE_TABLE_WORDS, 2), 0x00070000);
-    IS_RESULT(component(EXAMPLE_TABLE_WORDS, 3), BALKWIZU_NOT_A_DOMAIN);
-    IS(BALKWIZU_NOT_A_DOMAIN, 32);
+    IS_RESULT(component(EXAMPLE_TABLE_WORDS, 3), BALKWIZU_BAD_QUESTION);
+    IS(BALKWIZU_BAD_QUESTION, 32);
     IS_RESULT(component(33, 0), BALKWIZU_TABLE_BAD_LENGTH);
     table[BALKWIZU_RIGHTS_AT(3, 1, 2)] = BALKWIZU_TABLE_RIGHTS(0);
     balkwizu_result apart = component(EXAMPLE_TABLE_WORDS, 0);
     IS(BALKWIZU_COMPONENT_CODE(apart), BALKWIZU_OK);
-    IS(BALKWIZU_COMPONENT_HAS(apart, 0), 1);
-    IS(BALKWIZU_COMPONENT_HAS(apart, 1), 1);
-    IS(BALKWIZU_COMPONENT_HAS(apart, 2), 0);
+    IS(balkwizu_may_be_in_component(apart, 0), 1);
+    IS(balkwizu_may_be_in_component(apart, 1), 1);
+    IS(balkwizu_may_be_in_component(apart, 2), 0);
     IS_RESULT(component(EXAMPLE_TABLE_WORDS, 2), 0x00040000);
+}
+
+/* The holders of T, by the function that fills them and by an empty list, and after a
+ * repair that took all rights on domain 2 away. */
+static void holders_filled(void)
+{
+    uint32_t filled[3], changes[2];
+    put_table_t();
+    memset(filled, 0xFF, sizeof filled);
+    IS(balkwizu_fill_holders(table, EXAMPLE_TABLE_WORDS, filled, 2), BALKWIZU_WRONG_SPACE);
+    IS(balkwizu_fill_holders(table, 33, filled, 3), BALKWIZU_TABLE_BAD_LENGTH);
+    IS(filled[0], 0xFFFFFFFF);
+    IS(balkwizu_fill_holders(table, EXAMPLE_TABLE_WORDS, filled, 3), BALKWIZU_OK);
+    IS_RESULT(run(EXAMPLE_TABLE_WORDS, list, 0), 0);
+    IS(memcmp(filled, holders, sizeof filled), 0);
+    IS(memcmp(table, example_table, sizeof example_table), 0);
+    table[BALKWIZU_RIGHTS_AT(3, 1, 2)] = 0;
+    IS(balkwizu_fill_holders(table, EXAMPLE_TABLE_WORDS, filled, 3), BALKWIZU_TABLE_BAD_RIGHTS);
+    IS_RESULT(balkwizu_repair(table, EXAMPLE_TABLE_WORDS, changes, 2), 0x00010000);
+    IS_RESULT(balkwizu_who_reaches(filled, 3, 2), 0x00070000); /* of before */
+    IS(balkwizu_fill_holders(table, EXAMPLE_TABLE_WORDS, filled, 3), BALKWIZU_OK);
+    IS_RESULT(balkwizu_who_reaches(filled, 3, 2), 0x00040000);
 }
 
 /* The holders of T, after an empty list and after L, which gives 0 a right on 2: on T 0
@@ -469,12 +490,12 @@ static void holders_of_t(void)
     IS(holders[2], 3);
     balkwizu_result reached = balkwizu_who_reaches(holders, 3, 0);
     IS(BALKWIZU_REACHES_CODE(reached), BALKWIZU_OK);
-    IS(BALKWIZU_REACHES(reached, 0), 1);
-    IS(BALKWIZU_REACHES(reached, 1), 1);
-    IS(BALKWIZU_REACHES(reached, 2), 0);
-    IS_RESULT(balkwizu_who_reaches(holders, 3, 3), BALKWIZU_NOT_A_DOMAIN);
-    IS_RESULT(balkwizu_who_reaches(holders, 1, 0), BALKWIZU_NOT_A_DOMAIN); /* bit 1 of one */
-    IS_RESULT(balkwizu_who_reaches(holders, 0, 0), BALKWIZU_NOT_A_DOMAIN);
+    IS(balkwizu_may_reach(reached, 0), 1);
+    IS(balkwizu_may_reach(reached, 1), 1);
+    IS(balkwizu_may_reach(reached, 2), 0);
+    IS_RESULT(balkwizu_who_reaches(holders, 3, 3), BALKWIZU_BAD_QUESTION);
+    IS_RESULT(balkwizu_who_reaches(holders, 1, 0), BALKWIZU_BAD_QUESTION); /* bit 1 of one */
+    IS_RESULT(balkwizu_who_reaches(holders, 0, 0), BALKWIZU_BAD_QUESTION);
 }
 
 /* On T domain 1 has SEND on 0 and SEND, GRANT and REMOVE on 2: it could give 0 these
@@ -490,7 +511,7 @@ static void potential_of_t(void)
     IS(balkwizu_potential(table, EXAMPLE_TABLE_WORDS, 5, rights, 9), BALKWIZU_OK);
     IS(rights[BALKWIZU_POTENTIAL_AT(3, 0, 2)], 0);
     IS(balkwizu_potential(table, EXAMPLE_TABLE_WORDS, 8, rights, 9),
-       BALKWIZU_NOT_A_DOMAIN);
+       BALKWIZU_BAD_QUESTION);
     IS(balkwizu_potential(table, EXAMPLE_TABLE_WORDS, 8, rights, 8), 6);
     IS(balkwizu_potential(table, 33, 8, rights, 8), BALKWIZU_TABLE_BAD_LENGTH);
 }
@@ -508,13 +529,13 @@ static void influence_of_t(void)
     IS_RESULT(could_influence(EXAMPLE_TABLE_WORDS, 7, 2), 0x00070000);
     balkwizu_result first = could_influence(EXAMPLE_TABLE_WORDS, 7, 0);
     IS(BALKWIZU_INFLUENCE_CODE(first), BALKWIZU_OK);
-    IS(BALKWIZU_COULD_INFLUENCE(first, 0), 1);
-    IS(BALKWIZU_COULD_INFLUENCE(first, 1), 1);
-    IS(BALKWIZU_COULD_INFLUENCE(first, 2), 0);
+    IS(balkwizu_may_influence(first, 0), 1);
+    IS(balkwizu_may_influence(first, 1), 1);
+    IS(balkwizu_may_influence(first, 2), 0);
     IS_RESULT(could_influence(EXAMPLE_TABLE_WORDS, 5, 2), 0x00040000);
     IS_RESULT(could_influence(EXAMPLE_TABLE_WORDS, 5, 1), 0x00030000);
-    IS_RESULT(could_influence(EXAMPLE_TABLE_WORDS, 7, 3), BALKWIZU_NOT_A_DOMAIN);
-    IS_RESULT(could_influence(EXAMPLE_TABLE_WORDS, 8, 2), BALKWIZU_NOT_A_DOMAIN);
+    IS_RESULT(could_influence(EXAMPLE_TABLE_WORDS, 7, 3), BALKWIZU_BAD_QUESTION);
+    IS_RESULT(could_influence(EXAMPLE_TABLE_WORDS, 8, 2), BALKWIZU_BAD_QUESTION);
     IS_RESULT(could_influence(33, 8, 3), BALKWIZU_TABLE_BAD_LENGTH);
 }
 
@@ -558,7 +579,7 @@ static const uint32_t calls_of_l[][BALKWIZU_CALL_COLUMNS] = {
     { BALKWIZU_KIND_MY_ENDPOINTS, 2, 0, 0, 0 },
 };
 
-static uint64_t write_l(size_t columns, size_t space)
+static balkwizu_written write_l(size_t columns, size_t space)
 {
     memset(list, 0x77, sizeof list);
     return balkwizu_write((const uint32_t *)calls_of_l, columns, list, space);
@@ -568,47 +589,47 @@ static void list_l_written(void)
 {
     size_t columns = sizeof calls_of_l / sizeof *calls_of_l[0];
     IS(BALKWIZU_CALL_COLUMNS, 5);
-    uint64_t result = write_l(columns, 12);
+    balkwizu_written result = write_l(columns, 12);
     IS(BALKWIZU_WRITE_CODE(result), BALKWIZU_OK);
     IS_LONG(BALKWIZU_WRITE_NUMBER(result), 11);
     for (size_t i = 0; i < 11; i++)
         IS(list[i], example_list[i < 9 ? i : i + 1]); /* the stray is word 9 */
     IS(list[11], 0x77777777);
-    IS_LONG(write_l(columns, 11), 11);
-    IS_LONG(write_l(columns, 10), 4097);
+    IS_WRITTEN(write_l(columns, 11), 11);
+    IS_WRITTEN(write_l(columns, 10), 4097);
     IS(list[0], 0x77777777);
-    IS_LONG(write_l(columns - 1, 10), 4098 + 7); /* four words left over: 30, not 31 */
+    IS_WRITTEN(write_l(columns - 1, 10), 4098 + 7); /* four words left over: 30, not 31 */
     IS(list[0], 0x77777777);
-    IS_LONG(write_l(0, 0), 0);
+    IS_WRITTEN(write_l(0, 0), 0);
     IS(BALKWIZU_BAD_CALL, 30);
     IS(BALKWIZU_WRITTEN_TOO_LONG, 31);
 }
 
 /* One call in columns: the result, and its words where it is written. */
-static uint64_t write_one(uint32_t kind, uint32_t caller, uint32_t a, uint32_t b,
+static balkwizu_written write_one(uint32_t kind, uint32_t caller, uint32_t a, uint32_t b,
                           uint32_t last)
 {
     const uint32_t call[BALKWIZU_CALL_COLUMNS] = { kind, caller, a, b, last };
-    return balkwizu_write(call, BALKWIZU_CALL_COLUMNS, list, WORDS(list));
+    return balkwizu_write(call, BALKWIZU_CALL_COLUMNS, list, BALKWIZU_COUNT(list));
 }
 
 static void calls_written(void)
 {
-    IS_LONG(write_one(BALKWIZU_KIND_LOOK_UP, 63, 0, 0, 0x0FFFFFFF), 2);
+    IS_WRITTEN(write_one(BALKWIZU_KIND_LOOK_UP, 63, 0, 0, 0x0FFFFFFF), 2);
     IS(list[0], BALKWIZU_LOOK_UP(63));
     IS(list[1], BALKWIZU_SECOND(0x0FFFFFFF));
-    IS_LONG(write_one(BALKWIZU_KIND_REMOVE, 1, 2, 0, BALKWIZU_RIGHT_REMOVE), 1);
+    IS_WRITTEN(write_one(BALKWIZU_KIND_REMOVE, 1, 2, 0, BALKWIZU_RIGHT_REMOVE), 1);
     IS(list[0], 0x70420004); /* P11 */
-    IS_LONG(write_one(BALKWIZU_KIND_REVOKE, 63, 63, 255, 255), 1);
+    IS_WRITTEN(write_one(BALKWIZU_KIND_REVOKE, 63, 63, 255, 255), 1);
     IS(list[0], 0x8FFFFFFF);
-    IS_LONG(write_one(BALKWIZU_KIND_MY_RIGHTS, 64, 0, 0, 0), 4098);
-    IS_LONG(write_one(BALKWIZU_KIND_GRANT, 0, 64, 0, 1), 4098);
-    IS_LONG(write_one(BALKWIZU_KIND_RECEIVE, 0, 0, 256, 0), 4098);
-    IS_LONG(write_one(BALKWIZU_KIND_SEND, 0, 0, 0, 0x10000000), 4098);
-    IS_LONG(write_one(BALKWIZU_KIND_RECEIVE, 0, 0, 0, 1), 4098);
-    IS_LONG(write_one(BALKWIZU_KIND_SECOND, 0, 0, 0, 0), 4098);
-    IS_LONG(write_one(0, 0, 0, 0, 0), 4098);
-    IS_LONG(write_one(9, 0, 0, 0, 0), 4098);
+    IS_WRITTEN(write_one(BALKWIZU_KIND_MY_RIGHTS, 64, 0, 0, 0), 4098);
+    IS_WRITTEN(write_one(BALKWIZU_KIND_GRANT, 0, 64, 0, 1), 4098);
+    IS_WRITTEN(write_one(BALKWIZU_KIND_RECEIVE, 0, 0, 256, 0), 4098);
+    IS_WRITTEN(write_one(BALKWIZU_KIND_SEND, 0, 0, 0, 0x10000000), 4098);
+    IS_WRITTEN(write_one(BALKWIZU_KIND_RECEIVE, 0, 0, 0, 1), 4098);
+    IS_WRITTEN(write_one(BALKWIZU_KIND_SECOND, 0, 0, 0, 0), 4098);
+    IS_WRITTEN(write_one(0, 0, 0, 0, 0), 4098);
+    IS_WRITTEN(write_one(9, 0, 0, 0, 0), 4098);
     IS(list[0], 0x8FFFFFFF); /* as the last that was written left it */
 }
 
@@ -620,9 +641,10 @@ static void results_written(void)
         { 4097, 31, 0 }, { 4098, 30, 0 }, { 4099, 30, 1 }, { 69633, 30, 65535 },
         { 69634, 30, 65536 }, { UINT64_MAX, 30, UINT64_MAX - 4098 },
     };
-    for (size_t i = 0; i < WORDS(results); i++) {
-        IS_LONG(balkwizu_write_code(results[i][0]), results[i][1]);
-        IS_LONG(balkwizu_write_number(results[i][0]), results[i][2]);
+    for (size_t i = 0; i < BALKWIZU_COUNT(results); i++) {
+        balkwizu_written result = balkwizu_as_written(results[i][0]);
+        IS_LONG(balkwizu_write_code(result), results[i][1]);
+        IS_LONG(balkwizu_write_number(result), results[i][2]);
     }
 }
 
@@ -630,12 +652,12 @@ static void results_written(void)
 static void bad_call_above_65535(void)
 {
     static uint32_t calls[65537][BALKWIZU_CALL_COLUMNS];
-    for (size_t i = 0; i < WORDS(calls); i++)
+    for (size_t i = 0; i < BALKWIZU_COUNT(calls); i++)
         calls[i][0] = BALKWIZU_KIND_MY_RIGHTS;
-    size_t columns = WORDS(calls) * BALKWIZU_CALL_COLUMNS;
-    IS_LONG(balkwizu_write(calls[0], columns, list, WORDS(list)), 4097);
+    size_t columns = BALKWIZU_COUNT(calls) * BALKWIZU_CALL_COLUMNS;
+    IS_WRITTEN(balkwizu_write(calls[0], columns, list, BALKWIZU_COUNT(list)), 4097);
     calls[65536][1] = 64;
-    IS_LONG(balkwizu_write(calls[0], columns, list, WORDS(list)), 4098 + 65536);
+    IS_WRITTEN(balkwizu_write(calls[0], columns, list, BALKWIZU_COUNT(list)), 4098 + 65536);
 }
 
 /* Turns on T, which has three domains: a state of 52 words. */
@@ -721,8 +743,8 @@ static void turns_refused(void)
 {
     static const uint32_t call[] = { BALKWIZU_MY_RIGHTS(1), BALKWIZU_SECOND(0) };
     begin_on_t();
-    IS(hand_in(52, 3, call, 1), BALKWIZU_UNKNOWN_DOMAIN);
-    IS(hand_in(51, 3, call, 2), BALKWIZU_UNKNOWN_DOMAIN);
+    IS(hand_in(52, 3, call, 1), BALKWIZU_HAND_IN_BAD_DOMAIN);
+    IS(hand_in(51, 3, call, 2), BALKWIZU_HAND_IN_BAD_DOMAIN);
     IS(hand_in(51, 2, call, 1), BALKWIZU_NOT_ONE_CALL);
     IS(hand_in(52, 1, call, 2), BALKWIZU_NOT_ONE_CALL);
     IS(hand_in(52, 1, call + 1, 1), BALKWIZU_NOT_ONE_CALL);
@@ -745,7 +767,7 @@ static void turns_refused(void)
     IS(begin(51, 2), BALKWIZU_TABLE_BAD_RIGHTS);
     IS(answers[0], 0x77777777);
     IS(state[0], 0);
-    IS(BALKWIZU_UNKNOWN_DOMAIN, 35);
+    IS(BALKWIZU_HAND_IN_BAD_DOMAIN, 35);
     IS(BALKWIZU_NOT_ONE_CALL, 36);
     IS(BALKWIZU_NO_ROOM, 37);
     IS(BALKWIZU_BAD_TURNS, 99);
@@ -792,6 +814,83 @@ static void whole_results(void)
     IS(sizeof result, 4); /* as long as the word that the archives return */
 }
 
+/* A domain is excluded only by a code of 0 and a bit that is clear, and only where there
+ * is a bit for it. */
+static void nobody_excluded_in_error(void)
+{
+    const balkwizu_result answered = { 0x00050000 }, refused = { 32 }, both = { 0xFFFF0020 };
+    for (uint32_t domain = 0; domain < 40; domain++) {
+        uint32_t open = domain == 0 || domain == 2 || domain >= 16;
+        IS(balkwizu_not_excluded(answered, domain), open);
+        IS(balkwizu_may_reach(answered, domain), open);
+        IS(balkwizu_may_be_in_component(answered, domain), open);
+        IS(balkwizu_may_influence(answered, domain), open);
+        IS(balkwizu_not_excluded(refused, domain), 1);
+        IS(balkwizu_not_excluded(both, domain), 1);
+    }
+    IS(balkwizu_may_reach(answered, UINT32_MAX), 1);
+    IS(balkwizu_may_reach(answered, UINT32_MAX - 15), 1); /* 16 more would be 0 */
+}
+
+/* What is not there, read from T: no word beyond it is. */
+static void beyond_a_table(void)
+{
+    static const uint32_t answer[] = { 0, 0xFFFFFFFF, 0xFFFFFFFF };
+    IS(balkwizu_table_rights(example_table, 0, 3), 0);
+    IS(balkwizu_table_rights(example_table, 3, 0), 0);
+    IS(balkwizu_table_rights(example_table, UINT32_MAX, UINT32_MAX), 0);
+    IS(balkwizu_table_word(example_table, 2, 0), 0xFFFFFFFF);
+    IS(balkwizu_table_word(example_table, 1, 12), 0xFFFFFFFF);
+    IS(balkwizu_table_owner(example_table, 2), 255);
+    IS(balkwizu_table_capacity(example_table, UINT32_MAX), 255);
+    IS(balkwizu_table_message(example_table, 1, 8), 0x0FFFFFFF);
+    IS(balkwizu_table_message(example_table, 1, UINT32_MAX), 0x0FFFFFFF);
+    IS(balkwizu_answer_owns(answer, 31), 1);
+    IS(balkwizu_answer_owns(answer, 32), 0);
+    IS(balkwizu_answer_rights(answer, 15), 15);
+    IS(balkwizu_answer_rights(answer, 16), 0);
+    IS(balkwizu_answer_rights(answer, UINT32_MAX), 0);
+}
+
+/* Macros that evaluate an argument once, given a number that goes up each time. */
+static uint32_t times;
+
+static balkwizu_result once(void)
+{
+    balkwizu_result result = { ++times };
+    return result;
+}
+
+static void evaluated_once(void)
+{
+    times = 0;
+    IS(BALKWIZU_RUN_CODE(once()), 1);
+    IS(BALKWIZU_RUN_CALLS(once()), 0);
+    IS(BALKWIZU_REACHES_CODE(once()), 3);
+    IS(BALKWIZU_COMPONENT_CODE(once()), 4);
+    IS(BALKWIZU_INFLUENCE_CODE(once()), 5);
+    IS(BALKWIZU_REPAIR_CODE(once()), 6);
+    IS(BALKWIZU_REPAIR_ALTERED(once()), 0);
+    IS(BALKWIZU_TURN_CODE(once()), 8);
+    IS(BALKWIZU_TURN_SERVED(once()), 0);
+    IS(BALKWIZU_WRITE_CODE(balkwizu_as_written(once().word)), 0);
+    IS(BALKWIZU_WRITE_NUMBER(balkwizu_as_written(once().word)), 11);
+    IS(BALKWIZU_ANSWER_KIND(once().word), 0);
+    IS(BALKWIZU_ANSWER_CALLER(once().word), 0);
+    IS(BALKWIZU_ANSWER_CODE(once().word), 14);
+    IS(BALKWIZU_CONTENT(once().word), 15);
+    IS(BALKWIZU_ANSWER_AT(once().word), 48);
+    IS(BALKWIZU_TURNS_WORDS(once().word), 290);
+    IS(BALKWIZU_TURNS_COUNT_AT(once().word), 307);
+    IS(BALKWIZU_RIGHTS_AT(3, once().word, 0), 58);
+    IS(BALKWIZU_RIGHTS_AT(once().word, 0, 0), 1);
+    IS(BALKWIZU_POTENTIAL_AT(3, once().word, 0), 63);
+    IS(BALKWIZU_POTENTIAL_AT(3, 0, once().word), 22);
+    IS(BALKWIZU_TABLE_WORDS(1, once().word), 278);
+    IS(BALKWIZU_ENDPOINT_AT(1, once().word), 290);
+    IS(times, 24);
+}
+
 /* The header is of the archive's release; no paper has its number. */
 static void release(void)
 {
@@ -812,6 +911,7 @@ static void with_run(void)
     edges();
     largest_table();
     holders_of_t();
+    holders_filled();
 }
 
 int main(void)
@@ -822,7 +922,7 @@ int main(void)
     words_of_l();
     fields_beyond_their_bits();
     table_fields_beyond_their_bits();
-    for (in_use = 0; in_use < WORDS(runs); in_use++)
+    for (in_use = 0; in_use < BALKWIZU_COUNT(runs); in_use++)
         with_run();
     in_use = 0;
     components_of_t();
@@ -838,6 +938,9 @@ int main(void)
     turns_refused();
     whole_fields();
     whole_results();
+    nobody_excluded_in_error();
+    beyond_a_table();
+    evaluated_once();
     printf("%u compared, %u differ\n", compared, differ);
     return differ != 0;
 }

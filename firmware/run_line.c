@@ -36,7 +36,7 @@ static void print_reach(uint32_t n, uint32_t domain)
     }
     printf("domain %u is reached by", (unsigned)domain);
     for (uint32_t u = 0; u < n; u++)
-        if (BALKWIZU_REACHES(result, u))
+        if (balkwizu_may_reach(result, u))
             printf(" %u", (unsigned)u);
     printf("\n");
 }
@@ -47,7 +47,7 @@ int main(void)
     uint32_t n = balkwizu_table_domains(table);
     balkwizu_result result =
         balkwizu_run(table, EXAMPLE_TABLE_WORDS, example_list, EXAMPLE_LIST_WORDS,
-                     answers, sizeof answers / sizeof *answers, holders, n);
+                     answers, BALKWIZU_COUNT(answers), holders, n);
     uint32_t code = BALKWIZU_RUN_CODE(result), calls = BALKWIZU_RUN_CALLS(result);
     printf("calls %u code %u: %s\n", (unsigned)calls, (unsigned)code,
            code_meaning(code));

@@ -125,7 +125,7 @@ static int tell_write(const char *name, const struct call *call, size_t most)
     uint64_t result;
     bytes_taken(call, &result);
     size_t bytes = bytes_taken(call, &result);
-    return say(name, bytes, most, BALKWIZU_WRITE_CODE(result));
+    return say(name, bytes, most, BALKWIZU_WRITE_CODE(balkwizu_as_written(result)));
 }
 
 /* The same of a function that answers no code. */
@@ -191,7 +191,7 @@ int main(void)
                               { (uintptr_t)table, BALKWIZU_TABLE_WORDS_MAX,
                                 (uintptr_t)list, BALKWIZU_LIST_WORDS_MAX,
                                 (uintptr_t)answers,
-                                sizeof answers / sizeof *answers,
+                                BALKWIZU_COUNT(answers),
                                 (uintptr_t)holders, DOMAINS } };
     struct call run_working = run;
     run_working.function = (void (*)(void))balkwizu_run_working;

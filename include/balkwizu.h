@@ -1,20 +1,21 @@
 /*
  * balkwizu.h: the line controller's capability kernel, for firmware in C11 or
- * C++11.
+ * C++11, by gcc or clang.
  *
- * The functions stand in target/staticlib/libbalkwizu.a, and those of the turns in
- * target/staticlib/libbalkwizu_turns.a: `rt staticlib balkwizu` and
- * `rt staticlib balkwizu_turns` make them from proved code. Which has which is listed
- * below. They are for x86-64, may be linked at any address, one or both, allocate
- * nothing, and call nothing of the C library but memcpy, memmove and memset.
+ * The functions are in libbalkwizu.a and libbalkwizu_turns.a, in a release in lib/, of
+ * proved code: which archive has which is listed below. They may be linked at any address,
+ * one or both, allocate nothing, and call nothing of the C library but memcpy, memmove and
+ * memset. In the sources `rt staticlib balkwizu` and `rt staticlib balkwizu_turns` make
+ * them for x86-64, in target/staticlib, and firmware/targets/archive makes them for other
+ * processors out of the same proved code: firmware/targets/targets.txt lists these.
  *
  * No function keeps anything from one call to the next: they may be called at the
  * same time on different words.
  *
  * What is proved is proved of every table, every list and every answer space,
- * damaged ones too. What no proof covers are the caller's duties, written at
- * each function, and what its machine code asks, written below: the kernel
- * believes the pointers and lengths that it is given.
+ * damaged ones too. What no proof covers are the caller's duties and what the machine
+ * code asks, both written below: the kernel believes the pointers and lengths that it is
+ * given.
  *
  * Numbers and layouts are those of document 01, "The line controller's
  * capability kernel", with the change requests of document 02. Bit 0 is the lowest
@@ -70,13 +71,57 @@ extern "C" {
      BALKWIZU_VERSION_PATCH)
 
 /*
- * What the machine code asks of its caller
+ * The caller's duties, the same for every function
+ *
+ *   - A pointer points to as many words as the length after it says. Lengths are in words,
+ *     never in bytes: BALKWIZU_COUNT counts those of an array. (balkwizu_table_check alone
+ *     takes bytes.)
+ *   - Words are aligned to four bytes; the bytes of balkwizu_table_check needn't be.
+ *   - No pointer is null, also where its length is 0.
+ *   - What a pointer to const points to may be read, and is never written. What another
+ *     points to may be read and written, and overlaps nothing else that is lent to the
+ *     same call, in no word.
+ *   - During the call nobody else writes what is lent to it, nor reads what it may write: no
+ *     other core, interrupt or transfer.
+ *
+ * Lengths have 64 bits on every processor, also where size_t has 32.
+ *
+ * The words of a table, of a list and of holders are in the processor's own byte order.
+ */
+#ifdef __cplusplus
+extern "C++" {
+template <typename Element, size_t Number>
+constexpr size_t balkwizu_count(Element (&)[Number]) noexcept
+{
+    return Number;
+}
+}
+#define BALKWIZU_COUNT(array) (balkwizu_count(array))
+#else
+/* An array's length in elements. Of a pointer it doesn't compile. */
+#define BALKWIZU_COUNT(array)                                                  \
+    (sizeof(array) / sizeof *(array) +                                         \
+     0 * sizeof(char[1 - 2 * __builtin_types_compatible_p(                     \
+                             __typeof__(array), __typeof__(&(array)[0]))]))
+#endif
+
+/*
+ * Macros: one that makes a word of a table or of a list evaluates an argument twice, and
+ * BALKWIZU_TABLE_WORDS and BALKWIZU_ENDPOINT_AT do so with n. Every other macro evaluates
+ * its arguments once at most.
+ */
+
+/*
+ * What the machine code asks of its caller, on x86-64
  *
  * It is made by the System V ABI of x86-64, like programs for Linux. On bare metal
- * the firmware has to see to what that ABI takes for granted:
+ * the firmware has to see to what that ABI takes for granted (the bytes of stack below are
+ * of x86-64 too):
  *
  *   alignment  The stack pointer is a multiple of 16 at the call instruction.
  *              Where it isn't, the function faults: it stores 16 bytes at a time.
+ *   direction  The direction flag is clear at the call instruction. An interrupt that
+ *              calls these functions clears it first (cld).
  *   red zone   A function may keep words in the 128 bytes below its stack pointer,
  *              and those do of which the lines below say so. An interrupt on the
  *              same stack overwrites them, and what the function then answers and
@@ -196,6 +241,21 @@ typedef struct {
     uint32_t word;
 } balkwizu_result;
 
+/*
+ * What a question about domains leaves open, on the safe side: 1 unless its code is 0 and
+ * the bit of the domain is clear. So a question that was refused excludes nobody, and
+ * neither does a domain from 16 on, which has no bit. balkwizu_may_reach,
+ * balkwizu_may_be_in_component and balkwizu_may_influence are this by the name of their
+ * question.
+ */
+static inline uint32_t balkwizu_not_excluded(balkwizu_result result, uint32_t domain)
+    BALKWIZU_NOEXCEPT
+{
+    if ((result.word & 0xFFFFu) != 0 || domain >= BALKWIZU_DOMAINS_MAX)
+        return 1;
+    return (result.word >> (16 + domain)) & 1u;
+}
+
 /* Every number that the kernel answers with, named by what is wrong. */
 enum balkwizu_code {
     BALKWIZU_OK = 0,
@@ -215,7 +275,7 @@ enum balkwizu_code {
        goes on behind it. */
     BALKWIZU_STRAY = 10,           /* a word of kind 15 standing alone */
     BALKWIZU_UNKNOWN_KIND = 11,    /* kind 0, or 9 to 14 */
-    BALKWIZU_UNKNOWN_CALLER = 12,  /* caller not below n */
+    BALKWIZU_UNKNOWN_CALLER = 12,  /* the call's own caller isn't below n */
     BALKWIZU_UNUSED_FIELD = 13,    /* an unused field isn't zero */
     BALKWIZU_NO_SECOND_WORD = 14,  /* look up or send without its second word */
     BALKWIZU_NO_SUCH_NAME = 15,    /* look up: no endpoint has the name */
@@ -224,8 +284,8 @@ enum balkwizu_code {
                                       the owner itself needs too */
     BALKWIZU_NOT_OWNER = 18,       /* receive: caller isn't the owner */
     BALKWIZU_NOTHING_WAITING = 19, /* receive: the queue is empty */
-    BALKWIZU_NO_SUCH_DOMAIN = 20,  /* grant, remove, revoke: a domain named isn't
-                                      below n */
+    BALKWIZU_CALL_BAD_DOMAIN = 20, /* grant, remove, revoke: A or B, a domain that
+                                      the call names, isn't below n */
     BALKWIZU_BAD_RIGHTS = 21,      /* grant, remove, revoke: C is 0 or above
                                       BALKWIZU_RIGHTS_ALL */
     BALKWIZU_LACKS_RIGHT = 22,     /* on the target: grant: no GRANT, or not every
@@ -240,8 +300,9 @@ enum balkwizu_code {
     BALKWIZU_WRITTEN_TOO_LONG = 31, /* the words would pass 4,096 or the list */
 
     /* Of a question about domains: nothing is told. */
-    BALKWIZU_NOT_A_DOMAIN = 32,    /* a number isn't below n, or words are lent
-                                      that can't be the holders of a table */
+    BALKWIZU_BAD_QUESTION = 32,    /* the domain that is asked for isn't below n, or
+                                      one of the actors, or words are lent that can't
+                                      be the holders of a table */
 
     /* Of a repair, the first that fails: nothing was changed. */
     BALKWIZU_NOT_REPAIRABLE = 33,  /* word 0, the length, a name or an info is
@@ -250,7 +311,7 @@ enum balkwizu_code {
 
     /* Of a call that is handed in, the first that fails: nothing was changed. 99 is
        of a beginning and of a turn too, and comes before 37. */
-    BALKWIZU_UNKNOWN_DOMAIN = 35,  /* domain not below n */
+    BALKWIZU_HAND_IN_BAD_DOMAIN = 35, /* the domain that hands in isn't below n */
     BALKWIZU_NOT_ONE_CALL = 36,    /* the words aren't exactly one call, no stray,
                                       with the domain as its caller */
     BALKWIZU_NO_ROOM = 37,         /* the domain's pending words would pass 16 */
@@ -340,69 +401,78 @@ enum balkwizu_place {
 };
 
 /*
- * Reading a table that was accepted, or that a run left. Domains are below n,
- * endpoints below m, slots below BALKWIZU_SLOTS: none of these functions looks
- * whether that is so.
+ * Reading a table that was accepted, or that a run left. These functions read no word
+ * beyond the table, whatever they are given: a holder or a target that isn't below n has no
+ * rights, 0, and an endpoint that isn't below m, or a place or a slot that it hasn't got,
+ * reads as a word of all ones. Its owner is then 255 and its capacity too, which no table
+ * has. A table that no check has accepted must not be read by them: they believe word 0.
  *
  * Example:
  *
  *     uint32_t owner = balkwizu_table_owner(table, 0);
  *     assert(owner == 1 && balkwizu_table_name(table, 0) == 17);
  *     assert(balkwizu_table_rights(table, 0, owner) == BALKWIZU_RIGHT_SEND);
+ *     assert(balkwizu_table_owner(table, 1) == 255); // there is no endpoint 1
  */
-static inline uint32_t balkwizu_table_domains(const uint32_t *table)
+static inline uint32_t balkwizu_table_domains(const uint32_t *table) BALKWIZU_NOEXCEPT
 {
     return (table[0] >> 8) & 0xFFu;
 }
 
-static inline uint32_t balkwizu_table_endpoints(const uint32_t *table)
+static inline uint32_t balkwizu_table_endpoints(const uint32_t *table) BALKWIZU_NOEXCEPT
 {
     return table[0] & 0xFFu;
 }
 
 static inline uint32_t balkwizu_table_rights(const uint32_t *table,
                                              uint32_t holder, uint32_t target)
+    BALKWIZU_NOEXCEPT
 {
     uint32_t n = balkwizu_table_domains(table);
+    if (holder >= n || target >= n)
+        return 0;
     return BALKWIZU_CONTENT(table[BALKWIZU_RIGHTS_AT(n, holder, target)]);
 }
 
 /* The word at one of the places of an endpoint. */
 static inline uint32_t balkwizu_table_word(const uint32_t *table,
                                            uint32_t endpoint, uint32_t place)
+    BALKWIZU_NOEXCEPT
 {
     uint32_t n = balkwizu_table_domains(table);
+    if (endpoint >= balkwizu_table_endpoints(table) || place >= BALKWIZU_ENDPOINT_WORDS)
+        return 0xFFFFFFFFu;
     return table[BALKWIZU_ENDPOINT_AT(n, endpoint) + place];
 }
 
 static inline uint32_t balkwizu_table_name(const uint32_t *table,
-                                           uint32_t endpoint)
+                                           uint32_t endpoint) BALKWIZU_NOEXCEPT
 {
     return BALKWIZU_CONTENT(
         balkwizu_table_word(table, endpoint, BALKWIZU_PLACE_NAME));
 }
 
 static inline uint32_t balkwizu_table_owner(const uint32_t *table,
-                                            uint32_t endpoint)
+                                            uint32_t endpoint) BALKWIZU_NOEXCEPT
 {
     return (balkwizu_table_word(table, endpoint, BALKWIZU_PLACE_INFO) >> 8) & 0xFFu;
 }
 
 static inline uint32_t balkwizu_table_capacity(const uint32_t *table,
-                                               uint32_t endpoint)
+                                               uint32_t endpoint) BALKWIZU_NOEXCEPT
 {
     return balkwizu_table_word(table, endpoint, BALKWIZU_PLACE_INFO) & 0xFFu;
 }
 
 static inline uint32_t balkwizu_table_waiting(const uint32_t *table,
-                                              uint32_t endpoint)
+                                              uint32_t endpoint) BALKWIZU_NOEXCEPT
 {
     return BALKWIZU_CONTENT(
         balkwizu_table_word(table, endpoint, BALKWIZU_PLACE_WAITING));
 }
 
 static inline uint32_t balkwizu_table_lost(const uint32_t *table,
-                                           uint32_t endpoint)
+                                           uint32_t endpoint) BALKWIZU_NOEXCEPT
 {
     return BALKWIZU_CONTENT(
         balkwizu_table_word(table, endpoint, BALKWIZU_PLACE_LOST));
@@ -411,9 +481,11 @@ static inline uint32_t balkwizu_table_lost(const uint32_t *table,
 /* The message in a slot: it is one where the slot is below the waiting count. */
 static inline uint32_t balkwizu_table_message(const uint32_t *table,
                                               uint32_t endpoint, uint32_t slot)
+    BALKWIZU_NOEXCEPT
 {
-    return BALKWIZU_CONTENT(
-        balkwizu_table_word(table, endpoint, BALKWIZU_PLACE_SLOTS + slot));
+    uint32_t place = slot < BALKWIZU_SLOTS ? BALKWIZU_PLACE_SLOTS + slot
+                                           : BALKWIZU_ENDPOINT_WORDS;
+    return BALKWIZU_CONTENT(balkwizu_table_word(table, endpoint, place));
 }
 
 /*
@@ -496,39 +568,45 @@ static inline uint32_t balkwizu_table_message(const uint32_t *table,
 #define BALKWIZU_ANSWER_CODE(word) (BALKWIZU_WORD(word) & 0xFFFFu)
 
 /*
- * The other two, the data words, of a call that was answered with code 0; answer
- * points to the first of the three. A refused call has no data: both are zero.
+ * The other two, the data words, of a call that was answered with code 0: look at the
+ * code first. A refused call has no data, both are zero, and reads as endpoint 0, message
+ * 0, no endpoint owned and no rights. Answer points to the first of the three; no other
+ * word is read, whatever is asked.
  */
 
 /* Look up: the number of the endpoint that has the name. */
-static inline uint32_t balkwizu_answer_endpoint(const uint32_t *answer)
+static inline uint32_t balkwizu_answer_endpoint(const uint32_t *answer) BALKWIZU_NOEXCEPT
 {
     return answer[1];
 }
 
 /* Receive: the message that was taken out. */
-static inline uint32_t balkwizu_answer_message(const uint32_t *answer)
+static inline uint32_t balkwizu_answer_message(const uint32_t *answer) BALKWIZU_NOEXCEPT
 {
     return answer[1];
 }
 
 /* Receive: the endpoint's lost count. */
-static inline uint32_t balkwizu_answer_lost(const uint32_t *answer)
+static inline uint32_t balkwizu_answer_lost(const uint32_t *answer) BALKWIZU_NOEXCEPT
 {
     return answer[2];
 }
 
-/* My endpoints: 1 where the caller owns the endpoint, 0 where it doesn't. */
+/* My endpoints: 1 where the caller owns the endpoint, 0 where it doesn't, as nobody does
+   one from 32 on. */
 static inline uint32_t balkwizu_answer_owns(const uint32_t *answer,
-                                            uint32_t endpoint)
+                                            uint32_t endpoint) BALKWIZU_NOEXCEPT
 {
-    return (answer[1] >> endpoint) & 1u;
+    return endpoint < BALKWIZU_ENDPOINTS_MAX ? (answer[1] >> endpoint) & 1u : 0u;
 }
 
-/* My rights: the caller's rights on a target, a set of enum balkwizu_right. */
+/* My rights: the caller's rights on a target, a set of enum balkwizu_right; on one from 16
+   on it has none. */
 static inline uint32_t balkwizu_answer_rights(const uint32_t *answer,
-                                              uint32_t target)
+                                              uint32_t target) BALKWIZU_NOEXCEPT
 {
+    if (target >= BALKWIZU_DOMAINS_MAX)
+        return 0;
     return (answer[1 + target / 8] >> (4 * (target % 8))) & 0xFu;
 }
 
@@ -558,11 +636,6 @@ uint32_t balkwizu_version(void)
  *   4  BALKWIZU_TABLE_BAD_RIGHTS    a rights word breaks its layout
  *   5  BALKWIZU_TABLE_BAD_ENDPOINT  an endpoint word does, or a name repeats
  *
- * The caller's duties:
- *   - bytes points to len bytes that may be read, at any alignment; it isn't a
- *     null pointer, also where len is 0;
- *   - nobody writes them during the call: no other core, interrupt or transfer.
- *
  * Example:
  *
  *     const uint8_t *image = (const uint8_t *)table;
@@ -574,10 +647,10 @@ uint32_t balkwizu_table_check(
     BALKWIZU_NOEXCEPT BALKWIZU_MUST_USE;
 
 /*
- * Runs a list of calls on a table. Words are in the processor's own byte order.
+ * Runs a list of calls on a table.
  *
- * Returns two numbers in one word: the code in bits 15-0 (BALKWIZU_RUN_CODE),
- * the number of calls in bits 31-16 (BALKWIZU_RUN_CALLS).
+ * Returns two numbers: the code (BALKWIZU_RUN_CODE), and the number of calls
+ * (BALKWIZU_RUN_CALLS).
  *   0  BALKWIZU_OK: the list was run to its end. The table is as the last call
  *      left it. Call i has its three answer words at BALKWIZU_ANSWER_AT(i), its
  *      own code in the first. Words beyond three for each call are untouched.
@@ -590,20 +663,11 @@ uint32_t balkwizu_table_check(
  * Holders are one word a domain: holders_len is n. Whatever they held, a list that
  * runs, an empty one too, leaves in word g the domains that have a right on domain g
  * now, bit h for domain h. They are kept call by call, so that whoever looks at them
- * after a run need not go through the table; balkwizu_who_reaches asks them.
- * (They came with request (h) of document 02.)
+ * after a run need not go through the table; balkwizu_who_reaches asks them, and says how
+ * long they are right. (They came with request (h) of document 02.)
  *
  * Codes 10 to 23 belong to single calls and stand in their answers; a call that
  * is refused doesn't end the run. 3 * list_len answer words are always enough.
- *
- * The caller's duties:
- *   - table, list, answers and holders each point to as many words as their length
- *     says: list may be read, the others may be read and written;
- *   - all four are aligned to four bytes, and none is a null pointer, also
- *     where its length is 0;
- *   - the four do not overlap, in no word;
- *   - nobody else reads or writes table, answers or holders, and nobody writes the
- *     list, during the call: no other core, interrupt or transfer.
  *
  * Example:
  *
@@ -612,8 +676,9 @@ uint32_t balkwizu_table_check(
  *         BALKWIZU_RECEIVE(1, 0),
  *     };
  *     uint32_t answers[2 * BALKWIZU_ANSWER_WORDS], holders[2];
- *     balkwizu_result result = balkwizu_run(table, table_len, list, 3,
- *                                           answers, 2 * BALKWIZU_ANSWER_WORDS, holders, 2);
+ *     balkwizu_result result =
+ *         balkwizu_run(table, table_len, list, BALKWIZU_COUNT(list),
+ *                      answers, BALKWIZU_COUNT(answers), holders, BALKWIZU_COUNT(holders));
  *     assert(BALKWIZU_RUN_CODE(result) == BALKWIZU_OK);
  *     assert(BALKWIZU_RUN_CALLS(result) == 2);
  *     const uint32_t *received = answers + BALKWIZU_ANSWER_AT(1);
@@ -630,7 +695,7 @@ balkwizu_result balkwizu_run(
 
 /*
  * The same run in a working layout, for long lists. All that is said of balkwizu_run
- * above holds of it, the caller's duties too: for every table and every list both
+ * above holds of it: for every table and every list both
  * return the same number and leave the same answers, holders and table words. (It
  * came with request (l) of document 02.)
  *
@@ -650,9 +715,11 @@ balkwizu_result balkwizu_run(
  *
  *     const uint32_t list[] = { BALKWIZU_MY_RIGHTS(0) };
  *     uint32_t answer[BALKWIZU_ANSWER_WORDS], holders[2];
- *     balkwizu_result result = balkwizu_run_working(table, table_len, list, 1, answer,
- *                                                   BALKWIZU_ANSWER_WORDS, holders, 2);
+ *     balkwizu_result result =
+ *         balkwizu_run_working(table, table_len, list, BALKWIZU_COUNT(list), answer,
+ *                              BALKWIZU_COUNT(answer), holders, BALKWIZU_COUNT(holders));
  *     assert(BALKWIZU_RUN_CODE(result) == BALKWIZU_OK);
+ *     assert(BALKWIZU_ANSWER_CODE(answer[0]) == BALKWIZU_OK);
  *     assert(balkwizu_answer_rights(answer, 1) == BALKWIZU_RIGHT_SEND);
  */
 balkwizu_result balkwizu_run_working(
@@ -665,7 +732,7 @@ balkwizu_result balkwizu_run_working(
 /*
  * The same run once more, which chooses by the list's length: a list of 128 words or
  * more runs as by balkwizu_run_working, a shorter one as by balkwizu_run. All that is
- * said of balkwizu_run holds of it, the caller's duties too, and which run it took can
+ * said of balkwizu_run holds of it, and which run it took can
  * be seen by nothing but the time. Choosing costs one comparison.
  *
  * Which of the three to take: this one. balkwizu_run where the stack is too short for
@@ -676,9 +743,11 @@ balkwizu_result balkwizu_run_working(
  *
  *     const uint32_t list[] = { BALKWIZU_LOOK_UP(0), BALKWIZU_SECOND(17) };
  *     uint32_t answer[BALKWIZU_ANSWER_WORDS], holders[2];
- *     balkwizu_result result = balkwizu_run_by_length(table, table_len, list, 2, answer,
- *                                                     BALKWIZU_ANSWER_WORDS, holders, 2);
+ *     balkwizu_result result =
+ *         balkwizu_run_by_length(table, table_len, list, BALKWIZU_COUNT(list), answer,
+ *                                BALKWIZU_COUNT(answer), holders, BALKWIZU_COUNT(holders));
  *     assert(BALKWIZU_RUN_CODE(result) == BALKWIZU_OK);
+ *     assert(BALKWIZU_ANSWER_CODE(answer[0]) == BALKWIZU_OK);
  *     assert(balkwizu_answer_endpoint(answer) == 0);
  */
 balkwizu_result balkwizu_run_by_length(
@@ -688,33 +757,80 @@ balkwizu_result balkwizu_run_by_length(
     uint32_t *BALKWIZU_RESTRICT holders, uint64_t holders_len)
     BALKWIZU_NOEXCEPT BALKWIZU_MUST_USE;
 
-/* What balkwizu_who_reaches returns, taken apart. */
-#define BALKWIZU_REACHES_CODE(result) ((result).word & 0xFFFFu)
-#define BALKWIZU_REACHES(result, domain)                                       \
-    (((result).word >> (16 + (domain))) & 1u)
-
 /*
- * Who can reach a domain: every domain with a chain of rights to it, of any length,
- * itself included, by the words that balkwizu_run leaves for the holders. After a run
- * these are just the chains in the table that it left. Nothing is written.
+ * Fills the holders with what the table says, by a run of no call, which leaves the table
+ * as it is: before the first question about a table, and after anything else than a run or
+ * a turn has written it, a repair too. It is compiled into the firmware and takes its own
+ * few words of stack beside BALKWIZU_RUN_STACK_BYTES.
  *
- * Returns two things in one word: the code in bits 15-0 (BALKWIZU_REACHES_CODE), and
- * in bit 16 + u whether domain u has a chain (BALKWIZU_REACHES).
- *   0   BALKWIZU_OK
- *   32  BALKWIZU_NOT_A_DOMAIN: holders_len isn't 1 to 16, a word has a bit from
- *       holders_len on, or domain isn't below holders_len; nobody is named
- *
- * The caller's duties:
- *   - holders points to holders_len words that may be read, aligned to four bytes;
- *     it isn't a null pointer, also where holders_len is 0;
- *   - nobody writes them during the call: no other core, interrupt or transfer.
+ * Returns one code: 0, 2 to 5 as balkwizu_table_check answers for the table's words, or 6,
+ * BALKWIZU_WRONG_SPACE, where holders_len isn't n. With another code than 0 no word was
+ * written, and the holders are no answer to anything.
  *
  * Example:
  *
- *     const uint32_t holders[] = { 0, 1 }; // as the run above leaves them
- *     balkwizu_result result = balkwizu_who_reaches(holders, 2, 1);
+ *     uint32_t holders[2];
+ *     uint32_t code =
+ *         balkwizu_fill_holders(table, table_len, holders, BALKWIZU_COUNT(holders));
+ *     assert(code == BALKWIZU_OK && holders[0] == 0 && holders[1] == 1);
+ */
+static inline uint32_t balkwizu_fill_holders(
+    uint32_t *BALKWIZU_RESTRICT table, uint64_t table_len,
+    uint32_t *BALKWIZU_RESTRICT holders, uint64_t holders_len)
+    BALKWIZU_NOEXCEPT BALKWIZU_MUST_USE;
+
+static inline uint32_t balkwizu_fill_holders(
+    uint32_t *BALKWIZU_RESTRICT table, uint64_t table_len,
+    uint32_t *BALKWIZU_RESTRICT holders, uint64_t holders_len) BALKWIZU_NOEXCEPT
+{
+    const uint32_t no_list[1] = { 0 };
+    uint32_t no_answers[1] = { 0 };
+    return BALKWIZU_RUN_CODE(balkwizu_run(table, table_len, no_list, 0, no_answers, 0,
+                                          holders, holders_len));
+}
+
+/* What balkwizu_who_reaches returns, taken apart. */
+#define BALKWIZU_REACHES_CODE(result) ((result).word & 0xFFFFu)
+
+/* 0 where the domain has no chain of rights to the one that was asked for, else 1. */
+static inline uint32_t balkwizu_may_reach(balkwizu_result result, uint32_t domain)
+    BALKWIZU_NOEXCEPT
+{
+    return balkwizu_not_excluded(result, domain);
+}
+
+/*
+ * Who can reach a domain: every domain with a chain of rights to it, of any length,
+ * itself included, by the holders that are lent. Nothing is written.
+ *
+ * The answer is about those words alone, and about a table only where they are right for
+ * it: from a run, a turn that served a call, balkwizu_turns_begin or balkwizu_fill_holders
+ * on this very table that had code 0, until anything else writes the table or them.
+ * Nothing can tell that they aren't: words of 0 are taken, and say that nobody reaches
+ * anybody. Where it isn't sure, fill them first.
+ *
+ * Returns two things: the code (BALKWIZU_REACHES_CODE), and in bit 16 + u of the word
+ * whether domain u has a chain (balkwizu_may_reach).
+ *   0   BALKWIZU_OK
+ *   32  BALKWIZU_BAD_QUESTION: holders_len isn't 1 to 16, a word has a bit from
+ *       holders_len on, or domain isn't below holders_len; no bit is set, and
+ *       balkwizu_may_reach is 1 of everybody
+ *
+ * Example:
+ *
+ *     uint32_t holders[2];
+ *     uint32_t code =
+ *         balkwizu_fill_holders(table, table_len, holders, BALKWIZU_COUNT(holders));
+ *     assert(code == BALKWIZU_OK);
+ *     balkwizu_result result = balkwizu_who_reaches(holders, BALKWIZU_COUNT(holders), 1);
  *     assert(BALKWIZU_REACHES_CODE(result) == BALKWIZU_OK);
- *     assert(BALKWIZU_REACHES(result, 0) == 1);
+ *     assert(balkwizu_may_reach(result, 0) == 1);
+ *     result = balkwizu_who_reaches(holders, BALKWIZU_COUNT(holders), 0);
+ *     assert(BALKWIZU_REACHES_CODE(result) == BALKWIZU_OK);
+ *     assert(balkwizu_may_reach(result, 1) == 0); // domain 1 has no right at all
+ *     result = balkwizu_who_reaches(holders, BALKWIZU_COUNT(holders), 2);
+ *     assert(BALKWIZU_REACHES_CODE(result) == BALKWIZU_BAD_QUESTION);
+ *     assert(balkwizu_may_reach(result, 1) == 1); // nothing is known of domain 2
  */
 balkwizu_result balkwizu_who_reaches(
     const uint32_t *BALKWIZU_RESTRICT holders, uint64_t holders_len,
@@ -723,8 +839,13 @@ balkwizu_result balkwizu_who_reaches(
 
 /* What balkwizu_component returns, taken apart. */
 #define BALKWIZU_COMPONENT_CODE(result) ((result).word & 0xFFFFu)
-#define BALKWIZU_COMPONENT_HAS(result, domain)                                 \
-    (((result).word >> (16 + (domain))) & 1u)
+
+/* 0 where the domain is no member of the component, else 1. */
+static inline uint32_t balkwizu_may_be_in_component(balkwizu_result result, uint32_t domain)
+    BALKWIZU_NOEXCEPT
+{
+    return balkwizu_not_excluded(result, domain);
+}
 
 /*
  * The component of a domain in a table: two domains are joined when either has a
@@ -733,25 +854,20 @@ balkwizu_result balkwizu_who_reaches(
  * domain influence one outside the component that it starts in. Without all the calls
  * from outside it, a domain has the same answers, rights, queues and lost counts. This
  * is about calls: a look up finds endpoints of other components too, by their names,
- * which no call alters. Words are in the processor's own byte order. Nothing is written.
+ * which no call alters. Nothing is written.
  *
- * Returns two things in one word: the code in bits 15-0 (BALKWIZU_COMPONENT_CODE),
- * and in bit 16 + u whether domain u is a member (BALKWIZU_COMPONENT_HAS).
+ * Returns two things: the code (BALKWIZU_COMPONENT_CODE), and in bit 16 + u of the word
+ * whether domain u is a member (balkwizu_may_be_in_component).
  *   0       BALKWIZU_OK
  *   2 to 5  as balkwizu_table_check answers, for the table's words
- *   32      BALKWIZU_NOT_A_DOMAIN
- * With 2 to 5 and 32 there is no member.
- *
- * The caller's duties:
- *   - table points to table_len words that may be read, aligned to four bytes; it
- *     isn't a null pointer, also where table_len is 0;
- *   - nobody writes them during the call: no other core, interrupt or transfer.
+ *   32      BALKWIZU_BAD_QUESTION: the domain isn't below n
+ * With 2 to 5 and 32 no bit is set, and balkwizu_may_be_in_component is 1 of everybody.
  *
  * Example:
  *
  *     balkwizu_result result = balkwizu_component(table, table_len, 0);
  *     assert(BALKWIZU_COMPONENT_CODE(result) == BALKWIZU_OK);
- *     assert(BALKWIZU_COMPONENT_HAS(result, 1) == 1);
+ *     assert(balkwizu_may_be_in_component(result, 1) == 1);
  */
 balkwizu_result balkwizu_component(
     const uint32_t *BALKWIZU_RESTRICT table, uint64_t table_len,
@@ -765,8 +881,7 @@ balkwizu_result balkwizu_component(
  * What could ever come about: the rights that each domain could come to have on each
  * other by any list of calls that only the actors make, of any length. Actors are a
  * set of domains, bit u for domain u. It is exact: no list by actors gives a right that
- * isn't told, and there is a list that gives all that are told. Words are in the
- * processor's own byte order. The table isn't written.
+ * isn't told, and there is a list that gives all that are told. The table isn't written.
  *
  * Returns one code:
  *   0       BALKWIZU_OK: word BALKWIZU_POTENTIAL_AT(n, h, g) of rights is the set, of
@@ -774,16 +889,8 @@ balkwizu_result balkwizu_component(
  *           has in the table is part of it
  *   2 to 5  as balkwizu_table_check answers, for the table's words
  *   6       BALKWIZU_WRONG_SPACE: rights_len isn't n * n
- *   32      BALKWIZU_NOT_A_DOMAIN: actors has a bit from n on
+ *   32      BALKWIZU_BAD_QUESTION: actors has a bit from n on
  * With another code than 0 no word was written.
- *
- * The caller's duties:
- *   - table points to table_len words that may be read and rights to rights_len words
- *     that may be read and written, both aligned to four bytes; neither is a null
- *     pointer, also where its length is 0;
- *   - the two do not overlap, in no word;
- *   - nobody writes the table and nobody else reads or writes rights during the call:
- *     no other core, interrupt or transfer.
  *
  * Example:
  *
@@ -802,8 +909,13 @@ uint32_t balkwizu_potential(
 
 /* What balkwizu_could_influence returns, taken apart. */
 #define BALKWIZU_INFLUENCE_CODE(result) ((result).word & 0xFFFFu)
-#define BALKWIZU_COULD_INFLUENCE(result, domain)                               \
-    (((result).word >> (16 + (domain))) & 1u)
+
+/* 0 where the domain could never influence the one that was asked for, else 1. */
+static inline uint32_t balkwizu_may_influence(balkwizu_result result, uint32_t domain)
+    BALKWIZU_NOEXCEPT
+{
+    return balkwizu_not_excluded(result, domain);
+}
 
 /*
  * Who could ever influence a domain by any list of calls that only the actors make, of
@@ -817,31 +929,26 @@ uint32_t balkwizu_potential(
  * It is exact for the source set, by which influence along a list is defined: no list by
  * actors makes another domain a source, and one list makes all that are reported
  * sources. Not every source can show something: one that has REMOVE on the domain and no
- * other right is reported too. Words are in the processor's own byte order. Nothing is
- * written.
+ * other right is reported too. Nothing is written.
  *
- * Returns two things in one word: the code in bits 15-0 (BALKWIZU_INFLUENCE_CODE), and in
- * bit 16 + u whether domain u could influence it (BALKWIZU_COULD_INFLUENCE).
+ * Returns two things: the code (BALKWIZU_INFLUENCE_CODE), and in bit 16 + u of the word
+ * whether domain u could influence it (balkwizu_may_influence).
  *   0       BALKWIZU_OK
  *   2 to 5  as balkwizu_table_check answers, for the table's words
- *   32      BALKWIZU_NOT_A_DOMAIN: the domain isn't below n, or actors has a bit from
+ *   32      BALKWIZU_BAD_QUESTION: the domain isn't below n, or actors has a bit from
  *           n on
- * With 2 to 5 and 32 no domain is reported. The rights that could come about are
- * computed on the stack, 1,024 bytes of it.
- *
- * The caller's duties:
- *   - table points to table_len words that may be read, aligned to four bytes; it
- *     isn't a null pointer, also where table_len is 0;
- *   - nobody writes them during the call: no other core, interrupt or transfer.
+ * With 2 to 5 and 32 no bit is set, and balkwizu_may_influence is 1 of everybody. The
+ * rights that could come about are computed on the stack, 1,024 bytes of it.
  *
  * Example:
  *
  *     uint32_t everybody = 3; // both domains act
  *     balkwizu_result result = balkwizu_could_influence(table, table_len, everybody, 1);
  *     assert(BALKWIZU_INFLUENCE_CODE(result) == BALKWIZU_OK);
- *     assert(BALKWIZU_COULD_INFLUENCE(result, 0) == 1);
+ *     assert(balkwizu_may_influence(result, 0) == 1);
  *     result = balkwizu_could_influence(table, table_len, everybody, 0);
- *     assert(BALKWIZU_COULD_INFLUENCE(result, 1) == 0); // by no list of calls
+ *     assert(BALKWIZU_INFLUENCE_CODE(result) == BALKWIZU_OK);
+ *     assert(balkwizu_may_influence(result, 1) == 0); // by no list of calls
  */
 balkwizu_result balkwizu_could_influence(
     const uint32_t *BALKWIZU_RESTRICT table, uint64_t table_len,
@@ -859,10 +966,11 @@ balkwizu_result balkwizu_could_influence(
  * broken rights word becomes an empty set, and an endpoint with a broken waiting, lost
  * or slot word gets an empty queue and lost 0. For each word that was altered, lowest
  * place first, two words are written to changes: its place from 0, and its old content.
- * A sound table stays and has no changes. Words are in the processor's own byte order.
+ * A sound table stays and has no changes. Holders that were right before it are no longer:
+ * balkwizu_fill_holders fills them anew.
  *
- * Returns two numbers in one word: the code in bits 15-0 (BALKWIZU_REPAIR_CODE), and
- * how many words were altered in bits 31-16 (BALKWIZU_REPAIR_ALTERED).
+ * Returns two numbers: the code (BALKWIZU_REPAIR_CODE), and how many words were altered
+ * (BALKWIZU_REPAIR_ALTERED).
  *   0   BALKWIZU_OK: balkwizu_table_check accepts the table now
  *   33  BALKWIZU_NOT_REPAIRABLE
  *   34  BALKWIZU_CHANGES_TOO_SHORT
@@ -870,20 +978,12 @@ balkwizu_result balkwizu_could_influence(
  * BALKWIZU_CHANGES_WORDS_MAX words are enough for any table. The table is mended in a
  * copy on the stack first, 2,564 bytes of it.
  *
- * The caller's duties:
- *   - table and changes each point to as many words as their length says, which may be
- *     read and written, aligned to four bytes; neither is a null pointer, also where
- *     its length is 0;
- *   - the two do not overlap, in no word;
- *   - nobody else reads or writes them during the call: no other core, interrupt or
- *     transfer.
- *
  * Example:
  *
  *     static uint32_t changes[BALKWIZU_CHANGES_WORDS_MAX];
  *     table[1] = 0x20000037u; // as a worn card gives it back
- *     balkwizu_result result = balkwizu_repair(table, table_len,
- *                                              changes, BALKWIZU_CHANGES_WORDS_MAX);
+ *     balkwizu_result result =
+ *         balkwizu_repair(table, table_len, changes, BALKWIZU_COUNT(changes));
  *     assert(BALKWIZU_REPAIR_CODE(result) == BALKWIZU_OK);
  *     assert(BALKWIZU_REPAIR_ALTERED(result) == 1);
  *     assert(table[1] == BALKWIZU_TABLE_RIGHTS(0));
@@ -914,27 +1014,45 @@ balkwizu_result balkwizu_repair(
  */
 #define BALKWIZU_CALL_COLUMNS 5
 
-/* What balkwizu_write returns, taken apart: the code, and the number that goes with it.
- * Each calls a function, so that its argument is evaluated once. */
+/*
+ * What balkwizu_write returns: a structure, so that it can't be compared with a code
+ * either. The function of the archive returns the number itself, which on a 32-bit
+ * processor is in other registers than a structure of its length: the macro
+ * balkwizu_write makes one of it.
+ */
+typedef struct {
+    uint64_t number;
+} balkwizu_written;
+
+static inline balkwizu_written balkwizu_as_written(uint64_t number)
+    BALKWIZU_NOEXCEPT BALKWIZU_MUST_USE;
+
+static inline balkwizu_written balkwizu_as_written(uint64_t number) BALKWIZU_NOEXCEPT
+{
+    balkwizu_written written = { number };
+    return written;
+}
+
+/* Taken apart: the code, and the number that goes with it. */
 #define BALKWIZU_WRITE_CODE(result) (balkwizu_write_code(result))
 #define BALKWIZU_WRITE_NUMBER(result) (balkwizu_write_number(result))
 
-static inline uint32_t balkwizu_write_code(uint64_t result)
+static inline uint32_t balkwizu_write_code(balkwizu_written result) BALKWIZU_NOEXCEPT
 {
-    if (result <= BALKWIZU_LIST_WORDS_MAX)
+    if (result.number <= BALKWIZU_LIST_WORDS_MAX)
         return BALKWIZU_OK;
-    if (result == BALKWIZU_LIST_WORDS_MAX + 1)
+    if (result.number == BALKWIZU_LIST_WORDS_MAX + 1)
         return BALKWIZU_WRITTEN_TOO_LONG;
     return BALKWIZU_BAD_CALL;
 }
 
-static inline uint64_t balkwizu_write_number(uint64_t result)
+static inline uint64_t balkwizu_write_number(balkwizu_written result) BALKWIZU_NOEXCEPT
 {
-    if (result <= BALKWIZU_LIST_WORDS_MAX)
-        return result;
-    if (result == BALKWIZU_LIST_WORDS_MAX + 1)
+    if (result.number <= BALKWIZU_LIST_WORDS_MAX)
+        return result.number;
+    if (result.number == BALKWIZU_LIST_WORDS_MAX + 1)
         return 0;
-    return result - (BALKWIZU_LIST_WORDS_MAX + 2);
+    return result.number - (BALKWIZU_LIST_WORDS_MAX + 2);
 }
 
 /*
@@ -944,8 +1062,8 @@ static inline uint64_t balkwizu_write_number(uint64_t result)
  * bits, endpoint, recipient, holder and rights 8, name and message 28, and what a
  * run says of a number within them is the run's.
  *
- * Returns a code (BALKWIZU_WRITE_CODE) and a number (BALKWIZU_WRITE_NUMBER) in one
- * number of 64 bits.
+ * Returns a code (BALKWIZU_WRITE_CODE) and a number (BALKWIZU_WRITE_NUMBER) in one number
+ * of 64 bits, the member of a balkwizu_written:
  *   up to 4,096  BALKWIZU_OK, 0: so many words are written at the front of the list.
  *                Words after them are untouched.
  *   4,097        BALKWIZU_WRITTEN_TOO_LONG, 31: every call can be written, but their
@@ -956,15 +1074,6 @@ static inline uint64_t balkwizu_write_number(uint64_t result)
  *                are such a call too. All calls are looked at, however many.
  * With 30 and 31 no word of the list was written. The calls are never written.
  *
- * The caller's duties:
- *   - calls and list each point to as many words as their length says: calls may be
- *     read, list may be read and written;
- *   - both are aligned to four bytes, and neither is a null pointer, also where its
- *     length is 0;
- *   - the two do not overlap, in no word;
- *   - nobody else reads or writes the list, and nobody writes the calls, during the
- *     call: no other core, interrupt or transfer.
- *
  * Example:
  *
  *     const uint32_t calls[] = {
@@ -972,8 +1081,8 @@ static inline uint64_t balkwizu_write_number(uint64_t result)
  *         BALKWIZU_KIND_RECEIVE, 1, 0, 0, 0,
  *     };
  *     static uint32_t list[BALKWIZU_LIST_WORDS_MAX];
- *     uint64_t result = balkwizu_write(calls, 2 * BALKWIZU_CALL_COLUMNS,
- *                                      list, BALKWIZU_LIST_WORDS_MAX);
+ *     balkwizu_written result =
+ *         balkwizu_write(calls, BALKWIZU_COUNT(calls), list, BALKWIZU_COUNT(list));
  *     assert(BALKWIZU_WRITE_CODE(result) == BALKWIZU_OK);
  *     assert(BALKWIZU_WRITE_NUMBER(result) == 3);
  *     assert(list[0] == BALKWIZU_SEND(0, 0) && list[1] == BALKWIZU_SECOND(5));
@@ -982,6 +1091,9 @@ uint64_t balkwizu_write(
     const uint32_t *BALKWIZU_RESTRICT calls, uint64_t calls_len,
     uint32_t *BALKWIZU_RESTRICT list, uint64_t list_len)
     BALKWIZU_NOEXCEPT BALKWIZU_MUST_USE;
+
+#define balkwizu_write(calls, calls_len, list, list_len)                       \
+    (balkwizu_as_written((balkwizu_write)(calls, calls_len, list, list_len)))
 
 /*
  * Turns: a layer above the kernel for a line on which each domain hands in its calls
@@ -1042,15 +1154,6 @@ uint32_t balkwizu_turns_version(void)
  *   6       BALKWIZU_WRONG_SPACE: holders_len isn't n
  *   99      BALKWIZU_BAD_TURNS
  * With another code than 0 no word was written. The table is never written.
- *
- * The caller's duties:
- *   - table, state and holders each point to as many words as their length says: the
- *     table may be read, the others may be read and written;
- *   - all three are aligned to four bytes, and none is a null pointer, also where its
- *     length is 0;
- *   - state and holders overlap neither each other nor the table, in no word;
- *   - nobody else reads or writes state or holders, and nobody writes the table, during
- *     the call: no other core, interrupt or transfer.
  */
 uint32_t balkwizu_turns_begin(
     const uint32_t *BALKWIZU_RESTRICT table, uint64_t table_len,
@@ -1066,20 +1169,11 @@ uint32_t balkwizu_turns_begin(
  * Returns one code:
  *   0       BALKWIZU_OK: the call is pending
  *   2 to 5  as balkwizu_table_check answers, for the table's words
- *   35      BALKWIZU_UNKNOWN_DOMAIN
+ *   35      BALKWIZU_HAND_IN_BAD_DOMAIN
  *   36      BALKWIZU_NOT_ONE_CALL
  *   99      BALKWIZU_BAD_TURNS
  *   37      BALKWIZU_NO_ROOM: it can be handed in once the domain was served
  * With another code than 0 no word was written. Table and words are never written.
- *
- * The caller's duties:
- *   - table, state and words each point to as many words as their length says: state
- *     may be read and written, the others may be read;
- *   - all three are aligned to four bytes, and none is a null pointer, also where its
- *     length is 0;
- *   - the state overlaps neither of the others, in no word;
- *   - nobody else reads or writes the state, and nobody writes table or words, during
- *     the call: no other core, interrupt or transfer.
  */
 uint32_t balkwizu_hand_in(
     const uint32_t *BALKWIZU_RESTRICT table, uint64_t table_len,
@@ -1096,8 +1190,8 @@ uint32_t balkwizu_hand_in(
  * A turn: starts after the domain served last, goes up and round to 0, and serves the
  * oldest call of the first domain that has one pending. With none pending it is idle.
  *
- * Returns two numbers in one word: the code in bits 15-0 (BALKWIZU_TURN_CODE), and the
- * calls served in bits 31-16 (BALKWIZU_TURN_SERVED), 1 or 0.
+ * Returns two numbers: the code (BALKWIZU_TURN_CODE), and the calls served
+ * (BALKWIZU_TURN_SERVED), 1 or 0.
  *   0       BALKWIZU_OK. Where a call was served, its three answer words are the first
  *           of answer, as in a run, with whose call it was (BALKWIZU_ANSWER_CALLER);
  *           table and holders are as a run of that call leaves them. Answer words
@@ -1109,14 +1203,6 @@ uint32_t balkwizu_hand_in(
  *   6       BALKWIZU_WRONG_SPACE, behind 99: a call is pending and answer_len is under 3
  * With another code than 0 nothing is served and no word was written. The table is
  * checked at every turn; with many endpoints that is most of what a turn costs.
- *
- * The caller's duties:
- *   - table, state, holders and answer each point to as many words as their length
- *     says, which may be read and written, aligned to four bytes; none is a null
- *     pointer, also where its length is 0;
- *   - the four do not overlap, in no word;
- *   - nobody else reads or writes them during the call: no other core, interrupt or
- *     transfer. An interrupt must not hand in during a turn.
  *
  * Example:
  *

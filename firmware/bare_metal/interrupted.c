@@ -128,8 +128,7 @@ static void make_lent(void)
     lent.state[BALKWIZU_TURNS_COUNT_AT(2) + 2] = list[3];
 }
 
-#define COUNT(words) (sizeof(words) / sizeof *(words))
-#define WORDS(words) (uintptr_t)(words), COUNT(words)
+#define WORDS(words) (uintptr_t)(words), BALKWIZU_COUNT(words)
 #define CALL(returns, function, ...)                                                   \
     { #function, { (void (*)(void))function, { __VA_ARGS__ } }, returns }
 
@@ -168,7 +167,7 @@ static uint64_t returned(const struct tried *tried, uint64_t flags)
 static int is_refused(const struct tried *tried, uint64_t result)
 {
     if (tried->returns == WRITTEN)
-        return BALKWIZU_WRITE_CODE(result) != BALKWIZU_OK;
+        return BALKWIZU_WRITE_CODE(balkwizu_as_written(result)) != BALKWIZU_OK;
     return tried->returns == CODE && returned_code(result) != BALKWIZU_OK;
 }
 
@@ -214,7 +213,7 @@ int main(int count, char **words)
         below_too = strcmp(words[1], "stack") == 0;
         registers_too = strcmp(words[1], "registers") == 0;
     }
-    for (size_t i = 0; i < COUNT(all); i++)
+    for (size_t i = 0; i < BALKWIZU_COUNT(all); i++)
         different |= tell(&all[i]);
     return different;
 }
