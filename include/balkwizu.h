@@ -63,7 +63,7 @@ extern "C" {
  * Which release this header is of, and the three numbers in one word, so that a later
  * release is a larger number. balkwizu_version tells the archive's.
  */
-#define BALKWIZU_VERSION_MAJOR 2
+#define BALKWIZU_VERSION_MAJOR 3
 #define BALKWIZU_VERSION_MINOR 0
 #define BALKWIZU_VERSION_PATCH 0
 #define BALKWIZU_VERSION                                                       \

@@ -3,7 +3,7 @@
 use Prim.Native.Nat.{ℕ, _+_, _*_}
 
 unfoldable pub major : ℕ
-major = 2
+major = 3
 
 unfoldable pub minor : ℕ
 minor = 0
