@@ -59,6 +59,7 @@ const TURNS: Archive = Archive {
         "balkwizu_turns_begin",
         "balkwizu_hand_in",
         "balkwizu_turn",
+        "balkwizu_step",
         "balkwizu_turns_version",
     ],
 };

@@ -688,6 +688,64 @@ static void begin_on_t(void)
     IS(begin(BALKWIZU_TURNS_WORDS(3), 3), BALKWIZU_OK);
 }
 
+/* A step on T, with so many words of a call and for its answer and the holders. */
+static uint32_t step(size_t holder_words, const uint32_t *call, size_t words, size_t space)
+{
+    return balkwizu_step(table, EXAMPLE_TABLE_WORDS, holders, holder_words, call, words,
+                         answers, space);
+}
+
+/* L on T call by call: the answers, the holders and the table are those of the run. */
+static void steps_of_l(void)
+{
+    static uint32_t of_run[EXAMPLE_TABLE_WORDS];
+    put_table_t();
+    IS_RESULT(run_l(27, 3), 0x00090000);
+    memcpy(of_run, table, sizeof of_run);
+    put_table_t();
+    for (size_t i = 0, call = 0; i < EXAMPLE_LIST_WORDS; call++) {
+        size_t words = i + 1 < EXAMPLE_LIST_WORDS && example_list[i] >> 28 == 2 ? 2 : 1;
+        memset(answers, 0x77, sizeof answers);
+        memset(holders, 0x77, sizeof holders);
+        IS(step(3, example_list + i, words, 4), BALKWIZU_OK);
+        IS(BALKWIZU_ANSWER_CALLER(answers[0]), lines_of_l[call][0]);
+        IS(BALKWIZU_ANSWER_KIND(answers[0]), lines_of_l[call][1]);
+        IS(BALKWIZU_ANSWER_CODE(answers[0]), lines_of_l[call][2]);
+        IS(answers[1], lines_of_l[call][3]);
+        IS(answers[2], lines_of_l[call][4]);
+        IS(answers[3], 0x77777777);
+        IS(holders[2], call < 1 ? 2 : 3); /* the grant is call 1 */
+        i += words;
+    }
+    IS(memcmp(table, of_run, sizeof of_run), 0);
+}
+
+/* What a step refuses, in the order of its codes: nothing is written. */
+static void steps_refused(void)
+{
+    static const uint32_t call[] = { BALKWIZU_SEND(0, 0), BALKWIZU_SECOND(8), 0 };
+    put_table_t();
+    memset(answers, 0x77, sizeof answers);
+    memset(holders, 0x77, sizeof holders);
+    IS(step(3, call, 0, 2), BALKWIZU_NOT_ONE_CALL);
+    IS(step(3, call, 3, 2), BALKWIZU_NOT_ONE_CALL);
+    IS(step(3, call + 1, 2, 3), BALKWIZU_NOT_ONE_CALL); /* a stray, and another */
+    IS(step(2, call, 2, 2), BALKWIZU_WRONG_SPACE);
+    IS(step(2, call, 2, 3), BALKWIZU_WRONG_SPACE);
+    IS(step(4, call, 2, 3), BALKWIZU_WRONG_SPACE);
+    IS(memcmp(table, example_table, sizeof example_table), 0);
+    table[9] = 0x20000010; /* P6 */
+    IS(step(2, call, 2, 2), BALKWIZU_WRONG_SPACE);
+    IS(step(2, call, 2, 3), BALKWIZU_TABLE_BAD_RIGHTS);
+    IS(answers[0], 0x77777777);
+    IS(holders[0], 0x77777777);
+    put_table_t();
+    IS(step(3, call, 1, 3), BALKWIZU_OK); /* without its second word: 14 */
+    IS(answers[0], 0x2000000E);
+    IS(step(3, call + 1, 1, 3), BALKWIZU_OK); /* a stray: 10 */
+    IS(answers[0], 0xF000000A);
+}
+
 static void words_of_turns(void)
 {
     IS(BALKWIZU_PENDING_WORDS, 16);
@@ -933,6 +991,8 @@ int main(void)
     calls_written();
     results_written();
     bad_call_above_65535();
+    steps_of_l();
+    steps_refused();
     words_of_turns();
     turns_of_t();
     turns_refused();

@@ -31,6 +31,7 @@ static uint32_t rights[DOMAINS * DOMAINS];
 static uint32_t calls[BALKWIZU_LIST_WORDS_MAX][BALKWIZU_CALL_COLUMNS];
 static uint32_t holders[DOMAINS];
 static uint32_t state[BALKWIZU_TURNS_WORDS(DOMAINS)];
+static uint32_t step_words[2]; /* the words of the call that a step runs */
 static uint32_t pending[2]; /* the words of the call that a turn serves */
 
 /* Sends that fill queues and more, receives that move them up, and every other
@@ -159,6 +160,26 @@ static int tell_turn(const struct call *turn)
     return say("balkwizu_turn", most, BALKWIZU_TURN_STACK_BYTES, refused);
 }
 
+/* The most that a step takes, of the same calls: each as it is in the list, of one word or
+ * of two. */
+static int tell_step(const struct call *of_two, const struct call *of_one)
+{
+    const uint32_t *calls_of_last = list + 17 * (DOMAINS - 1);
+    size_t most = 0;
+    uint32_t refused = BALKWIZU_OK;
+    uint64_t result;
+    for (size_t i = 0; i < 17; i++) {
+        int two = i < 16 && calls_of_last[i + 1] >> 28 == BALKWIZU_KIND_SECOND;
+        step_words[0] = calls_of_last[i];
+        step_words[1] = two ? calls_of_last[i + 1] : 0;
+        bytes_taken(two ? of_two : of_one, &result);
+        size_t bytes = bytes_taken(two ? of_two : of_one, &result);
+        most = bytes > most ? bytes : most;
+        refused |= returned_code(result);
+    }
+    return say("balkwizu_step", most, BALKWIZU_STEP_STACK_BYTES, refused);
+}
+
 /* The functions of the turns; the first call of the list is domain 0's. */
 static int tell_turns(void)
 {
@@ -176,10 +197,17 @@ static int tell_turns(void)
                                  (uintptr_t)state, BALKWIZU_TURNS_WORDS(DOMAINS),
                                  (uintptr_t)holders, DOMAINS, (uintptr_t)answers,
                                  BALKWIZU_ANSWER_WORDS } };
+    const struct call step = { (void (*)(void))balkwizu_step,
+                               { (uintptr_t)table, BALKWIZU_TABLE_WORDS_MAX,
+                                 (uintptr_t)holders, DOMAINS, (uintptr_t)step_words, 2,
+                                 (uintptr_t)answers, BALKWIZU_ANSWER_WORDS } };
+    struct call short_step = step;
+    short_step.given[5] = 1;
     int failed = tell_plain("balkwizu_turns_version", &version,
                             BALKWIZU_TURNS_VERSION_STACK_BYTES);
     failed |= tell("balkwizu_turns_begin", &begin, BALKWIZU_TURNS_BEGIN_STACK_BYTES);
     failed |= tell("balkwizu_hand_in", &hand_in, BALKWIZU_HAND_IN_STACK_BYTES);
+    failed |= tell_step(&step, &short_step);
     return failed | tell_turn(&turn);
 }
 

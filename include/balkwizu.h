@@ -159,6 +159,7 @@ constexpr size_t balkwizu_count(Element (&)[Number]) noexcept
  *     balkwizu_write: general registers, unmarked jumps
  *   libbalkwizu_turns.a
  *     balkwizu_hand_in: general and xmm registers, aligned stack
+ *     balkwizu_step: general and xmm registers, aligned stack, unmarked jumps
  *     balkwizu_turn: general and xmm registers, aligned stack, unmarked jumps
  *     balkwizu_turns_begin: general and xmm registers, aligned stack
  *     balkwizu_turns_version: general registers
@@ -178,6 +179,7 @@ constexpr size_t balkwizu_count(Element (&)[Number]) noexcept
 #define BALKWIZU_TURNS_VERSION_STACK_BYTES 256
 #define BALKWIZU_HAND_IN_STACK_BYTES 1024
 #define BALKWIZU_TURN_STACK_BYTES 1024
+#define BALKWIZU_STEP_STACK_BYTES 1024
 
 /* The most that a table, a list and its answers can have, in words. */
 #define BALKWIZU_DOMAINS_MAX 16
@@ -313,7 +315,8 @@ enum balkwizu_code {
        of a beginning and of a turn too, and comes before 37. */
     BALKWIZU_HAND_IN_BAD_DOMAIN = 35, /* the domain that hands in isn't below n */
     BALKWIZU_NOT_ONE_CALL = 36,    /* the words aren't exactly one call, no stray,
-                                      with the domain as its caller */
+                                      with the domain as its caller; of a step: not
+                                      exactly one call */
     BALKWIZU_NO_ROOM = 37,         /* the domain's pending words would pass 16 */
     BALKWIZU_BAD_TURNS = 99        /* the state isn't BALKWIZU_TURNS_WORDS(n) words;
                                       no paper has this number */
@@ -759,8 +762,8 @@ balkwizu_result balkwizu_run_by_length(
 
 /*
  * Fills the holders with what the table says, by a run of no call, which leaves the table
- * as it is: before the first question about a table, and after anything else than a run or
- * a turn has written it, a repair too. It is compiled into the firmware and takes its own
+ * as it is: before the first question about a table, and after anything else than a run, a
+ * step or a turn has written it, a repair too. It is compiled into the firmware and takes its own
  * few words of stack beside BALKWIZU_RUN_STACK_BYTES.
  *
  * Returns one code: 0, 2 to 5 as balkwizu_table_check answers for the table's words, or 6,
@@ -804,8 +807,8 @@ static inline uint32_t balkwizu_may_reach(balkwizu_result result, uint32_t domai
  * itself included, by the holders that are lent. Nothing is written.
  *
  * The answer is about those words alone, and about a table only where they are right for
- * it: from a run, a turn that served a call, balkwizu_turns_begin or balkwizu_fill_holders
- * on this very table that had code 0, until anything else writes the table or them.
+ * it: from a run, balkwizu_step, a turn that served a call, balkwizu_turns_begin or
+ * balkwizu_fill_holders on this very table that had code 0, until anything else writes the table or them.
  * Nothing can tell that they aren't: words of 0 are taken, and say that nobody reaches
  * anybody. Where it isn't sure, fill them first.
  *
@@ -1094,6 +1097,42 @@ uint64_t balkwizu_write(
 
 #define balkwizu_write(calls, calls_len, list, list_len)                       \
     (balkwizu_as_written((balkwizu_write)(calls, calls_len, list, list_len)))
+
+/*
+ * One call by itself, for a line that looks at the holders after each call: as a run of a
+ * list of that call alone. Words are the call's, one or two, as in a list. It is in
+ * libbalkwizu_turns.a and needs no state.
+ *
+ * Returns one code, the first that applies:
+ *   0       BALKWIZU_OK: the call was run, and its own code is in the first of the three
+ *           answer words, as in a run. Answer words beyond the third are untouched. The
+ *           holders are what the table says now.
+ *   36      BALKWIZU_NOT_ONE_CALL: the words aren't exactly one call (a second word alone
+ *           is one here as in a list, and answered with 10)
+ *   6       BALKWIZU_WRONG_SPACE: answer_len is under 3
+ *   2 to 5  as balkwizu_table_check answers, for the table's words
+ *   6       BALKWIZU_WRONG_SPACE, behind 2 to 5: holders_len isn't n
+ * With another code than 0 no word was written.
+ *
+ * Example:
+ *
+ *     uint32_t holders[2], answer[BALKWIZU_ANSWER_WORDS];
+ *     const uint32_t call[] = { BALKWIZU_SEND(0, 0), BALKWIZU_SECOND(5) };
+ *     uint32_t code =
+ *         balkwizu_step(table, table_len, holders, BALKWIZU_COUNT(holders),
+ *                       call, BALKWIZU_COUNT(call), answer, BALKWIZU_COUNT(answer));
+ *     assert(code == BALKWIZU_OK);
+ *     assert(BALKWIZU_ANSWER_CODE(answer[0]) == BALKWIZU_OK);
+ *     balkwizu_result result = balkwizu_who_reaches(holders, BALKWIZU_COUNT(holders), 1);
+ *     assert(BALKWIZU_REACHES_CODE(result) == BALKWIZU_OK);
+ *     assert(balkwizu_may_reach(result, 0) == 1);
+ */
+uint32_t balkwizu_step(
+    uint32_t *BALKWIZU_RESTRICT table, uint64_t table_len,
+    uint32_t *BALKWIZU_RESTRICT holders, uint64_t holders_len,
+    const uint32_t *BALKWIZU_RESTRICT words, uint64_t words_len,
+    uint32_t *BALKWIZU_RESTRICT answer, uint64_t answer_len)
+    BALKWIZU_NOEXCEPT BALKWIZU_MUST_USE;
 
 /*
  * Turns: a layer above the kernel for a line on which each domain hands in its calls

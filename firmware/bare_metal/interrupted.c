@@ -152,6 +152,8 @@ static const struct tried all[] = {
          WORDS(lent.holders)),
     CALL(CODE, balkwizu_hand_in, WORDS(lent.table), WORDS(lent.state), 3,
          (uintptr_t)(lent.list + 7), 1),
+    CALL(CODE, balkwizu_step, WORDS(lent.table), WORDS(lent.holders),
+         (uintptr_t)(lent.list + 2), 2, (uintptr_t)lent.answers, BALKWIZU_ANSWER_WORDS),
     CALL(CODE, balkwizu_turn, WORDS(lent.table), WORDS(lent.state), WORDS(lent.holders),
          (uintptr_t)lent.answers, BALKWIZU_ANSWER_WORDS),
 };

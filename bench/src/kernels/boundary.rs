@@ -431,8 +431,10 @@ pub fn kernel(name: &str) -> Result<Kernel, String> {
 #[cfg(test)]
 mod tests {
     use super::*;
+    use crate::cases::random::run_case;
     #[cfg(test_export)]
-    use crate::cases::{random::run_case, Case};
+    use crate::cases::Case;
+    use reference::calls::cut;
     use reference::example::{LIST_L, TABLE_T};
 
     /// Who has a right on each domain once L has run on T: a bit for each holder.
@@ -485,6 +487,61 @@ mod tests {
             wrong.contains("balkwizu, balkwizu-working, balkwizu-by-length, plain-gcc"),
             "{wrong}"
         );
+    }
+
+    /// One call by the archive's function for it: its code.
+    fn single(table: &mut [u32], holders: &mut [u32], words: &[u32], answer: &mut [u32]) -> u32 {
+        extern "C" {
+            fn balkwizu_step(
+                table: *mut u32,
+                table_len: usize,
+                holders: *mut u32,
+                holders_len: usize,
+                words: *const u32,
+                words_len: usize,
+                answer: *mut u32,
+                answer_len: usize,
+            ) -> u32;
+        }
+        // SAFETY: four slices, each valid for its length, aligned and borrowed alone.
+        unsafe {
+            balkwizu_step(
+                table.as_mut_ptr(),
+                table.len(),
+                holders.as_mut_ptr(),
+                holders.len(),
+                words.as_ptr(),
+                words.len(),
+                answer.as_mut_ptr(),
+                answer.len(),
+            )
+        }
+    }
+
+    #[test]
+    fn calls_by_themselves_are_the_run_of_their_list() {
+        let mut calls = 0;
+        for number in 0..2000 {
+            let mut case = run_case(1, number);
+            let (mut table, mut holders) = (case.table.clone(), case.holders.clone());
+            let (answers, kept) = (&mut case.answers, &mut case.holders);
+            if PROVED.run(&mut case.table, &case.list, answers, kept).code != 0 {
+                continue;
+            }
+            for (call, wanted) in cut(&case.list).iter().zip(case.answers.chunks(3)) {
+                let mut answer = [7; 4];
+                let code = single(&mut table, &mut holders, &call.words(), &mut answer);
+                assert_eq!((code, answer[3]), (0, 7), "run {number}");
+                assert_eq!(answer[..3], *wanted, "run {number}");
+                calls += 1;
+            }
+            assert_eq!(table, case.table, "run {number}");
+            assert!(
+                case.list.is_empty() || holders == case.holders,
+                "run {number}"
+            );
+        }
+        assert!(calls > 10_000, "{calls} calls");
     }
 
     /// Both runs of a list by the one function of the proved kernel that runs both, in

@@ -3,6 +3,7 @@
 // The state is 1 + 17 n words that the caller lends, where n is the table's count of domains: the place of the turn, then for each
 // domain the count of its pending words, and sixteen words.
 mod release;
+mod step;
 
 ghost use Prim.Native.Nat.{_/_, _%_};
 ghost use Rattle.turns.specs.Promise.{BeginPromise, HandInPromise, TurnPromise, words, outcome};

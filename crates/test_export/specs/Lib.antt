@@ -1,4 +1,4 @@
--- What the exported step and the exported queue functions promise.
+-- What the exported functions for the bench promise.
 pub mod Exported
 pub mod ExportedQueues
 pub mod BothWays

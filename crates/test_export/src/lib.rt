@@ -3,12 +3,11 @@
 pub mod both_ways;
 pub mod queues;
 
-use answers::by_value::put;
 use calls::split::Second;
-use kernel::Stepped;
 ghost use mathlib.Core.Path.{_≡_};
 ghost use Rattle.calls.specs.Split.{callOf};
-ghost use Rattle.test_export.specs.Exported.{secondGiven, Exported};
+ghost use Rattle.single_call.specs.Single.{SingleCall};
+ghost use Rattle.test_export.specs.Exported.{secondGiven};
 
 // Returns a second word as C passes it: the word, or nothing where `has` is 0.
 fn given(word: u32, has: u32) -> Second
@@ -35,19 +34,9 @@ pub extern "C" fn balkwizu_test_step(
     answer: &mut [u32],
     holders: &mut [u32],
 ) -> u32
-    ensures { λ r. ⌜ Exported (now (table .entry)) (callOf first (secondGiven second has)) (now (answer .entry)) (now (holders .entry))
+    ensures { λ r. ⌜ SingleCall (now (table .entry)) (callOf first (secondGiven second has)) (now (answer .entry)) (now (holders .entry))
         r (now (table .exit)) (now (answer .exit)) (now (holders .exit)) ⌝ }
 {
-    if answer.len() < 3 {
-        return 99;
-    }
     let word = given(second, has);
-    let stepped = kernel::step(table, first, word, holders);
-    match stepped {
-        Stepped::Refused(refusal) => refusal.code(),
-        Stepped::Answered(words) => {
-            put(answer, words);
-            0
-        }
-    }
+    single_call::answer_call(table, first, word, answer, holders)
 }

@@ -1,0 +1,2 @@
+-- What a call by itself promises.
+pub mod Single
