@@ -245,8 +245,8 @@ typedef struct {
 
 /*
  * What a question about domains leaves open, on the safe side: 1 unless its code is 0 and
- * the bit of the domain is clear. So a question that was refused excludes nobody, and
- * neither does a domain from 16 on, which has no bit. balkwizu_may_reach,
+ * the bit of the domain is clear. So a question that was refused excludes nobody, and a
+ * domain from 16 on, which has no bit, isn't excluded either. balkwizu_may_reach,
  * balkwizu_may_be_in_component and balkwizu_may_influence are this by the name of their
  * question.
  */
