@@ -30,7 +30,9 @@ what waits in them, and the calls of the list. FILE may be a text as `bench
 words` takes it; the names that it gives stand beside the numbers.
 
   --run       run the list on the kernel: each call with its answer, and the
-              rights and queues that it leaves
+              rights and queues that it leaves. Of a refused call: which right
+              on whom is missing, who holds it, and which earlier call took it
+              away
   --svg OUT   write the same as a picture to OUT: who has rights on whom as
               arrows, groups apart, and with --run the table after the list and
               the answers too

@@ -9,6 +9,7 @@ pub mod explain;
 pub mod given;
 pub mod input;
 pub mod names;
+pub mod reasons;
 pub mod sentences;
 pub mod text;
 pub mod turns;

@@ -7,14 +7,12 @@ use reference::table::{
     capacity, domains, endpoint_words, endpoints, lost, owner, rights, waiting, SLOTS_PLACE,
 };
 use reference::words::content;
-use reference::Call;
 
 use crate::kernels::lent::Ran;
-use crate::line::explain::{
-    answer_on_table, call_on_table, counted, endpoint_in_words, letters, senders,
-};
+use crate::line::explain::{call_on_table, counted, endpoint_in_words, letters, senders};
 use crate::line::input::Input;
 use crate::line::names::Names;
+use crate::line::reasons::Replay;
 use crate::pictures::groups::groups_in_words;
 use crate::pictures::potential::potential_in_words;
 use crate::pictures::reach::{holders_of, reach_in_words};
@@ -126,7 +124,12 @@ fn slots_in_words(table: &[u32], endpoint: usize) -> String {
 }
 
 /// The calls, each with its answer where the list was run.
-fn calls_in_words(input: &Input, names: &Names, answers: Option<&[u32]>, most: usize) -> String {
+pub fn calls_in_words(
+    input: &Input,
+    names: &Names,
+    answers: Option<&[u32]>,
+    most: usize,
+) -> String {
     let calls = cut(&input.list);
     let told = answers.map_or(vec![], |answers| told_answers(input, names, answers, most));
     let mut text = format!(
@@ -148,23 +151,14 @@ fn calls_in_words(input: &Input, names: &Names, answers: Option<&[u32]>, most: u
     text
 }
 
-/// What the first `most` calls of a list were answered, each in words.
+/// What the first `most` calls of a list were answered, each in words. The table before each
+/// is the reference's, which can't fault: the kernel whose answers are shown may.
 pub fn told_answers(input: &Input, names: &Names, answers: &[u32], most: usize) -> Vec<String> {
-    let mut before = input.table.clone();
     let calls = cut(&input.list);
-    let answered = calls.iter().zip(answers.chunks_exact(ANSWER_WORDS));
-    let told = answered.take(most).map(|(call, answer)| {
-        let told = answer_on_table(&before, call, answer, names);
-        step(&mut before, call);
-        told
-    });
+    let mut replay = Replay::new(&input.table, &calls, names);
+    let answers = answers.chunks_exact(ANSWER_WORDS).take(calls.len());
+    let told = answers.take(most).map(|answer| replay.answered(answer));
     told.collect()
-}
-
-/// Makes one call on a table, as the run of a list does with each of its calls. It is the
-/// separate machine's, which can't fault: the kernel that is told of may.
-fn step(table: &mut [u32], call: &Call) {
-    reference::run(table, &call.words(), &mut [0; ANSWER_WORDS]);
 }
 
 #[cfg(test)]
@@ -212,12 +206,14 @@ mod tests {
             .filter_map(|line| line.trim().strip_prefix("-> "))
             .collect();
         let wanted = [
-            "refused with 17: the caller has no SEND on the endpoint's owner",
+            "refused with 17: domain 0 has no SEND on domain 2, the owner of endpoint 1; domain 1 \
+             holds it; domain 0 never had it",
             "done",
             "done",
             "done; message 5 was pushed out and is lost",
             "message 6; 1 lost so far",
-            "refused with 19: nothing waits",
+            "refused with 19: nothing waits in endpoint 1; call 4 (domain 2 receives from endpoint \
+             1) received the last message",
             "refused with 10: a word of kind 15 stands alone",
             "S on domain 1, S on domain 2",
             "endpoint 1",

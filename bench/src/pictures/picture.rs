@@ -343,7 +343,7 @@ mod tests {
             holders: vec![],
         };
         let picture = svg(&input, &Names::none(), Some(&left), 24);
-        let refused = "&gt; refused with 19: nothing waits<";
+        let refused = "&gt; refused with 19: nothing waits in endpoint 1; call 4";
         assert!(picture.contains(refused), "{picture}");
         assert!(!drawn(&input, 24).contains("refused"));
         assert!(opened_and_closed(&picture));
