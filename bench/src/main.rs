@@ -22,8 +22,8 @@ use std::process::ExitCode;
 
 use crate::output::{complain, say};
 use commands::{
-    codes, commission, fuzz, histories, instructions, linerun, queue, read, repair, roads, show,
-    speed, step, tables, totals, turns, words, write,
+    codes, commission, compare, fuzz, histories, instructions, linerun, queue, read, repair, roads,
+    show, speed, step, tables, totals, turns, words, write,
 };
 
 /// The help before the list of commands, and after it.
@@ -59,7 +59,7 @@ struct Command {
 
 /// The commands: first those about a line, `OF_A_LINE` of them, then those about the
 /// kernel itself.
-const COMMANDS: [Command; 18] = [
+const COMMANDS: [Command; 19] = [
     Command {
         name: "commission",
         given: "FILE",
@@ -73,6 +73,13 @@ const COMMANDS: [Command; 18] = [
         purpose: "an input in words and as a picture",
         help: show::HELP,
         act: show::command,
+    },
+    Command {
+        name: "compare",
+        given: "CARD PLAN",
+        purpose: "what differs between two tables, in words",
+        help: compare::HELP,
+        act: compare::command,
     },
     Command {
         name: "roads",
@@ -189,7 +196,7 @@ const COMMANDS: [Command; 18] = [
 ];
 
 /// How many of the commands are about a line.
-const OF_A_LINE: usize = 10;
+const OF_A_LINE: usize = 11;
 
 /// The release that this program is of.
 fn version() -> &'static str {

@@ -3,6 +3,7 @@
 
 pub mod codes;
 pub mod commission;
+pub mod compare;
 mod compared;
 mod drawn;
 pub mod fuzz;

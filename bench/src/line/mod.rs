@@ -4,6 +4,7 @@
 
 pub mod calls;
 pub mod described;
+pub mod differences;
 pub mod dump;
 pub mod explain;
 pub mod given;
