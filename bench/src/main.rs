@@ -23,7 +23,7 @@ use std::process::ExitCode;
 use crate::output::{complain, say};
 use commands::{
     codes, commission, compare, fuzz, histories, instructions, linerun, queue, read, repair, roads,
-    show, speed, step, tables, totals, turns, words, write,
+    run, show, speed, step, tables, totals, turns, words, write,
 };
 
 /// The help before the list of commands, and after it.
@@ -59,7 +59,7 @@ struct Command {
 
 /// The commands: first those about a line, `OF_A_LINE` of them, then those about the
 /// kernel itself.
-const COMMANDS: [Command; 19] = [
+const COMMANDS: [Command; 20] = [
     Command {
         name: "commission",
         given: "FILE",
@@ -73,6 +73,13 @@ const COMMANDS: [Command; 19] = [
         purpose: "an input in words and as a picture",
         help: show::HELP,
         act: show::command,
+    },
+    Command {
+        name: "run",
+        given: "FILE",
+        purpose: "the list on the kernel, and what it leaves in files",
+        help: run::HELP,
+        act: run::command,
     },
     Command {
         name: "compare",
@@ -196,7 +203,7 @@ const COMMANDS: [Command; 19] = [
 ];
 
 /// How many of the commands are about a line.
-const OF_A_LINE: usize = 11;
+const OF_A_LINE: usize = 12;
 
 /// The release that this program is of.
 fn version() -> &'static str {

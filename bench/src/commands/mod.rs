@@ -15,6 +15,7 @@ pub mod read;
 mod refused;
 pub mod repair;
 pub mod roads;
+pub mod run;
 pub mod show;
 pub mod speed;
 pub mod step;

@@ -53,8 +53,8 @@ pub fn command(line: &[OsString]) -> Result<bool, String> {
     let options = Options::parse(line, &["--svg", "--dot", "--calls"], &["--run"])?;
     let file = options.file()?;
     let calls = options.number("--calls")?.map(|calls| calls as usize);
-    let svg = picture_file(&options, "--svg", file)?;
-    let dot = picture_file(&options, "--dot", file)?;
+    let svg = file_for(&options, "--svg", file)?;
+    let dot = file_for(&options, "--dot", file)?;
     output::may_write_both(("--svg", svg), ("--dot", dot))?;
     let given = read_given(file)?;
     let input = match given.accepted() {
@@ -82,9 +82,9 @@ pub fn command(line: &[OsString]) -> Result<bool, String> {
     Ok(true)
 }
 
-/// The file that an option names for a picture, unless it looks like an option itself or
+/// The file that an option names to be written, unless it looks like an option itself or
 /// is the input.
-fn picture_file<'a>(
+pub fn file_for<'a>(
     options: &'a Options,
     option: &str,
     input: &Path,
@@ -95,7 +95,7 @@ fn picture_file<'a>(
 }
 
 /// What the kernel leaves of an input that is not refused.
-fn ran(input: &Input) -> Result<Ran, String> {
+pub fn ran(input: &Input) -> Result<Ran, String> {
     let case = Case {
         table: input.table.clone(),
         list: input.list.clone(),

@@ -1,13 +1,14 @@
 //! Words read back from a line, as whoever reads them back has them: little-endian
-//! bytes, or a text of hexadecimal words.
+//! bytes, a text of hexadecimal words, what linerun prints, or a text with a table.
 
 use std::path::Path;
 
 use reference::words::from_bytes;
 
+use crate::line::answers;
 use crate::line::explain::counted;
-use crate::line::input::{read_typed, typed};
-use crate::line::text::{items_of, lines_of, words_of};
+use crate::line::input::{read_typed, typed, Input};
+use crate::line::text::{self, items_of, lines_of, words_of};
 
 /// The most words that are taken: far more than the answers of the longest list, so that
 /// a few repetitions too many can't take all memory.
@@ -43,8 +44,31 @@ fn words_in(bytes: &[u8]) -> Result<Vec<u32>, String> {
     }
 }
 
-/// The words of a text: `#` starts a comment, `F0000000*8` is a word eight times.
+/// The words of a text: the answers that linerun printed, the table of a text that has one, or
+/// words alone, where `#` starts a comment and `F0000000*8` is a word eight times.
 fn words_of_text(text: &str) -> Result<Vec<u32>, String> {
+    if answers::is_printed(text) {
+        return answers::read(text);
+    }
+    match has_table(text) {
+        true => table_of(text),
+        false => words_alone(text),
+    }
+}
+
+/// Whether a text has a table by its label, as `bench run` writes it.
+fn has_table(text: &str) -> bool {
+    lines_of(text).any(|(_, line)| items_of(line).first() == Some(&"table"))
+}
+
+fn table_of(text: &str) -> Result<Vec<u32>, String> {
+    let given = text::read(text)?;
+    Input::parse(&given.bytes)
+        .map(|input| input.table)
+        .map_err(|(_, why)| why)
+}
+
+fn words_alone(text: &str) -> Result<Vec<u32>, String> {
     let numbered = lines_of(text).flat_map(|(number, line)| {
         let items = items_of(line).into_iter();
         items.map(move |item| (number, item))
@@ -75,12 +99,22 @@ mod tests {
     }
 
     #[test]
+    fn what_a_run_writes_is_read() {
+        let text = b"domain 0 link\ntable\n10000100\n20000000\nlist\n";
+        assert_eq!(words_in(text), Ok(vec![0x1000_0100, 0x2000_0000]));
+        let printed = b"calls 1 code 0\ncall 0 caller 1 kind 3 code 0 data 5 7\n";
+        assert_eq!(words_in(printed), Ok(vec![0x3040_0000, 5, 7]));
+    }
+
+    #[test]
     fn what_is_wrong_is_said() {
         let wrong = |bytes: &[u8]| words_in(bytes).unwrap_err();
         let left = "3 bytes left over after the last whole word";
         assert_eq!(wrong(&[0; 7]), left);
         assert!(wrong(b"10000302\n2000000").starts_with("line 2: `2000000` is no word"));
-        assert!(wrong(b"table 10000302").starts_with("line 1: `table` is no word"));
+        assert!(wrong(b"10000302 list").starts_with("line 1: `list` is no word"));
+        let printed = wrong(b"calls 2 code 0\n");
+        assert_eq!(printed, "its first line says 2 calls, and it has 0");
         assert_eq!(wrong(&[0; 400_001]), "more than 100,000 words");
         assert!(wrong(b"10000302\n# \xFC").starts_with("line 2 has a letter"));
         let many = "F0000000*4097 ".repeat(25);

@@ -2,6 +2,7 @@
 //! that is typed in, words, calls or turns, and in plain words. And words that were read
 //! back from one.
 
+pub mod answers;
 pub mod calls;
 pub mod described;
 pub mod differences;
