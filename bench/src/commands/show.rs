@@ -16,14 +16,15 @@ use crate::kernels::child;
 use crate::kernels::lent::Ran;
 use crate::line::explain::meaning;
 use crate::line::given::read_given;
-use crate::line::input::Input;
+use crate::line::input::{self, Input};
+use crate::line::names::Names;
 use crate::line::text;
 use crate::output::{self, say};
 use crate::pictures::diagram::in_words;
-use crate::pictures::{dot, picture};
+use crate::pictures::{dot, picture, stepping};
 
 pub const HELP: &str = "\
-bench show FILE [--run] [--svg OUT] [--dot OUT] [--calls N]
+bench show FILE [--run] [--svg OUT] [--dot OUT] [--page OUT] [--calls N]
 
 Shows an input of linerun in words: who has which right on whom, the queues with
 what waits in them, and the calls of the list. FILE may be a text as `bench
@@ -38,8 +39,12 @@ words` takes it; the names that it gives stand beside the numbers.
               the answers too
   --dot OUT   write the table as a graph in the language DOT to OUT, for other
               tools: with --run what the list changed is told at each arrow
+  --page OUT  write a page to step through to OUT, for a browser and without a
+              network: the list, and the rights, queues and holders after each
+              call, as the reference implementation has them, with the source
+              set of a domain; keys: arrows left and right, Home, End
   --calls N   show the first N calls only (default: all; in a picture 24, and
-              about 1,300 at most, 750 with --run)
+              about 1,300 at most, 750 with --run; in a page 500 at most)
 
 Exit status: 0 shown; 1 the input or its table is refused, with every word that
 is wrong; 2 bad usage, or a file that can't be read or written.
@@ -48,14 +53,28 @@ is wrong; 2 bad usage, or a file that can't be read or written.
 /// How many calls a picture shows where nothing else is asked for.
 const CALLS_IN_PICTURE: usize = 24;
 
+/// The files that are to be written.
+struct Outs<'a> {
+    svg: Option<&'a Path>,
+    dot: Option<&'a Path>,
+    page: Option<&'a Path>,
+}
+
+/// What is shown in them.
+struct Shown<'a> {
+    file: &'a Path,
+    input: &'a Input,
+    names: &'a Names,
+    left: Option<&'a Ran>,
+    calls: Option<usize>,
+}
+
 /// The command: whether the input is one that runs.
 pub fn command(line: &[OsString]) -> Result<bool, String> {
-    let options = Options::parse(line, &["--svg", "--dot", "--calls"], &["--run"])?;
+    let options = Options::parse(line, &["--svg", "--dot", "--page", "--calls"], &["--run"])?;
     let file = options.file()?;
     let calls = options.number("--calls")?.map(|calls| calls as usize);
-    let svg = file_for(&options, "--svg", file)?;
-    let dot = file_for(&options, "--dot", file)?;
-    output::may_write_both(("--svg", svg), ("--dot", dot))?;
+    let outs = Outs::of(&options, file)?;
     let given = read_given(file)?;
     let input = match given.accepted() {
         Ok(input) => input,
@@ -67,19 +86,57 @@ pub fn command(line: &[OsString]) -> Result<bool, String> {
     };
     let names = given.names;
     let left = options.has("--run").then(|| ran(&input)).transpose()?;
-    let table = left.as_ref().map(|left| left.table.as_slice());
-    if let Some(out) = svg {
-        let most = calls.unwrap_or(CALLS_IN_PICTURE);
-        output::write_file(out, &picture::svg(&input, &names, left.as_ref(), most))?;
-    }
-    if let Some(out) = dot {
-        output::write_file(out, &dot::graph(&input.table, &names, table))?;
-    }
+    outs.write(&Shown {
+        file,
+        input: &input,
+        names: &names,
+        left: left.as_ref(),
+        calls,
+    })?;
     output::write(in_words(&input, &names, left.as_ref(), calls.unwrap_or(usize::MAX)).as_bytes());
-    for out in [svg, dot].into_iter().flatten() {
-        say!("picture written to {}", out.display());
-    }
+    outs.tell();
     Ok(true)
+}
+
+impl Outs<'_> {
+    /// The files that a line names, a different one each.
+    fn of<'a>(options: &'a Options, file: &Path) -> Result<Outs<'a>, String> {
+        let svg = file_for(options, "--svg", file)?;
+        let dot = file_for(options, "--dot", file)?;
+        let page = file_for(options, "--page", file)?;
+        output::may_write_both(("--svg", svg), ("--dot", dot))?;
+        output::may_write_both(("--svg", svg), ("--page", page))?;
+        output::may_write_both(("--dot", dot), ("--page", page))?;
+        Ok(Outs { svg, dot, page })
+    }
+
+    fn write(&self, shown: &Shown) -> Result<(), String> {
+        let Shown { input, names, .. } = shown;
+        if let Some(out) = self.svg {
+            let most = shown.calls.unwrap_or(CALLS_IN_PICTURE);
+            output::write_file(out, &picture::svg(input, names, shown.left, most))?;
+        }
+        if let Some(out) = self.dot {
+            let left = shown.left.map(|left| left.table.as_slice());
+            output::write_file(out, &dot::graph(&input.table, names, left))?;
+        }
+        if let Some(out) = self.page {
+            let title = input::shown(shown.file);
+            let most = shown.calls.unwrap_or(usize::MAX);
+            output::write_file(out, &stepping::page(&title, input, names, most))?;
+        }
+        Ok(())
+    }
+
+    /// Prints what was written.
+    fn tell(&self) {
+        for out in [self.svg, self.dot].into_iter().flatten() {
+            say!("picture written to {}", input::shown(out));
+        }
+        if let Some(out) = self.page {
+            say!("page written to {}", input::shown(out));
+        }
+    }
 }
 
 /// The file that an option names to be written, unless it looks like an option itself or
