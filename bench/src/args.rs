@@ -7,6 +7,8 @@ use std::path::{Path, PathBuf};
 use std::slice::Iter;
 use std::time::Duration;
 
+use crate::output::shown;
+
 /// A command's line taken apart.
 #[derive(Debug, Clone, Default, PartialEq, Eq)]
 pub struct Options {
@@ -62,6 +64,9 @@ impl Options {
         let joined = parts
             .next()
             .map(|value| OsStr::from_bytes(value).to_owned());
+        if self.is_given(&name) {
+            return Err(format!("{name} is given twice"));
+        }
         if flags.contains(&&*name) && joined.is_none() {
             self.flags.push(name.to_string());
         } else if valued.contains(&&*name) {
@@ -79,11 +84,15 @@ impl Options {
         Ok(())
     }
 
+    fn is_given(&self, name: &str) -> bool {
+        self.has(name) || self.value(name).is_some()
+    }
+
     pub fn has(&self, flag: &str) -> bool {
         self.flags.iter().any(|given| given == flag)
     }
 
-    /// The value given last for an option.
+    /// The value given for an option.
     pub fn text(&self, name: &str) -> Option<&str> {
         self.value(name).map(|value| value.text.as_str())
     }
@@ -94,7 +103,7 @@ impl Options {
     }
 
     fn value(&self, name: &str) -> Option<&Value> {
-        self.values.iter().rev().find(|value| value.option == name)
+        self.values.iter().find(|value| value.option == name)
     }
 
     /// The number given for an option. Commas are left out: 300,000 is 300000.
@@ -157,7 +166,7 @@ impl Options {
             [] => Err("no file is given; --help says what is wanted".to_string()),
             [_, second, ..] => Err(format!(
                 "one file at a time: `{}` is a second one",
-                second.display()
+                shown(second)
             )),
         }
     }
@@ -172,7 +181,7 @@ impl Options {
             )),
             [_, _, third, ..] => Err(format!(
                 "two files are enough: `{}` is a third one",
-                third.display()
+                shown(third)
             )),
         }
     }
@@ -181,7 +190,7 @@ impl Options {
     pub fn no_file(&self) -> Result<(), String> {
         match self.files.first() {
             None => Ok(()),
-            Some(file) => Err(format!("`{}` is not expected here", file.display())),
+            Some(file) => Err(format!("`{}` is not expected here", shown(file))),
         }
     }
 }
@@ -241,9 +250,14 @@ mod tests {
     }
 
     #[test]
-    fn the_last_value_counts() {
-        let options = parsed("--seed 7 --seed 8").unwrap();
-        assert_eq!(options.number("--seed"), Ok(Some(8)));
+    fn an_option_is_given_once() {
+        let twice = Err("--seed is given twice".to_string());
+        assert_eq!(parsed("--seed 7 --seed 8"), twice);
+        assert_eq!(parsed("--seed 7 a --seed=7"), twice);
+        let flag = parsed("--quiet --quiet");
+        assert_eq!(flag, Err("--quiet is given twice".to_string()));
+        let options = parsed("--seed 7 -- --seed 8").unwrap();
+        assert_eq!(options.number("--seed"), Ok(Some(7)));
         assert_eq!(options.number("--cases"), Ok(None));
     }
 

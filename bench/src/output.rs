@@ -35,10 +35,21 @@ pub fn write(bytes: &[u8]) {
     }
 }
 
+/// What a path is called in messages: a control character is written as its escape, so that
+/// a name can't take a line of its own.
+pub fn shown(path: impl AsRef<Path>) -> String {
+    let path = path.as_ref().display().to_string();
+    let letters = path.chars().map(|letter| match letter.is_control() {
+        true => letter.escape_default().to_string(),
+        false => letter.to_string(),
+    });
+    letters.collect()
+}
+
 /// That a file may be written which an option names: it doesn't look like an option, its
 /// folder is there, and it is none of those that are read, which would be overwritten.
 pub fn may_write(option: &str, out: &Path, read: &[&Path]) -> Result<(), String> {
-    let shown = out.display();
+    let shown = shown(out);
     if out.as_os_str().is_empty() {
         return Err(format!("{option} needs a file's name"));
     }
@@ -109,12 +120,12 @@ fn folder_of(file: &Path) -> Option<&Path> {
 /// The folder that a file should stand in, where there is none.
 fn no_folder(out: &Path) -> Option<String> {
     let folder = folder_of(out)?;
-    (!folder.is_dir()).then(|| folder.display().to_string())
+    (!folder.is_dir()).then(|| shown(folder))
 }
 
 /// Writes a file.
 pub fn write_file(out: &Path, bytes: &(impl AsRef<[u8]> + ?Sized)) -> Result<(), String> {
-    fs::write(out, bytes).map_err(|why| format!("cannot write {}: {why}", out.display()))
+    fs::write(out, bytes).map_err(|why| format!("cannot write {}: {why}", shown(out)))
 }
 
 /// Prints a line, put together as by `format!`.
@@ -131,6 +142,14 @@ pub(crate) use say;
 mod tests {
     use super::*;
     use crate::scratch::Folder;
+
+    #[test]
+    fn a_name_has_no_line_of_its_own() {
+        assert_eq!(
+            shown("a\n\u{1B}[31mb\u{85}\u{E9}"),
+            "a\\n\\u{1b}[31mb\\u{85}\u{E9}"
+        );
+    }
 
     #[test]
     fn two_options_need_a_file_each_however_it_is_called() {

@@ -59,7 +59,7 @@ pub fn command(line: &[OsString]) -> Result<bool, String> {
     }
     let written = match file {
         None => read_written(WRITTEN)?,
-        Some(file) => read_file(file).map_err(|why| format!("{}: {why}", file.display()))?,
+        Some(file) => read_file(file).map_err(|why| format!("{}: {why}", output::shown(file)))?,
     };
     Ok(tell(&counted_now()?, &written))
 }
@@ -75,7 +75,7 @@ fn write_anew(file: &Path) -> Result<bool, String> {
     let figures = counted_now()?;
     output::write_file(file, &written(&figures))?;
     let figures = counted(figures.len(), "figure");
-    say!("{figures} written to {}", file.display());
+    say!("{figures} written to {}", output::shown(file));
     Ok(true)
 }
 

@@ -29,7 +29,7 @@ pub fn tell(file: &Path, refusal: &Refusal, of_it: &str) {
 /// Prints what may mend a table, where something may.
 pub fn tell_mending(file: &Path, (code, _): &Refusal) {
     if let 4 | 5 = code {
-        let file = file.display();
+        let file = output::shown(file);
         say!("`bench repair {file} OUT` may make it fit again");
     }
 }

@@ -90,7 +90,7 @@ pub fn command(line: &[OsString]) -> Result<bool, String> {
         Some(list) => asked.undone(&mut input, &names, list)?,
     };
     if done && asked.form == Form::Input && !names.is_empty() {
-        let to = asked.to.display();
+        let to = shown(asked.to);
         say!("{to} is an input of linerun, which has no names: --text writes a text with them");
     }
     Ok(done)

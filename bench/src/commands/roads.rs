@@ -57,7 +57,9 @@ pub fn command(line: &[OsString]) -> Result<bool, String> {
         [file] => (file, None),
         [file, from, to] => (file, Some((from, to))),
         [_, _] => return Err("FROM is given without TO".to_string()),
-        [_, _, _, more, ..] => return Err(format!("`{}` is not expected here", more.display())),
+        [_, _, _, more, ..] => {
+            return Err(format!("`{}` is not expected here", output::shown(more)))
+        }
     };
     let calls = options.number("--calls")?.unwrap_or(u64::MAX) as usize;
     let given = read_given(file).map_err(|why| match pair {

@@ -158,7 +158,7 @@ fn merge(options: &Options) -> Result<bool, String> {
 fn read_run(file: &Path) -> Result<Run, String> {
     let text = fs::read_to_string(file).map_err(|why| why.to_string());
     let run = text.and_then(|text| read(&text));
-    run.map_err(|why| format!("cannot read {}: {why}", file.display()))
+    run.map_err(|why| format!("cannot read {}: {why}", output::shown(file)))
 }
 
 /// A mark of this program, so that runs of different ones aren't merged: an FNV hash of

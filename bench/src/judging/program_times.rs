@@ -55,7 +55,7 @@ pub fn compiled(folder: &Path, (name, source): Plain) -> Result<PathBuf, String>
 /// Runs a program on a file; the processor seconds that it took, and what it printed where
 /// that is kept. One that fails has no time: it may not have done its work.
 pub fn timed(program: &Path, file: &Path, kept: bool) -> Result<(f64, Vec<u8>), String> {
-    let wrong = |why: io::Error| format!("cannot run {}: {why}", program.display());
+    let wrong = |why: io::Error| format!("cannot run {}: {why}", output::shown(program));
     let input = File::open(file).map_err(wrong)?;
     let out = if kept { Stdio::piped() } else { Stdio::null() };
     let before = children_seconds();
@@ -64,7 +64,11 @@ pub fn timed(program: &Path, file: &Path, kept: bool) -> Result<(f64, Vec<u8>), 
         .and_then(|child| child.wait_with_output())
         .map_err(wrong)?;
     if !ran.status.success() {
-        return Err(format!("{} ended with {}", program.display(), ran.status));
+        return Err(format!(
+            "{} ended with {}",
+            output::shown(program),
+            ran.status
+        ));
     }
     Ok((children_seconds() - before, ran.stdout))
 }

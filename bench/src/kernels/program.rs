@@ -12,6 +12,7 @@ use std::thread;
 use std::time::{Duration, Instant};
 
 use crate::kernels::process::{end_group, signal_in_words, unread};
+use crate::output;
 
 /// How often it is looked whether a part of the input was read.
 const LOOK_AGAIN: Duration = Duration::from_micros(20);
@@ -111,7 +112,8 @@ pub fn run(program: impl AsRef<Path>, input: &[u8], feed: Feed) -> Result<Ran, S
     }
     let status = child.wait();
     drop(running);
-    let status = status.map_err(|why| format!("cannot wait for {}: {why}", program.display()))?;
+    let status =
+        status.map_err(|why| format!("cannot wait for {}: {why}", output::shown(program)))?;
     Ok(Ran {
         printed,
         said: said.recv_timeout(WAIT_FOR_SAID).unwrap_or_default(),
@@ -125,7 +127,7 @@ fn start(program: &Path) -> Result<Child, String> {
     command.stdout(Stdio::piped()).stderr(Stdio::piped());
     command.process_group(0);
     command.spawn().map_err(|why| {
-        let told = program.display();
+        let told = output::shown(program);
         let bare = why.kind() == ErrorKind::NotFound && program.components().count() == 1;
         if bare && program.exists() {
             return format!("no program {told} is installed: for the one here write ./{told}");

@@ -10,6 +10,7 @@ use reference::table::{domains, endpoints, TABLE_WORDS_MAX};
 use reference::words::{from_bytes, to_bytes};
 
 use crate::line::explain::counted;
+use crate::output;
 
 /// The most bytes that can matter: the length word, the longest table, and a list
 /// that is one word too long.
@@ -137,6 +138,9 @@ pub fn read_input(path: impl AsRef<Path>) -> Result<Vec<u8>, String> {
 /// The text that bytes are, where they could be typed: nothing of it may be left out, and
 /// its letters must be known.
 pub fn typed(bytes: &[u8]) -> Result<Option<&str>, String> {
+    if is_utf_16(bytes) {
+        return Err("it is saved as UTF-16: save it as UTF-8".to_string());
+    }
     if !is_text(bytes) {
         return Ok(None);
     }
@@ -146,6 +150,17 @@ pub fn typed(bytes: &[u8]) -> Result<Option<&str>, String> {
         let line = 1 + before.filter(|&&byte| byte == b'\n').count();
         format!("line {line} has a letter that is not UTF-8: save the text as UTF-8")
     })
+}
+
+/// Whether bytes start as a text does in UTF-16: with a byte-order mark, or with two letters
+/// that have a zero byte each. No input of linerun, table or answer starts so.
+fn is_utf_16(bytes: &[u8]) -> bool {
+    let letter = |byte: u8| byte.is_ascii_graphic() || b" \t\r\n".contains(&byte);
+    match *bytes {
+        [0xFF, 0xFE, ..] | [0xFE, 0xFF, ..] => true,
+        [a, 0, b, 0, ..] | [0, a, 0, b, ..] => letter(a) && letter(b),
+        _ => false,
+    }
 }
 
 /// That bytes are no more than the longest text has.
@@ -206,7 +221,7 @@ pub fn read_once(paths: &[&Path]) -> Result<(), String> {
 pub fn shown(path: impl AsRef<Path>) -> String {
     match path.as_ref().to_str() {
         Some("-") => "standard input".to_string(),
-        _ => path.as_ref().display().to_string(),
+        _ => output::shown(path),
     }
 }
 
@@ -260,6 +275,24 @@ mod tests {
         assert!(why(b"ab").contains("is this a text?"));
         assert!(!why(b"").contains("text"));
         assert!(!why(b"table\0").contains("text"));
+    }
+
+    #[test]
+    fn a_text_in_utf_16_is_known_as_one() {
+        let told = Err("it is saved as UTF-16: save it as UTF-8".to_string());
+        let words = |mark: &str| format!("{mark}table\r\n10000302").encode_utf16().collect();
+        for mark in ["", "\u{FEFF}"] {
+            let words: Vec<u16> = words(mark);
+            let little: Vec<u8> = words.iter().flat_map(|word| word.to_le_bytes()).collect();
+            let big: Vec<u8> = words.iter().flat_map(|word| word.to_be_bytes()).collect();
+            assert_eq!(typed(&little), told);
+            assert_eq!(typed(&big), told);
+        }
+        let mut rng = reference::generate::Rng::new(7);
+        for _ in 0..2000 {
+            let input = reference::generate::linerun_input(&mut rng, 3, 3, 40);
+            assert!(Input::parse(&input).is_err() || !is_utf_16(&input));
+        }
     }
 
     #[test]

@@ -10,7 +10,7 @@ use reference::words::to_bytes;
 use crate::cases::workloads::{by_kind, workloads};
 use crate::judging::program_times::{compiled, level, median, timed, Plain};
 use crate::line::explain::counted;
-use crate::output::say;
+use crate::output::{self, say};
 use crate::scratch::Folder;
 
 /// The plain C program.
@@ -64,7 +64,7 @@ pub fn measure(program: &Path, rounds: usize) -> Result<bool, String> {
         let file = folder.path().join("input");
         fs::write(&file, &input.bytes).map_err(|why| format!("cannot write: {why}"))?;
         if let Some(program) = first_wrong(programs, &file, &input.bytes)? {
-            let (name, program) = (&input.name, program.display());
+            let (name, program) = (&input.name, output::shown(program));
             say!("DIFFERENCE on {name}: {program} prints other lines");
             return Ok(false);
         }

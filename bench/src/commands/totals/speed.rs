@@ -13,7 +13,7 @@ use crate::cases::sheets::long_inputs;
 use crate::cases::workloads::Workload;
 use crate::judging::program_times::{compiled, level, median, timed, Plain};
 use crate::line::explain::counted;
-use crate::output::say;
+use crate::output::{self, say};
 use crate::scratch::Folder;
 
 /// The plain C program.
@@ -102,7 +102,7 @@ fn written(input: &Workload, lists: usize, file: &Path) -> Result<(), String> {
         }
         out.flush()
     };
-    write().map_err(|why| format!("cannot write {}: {why}", file.display()))
+    write().map_err(|why| format!("cannot write {}: {why}", output::shown(file)))
 }
 
 /// Words with their number before them, as bytes.
