@@ -7,7 +7,8 @@ use kernel::reports::second_of_first;
 ghost use mathlib.Core.Path.{_≡_};
 ghost use Prim.Native.Nat.{_+_, _≤_};
 ghost use lib.ListN.{length};
-ghost use Rattle.turns_state.specs.Pending.{count, enqueuable, leftByEnqueue, dequeuable, leftByDequeue, enqueued, dequeued, secondOfOldest, MayEnqueue, MayDequeue};
+ghost use Rattle.turns_state.specs.Pending.{count, enqueuable, leftByEnqueue, enqueued, MayEnqueue};
+ghost use Rattle.turns_state.specs.Pending.{dequeuable, leftByDequeue, dequeued, MayDequeue, secondOfOldest};
 
 // Returns the count of pending words, at most 16.
 pub fn count(block: &[u32]) -> usize
