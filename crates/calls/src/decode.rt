@@ -17,7 +17,8 @@ use format::calls::KIND_REMOVE;
 use format::calls::KIND_SECOND;
 use format::calls::KIND_SEND;
 ghost use mathlib.Core.Path.{_≡_};
-ghost use Rattle.machine.specs.Call.{Kind.lookUp, Kind.send, Kind.receive, Kind.myEndpoints, Kind.myRights, Kind.grant, Kind.remove, Kind.revoke};
+ghost use Rattle.machine.specs.Call.{Kind.lookUp, Kind.send, Kind.receive, Kind.myEndpoints};
+ghost use Rattle.machine.specs.Call.{Kind.myRights, Kind.grant, Kind.remove, Kind.revoke};
 ghost use Rattle.calls.specs.declared.split.Second.{Second as AnySecond};
 ghost use Rattle.calls.specs.Decode.{ofKind, decoded};
 
