@@ -4,6 +4,7 @@
 use reference::calls::{Call, LOOK_UP, SEND, STRAY};
 use reference::generate::call_word;
 use reference::table::right;
+use reference::words::{word, CONTENT_MAX};
 
 use super::bits::run_of;
 use super::tables::{spread, Shape};
@@ -53,13 +54,17 @@ fn two_names(take: &mut Take) {
 }
 
 /// Calls of every kind of which each number is small: some are done, and of others a number
-/// is one too large.
+/// is one too large; and a stray of all bits.
 fn small_calls() -> Vec<Call> {
     let lone = |kind: u32| Call {
         first: call_word(kind, 0, 0, 0, 0),
         second: None,
     };
     let mut calls: Vec<Call> = [0, LOOK_UP, SEND, 9, 14, STRAY].map(lone).to_vec();
+    calls.push(Call {
+        first: word(STRAY, CONTENT_MAX),
+        second: None,
+    });
     for caller in 0..=2 {
         calls.extend([my_endpoints(caller), my_rights(caller)]);
         calls.extend((0..=3).map(|name| look_up(caller, name)));
