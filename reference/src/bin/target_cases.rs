@@ -26,7 +26,7 @@ const MARK: u32 = 0xBA1C_0000;
 /// The most spaces that a function is lent.
 const SPACES: usize = 4;
 /// How many events follow the beginning of turns on one table.
-const EVENTS: usize = 48;
+const EVENTS: usize = 24;
 
 /// The functions, by the indices that compare.c has.
 #[derive(Debug, Clone, Copy)]
@@ -148,12 +148,16 @@ fn ask_who_reaches(rng: &mut Rng) -> Called {
 }
 
 fn ask_component(rng: &mut Rng) -> Called {
-    let domain = rng.below(DOMAINS_MAX + 1);
+    let table = any_table(rng);
+    let domain = match check_table(&table) {
+        0 if rng.chance(7, 8) => rng.below(domains(&table)),
+        _ => rng.below(DOMAINS_MAX + 1),
+    };
     let asked = [domain as u32, 0];
     Called::on(
         Function::Component,
         asked,
-        [any_table(rng)],
+        [table],
         |[table]| match check_table(table) {
             0 if domain < domains(table) => {
                 let members = component(table, domain);
@@ -243,7 +247,7 @@ impl Line {
     /// The table and the state, now and then a damaged table or a state too short.
     fn lent(&self, rng: &mut Rng) -> (Vec<u32>, Vec<u32>) {
         let (mut table, mut state) = (self.table.clone(), self.state.clone());
-        match rng.below(24) {
+        match rng.below(12) {
             0 => table = damaged_table(rng, 4, 4).0,
             1 => state.truncate(rng.below(state.len())),
             _ => {}
