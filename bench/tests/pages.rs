@@ -311,6 +311,34 @@ fn members(word: u32, n: usize) -> String {
 
 #[test]
 #[ignore = "needs a browser, which BROWSER names: .ci/after/50-report-page runs it"]
+fn keys_step_through_the_list_in_a_browser() {
+    let (input, page) = (file("example.bin", example()), place("example.html"));
+    assert_eq!(ran(&["show", &input, "--page", &page]).0, 0);
+    let written = fs::read_to_string(&page).unwrap();
+    let tables = tables_before(&TABLE_T, &cut(&LIST_L));
+    let tried = [
+        ("End ArrowLeft", 8, "8 of 9 calls"),
+        (
+            "End ArrowRight Home ArrowLeft ArrowRight",
+            1,
+            "1 of 9 calls",
+        ),
+    ];
+    for (keys, step, done) in tried {
+        let press = |key| {
+            format!("document.dispatchEvent(new KeyboardEvent('keydown', {{ key: '{key}' }}));\n")
+        };
+        let presses: String = keys.split(' ').map(press).collect();
+        let script = format!("<script>\n{presses}</script>\n</body>");
+        let pressed = file("pressed.html", written.replace("</body>", &script));
+        let dom = opened(&pressed, "step=4");
+        assert_eq!(element(&dom, "done"), done);
+        compare_state(&dom, &tables[step]);
+    }
+}
+
+#[test]
+#[ignore = "needs a browser, which BROWSER names: .ci/after/50-report-page runs it"]
 fn a_browser_shows_the_states_of_the_reference() {
     let (input, page) = (file("example.bin", example()), place("example.html"));
     assert_eq!(ran(&["show", &input, "--page", &page]).0, 0);
