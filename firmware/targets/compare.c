@@ -26,7 +26,7 @@ enum { SPACES = 4, WORDS_MAX = 65536 };
 /* The functions by their indices in a case. */
 enum function {
     TABLE_CHECK, RUN, RUN_WORKING, RUN_BY_LENGTH, WHO_REACHES, COMPONENT, POTENTIAL,
-    COULD_INFLUENCE, REPAIR, WRITE, TURNS_BEGIN, HAND_IN, TURN, FUNCTIONS
+    COULD_INFLUENCE, REPAIR, WRITE, TURNS_BEGIN, HAND_IN, TURN, STEP, FUNCTIONS
 };
 
 /* The words that a case begins with. */
@@ -87,6 +87,7 @@ static uint64_t call(uint32_t function, const uint32_t *argument)
     case WRITE: return (balkwizu_write)(LENT(0), LENT(1));
     case TURNS_BEGIN: return balkwizu_turns_begin(LENT(0), LENT(1), LENT(2));
     case HAND_IN: return balkwizu_hand_in(LENT(0), LENT(1), argument[0], LENT(2));
+    case STEP: return balkwizu_step(LENT(0), LENT(1), LENT(2), LENT(3));
     default: return WORD(balkwizu_turn(LENT(0), LENT(1), LENT(2), LENT(3)));
     }
 }

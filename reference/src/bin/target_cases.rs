@@ -9,16 +9,17 @@
 use std::env;
 use std::io::{self, BufWriter, Write};
 
+use reference::entry::ANSWER_WORDS;
 use reference::generate::{
-    self, damaged_table, lent_panel, Case, Event, InfluenceCase, PanelCase, PotentialCase,
-    RepairCase, Rng,
+    self, call_words, damaged_table, lent_panel, Case, Event, InfluenceCase, PanelCase,
+    PotentialCase, RepairCase, Rng,
 };
 use reference::potential::potential_rights;
 use reference::table::{check_table, domains, DOMAINS_MAX};
 use reference::words::{from_bytes, to_bytes};
 use reference::{
-    check_bytes, component, could_influence, repair, run_with_holders, turn_words, who_reaches,
-    write_columns,
+    check_bytes, component, could_influence, cut, repair, run_with_holders, step_with_holders,
+    turn_words, who_reaches, write_columns,
 };
 
 /// The first word of a case, but for the function's index.
@@ -44,6 +45,7 @@ enum Function {
     TurnsBegin,
     HandIn,
     Turn,
+    Step,
 }
 
 /// One call of a function: what it is passed, what it leaves and what it returns.
@@ -216,6 +218,46 @@ fn write_list(rng: &mut Rng) -> Called {
     )
 }
 
+/// One call by itself, now and then with other words than those of one call.
+fn step(rng: &mut Rng) -> Called {
+    let table = any_table(rng);
+    let mut words = match check_table(&table) {
+        0 => cut(&call_words(rng, &table))[0].words(),
+        _ => vec![rng.word()],
+    };
+    if rng.chance(1, 8) {
+        words.resize(rng.below(4), rng.word());
+    }
+    let n = (check_table(&table) == 0).then(|| domains(&table));
+    let holders = lent_panel(rng, n.unwrap_or(1));
+    let space = rng.pick(&[0, 2, 3, 3, 3, 3, 3, 4]);
+    let answer = (0..space).map(|_| rng.word()).collect();
+    let given = [table, holders, words, answer];
+    Called::on(
+        Function::Step,
+        [0, 0],
+        given,
+        |[table, holders, words, answer]| step_code(table, holders, words, answer),
+    )
+}
+
+fn step_code(table: &mut [u32], holders: &mut [u32], words: &[u32], answer: &mut [u32]) -> u64 {
+    let calls = cut(words);
+    if calls.len() != 1 {
+        return 36;
+    }
+    if answer.len() < ANSWER_WORDS {
+        return 6;
+    }
+    match step_with_holders(table, &calls[0], holders) {
+        Ok(words) => {
+            answer[..ANSWER_WORDS].copy_from_slice(&words);
+            0
+        }
+        Err(code) => u64::from(code),
+    }
+}
+
 /// A table, the state of its turns and what is still to happen to them, last first.
 #[derive(Default)]
 struct Line {
@@ -310,6 +352,7 @@ fn draw(rng: &mut Rng, line: &mut Line, index: usize) -> Called {
         7 => ask_could_influence(rng),
         11 => repair_table(rng),
         12 => write_list(rng),
+        13 => step(rng),
         _ => line.next(rng),
     }
 }
