@@ -1,5 +1,5 @@
-"""What the gate's scripts share: the files of the repository as texts, the list of crates, the form of a must-fail edit, and the
-judging of a script's own tests.
+"""What the gate's scripts share: the files of the repository as texts, the list of crates, the form of a must-fail edit, the prover's
+check of a copy to which one was applied, and the judging of a script's own tests.
 
 A must-fail edit is crates/CRATE/must-fail/LABEL.edit, in the form that rt reads: a line `file:` holds for the `old:` and `new:`
 lines after it, and each `old:` text stands in that file just once. Lines that rt passes over have a meaning here:
@@ -7,10 +7,16 @@ lines after it, and each `old:` text stands in that file just once. Lines that r
     fault: NAME in FUNCTION, FUNCTION      begins one of several faults, which stands in the bodies of these functions
     refused by: NAME                       names the row or theorem that must refuse an edit of a definition"""
 import collections
+import os
 import pathlib
 import re
+import shutil
+import subprocess
 import sys
+import tempfile
 
+JOBS = int(os.environ.get("RT_JOBS") or os.cpu_count() or 1)
+PARTS = ("src", "specs", "proofs")
 LISTED = re.compile(r"^(\w+):(.*)$", re.M)
 FAULT = re.compile(r"fault: (\S+) in (\S+(?:, \S+)*)")
 REFUSED_BY = "refused by: "
@@ -26,6 +32,12 @@ def cited(listed):
     """The crates of crates.txt in their order, each with those that it cites."""
     lines = "\n".join(line.split("#")[0].rstrip() for line in listed.splitlines())
     return {name: crates.split() for name, crates in LISTED.findall(lines)}
+
+
+def reasons(path):
+    """The lines `name: reason` of a file of exceptions, by name; comments and lines without a reason are none."""
+    file = pathlib.Path(path)
+    return dict(re.findall(r"^([\w:/.-]+?): (\S.*)$", file.read_text(encoding="utf-8") if file.exists() else "", re.M))
 
 
 class Fault:
@@ -60,12 +72,72 @@ def faults_of(label, edit):
     return faults
 
 
-def judged(tried, judge):
-    """How many of the tried texts, each with the words of what must be reported, aren't judged so; these are printed."""
+class Bad(Exception):
+    """An edit that can't be applied."""
+
+
+class Kit:
+    """The prover and its libraries, where rt has them."""
+
+    def __init__(self):
+        home = os.environ.get("RATTLE_HOME") or pathlib.Path(shutil.which("rt")).resolve().parent.parent
+        self.home = pathlib.Path(home)
+        self.own = self.home / "on" / os.uname().machine
+
+    def words(self, root, crate, folder, cites):
+        """The words of a check of a crate's copy, as rt gives them."""
+        main = folder / "src/main.rt"
+        words = ["--crate-name", crate, main if main.exists() else folder / "src/lib.rt", "--extern", f"std={self.own}/rlib/std.rlib"]
+        for name in cites:
+            rlibs = root / "target/rlib" if (root / "crates" / name / "src").is_dir() else self.own / "rlib"
+            words += ["--extern", f"{name}={rlibs}/{name}.rlib"]
+        words += ["-L", f"dependency={root}/target/rlib", "-L", f"dependency={self.own}/rlib"]
+        return words + ["--antt-project", self.home / "logic/antt-project.json", "--logic-built", self.own / "logic-built"]
+
+    def check(self, root, crate, folder, cites, *more):
+        """The status of a check, what was said, and the seconds of processor time that it took."""
+        words = [self.own / "bin/rattle", "check", *self.words(root, crate, folder, cites), *more]
+        with tempfile.TemporaryFile() as said:
+            ran = subprocess.Popen(words, stdin=subprocess.DEVNULL, stdout=said, stderr=subprocess.STDOUT, cwd=root)
+            _, status, used = os.wait4(ran.pid, 0)
+            ran.returncode = os.waitstatus_to_exitcode(status)
+            said.seek(0)
+            return ran.returncode, said.read().decode(errors="replace"), used.ru_utime + used.ru_stime
+
+
+def copied(crate, where):
+    """Copies what a crate has to be checked."""
+    shutil.rmtree(where, ignore_errors=True)
+    where.mkdir(parents=True)
+    for part in PARTS:
+        if (crate / part).is_dir():
+            shutil.copytree(crate / part, where / part, symlinks=True)
+    if any(path.is_symlink() for path in where.rglob("*")):
+        raise Bad("the crate holds a symbolic link")
+
+
+def applied(edit, where):
+    """Replaces in a copy what the edit says, each old text in what those before it left."""
+    replacements = [replacement for fault in faults_of("", edit) for replacement in fault.replacements]
+    for file, old, new in replacements:
+        path = where / file
+        if ".." in file.split("/") or file.split("/")[0] not in PARTS or not path.is_file():
+            raise Bad(f"a 'file:' line names no file of the crate under {', '.join(PARTS)}: {file}")
+        text = path.read_text(encoding="utf-8")
+        if not old or text.count(old) != 1:
+            raise Bad(f"an 'old:' text is in {file} {text.count(old) if old else 'no'} times: {old}")
+        path.write_text(text.replace(old, new), encoding="utf-8")
+    if not replacements:
+        raise Bad("it has no 'old:' and 'new:' pair")
+
+
+def judged(tried, judge, exact=False):
+    """How many of the tried texts, each with the lines that must be reported or words of them, aren't judged so; these are printed."""
     missed = 0
     for *given, wanted in tried:
         reported = list(judge(*given))
-        if len(reported) != len(wanted) or not all(words in line for words, line in zip(wanted, reported)):
+        alike = len(reported) == len(wanted) and all(words in line for words, line in zip(wanted, reported))
+        if not alike or exact and reported != wanted:
             print(f"WRONG: {reported}, not {wanted}, of", *given, sep="\n")
             missed += 1
     return missed
