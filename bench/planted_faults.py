@@ -164,7 +164,7 @@ def difference_by_both(bench, fault):
     if not again:
         raise Wrong("the fuzz doesn't say how to see it again")
     command = again[0].removeprefix(AGAIN).split()
-    difference(bench, [*command, "--kernel", "balkwizu-working"], fault)
+    difference(bench, ["balkwizu-working" if word == "balkwizu" else word for word in command], fault)
     return lines[1].strip()
 
 

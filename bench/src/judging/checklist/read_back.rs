@@ -376,7 +376,7 @@ mod tests {
         ];
         let unread = ["holders-", "faults", "loops", "one-call-too-many"];
         let drilled = [
-            "order-", "bits-", "partial-", "size-", "history-", "beyond-",
+            "order-", "bits-", "partial-", "size-", "history-", "beyond-", "drill-",
         ];
         let name = name.strip_prefix("wrong-").unwrap();
         let all = entry.iter().chain(&unread).chain(&drilled);
