@@ -25,6 +25,7 @@ pub fn queues(_: &Tables, take: &mut Take) {
         endpoint(e, take);
         (0..DOMAINS_MAX).for_each(|sender| only_sender(e, sender, take));
         (0..=SLOTS).for_each(|waits| waiting_at(e, waits, take));
+        lost_at(e, take);
     }
 }
 
@@ -109,6 +110,18 @@ fn messages(take: &mut Take) {
             let list = [send(1, 1, message).words(), receive(1, 1).words()].concat();
             run_of(&waits.words(), list, take);
         }
+    }
+}
+
+/// A full queue at an endpoint with each lost count around a power of two: one loss, and a
+/// receive that shows the count.
+fn lost_at(e: usize, take: &mut Take) {
+    for lost in (0..=28).flat_map(|bit| [(1 << bit) - 1, 1 << bit]) {
+        let mut shape = Shape::new(1, ENDPOINTS_MAX).give(0, 0, right::SEND);
+        let queue = &mut shape.queues[e];
+        (queue.capacity, queue.messages, queue.lost) = (1, vec![7], CONTENT_MAX.min(lost));
+        let list = [send(0, e, 8).words(), receive(0, e).words()].concat();
+        run_of(&shape.words(), list, take);
     }
 }
 

@@ -6,7 +6,7 @@
 use reference::calls::{cut, Call, LIST_WORDS_MAX, STRAY};
 use reference::entry::ANSWER_WORDS;
 use reference::generate::call_word;
-use reference::table::{domains, right, DOMAINS_MAX, ENDPOINTS_MAX, SLOTS};
+use reference::table::{domains, right, DOMAINS_MAX, ENDPOINTS_MAX, ENDPOINT_WORDS, SLOTS};
 
 use super::bits::{ask_all, run_of};
 use super::tables::{spread, Shape};
@@ -34,6 +34,7 @@ pub fn sizes(tables: &Tables, take: &mut Take) {
     every_count(take);
     for (n, m) in (1..=DOMAINS_MAX).flat_map(|n| (0..=ENDPOINTS_MAX).map(move |m| (n, m))) {
         every_capacity(n, m, take);
+        first_and_last(n, m, take);
     }
 }
 
@@ -113,6 +114,20 @@ fn every_capacity(n: usize, m: usize, take: &mut Take) {
         let rights = rights.iter().flat_map(Call::words);
         let list = ask_all(&table).into_iter().chain(names).chain(rights);
         run_of(&table, list.collect(), take);
+    }
+}
+
+/// A table of a size whose first or last rights word, or one word of whose first or last
+/// endpoint, is of another kind.
+fn first_and_last(n: usize, m: usize, take: &mut Take) {
+    let table = Shape::new(n, m).words();
+    let endpoints = [n * n + 1, table.len().saturating_sub(ENDPOINT_WORDS)];
+    let endpoints = endpoints.into_iter().filter(|_| m > 0);
+    let words = endpoints.flat_map(|start| start..start + ENDPOINT_WORDS);
+    for place in [1, n * n].into_iter().chain(words) {
+        let mut damaged = table.clone();
+        damaged[place] ^= 0x8000_0000;
+        run_of(&damaged, my_rights(0).words(), take);
     }
 }
 
