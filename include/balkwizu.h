@@ -181,6 +181,32 @@ constexpr size_t balkwizu_count(Element (&)[Number]) noexcept
 #define BALKWIZU_TURN_STACK_BYTES 1024
 #define BALKWIZU_STEP_STACK_BYTES 1024
 
+/*
+ * How many instructions a call of each function takes, for a watchdog, on x86-64: the
+ * most that were found, and a little over. They were looked for on tables and calls that
+ * are made to cost as much as possible; the gate counts these and holds the archives to
+ * what it finds. Nothing proves that no other input takes more, and no time is said:
+ * that depends on the processor.
+ *
+ * Words are those of the list, calls are those to be written. What the firmware's own
+ * memcpy, memmove or memset takes comes on top. The archives for bare metal and those for
+ * other processors take other numbers, which aren't counted.
+ */
+#define BALKWIZU_RUN_INSTRUCTIONS(words) (5800u + 350u * (words))
+#define BALKWIZU_RUN_WORKING_INSTRUCTIONS(words) (12400u + 175u * (words))
+#define BALKWIZU_RUN_BY_LENGTH_INSTRUCTIONS(words) (26000u + 175u * (words))
+#define BALKWIZU_TABLE_CHECK_INSTRUCTIONS 4300u
+#define BALKWIZU_COMPONENT_INSTRUCTIONS 12600u
+#define BALKWIZU_REPAIR_INSTRUCTIONS 17400u
+#define BALKWIZU_POTENTIAL_INSTRUCTIONS 155000u
+#define BALKWIZU_COULD_INFLUENCE_INSTRUCTIONS 164000u
+#define BALKWIZU_WRITE_INSTRUCTIONS(calls) (200u + 185u * (calls))
+#define BALKWIZU_WHO_REACHES_INSTRUCTIONS 1700u
+#define BALKWIZU_TURNS_BEGIN_INSTRUCTIONS 5800u
+#define BALKWIZU_HAND_IN_INSTRUCTIONS 4500u
+#define BALKWIZU_TURN_INSTRUCTIONS 6500u
+#define BALKWIZU_STEP_INSTRUCTIONS 6300u
+
 /* The most that a table, a list and its answers can have, in words. */
 #define BALKWIZU_DOMAINS_MAX 16
 #define BALKWIZU_ENDPOINTS_MAX 32

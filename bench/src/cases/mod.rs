@@ -1,6 +1,6 @@
 //! What is drawn to be tried: random runs and table images, random histories of turns,
 //! random inputs of `linerun`, and the lists that the speed is measured on, of one length
-//! or of any.
+//! or of any. Beside these, what is made to cost as much as possible.
 
 pub mod histories;
 pub mod inputs;
@@ -8,6 +8,7 @@ pub mod mixes;
 pub mod random;
 pub mod sheets;
 pub mod workloads;
+pub mod worst;
 
 /// What is lent to one run.
 #[derive(Debug, Clone, PartialEq, Eq)]

@@ -9,15 +9,16 @@ use std::process::{Command, Stdio};
 
 use crate::args::Options;
 use crate::judging::instructions::{
-    compared, figures, parts, read_written, written, Figure, PERCENT,
+    at_most, compared, figures, near, parts, read_written, written, Figure, HEAD, PERCENT,
 };
-use crate::judging::jobs::{do_all, jobs, BEHIND_A_JOB};
+use crate::judging::jobs::{do_all, jobs, Job, BEHIND_A_JOB};
+use crate::judging::worst::{beyond, largest_of, worst_jobs};
 use crate::line::explain::counted;
 use crate::output::{self, say};
 use crate::scratch::Folder;
 
 pub const HELP: &str = "\
-bench instructions [--write] [--file FILE]
+bench instructions [--worst] [--write] [--file FILE]
 
 Counts by valgrind's callgrind the instructions of the proved functions on fixed
 tables and lists: the checks of two tables, runs of four mixes on two tables in
@@ -27,8 +28,15 @@ Holds them to the figures that are written down in bench/instructions.txt, which
 this program was built with: one that rose or fell by more than 3 % fails, and
 says so.
 
+  --worst      counts on tables and calls that are made to cost as much as
+               possible instead, and holds the largest of each function and kind
+               of call to bench/worst.txt: one that rose at all fails, and so
+               does one written down that passes what include/balkwizu.h below
+               this folder allows (BALKWIZU_.._INSTRUCTIONS). What memory
+               functions took is told beside it and not held
   --write      writes the figures down anew, to bench/instructions.txt below
-               this folder: where a change of the archive is meant, with it
+               this folder, or to bench/worst.txt: where a change of the archive
+               is meant, with it
   --file FILE  takes the figures of another file, or writes them there
 
 The counts are the same at each run of one archive, whatever else the machine
@@ -38,30 +46,69 @@ Exit status: 0 all figures hold, or are written; 1 some don't; 2 bad usage, or
 nothing could be counted.
 ";
 
-/// The figures written down, and where they stand in the repository.
-const WRITTEN: &str = include_str!("../../instructions.txt");
-const FILE: &str = "bench/instructions.txt";
+/// What is counted: the jobs, the file that has their figures in the repository, its head
+/// and its text.
+struct Counting {
+    jobs: fn() -> Vec<Job>,
+    file: &'static str,
+    head: &'static str,
+    written: &'static str,
+}
 
-/// The option by which the command does the jobs themselves, under callgrind.
+const TYPICAL: Counting = Counting {
+    jobs,
+    file: "bench/instructions.txt",
+    head: HEAD,
+    written: include_str!("../../instructions.txt"),
+};
+
+const WORST: Counting = Counting {
+    jobs: worst_jobs,
+    file: "bench/worst.txt",
+    head: "\
+# The most instructions that were found for each function and kind of call, counted by callgrind:
+# the archive's own alone. The number behind a function's name is that of the list's words, or of
+# the calls to be written. `bench instructions --worst` holds the archive to these figures.
+",
+    written: include_str!("../../worst.txt"),
+};
+
+/// The header, whose macros the largest figures are held to, in the repository.
+const HEADER: &str = "include/balkwizu.h";
+
+/// The options of the other jobs, and by which the command does the jobs themselves, under
+/// callgrind.
+const OTHERS: &str = "--worst";
 const JOBS: &str = "--jobs";
 
 /// The command: whether the figures hold.
 pub fn command(line: &[OsString]) -> Result<bool, String> {
-    let options = Options::parse(line, &["--file"], &["--write", JOBS])?;
+    let options = Options::parse(line, &["--file"], &["--write", OTHERS, JOBS])?;
     options.no_file()?;
+    let worst = options.has(OTHERS);
+    let counting = if worst { WORST } else { TYPICAL };
     if options.has(JOBS) {
-        do_all(&jobs());
+        do_all(&(counting.jobs)());
         return Ok(true);
     }
     let file = options.path("--file");
     if options.has("--write") {
-        return write_anew(file.unwrap_or(Path::new(FILE)));
+        return write_anew(&counting, file.unwrap_or(Path::new(counting.file)), worst);
     }
     let written = match file {
-        None => read_written(WRITTEN)?,
+        None => read_written(counting.written)?,
         Some(file) => read_file(file).map_err(|why| format!("{}: {why}", output::shown(file)))?,
     };
-    Ok(tell(&counted_now()?, &written))
+    if !worst {
+        return Ok(tell(&counted_now(&counting, worst)?, &written));
+    }
+    let header = fs::read_to_string(HEADER).map_err(|why| format!("{HEADER}: {why}"))?;
+    let beyond = beyond(&header, &written);
+    Ok(tell_worst(
+        &counted_now(&counting, worst)?,
+        &written,
+        &beyond,
+    ))
 }
 
 fn read_file(file: &Path) -> Result<Vec<Figure>, String> {
@@ -70,10 +117,10 @@ fn read_file(file: &Path) -> Result<Vec<Figure>, String> {
 }
 
 /// Counts, and writes the figures to a file; whether that can be is known before.
-fn write_anew(file: &Path) -> Result<bool, String> {
+fn write_anew(counting: &Counting, file: &Path, worst: bool) -> Result<bool, String> {
     output::may_write("--file", file, &[])?;
-    let figures = counted_now()?;
-    output::write_file(file, &written(&figures))?;
+    let figures = counted_now(counting, worst)?;
+    output::write_file(file, &written(counting.head, &figures))?;
     let figures = counted(figures.len(), "figure");
     say!("{figures} written to {}", output::shown(file));
     Ok(true)
@@ -81,7 +128,7 @@ fn write_anew(file: &Path) -> Result<bool, String> {
 
 /// Tells what became of each figure; whether all hold.
 fn tell(figures: &[Figure], written: &[Figure]) -> bool {
-    let (told, failed) = compared(figures, written);
+    let (told, failed) = compared(figures, written, near);
     told.iter().for_each(|line| say!("{line}"));
     if failed > 0 {
         say!(
@@ -93,8 +140,17 @@ fn tell(figures: &[Figure], written: &[Figure]) -> bool {
     failed == 0
 }
 
+/// Tells what became of the largest figures, and which of those written down are beyond what
+/// the header allows; whether all hold.
+fn tell_worst(figures: &[Figure], written: &[Figure], beyond: &[String]) -> bool {
+    let (told, failed) = compared(figures, written, at_most);
+    told.iter().for_each(|line| say!("{line}"));
+    beyond.iter().for_each(|line| say!("FAILED  {line}"));
+    failed == 0 && beyond.is_empty()
+}
+
 /// Has the jobs done by this program under callgrind, and reads what that counted.
-fn counted_now() -> Result<Vec<Figure>, String> {
+fn counted_now(counting: &Counting, worst: bool) -> Result<Vec<Figure>, String> {
     let folder = Folder::make("instructions")?;
     let left = folder.path().join("callgrind");
     let program = std::env::current_exe().map_err(|why| format!("where am I? {why}"))?;
@@ -105,6 +161,7 @@ fn counted_now() -> Result<Vec<Figure>, String> {
         .arg(format!("--callgrind-out-file={}", left.display()))
         .arg(program)
         .args(["instructions", JOBS])
+        .args(worst.then_some(OTHERS))
         .current_dir(folder.path())
         .stdin(Stdio::null())
         .output()
@@ -114,8 +171,8 @@ fn counted_now() -> Result<Vec<Figure>, String> {
         return Err(format!("valgrind ended with {}: {said}", ran.status));
     }
     let text = fs::read_to_string(&left).map_err(|why| format!("callgrind left nothing: {why}"))?;
-    let names = jobs().into_iter().map(|job| job.name).collect();
-    figures(names, &parts(&text)?)
+    let names = (counting.jobs)().into_iter().map(|job| job.name).collect();
+    Ok(largest_of(figures(names, &parts(&text)?)?))
 }
 
 #[cfg(test)]
@@ -129,9 +186,24 @@ mod tests {
 
     #[test]
     fn the_figures_of_the_repository_are_those_of_the_jobs() {
-        let written = read_written(WRITTEN).unwrap();
-        let names: Vec<String> = written.into_iter().map(|one| one.name).collect();
-        let wanted: Vec<String> = jobs().into_iter().map(|job| job.name).collect();
-        assert_eq!(names, wanted);
+        for counting in [TYPICAL, WORST] {
+            let written = read_written(counting.written).unwrap();
+            let names: Vec<String> = written.into_iter().map(|one| one.name).collect();
+            let mut wanted: Vec<String> = Vec::new();
+            for job in (counting.jobs)() {
+                if !wanted.contains(&job.name) {
+                    wanted.push(job.name);
+                }
+            }
+            assert_eq!(names, wanted, "{}", counting.file);
+        }
+    }
+
+    #[test]
+    fn the_header_allows_the_largest_figures_of_the_repository() {
+        let written = read_written(WORST.written).unwrap();
+        let repository = Path::new(env!("CARGO_MANIFEST_DIR")).join("..");
+        let header = fs::read_to_string(repository.join(HEADER)).unwrap();
+        assert_eq!(beyond(&header, &written), [""; 0]);
     }
 }

@@ -39,7 +39,7 @@ pub struct Job {
 }
 
 impl Job {
-    fn new(name: impl Into<String>, act: impl Fn() + 'static) -> Job {
+    pub fn new(name: impl Into<String>, act: impl Fn() + 'static) -> Job {
         Job {
             name: name.into(),
             act: Box::new(act),

@@ -4,7 +4,8 @@
 //! lists to be written, single calls, single queues, pairs of lines and components, who
 //! could influence whom, turns
 //! and their histories, what `linerun` prints, what was met in all, what is wrong cut down
-//! and told, how long it takes, by the length of a list too, and how many instructions.
+//! and told, how long it takes, by the length of a list too, and how many instructions, at
+//! worst too.
 
 pub mod chains;
 pub mod checklist;
@@ -42,3 +43,4 @@ pub mod trying;
 pub mod turn_times;
 pub mod turning;
 pub mod variants;
+pub mod worst;

@@ -373,6 +373,35 @@ fn written(result: u64) -> Written {
     }
 }
 
+/// One call by the archive's function for it: its code.
+pub fn single(table: &mut [u32], holders: &mut [u32], words: &[u32], answer: &mut [u32]) -> u32 {
+    extern "C" {
+        fn balkwizu_step(
+            table: *mut u32,
+            table_len: usize,
+            holders: *mut u32,
+            holders_len: usize,
+            words: *const u32,
+            words_len: usize,
+            answer: *mut u32,
+            answer_len: usize,
+        ) -> u32;
+    }
+    // SAFETY: four slices, each valid for its length, aligned and borrowed alone.
+    unsafe {
+        balkwizu_step(
+            table.as_mut_ptr(),
+            table.len(),
+            holders.as_mut_ptr(),
+            holders.len(),
+            words.as_ptr(),
+            words.len(),
+            answer.as_mut_ptr(),
+            answer.len(),
+        )
+    }
+}
+
 /// A send of a message to an endpoint's words, and a receive from them: whether it
 /// was done, or the words stayed as they were.
 #[derive(Clone, Copy)]
@@ -487,35 +516,6 @@ mod tests {
             wrong.contains("balkwizu, balkwizu-working, balkwizu-by-length, plain-gcc"),
             "{wrong}"
         );
-    }
-
-    /// One call by the archive's function for it: its code.
-    fn single(table: &mut [u32], holders: &mut [u32], words: &[u32], answer: &mut [u32]) -> u32 {
-        extern "C" {
-            fn balkwizu_step(
-                table: *mut u32,
-                table_len: usize,
-                holders: *mut u32,
-                holders_len: usize,
-                words: *const u32,
-                words_len: usize,
-                answer: *mut u32,
-                answer_len: usize,
-            ) -> u32;
-        }
-        // SAFETY: four slices, each valid for its length, aligned and borrowed alone.
-        unsafe {
-            balkwizu_step(
-                table.as_mut_ptr(),
-                table.len(),
-                holders.as_mut_ptr(),
-                holders.len(),
-                words.as_ptr(),
-                words.len(),
-                answer.as_mut_ptr(),
-                answer.len(),
-            )
-        }
     }
 
     #[test]
