@@ -12,7 +12,7 @@ use reference::words::word;
 use crate::cases::workloads::{closed_table, refused, second, table_with};
 
 /// Domains and endpoints: the most of both, and one domain less, where rows end between the
-/// words that are gone over at a time. Of all sizes these two were found to cost most.
+/// words that are gone over at a time. Of the sizes that were tried these two cost most.
 pub const SIZES: [(usize, usize); 2] = [(15, 32), (16, 32)];
 
 /// Names that share a hint of the working layout, and so a flag of the check: looked for
