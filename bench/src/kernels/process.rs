@@ -47,6 +47,7 @@ const RLIMIT_CORE: c_int = 4;
 const PROT_READ_AND_WRITE: c_int = 3;
 const PROT_NONE: c_int = 0;
 const MAP_SHARED_AND_ANONYMOUS: c_int = 0x21;
+const MAP_RESERVED: c_int = 0x4022; // private, anonymous, and kept by nothing until it is touched
 const PAGE: usize = 4096;
 
 /// Numbers, zero at first, that a child process shares with its parent.
@@ -57,24 +58,15 @@ pub struct Shared {
 
 impl Shared {
     pub fn new(count: usize) -> io::Result<Shared> {
-        let start = memory(count * size_of::<AtomicU64>())?.cast();
+        let start = memory(count * size_of::<AtomicU64>(), MAP_SHARED_AND_ANONYMOUS)?.cast();
         Ok(Shared { start, count })
     }
 }
 
 /// New memory of so many bytes, zero at first.
-fn memory(bytes: usize) -> io::Result<*mut c_void> {
+fn memory(bytes: usize, flags: c_int) -> io::Result<*mut c_void> {
     // SAFETY: new memory is asked for, at no place in particular.
-    let start = unsafe {
-        mmap(
-            ptr::null_mut(),
-            bytes,
-            PROT_READ_AND_WRITE,
-            MAP_SHARED_AND_ANONYMOUS,
-            -1,
-            0,
-        )
-    };
+    let start = unsafe { mmap(ptr::null_mut(), bytes, PROT_READ_AND_WRITE, flags, -1, 0) };
     match start as isize {
         -1 => Err(io::Error::last_os_error()),
         _ => Ok(start),
@@ -91,7 +83,7 @@ impl Guarded {
     /// Space for so many words at least.
     pub fn new(words: usize) -> io::Result<Guarded> {
         let bytes = (words * size_of::<u32>()).next_multiple_of(PAGE);
-        let start = memory(bytes + PAGE)?;
+        let start = memory(bytes + PAGE, MAP_SHARED_AND_ANONYMOUS)?;
         // SAFETY: the last page of the memory that was just given, which nobody has yet.
         match unsafe { mprotect(start.cast::<u8>().add(bytes).cast(), PAGE, PROT_NONE) } {
             0 => Ok(Guarded { start, bytes }),
@@ -123,6 +115,32 @@ impl Drop for Guarded {
     fn drop(&mut self) {
         // SAFETY: it is the memory that was given, and nobody has it any more.
         unsafe { munmap(self.start, self.bytes + PAGE) };
+    }
+}
+
+/// Words, zero at first, of which only those that are touched take memory.
+pub struct Reserved {
+    start: *mut u32,
+    count: usize,
+}
+
+impl Reserved {
+    pub fn new(count: usize) -> io::Result<Reserved> {
+        let start = memory(count * size_of::<u32>(), MAP_RESERVED)?.cast();
+        Ok(Reserved { start, count })
+    }
+
+    pub fn words(&mut self) -> &mut [u32] {
+        // SAFETY: the memory is there until this is dropped, borrowed with it alone, aligned
+        // to a page and zero at first.
+        unsafe { slice::from_raw_parts_mut(self.start, self.count) }
+    }
+}
+
+impl Drop for Reserved {
+    fn drop(&mut self) {
+        // SAFETY: it is the memory that was given, and nobody has it any more.
+        unsafe { munmap(self.start.cast(), self.count * size_of::<u32>()) };
     }
 }
 

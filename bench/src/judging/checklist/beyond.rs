@@ -16,8 +16,7 @@ use crate::line::explain::counted;
 /// What no run from outside can show.
 pub const BLACK_BOX: &str =
     "what no run from outside can show: a fault that waits for one message, one name or \
-     one history among more than can be tried; lists and answer spaces of millions of words \
-     aren't tried";
+     one history among more than can be tried";
 
 /// The tables of the drills.
 const FAMILY: &str =

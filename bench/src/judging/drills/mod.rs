@@ -15,6 +15,7 @@ mod alike;
 mod bits;
 mod ends;
 mod entries;
+mod far;
 mod images;
 mod names;
 mod neighbours;
@@ -35,16 +36,18 @@ use crate::kernels::child::{self, watch, Board};
 use crate::kernels::lent::{run_here, Edges, Failure, Stopped};
 use crate::progress::Progress;
 
+use far::Far;
 use images::Image;
 use tables::family;
 
 /// What a kernel is given: a run, after which the table's image is checked too; a run that
-/// another one follows at once; or an image alone.
+/// another one follows at once; an image alone; or a run with a part that is far too long.
 #[derive(Clone)]
 pub enum Given {
     Run(Case),
     Next(Case),
     Image(Image),
+    Far(Far),
 }
 
 /// Takes what is given, one after another.
@@ -259,6 +262,7 @@ impl Trial<'_> {
                 .difference(kernel)
                 .or_else(|| image.difference_at_the_edge(kernel, &mut self.edges))
                 .map(in_both),
+            Given::Far(far) => far.difference(kernel).map(in_both),
         }
     }
 
@@ -330,6 +334,7 @@ fn differs(kernel: &Kernel, tables: &Tables, board: &Board) -> Wrong {
     let shown = match given {
         Given::Run(case) | Given::Next(case) => shorter(kernel, &case),
         Given::Image(image) => image.in_words(),
+        Given::Far(far) => far.in_words(),
     };
     let reported = |why: String| format!("{what}, case {number}: {why}\n{shown}");
     let refusal = Some(text_left(board, REFUSAL)).filter(|text| !text.is_empty());
@@ -362,6 +367,7 @@ fn stops(kernel: &Kernel, tables: &Tables, board: &Board, stopped: Stopped) -> W
             report::failed(kernel, &case, Failure::Stopped(stopped), child::LIMIT)
         }
         Given::Image(image) => format!("{stopped}\n{}", image.in_words()),
+        Given::Far(far) => format!("{stopped}\n{}", far.in_words()),
     };
     let at = match board.announced() % 4 {
         AMID => "",

@@ -10,7 +10,7 @@ use reference::table::{domains, right, DOMAINS_MAX, ENDPOINTS_MAX, ENDPOINT_WORD
 
 use super::bits::{ask_all, run_of};
 use super::tables::{spread, Shape};
-use super::{Given, Tables, Take};
+use super::{far, Given, Tables, Take};
 use crate::cases::Case;
 use crate::judging::exercise::planner::{grant, look_up, my_rights, receive, remove, revoke, send};
 use crate::judging::variants::holders_for;
@@ -28,6 +28,7 @@ const FAR: [usize; 6] = [65_536, 65_537, 65_541, 69_632, 69_633, 131_075];
 pub fn sizes(tables: &Tables, take: &mut Take) {
     for table in tables.few() {
         around_limits(table, take);
+        far::lengths(table, take);
     }
     long_lists(take);
     every_length(take);
@@ -167,7 +168,8 @@ fn spaces(table: &[u32], list: &[u32], all: bool, take: &mut Take) {
     }
 }
 
-fn lent(table: &[u32], list: &[u32], space: usize, holders: usize) -> Case {
+/// A run with so many words of answer space and for the holders.
+pub fn lent(table: &[u32], list: &[u32], space: usize, holders: usize) -> Case {
     let mut lent = holders_for(table);
     lent.resize(holders, 0xC0DE_0077);
     Case {
