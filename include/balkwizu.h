@@ -2,20 +2,19 @@
  * balkwizu.h: the line controller's capability kernel, for firmware in C11 or
  * C++11, by gcc or clang.
  *
- * The functions are in libbalkwizu.a and libbalkwizu_turns.a, in a release in lib/, of
- * proved code: which archive has which is listed below. They may be linked at any address,
- * one or both, allocate nothing, and call nothing of the C library but memcpy, memmove and
- * memset. In the sources `rt staticlib balkwizu` and `rt staticlib balkwizu_turns` make
- * them for x86-64, in target/staticlib, and firmware/targets/archive makes them for other
- * processors out of the same proved code: firmware/targets/targets.txt lists these.
+ * The functions are proved code, in the archives libbalkwizu.a and libbalkwizu_turns.a
+ * (in a release in lib/); a list below has the functions of each. Link one archive or
+ * both, at any address. They allocate nothing, and call nothing of the C library but
+ * memcpy, memmove and memset. In the sources `rt staticlib balkwizu` and `rt staticlib
+ * balkwizu_turns` make them for x86-64, in target/staticlib; firmware/targets/archive makes
+ * them from the same proved code for the processors of firmware/targets/targets.txt.
  *
- * No function keeps anything from one call to the next: they may be called at the
+ * No function keeps anything from one call to the next, so they may be called at the
  * same time on different words.
  *
- * What is proved is proved of every table, every list and every answer space,
- * damaged ones too. What no proof covers are the caller's duties and what the machine
- * code asks, both written below: the kernel believes the pointers and lengths that it is
- * given.
+ * Each function is proved for arbitrary words as table, list, answers, holders or state,
+ * damaged ones too. No proof covers the preconditions and the requirements of the machine
+ * code, both below: no function checks a pointer, or a length against the memory there.
  *
  * Numbers and layouts are those of document 01, "The line controller's
  * capability kernel", with the change requests of document 02. Bit 0 is the lowest
@@ -23,7 +22,7 @@
  *
  * Each function has an example. An example is the body of a C function that includes
  * <assert.h>; table points to table_len words that may be written, those of the table
- * under "A table's words". The gate compiles and runs them as they stand here.
+ * under "A table's words". The gate compiles and runs each as it is written here.
  */
 #ifndef BALKWIZU_H
 #define BALKWIZU_H
@@ -43,8 +42,8 @@
 #endif
 
 /*
- * What the declarations say beyond their types: whoever calls has to look at what is
- * returned, no two lent parts overlap (C alone can say it), and no function throws.
+ * What the declarations state beyond their types: the caller must use what is returned,
+ * no two parts that are lent overlap (in C alone, by restrict), and no function throws.
  */
 #define BALKWIZU_MUST_USE __attribute__((warn_unused_result))
 #ifdef __cplusplus
@@ -60,8 +59,8 @@ extern "C" {
 #endif
 
 /*
- * Which release this header is of, and the three numbers in one word, so that a later
- * release is a larger number. balkwizu_version tells the archive's.
+ * The release of this header, and its three numbers in one word, so that a later release
+ * is a larger number. balkwizu_version returns the archive's.
  */
 #define BALKWIZU_VERSION_MAJOR 3
 #define BALKWIZU_VERSION_MINOR 0
@@ -71,7 +70,7 @@ extern "C" {
      BALKWIZU_VERSION_PATCH)
 
 /*
- * The caller's duties, the same for every function
+ * Preconditions, the same for every function: the caller must provide them
  *
  *   - A pointer points to as many words as the length after it says. Lengths are in words,
  *     never in bytes: BALKWIZU_COUNT counts those of an array. (balkwizu_table_check alone
@@ -106,26 +105,26 @@ constexpr size_t balkwizu_count(Element (&)[Number]) noexcept
 #endif
 
 /*
- * Macros: one that makes a word of a table or of a list evaluates an argument twice, and
+ * Macros: one that makes a word of a table or of a list may evaluate an argument twice, and
  * BALKWIZU_TABLE_WORDS and BALKWIZU_ENDPOINT_AT do so with n. Every other macro evaluates
  * its arguments once at most.
  */
 
 /*
- * What the machine code asks of its caller, on x86-64
+ * What the machine code requires of its caller, on x86-64
  *
- * It is made by the System V ABI of x86-64, like programs for Linux. On bare metal
- * the firmware has to see to what that ABI takes for granted (the bytes of stack below are
+ * It follows the System V ABI of x86-64, like programs for Linux. On bare metal the
+ * firmware must provide what that ABI takes for granted (the bytes of stack below are
  * of x86-64 too):
  *
  *   alignment  The stack pointer is a multiple of 16 at the call instruction.
  *              Where it isn't, the function faults: it stores 16 bytes at a time.
  *   direction  The direction flag is clear at the call instruction. An interrupt that
  *              calls these functions clears it first (cld).
- *   red zone   A function may keep words in the 128 bytes below its stack pointer,
- *              and those do of which the lines below say so. An interrupt on the
- *              same stack overwrites them, and what the function then answers and
- *              writes is wrong. Interrupts have a stack of their own (an entry of
+ *   red zone   A function may keep words in the 128 bytes below its stack pointer;
+ *              the lines below mark those that do. An interrupt on the same stack
+ *              overwrites them, and what the function then returns and writes is
+ *              wrong. Interrupts have a stack of their own (an entry of
  *              the interrupt stack table, or a change of privilege), or are off
  *              during the call. No option that the firmware is compiled with alters
  *              this. firmware/bare_metal/archive makes archives that have no red
@@ -139,7 +138,7 @@ constexpr size_t balkwizu_count(Element (&)[Number]) noexcept
  *              (endbr64): indirect branch tracking is off.
  *   stack      The bytes below the stack pointer at the call instruction, return
  *              address and red zone included, are at most those defined here for
- *              each function, on any way through it. What the firmware's own memcpy,
+ *              each function, on any path through it. What the firmware's own memcpy,
  *              memmove or memset takes comes on top.
  *
  * Which functions each archive has, and what they use of this, as the gate reads it
@@ -183,12 +182,11 @@ constexpr size_t balkwizu_count(Element (&)[Number]) noexcept
 
 /*
  * How many instructions a call of each function takes, for a watchdog, on x86-64: the
- * most that were found, and a little over. They were looked for on tables and calls that
- * are made to cost as much as possible; the gate counts these and holds the archives to
- * what it finds. Nothing proves that no other input takes more, and no time is said:
- * that depends on the processor.
+ * most that was found on tables and calls that are constructed to cost much, and a little
+ * over. The gate counts these again. It is not proved that no other input takes more, and
+ * nothing is stated about time, which depends on the processor.
  *
- * Words are those of the list, calls are those to be written. What the firmware's own
+ * `words` are those of the list, `calls` those to be written. What the firmware's own
  * memcpy, memmove or memset takes comes on top. The archives for bare metal and those for
  * other processors take other numbers, which aren't counted.
  */
@@ -231,9 +229,9 @@ constexpr size_t balkwizu_count(Element (&)[Number]) noexcept
 #define BALKWIZU_CONTENT(word) (BALKWIZU_WORD(word) & 0x0FFFFFFFu)
 
 /*
- * What of a number is beyond so many bits, 0 where nothing is: by 64 bits, so that nothing
- * is cut before it is looked at. A negative number is beyond any. What is beyond four bits
- * or more can be added up, five times, without passing 64.
+ * The part of a number above so many bits, 0 where it fits: in 64 bits, so that nothing
+ * is cut off before the test. A negative number never fits. Five parts above four bits or
+ * more can be added without overflow.
  */
 #ifdef __cplusplus
 #define BALKWIZU_BEYOND(number, bits) (static_cast<uint64_t>(number) >> (bits))
@@ -242,9 +240,9 @@ constexpr size_t balkwizu_count(Element (&)[Number]) noexcept
 #endif
 
 /*
- * What each macro that makes a word gives where a number is beyond its field: kind 0,
- * caller 63. Cutting or shifting such a number would make another call of it, or another
- * domain's. No table has this word, and no call is served by it.
+ * The word that each macro below makes where a number is beyond its field: kind 0, caller
+ * 63. To cut or shift such a number would make another call of it, or another domain's. No
+ * accepted table has this word, and no run serves a call of it.
  */
 #define BALKWIZU_BAD_WORD 0x0FC00000u
 
@@ -260,9 +258,9 @@ constexpr size_t balkwizu_count(Element (&)[Number]) noexcept
             BALKWIZU_WORD(low)))
 
 /*
- * What a function returns that has two things to say: a code in bits 15-0 of the word,
- * which is 0 where all is well, and in bits 31-16 what is written at the function. It is
- * a structure so that the whole can't be taken for the code: a comparison of it with
+ * The result of a function that returns two things: a code in bits 15-0 of the word,
+ * which is 0 where nothing was refused, and in bits 31-16 what the function's comment says.
+ * It is a structure so that the whole can't be mistaken for the code: to compare it with
  * BALKWIZU_OK doesn't compile. It is returned in the register in which the word would be.
  */
 typedef struct {
@@ -270,11 +268,11 @@ typedef struct {
 } balkwizu_result;
 
 /*
- * What a question about domains leaves open, on the safe side: 1 unless its code is 0 and
- * the bit of the domain is clear. So a question that was refused excludes nobody, and a
- * domain from 16 on, which has no bit, isn't excluded either. balkwizu_may_reach,
- * balkwizu_may_be_in_component and balkwizu_may_influence are this by the name of their
- * question.
+ * Returns whether a question about domains leaves a domain possible, on the safe side: 1
+ * unless its code is 0 and the bit of the domain is clear. So a question that was refused
+ * excludes nobody, nor a domain from 16 on, which has no bit. balkwizu_may_reach,
+ * balkwizu_may_be_in_component and balkwizu_may_influence are this function, each by the
+ * name of its question.
  */
 static inline uint32_t balkwizu_not_excluded(balkwizu_result result, uint32_t domain)
     BALKWIZU_NOEXCEPT
@@ -284,24 +282,25 @@ static inline uint32_t balkwizu_not_excluded(balkwizu_result result, uint32_t do
     return (result.word >> (16 + domain)) & 1u;
 }
 
-/* Every number that the kernel answers with, named by what is wrong. */
+/* Every code that a function or an answer can have, named by what is wrong. */
 enum balkwizu_code {
     BALKWIZU_OK = 0,
 
     /* Of a whole run, or of the table's check, the first that fails: nothing was
-       changed. (7 is the program linerun's, for input that can't be read.) */
+       written. (7 is of the programs linerun and linetotals, for input that hasn't
+       their form.) */
     BALKWIZU_LIST_TOO_LONG = 1,      /* the list is above 4,096 words */
     BALKWIZU_TABLE_BAD_HEADER = 2,   /* table empty, or word 0 breaks its layout */
-    BALKWIZU_TABLE_BAD_LENGTH = 3,   /* not the length that word 0 asks for */
+    BALKWIZU_TABLE_BAD_LENGTH = 3,   /* not the length that word 0 implies */
     BALKWIZU_TABLE_BAD_RIGHTS = 4,   /* a rights word breaks its layout */
     BALKWIZU_TABLE_BAD_ENDPOINT = 5, /* an endpoint word does, or a name repeats */
     BALKWIZU_WRONG_SPACE = 6,        /* answer space under three words a call, or
                                         other than one word a domain for the
                                         holders */
 
-    /* Of one call, the first that fails: the table is as before it, and the list
-       goes on behind it. */
-    BALKWIZU_STRAY = 10,           /* a word of kind 15 standing alone */
+    /* Of one call, the first that fails: the table is as before it, and the run
+       continues with the next call. */
+    BALKWIZU_STRAY = 10,           /* a word of kind 15 that is no second word */
     BALKWIZU_UNKNOWN_KIND = 11,    /* kind 0, or 9 to 14 */
     BALKWIZU_UNKNOWN_CALLER = 12,  /* the call's own caller isn't below n */
     BALKWIZU_UNUSED_FIELD = 13,    /* an unused field isn't zero */
@@ -327,25 +326,25 @@ enum balkwizu_code {
                                       its bits */
     BALKWIZU_WRITTEN_TOO_LONG = 31, /* the words would pass 4,096 or the list */
 
-    /* Of a question about domains: nothing is told. */
-    BALKWIZU_BAD_QUESTION = 32,    /* the domain that is asked for isn't below n, or
-                                      one of the actors, or words are lent that can't
-                                      be the holders of a table */
+    /* Of a question about domains: no domain is named. */
+    BALKWIZU_BAD_QUESTION = 32,    /* the domain or one of the actors isn't below n,
+                                      or the words lent can't be the holders of a
+                                      table */
 
-    /* Of a repair, the first that fails: nothing was changed. */
+    /* Of a repair, the first that fails: nothing was written. */
     BALKWIZU_NOT_REPAIRABLE = 33,  /* word 0, the length, a name or an info is
                                       wrong, or a name repeats */
     BALKWIZU_CHANGES_TOO_SHORT = 34, /* the list of changes is too short */
 
-    /* Of a call that is handed in, the first that fails: nothing was changed. 99 is
-       of a beginning and of a turn too, and comes before 37. */
+    /* Of a call that is handed in, the first that fails: nothing was written. 99 is
+       also of a beginning and of a turn; here it is tested before 37. */
     BALKWIZU_HAND_IN_BAD_DOMAIN = 35, /* the domain that hands in isn't below n */
     BALKWIZU_NOT_ONE_CALL = 36,    /* the words aren't exactly one call, no stray,
                                       with the domain as its caller; of a step: not
                                       exactly one call */
     BALKWIZU_NO_ROOM = 37,         /* the domain's pending words would pass 16 */
     BALKWIZU_BAD_TURNS = 99        /* the state isn't BALKWIZU_TURNS_WORDS(n) words;
-                                      no paper has this number */
+                                      this code is in no paper */
 };
 
 /* The kinds of calls, bits 31-28 of a call's first word. */
@@ -392,11 +391,11 @@ enum balkwizu_right {
  * The macros of a table's words are constants where what they are given is. A number
  * beyond its field (n, m, owner and capacity have 8 bits, all others 28) makes
  * BALKWIZU_BAD_WORD, and every check of the table refuses it: with 2 in word 0, with 4 in
- * a rights word, with 5 in an endpoint's. What is within its field and yet wrong, 17
- * domains say, is refused likewise.
+ * a rights word, with 5 in an endpoint's. A number that fits its field but is wrong, such
+ * as 17 domains, is refused likewise.
  *
  * Table of the examples: domain 0 may send to domain 1, which owns endpoint 0, called
- * 17, with room for two messages.
+ * 17, with space for two messages.
  *
  *     BALKWIZU_TABLE_HEADER(2, 1),
  *     BALKWIZU_TABLE_RIGHTS(0), BALKWIZU_TABLE_RIGHTS(BALKWIZU_RIGHT_SEND),
@@ -416,7 +415,7 @@ enum balkwizu_right {
 #define BALKWIZU_TABLE_MESSAGE(message) BALKWIZU_WORD_OF(15, message)
 #define BALKWIZU_EMPTY_SLOT 0xF0000000u
 
-/* Where the rights of a holder on a target stand, and an endpoint's 12 words. */
+/* The index of the rights of a holder on a target, and of an endpoint's first word. */
 #define BALKWIZU_RIGHTS_AT(n, holder, target) (1 + (holder) * (n) + (target))
 #define BALKWIZU_ENDPOINT_AT(n, endpoint) BALKWIZU_TABLE_WORDS(n, endpoint)
 
@@ -434,7 +433,7 @@ enum balkwizu_place {
  * beyond the table, whatever they are given: a holder or a target that isn't below n has no
  * rights, 0, and an endpoint that isn't below m, or a place or a slot that it hasn't got,
  * reads as a word of all ones. Its owner is then 255 and its capacity too, which no table
- * has. A table that no check has accepted must not be read by them: they believe word 0.
+ * has. A table that no check has accepted must not be read by them: they rely on word 0.
  *
  * Example:
  *
@@ -542,9 +541,9 @@ static inline uint32_t balkwizu_table_message(const uint32_t *table,
  *                 C rights                     rights or not
  *
  * A full queue: the oldest message is dropped, the send's own goes last, and the
- * endpoint's lost count rises by 1, up to BALKWIZU_LOST_MAX. The send answers 0 as
- * if there had been space: the sender is never told. The owner reads it in the
- * lost count, and what waits is always the latest.
+ * endpoint's lost count rises by 1, up to BALKWIZU_LOST_MAX. The send is answered 0 as
+ * if there had been space, so the sender doesn't learn it. The owner sees it in the lost
+ * count, and the queue keeps the latest messages.
  *
  * The macros of a list's words are constants where what they are given is. A look up and
  * a send are directly followed by BALKWIZU_SECOND of their name or message, as in the
@@ -585,11 +584,11 @@ static inline uint32_t balkwizu_table_message(const uint32_t *table,
 #define BALKWIZU_REVOKE(caller, target, holder, rights)                        \
     BALKWIZU_FIRST(BALKWIZU_KIND_REVOKE, caller, target, holder, rights)
 
-/* Where a call's three answer words stand; calls are numbered from 0. */
+/* The index of a call's first answer word; calls are counted from 0. */
 #define BALKWIZU_ANSWER_AT(call) (BALKWIZU_ANSWER_WORDS * (call))
 
 /*
- * The first of them, taken apart: the call's kind in bits 31-28, its caller in bits
+ * The parts of that word: the call's kind in bits 31-28, its caller in bits
  * 27-22, its code in bits 15-0, the rest zero. A stray word's caller is 0 here.
  */
 #define BALKWIZU_ANSWER_KIND(word) (BALKWIZU_WORD(word) >> 28)
@@ -597,10 +596,10 @@ static inline uint32_t balkwizu_table_message(const uint32_t *table,
 #define BALKWIZU_ANSWER_CODE(word) (BALKWIZU_WORD(word) & 0xFFFFu)
 
 /*
- * The other two, the data words, of a call that was answered with code 0: look at the
- * code first. A refused call has no data, both are zero, and reads as endpoint 0, message
- * 0, no endpoint owned and no rights. Answer points to the first of the three; no other
- * word is read, whatever is asked.
+ * The other two are the data words of a call that was answered with code 0: test the code
+ * first. A refused call has no data: both are zero, and read as endpoint 0, message 0, no
+ * endpoint owned and no rights. `answer` points to the first of the three; these functions
+ * read no other word, whatever the argument.
  */
 
 /* Look up: the number of the endpoint that has the name. */
@@ -639,14 +638,13 @@ static inline uint32_t balkwizu_answer_rights(const uint32_t *answer,
     return (answer[1 + target / 8] >> (4 * (target % 8))) & 0xFu;
 }
 
-/* What balkwizu_run and the two other runs return, taken apart. */
+/* The parts of what balkwizu_run and the two other runs return. */
 #define BALKWIZU_RUN_CODE(result) ((result).word & 0xFFFFu)
 #define BALKWIZU_RUN_CALLS(result) ((result).word >> 16)
 
 /*
- * Which release the archive is of, as BALKWIZU_VERSION has it of the header. A header
- * and an archive of different releases don't belong together: firmware may compare
- * them once, when it starts.
+ * Returns the release of the archive, in the form of BALKWIZU_VERSION. A header must not be
+ * used with an archive of another release: firmware may compare them once, when it starts.
  *
  * Example:
  *
@@ -656,8 +654,8 @@ uint32_t balkwizu_version(void)
     BALKWIZU_NOEXCEPT BALKWIZU_MUST_USE;
 
 /*
- * The check of a table image: len bytes, little-endian words, as they stand in
- * flash or came over a wire. Nothing is written.
+ * Checks a table image: len bytes that are little-endian words, as they are in flash or
+ * came over a wire. Nothing is written.
  *
  * Returns BALKWIZU_OK (0), or the first of these that fails:
  *   2  BALKWIZU_TABLE_BAD_HEADER    under four bytes, or word 0 breaks its layout
@@ -691,12 +689,12 @@ uint32_t balkwizu_table_check(
  *
  * Holders are one word a domain: holders_len is n. Whatever they held, a list that
  * runs, an empty one too, leaves in word g the domains that have a right on domain g
- * now, bit h for domain h. They are kept call by call, so that whoever looks at them
- * after a run need not go through the table; balkwizu_who_reaches asks them, and says how
- * long they are right. (They came with request (h) of document 02.)
+ * now, bit h for domain h. They are kept call by call, so that nobody needs to search the
+ * table after a run. balkwizu_who_reaches takes them; its comment says how long they are
+ * right. (Request (h) of document 02.)
  *
- * Codes 10 to 23 belong to single calls and stand in their answers; a call that
- * is refused doesn't end the run. 3 * list_len answer words are always enough.
+ * Codes 10 to 23 are of single calls, in their answers; a call that is refused
+ * doesn't end the run. 3 * list_len answer words are always enough.
  *
  * Example:
  *
@@ -723,21 +721,19 @@ balkwizu_result balkwizu_run(
     BALKWIZU_NOEXCEPT BALKWIZU_MUST_USE;
 
 /*
- * The same run in a working layout, for long lists. All that is said of balkwizu_run
- * above holds of it: for every table and every list both
- * return the same number and leave the same answers, holders and table words. (It
- * came with request (l) of document 02.)
+ * Does the same run in a working layout, for long lists. What the comment of balkwizu_run
+ * says holds for it too: for every table and every list both return the same result and
+ * leave the same answers, holders and table words. (Request (l) of document 02.)
  *
- * After the checks of the entry it takes the table in, the rights as rows of small
- * numbers and each queue as eight places that go round, serves all calls on that, and
- * puts the table out once, at the end. Its layout is on the stack: it takes
- * BALKWIZU_RUN_WORKING_STACK_BYTES where balkwizu_run takes
- * BALKWIZU_RUN_STACK_BYTES.
+ * After the checks it loads the table, the rights as rows of small numbers and each queue
+ * as a ring of eight places, serves all calls on that, and stores the table once, at the
+ * end. The layout is on the stack: this run takes BALKWIZU_RUN_WORKING_STACK_BYTES where
+ * balkwizu_run takes BALKWIZU_RUN_STACK_BYTES.
  *
- * Each call is cheaper here, taking in and putting out come on top, so that this run is
- * for long lists. From which length on it is the faster one depends on the table, the
- * calls and the processor: from some tens of words where nearly all calls ask for
- * rights and names to over a thousand where nearly all are sends and receives. `bench
+ * Each call is cheaper here, but loading and storing come on top. From which length on
+ * this run is faster depends on the table, the calls and the processor: from some tens of
+ * words where nearly all calls are for rights and names to over a thousand where nearly
+ * all are sends and receives. `bench
  * speed --lengths` measures it, and docs/BENCHMARKS.md has what was measured.
  *
  * Example:
@@ -759,12 +755,11 @@ balkwizu_result balkwizu_run_working(
     BALKWIZU_NOEXCEPT BALKWIZU_MUST_USE;
 
 /*
- * The same run once more, which chooses by the list's length: a list of 128 words or
- * more runs as by balkwizu_run_working, a shorter one as by balkwizu_run. All that is
- * said of balkwizu_run holds of it, and which run it took can
- * be seen by nothing but the time. Choosing costs one comparison.
+ * Does the same run, and chooses by the list's length: a list of 128 words or more runs as
+ * by balkwizu_run_working, a shorter one as by balkwizu_run. What the comment of
+ * balkwizu_run says holds for it too. Only time and stack show which run it chose.
  *
- * Which of the three to take: this one. balkwizu_run where the stack is too short for
+ * Use this one of the three. Use balkwizu_run where the stack is too small for
  * BALKWIZU_RUN_BY_LENGTH_STACK_BYTES, or where every list is short;
  * balkwizu_run_working where every list is long.
  *
@@ -787,14 +782,14 @@ balkwizu_result balkwizu_run_by_length(
     BALKWIZU_NOEXCEPT BALKWIZU_MUST_USE;
 
 /*
- * Fills the holders with what the table says, by a run of no call, which leaves the table
- * as it is: before the first question about a table, and after anything else than a run, a
- * step or a turn has written it, a repair too. It is compiled into the firmware and takes its own
- * few words of stack beside BALKWIZU_RUN_STACK_BYTES.
+ * Computes the holders of a table, by a run of no call, which leaves the table as it is.
+ * Use it before the first question about a table, and after anything but a run, a step or a
+ * turn has written the table: a repair, for example. It is compiled into the firmware and
+ * takes its own few words of stack beside BALKWIZU_RUN_STACK_BYTES.
  *
  * Returns one code: 0, 2 to 5 as balkwizu_table_check answers for the table's words, or 6,
  * BALKWIZU_WRONG_SPACE, where holders_len isn't n. With another code than 0 no word was
- * written, and the holders are no answer to anything.
+ * written, and the holders must not be used.
  *
  * Example:
  *
@@ -818,10 +813,10 @@ static inline uint32_t balkwizu_fill_holders(
                                           holders, holders_len));
 }
 
-/* What balkwizu_who_reaches returns, taken apart. */
+/* The code in what balkwizu_who_reaches returns. */
 #define BALKWIZU_REACHES_CODE(result) ((result).word & 0xFFFFu)
 
-/* 0 where the domain has no chain of rights to the one that was asked for, else 1. */
+/* Returns 0 where the domain has no chain of rights to the one in question, else 1. */
 static inline uint32_t balkwizu_may_reach(balkwizu_result result, uint32_t domain)
     BALKWIZU_NOEXCEPT
 {
@@ -829,21 +824,22 @@ static inline uint32_t balkwizu_may_reach(balkwizu_result result, uint32_t domai
 }
 
 /*
- * Who can reach a domain: every domain with a chain of rights to it, of any length,
+ * Finds who can reach a domain: every domain with a chain of rights to it, of any length,
  * itself included, by the holders that are lent. Nothing is written.
  *
- * The answer is about those words alone, and about a table only where they are right for
- * it: from a run, balkwizu_step, a turn that served a call, balkwizu_turns_begin or
- * balkwizu_fill_holders on this very table that had code 0, until anything else writes the table or them.
- * Nothing can tell that they aren't: words of 0 are taken, and say that nobody reaches
- * anybody. Where it isn't sure, fill them first.
+ * The answer is about those words alone. It is about a table only where they are its
+ * holders: those that a run, balkwizu_step, a turn that served a call,
+ * balkwizu_turns_begin or balkwizu_fill_holders left for this table with code 0, until
+ * anything else writes the table or them. No function notices holders that are out of
+ * date: by words of 0, only the domain itself reaches it. When in doubt, call
+ * balkwizu_fill_holders first.
  *
  * Returns two things: the code (BALKWIZU_REACHES_CODE), and in bit 16 + u of the word
  * whether domain u has a chain (balkwizu_may_reach).
  *   0   BALKWIZU_OK
  *   32  BALKWIZU_BAD_QUESTION: holders_len isn't 1 to 16, a word has a bit from
  *       holders_len on, or domain isn't below holders_len; no bit is set, and
- *       balkwizu_may_reach is 1 of everybody
+ *       balkwizu_may_reach returns 1 for every domain
  *
  * Example:
  *
@@ -866,10 +862,10 @@ balkwizu_result balkwizu_who_reaches(
     uint32_t domain)
     BALKWIZU_NOEXCEPT BALKWIZU_MUST_USE;
 
-/* What balkwizu_component returns, taken apart. */
+/* The code in what balkwizu_component returns. */
 #define BALKWIZU_COMPONENT_CODE(result) ((result).word & 0xFFFFu)
 
-/* 0 where the domain is no member of the component, else 1. */
+/* Returns 0 where the domain is no member of the component, else 1. */
 static inline uint32_t balkwizu_may_be_in_component(balkwizu_result result, uint32_t domain)
     BALKWIZU_NOEXCEPT
 {
@@ -877,20 +873,21 @@ static inline uint32_t balkwizu_may_be_in_component(balkwizu_result result, uint
 }
 
 /*
- * The component of a domain in a table: two domains are joined when either has a
- * right on the other, and all that hang together with the domain by such joins,
- * however many, are its component, itself included. No list of calls ever lets a
- * domain influence one outside the component that it starts in. Without all the calls
- * from outside it, a domain has the same answers, rights, queues and lost counts. This
- * is about calls: a look up finds endpoints of other components too, by their names,
- * which no call alters. Nothing is written.
+ * Finds the connected component of a domain in a table: two domains are joined when either
+ * has a right on the other, and the component is the domain with all that such joins
+ * connect it with, however many. No list of calls lets a domain influence one outside the
+ * component that it has before the list. Without all the calls from outside it, a domain
+ * has the same answers, rights, queues and lost counts. This is about calls: a look up
+ * also finds endpoints of other components, by their names, which no call alters. Nothing
+ * is written.
  *
  * Returns two things: the code (BALKWIZU_COMPONENT_CODE), and in bit 16 + u of the word
  * whether domain u is a member (balkwizu_may_be_in_component).
  *   0       BALKWIZU_OK
  *   2 to 5  as balkwizu_table_check answers, for the table's words
  *   32      BALKWIZU_BAD_QUESTION: the domain isn't below n
- * With 2 to 5 and 32 no bit is set, and balkwizu_may_be_in_component is 1 of everybody.
+ * With 2 to 5 and 32 no bit is set, and balkwizu_may_be_in_component returns 1 for every
+ * domain.
  *
  * Example:
  *
@@ -903,14 +900,14 @@ balkwizu_result balkwizu_component(
     uint32_t domain)
     BALKWIZU_NOEXCEPT BALKWIZU_MUST_USE;
 
-/* Where the rights that a holder could ever have on a target are told. */
+/* The index of the rights that a holder could ever have on a target. */
 #define BALKWIZU_POTENTIAL_AT(n, holder, target) ((holder) * (n) + (target))
 
 /*
- * What could ever come about: the rights that each domain could come to have on each
- * other by any list of calls that only the actors make, of any length. Actors are a
- * set of domains, bit u for domain u. It is exact: no list by actors gives a right that
- * isn't told, and there is a list that gives all that are told. The table isn't written.
+ * Computes potential rights: those that each domain could ever have on each domain after
+ * any list of calls by the actors alone, of any length. Actors are a set of domains, bit u
+ * for domain u. They are exact: no list by actors gives a right that isn't among them, and
+ * one list gives them all. The table isn't written.
  *
  * Returns one code:
  *   0       BALKWIZU_OK: word BALKWIZU_POTENTIAL_AT(n, h, g) of rights is the set, of
@@ -936,10 +933,10 @@ uint32_t balkwizu_potential(
     uint32_t *BALKWIZU_RESTRICT rights, uint64_t rights_len)
     BALKWIZU_NOEXCEPT BALKWIZU_MUST_USE;
 
-/* What balkwizu_could_influence returns, taken apart. */
+/* The code in what balkwizu_could_influence returns. */
 #define BALKWIZU_INFLUENCE_CODE(result) ((result).word & 0xFFFFu)
 
-/* 0 where the domain could never influence the one that was asked for, else 1. */
+/* Returns 0 where the domain could never influence the one in question, else 1. */
 static inline uint32_t balkwizu_may_influence(balkwizu_result result, uint32_t domain)
     BALKWIZU_NOEXCEPT
 {
@@ -947,18 +944,18 @@ static inline uint32_t balkwizu_may_influence(balkwizu_result result, uint32_t d
 }
 
 /*
- * Who could ever influence a domain by any list of calls that only the actors make, of
- * any length: the domain itself, and each actor from which a chain of rights that could
- * come about (balkwizu_potential) leads to it, through other actors. Actors are a set of
- * domains, bit u for domain u. For any list of their calls, the calls of those that are
- * not reported can be left out: the domain has the same answers, rights, queues and lost
- * counts without them. A chain of rights in a table doesn't say this, nor in each table
- * along a list: rights are used, passed on and removed on the way.
+ * Finds who could ever influence a domain by any list of calls of the actors alone, of any
+ * length: the domain itself, and each actor from which a chain of potential rights
+ * (balkwizu_potential) leads to it, through other actors. Actors are a set of domains, bit
+ * u for domain u. In any list of their calls, the calls of domains that are not reported
+ * can be left out: the domain has the same answers, rights, queues and lost counts without
+ * them. Chains of rights in a table don't show this, not even in every table along a list:
+ * rights are used, passed on and removed on the way.
  *
  * It is exact for the source set, by which influence along a list is defined: no list by
  * actors makes another domain a source, and one list makes all that are reported
- * sources. Not every source can show something: one that has REMOVE on the domain and no
- * other right is reported too. Nothing is written.
+ * sources. A source need not be able to alter what the domain sees: one that has REMOVE on
+ * it and no other right is reported too. Nothing is written.
  *
  * Returns two things: the code (BALKWIZU_INFLUENCE_CODE), and in bit 16 + u of the word
  * whether domain u could influence it (balkwizu_may_influence).
@@ -966,8 +963,8 @@ static inline uint32_t balkwizu_may_influence(balkwizu_result result, uint32_t d
  *   2 to 5  as balkwizu_table_check answers, for the table's words
  *   32      BALKWIZU_BAD_QUESTION: the domain isn't below n, or actors has a bit from
  *           n on
- * With 2 to 5 and 32 no bit is set, and balkwizu_may_influence is 1 of everybody. The
- * rights that could come about are computed on the stack, 1,024 bytes of it.
+ * With 2 to 5 and 32 no bit is set, and balkwizu_may_influence returns 1 for every domain.
+ * The potential rights are computed on the stack, in 1,024 bytes of it.
  *
  * Example:
  *
@@ -985,32 +982,31 @@ balkwizu_result balkwizu_could_influence(
     uint32_t domain)
     BALKWIZU_NOEXCEPT BALKWIZU_MUST_USE;
 
-/* What balkwizu_repair returns, taken apart, and the most that it can ask for. */
+/* The parts of what balkwizu_repair returns, and the most words that it needs. */
 #define BALKWIZU_REPAIR_CODE(result) ((result).word & 0xFFFFu)
 #define BALKWIZU_REPAIR_ALTERED(result) ((result).word >> 16)
 #define BALKWIZU_CHANGES_WORDS_MAX 1152
 
 /*
- * Makes a table fit again that is refused with 4 or 5, without ever adding a right: a
- * broken rights word becomes an empty set, and an endpoint with a broken waiting, lost
- * or slot word gets an empty queue and lost 0. For each word that was altered, lowest
- * place first, two words are written to changes: its place from 0, and its old content.
- * A sound table stays and has no changes. Holders that were right before it are no longer:
- * balkwizu_fill_holders fills them anew.
+ * Repairs a table that is refused with 4 or 5, without adding a right: a broken rights
+ * word becomes an empty set, and an endpoint with a broken waiting, lost or slot word gets
+ * an empty queue and lost 0. For each word that was altered, lowest index first, it writes
+ * two words to changes: the index, from 0, and the old word. A sound table stays and has
+ * no changes. Compute the holders anew after it, with balkwizu_fill_holders.
  *
  * Returns two numbers: the code (BALKWIZU_REPAIR_CODE), and how many words were altered
  * (BALKWIZU_REPAIR_ALTERED).
  *   0   BALKWIZU_OK: balkwizu_table_check accepts the table now
  *   33  BALKWIZU_NOT_REPAIRABLE
  *   34  BALKWIZU_CHANGES_TOO_SHORT
- * With 33 and 34 no word was written. Words of changes behind the pairs are untouched.
- * BALKWIZU_CHANGES_WORDS_MAX words are enough for any table. The table is mended in a
- * copy on the stack first, 2,564 bytes of it.
+ * With 33 and 34 no word was written. Words of changes after the pairs are untouched.
+ * BALKWIZU_CHANGES_WORDS_MAX words are enough for any table. The table is repaired in a
+ * copy on the stack first, of 2,564 bytes.
  *
  * Example:
  *
  *     static uint32_t changes[BALKWIZU_CHANGES_WORDS_MAX];
- *     table[1] = 0x20000037u; // as a worn card gives it back
+ *     table[1] = 0x20000037u; // as read from a worn card
  *     balkwizu_result result =
  *         balkwizu_repair(table, table_len, changes, BALKWIZU_COUNT(changes));
  *     assert(BALKWIZU_REPAIR_CODE(result) == BALKWIZU_OK);
@@ -1044,10 +1040,10 @@ balkwizu_result balkwizu_repair(
 #define BALKWIZU_CALL_COLUMNS 5
 
 /*
- * What balkwizu_write returns: a structure, so that it can't be compared with a code
- * either. The function of the archive returns the number itself, which on a 32-bit
- * processor is in other registers than a structure of its length: the macro
- * balkwizu_write makes one of it.
+ * The result of balkwizu_write: a structure, so that it can't be compared with a code
+ * either. The function of the archive returns the number, which on a 32-bit processor is
+ * in other registers than a structure of its length. So the macro balkwizu_write makes the
+ * structure.
  */
 typedef struct {
     uint64_t number;
@@ -1062,7 +1058,7 @@ static inline balkwizu_written balkwizu_as_written(uint64_t number) BALKWIZU_NOE
     return written;
 }
 
-/* Taken apart: the code, and the number that goes with it. */
+/* Its parts: the code, and the number that belongs to the code. */
 #define BALKWIZU_WRITE_CODE(result) (balkwizu_write_code(result))
 #define BALKWIZU_WRITE_NUMBER(result) (balkwizu_write_number(result))
 
@@ -1085,11 +1081,11 @@ static inline uint64_t balkwizu_write_number(balkwizu_written result) BALKWIZU_N
 }
 
 /*
- * Writes a list out of calls, in words that a run takes apart into the same calls:
- * none of them is answered with 10, 11, 13 or 14. Two different lists of calls are
- * never written in the same words. No table is asked: caller and target have 6
- * bits, endpoint, recipient, holder and rights 8, name and message 28, and what a
- * run says of a number within them is the run's.
+ * Writes a list out of calls, in words that a run decodes into the same calls: none of
+ * them is answered with 10, 11, 13 or 14. Two different lists of calls are never written
+ * in the same words. No table is used: caller and target have 6 bits, endpoint,
+ * recipient, holder and rights 8, name and message 28. A run may still refuse a call for
+ * a number that fits its bits.
  *
  * Returns a code (BALKWIZU_WRITE_CODE) and a number (BALKWIZU_WRITE_NUMBER) in one number
  * of 64 bits, the member of a balkwizu_written:
@@ -1097,10 +1093,10 @@ static inline uint64_t balkwizu_write_number(balkwizu_written result) BALKWIZU_N
  *                Words after them are untouched.
  *   4,097        BALKWIZU_WRITTEN_TOO_LONG, 31: every call can be written, but their
  *                words would be more than 4,096 or than list_len. The number is 0.
- *   4,098 + k    BALKWIZU_BAD_CALL, 30: the call of the number k, from 0, is the first
- *                that has a kind which isn't one, a column not 0 that it doesn't use,
- *                or a field that exceeds its bits. Fewer than five words at the end
- *                are such a call too. All calls are looked at, however many.
+ *   4,098 + k    BALKWIZU_BAD_CALL, 30: call k, counted from 0, is the first that has an
+ *                unknown kind, a column not 0 that it doesn't use, or a field that
+ *                exceeds its bits. Fewer than five words at the end are such a call
+ *                too. All calls are tested, however many.
  * With 30 and 31 no word of the list was written. The calls are never written.
  *
  * Example:
@@ -1125,19 +1121,19 @@ uint64_t balkwizu_write(
     (balkwizu_as_written((balkwizu_write)(calls, calls_len, list, list_len)))
 
 /*
- * One call by itself, for a line that looks at the holders after each call: as a run of a
- * list of that call alone. Words are the call's, one or two, as in a list. It is in
- * libbalkwizu_turns.a and needs no state.
+ * Runs a single call, as a run of a list of that call alone, for a line that uses the
+ * holders after each call. `words` are the call's, one or two, as in a list. The function
+ * is in libbalkwizu_turns.a and needs no state.
  *
  * Returns one code, the first that applies:
  *   0       BALKWIZU_OK: the call was run, and its own code is in the first of the three
  *           answer words, as in a run. Answer words beyond the third are untouched. The
- *           holders are what the table says now.
+ *           holders are those of the table now.
  *   36      BALKWIZU_NOT_ONE_CALL: the words aren't exactly one call (a second word alone
  *           is one here as in a list, and answered with 10)
  *   6       BALKWIZU_WRONG_SPACE: answer_len is under 3
  *   2 to 5  as balkwizu_table_check answers, for the table's words
- *   6       BALKWIZU_WRONG_SPACE, behind 2 to 5: holders_len isn't n
+ *   6       BALKWIZU_WRONG_SPACE, after 2 to 5: holders_len isn't n
  * With another code than 0 no word was written.
  *
  * Example:
@@ -1166,40 +1162,40 @@ uint32_t balkwizu_step(
  * that the firmware lends, here called the state: BALKWIZU_TURNS_WORDS(n) of them for a
  * table of n domains.
  *
- *   word 0     the place: one more than the domain served last, 0 at first
+ *   word 0     where the next turn starts: one more than the domain served last, 0 at first
  *   then 17 words for each domain, lowest number first:
  *     count    how many of its words are pending, at BALKWIZU_TURNS_COUNT_AT
  *     16 words its pending calls, oldest first; words from the count on are old ones
- *              and are never looked at
+ *              and are ignored
  *
- * The example of balkwizu_turn has all functions.
+ * The example of balkwizu_turn uses all functions.
  *
  * While nothing but turns alters the table, and nothing but handing in and turns the
  * state, this is proved: the oldest pending call of a domain is served within n turns
  * that aren't refused, and the k-th within k times n, so each within 16 times n,
  * whatever others hand in; the calls served get, in order, the answers that a run of
  * them as one list gives, however many they are; and where each function is lent the
- * holders that the one before it left, they are what the table says, from the
- * beginning on.
+ * holders that the one before it left, they are those of the table, from the beginning
+ * on.
  *
  * The layer isn't reentrant. A turn and a call that is handed in both read and write
  * the state, so an interrupt must not hand in during a turn, nor while another hands
  * in: it waits, or its calls are held until the turn is over. firmware/turns.c shows
- * how. An interrupt that hands in is a caller of this code like any other: what is
- * said above of stack, alignment and xmm registers holds for it too.
+ * how. An interrupt that hands in is a caller of this code like any other: the
+ * requirements above for stack, alignment and xmm registers hold for it too.
  *
- * Any words will do as a state, and none of them can make a function fault: a count
- * above 16 is read as 16, and from a place that isn't below n a turn starts at 0.
+ * The functions accept arbitrary words as a state, without fault: a count above 16 is read
+ * as 16, and where word 0 isn't below n a turn starts at 0.
  */
 #define BALKWIZU_PENDING_WORDS 16
 #define BALKWIZU_TURNS_WORDS(n) (1 + (1 + BALKWIZU_PENDING_WORDS) * (n))
 #define BALKWIZU_TURNS_WORDS_MAX 273
 
-/* Where the count of a domain's pending words stands; they stand behind it. */
+/* The index of the count of a domain's pending words, which come after it. */
 #define BALKWIZU_TURNS_COUNT_AT(domain) BALKWIZU_TURNS_WORDS(domain)
 
 /*
- * Which release the archive of the turns is of, as balkwizu_version says of the other.
+ * Returns the release of the archive of the turns, as balkwizu_version does of the other.
  *
  * Example:
  *
@@ -1209,8 +1205,8 @@ uint32_t balkwizu_turns_version(void)
     BALKWIZU_NOEXCEPT BALKWIZU_MUST_USE;
 
 /*
- * Begins: nothing is pending, the first turn of all starts at 0, and the holders are
- * what the table says, as after a run. Lengths are in words.
+ * Begins: nothing is pending, the first turn of all starts at 0, and the holders are those
+ * of the table, as after a run. Lengths are in words.
  *
  * Returns one code:
  *   0       BALKWIZU_OK: every word of the state is 0, and holders are as a run of an
@@ -1227,8 +1223,8 @@ uint32_t balkwizu_turns_begin(
     BALKWIZU_NOEXCEPT BALKWIZU_MUST_USE;
 
 /*
- * Hands in the words of one call for a domain: they go behind those that are pending.
- * Words are as in a list. A call that will be refused can be handed in too, and is
+ * Hands in the words of one call for a domain: they go after those that are pending.
+ * They are as in a list. A call that will be refused can be handed in too, and is
  * answered when it is served.
  *
  * Returns one code:
@@ -1247,25 +1243,25 @@ uint32_t balkwizu_hand_in(
     const uint32_t *BALKWIZU_RESTRICT words, uint64_t words_len)
     BALKWIZU_NOEXCEPT BALKWIZU_MUST_USE;
 
-/* What balkwizu_turn returns, taken apart. */
+/* The parts of what balkwizu_turn returns. */
 #define BALKWIZU_TURN_CODE(result) ((result).word & 0xFFFFu)
 #define BALKWIZU_TURN_SERVED(result) ((result).word >> 16)
 
 /*
- * A turn: starts after the domain served last, goes up and round to 0, and serves the
- * oldest call of the first domain that has one pending. With none pending it is idle.
+ * Takes a turn: starts after the domain served last, goes up and round to 0, and serves
+ * the oldest call of the first domain that has one pending. With none pending it is idle.
  *
  * Returns two numbers: the code (BALKWIZU_TURN_CODE), and the calls served
  * (BALKWIZU_TURN_SERVED), 1 or 0.
  *   0       BALKWIZU_OK. Where a call was served, its three answer words are the first
- *           of answer, as in a run, with whose call it was (BALKWIZU_ANSWER_CALLER);
+ *           of answer, as in a run, with its caller (BALKWIZU_ANSWER_CALLER);
  *           table and holders are as a run of that call leaves them. Answer words
- *           beyond the third are untouched. Where the turn was idle nothing was
- *           written, holders neither; an idle turn needs no answer words.
+ *           beyond the third are untouched. Where the turn was idle no word was
+ *           written, nor of the holders; an idle turn needs no answer words.
  *   2 to 5  as balkwizu_table_check answers, for the table's words
  *   6       BALKWIZU_WRONG_SPACE: holders_len isn't n
  *   99      BALKWIZU_BAD_TURNS
- *   6       BALKWIZU_WRONG_SPACE, behind 99: a call is pending and answer_len is under 3
+ *   6       BALKWIZU_WRONG_SPACE, after 99: a call is pending and answer_len is under 3
  * With another code than 0 nothing is served and no word was written. The table is
  * checked at every turn; with many endpoints that is most of what a turn costs.
  *
