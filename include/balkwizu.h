@@ -1185,7 +1185,9 @@ uint32_t balkwizu_step(
  * requirements above for stack, alignment and xmm registers hold for it too.
  *
  * The functions accept arbitrary words as a state, without fault: a count above 16 is read
- * as 16, and where word 0 isn't below n a turn starts at 0.
+ * as 16, and where word 0 isn't below n a turn starts at 0. In a state that only these
+ * functions wrote, each domain's pending calls are its own; a damaged state may hold calls
+ * of any caller, and a turn serves them.
  */
 #define BALKWIZU_PENDING_WORDS 16
 #define BALKWIZU_TURNS_WORDS(n) (1 + (1 + BALKWIZU_PENDING_WORDS) * (n))
