@@ -1,24 +1,12 @@
-//! Links the proved archives, and compiles the plain C kernel to measure them
-//! against: by gcc, and by clang where there is one. Compiles the wrong kernels of
-//! bench/c/wrong too, by which the bench is tested in its turn.
+//! Compiles the plain C kernel to measure the proved one against: by gcc, and by clang where
+//! there is one. Compiles the wrong kernels of bench/c/wrong too, by which the checklist and
+//! the bench are tested in their turn. Each compiler's functions get a prefix of their own,
+//! so that all of them are in one program.
 //!
-//! The archives are target/staticlib/libbalkwizu.a and libbalkwizu_turns.a of the
-//! repository, or the files that BALKWIZU_ARCHIVE and BALKWIZU_TURNS_ARCHIVE name; the
-//! program then calls the kernel by that name, since nobody knows here whether it is the
-//! proved one. Each compiler's functions get a prefix of their own, so that all of them
-//! stand in one program.
-//!
-//! Where they are there, the archives of the crates test_export and test_check_export
-//! are linked too: they have the kernel's public step for `bench step`, the
-//! queue's functions for `bench queue` and the check of a table's words for `bench speed`,
-//! which the firmware's archive hasn't got. An archive of the kit shows its exported
-//! functions only, so they don't meet.
-//!
-//! For reports it tells the program the hash of the archive that it links, what the
-//! archive says of its own logic, and what the kit at hand says of itself.
-
-#[path = "src/reports/sha256.rs"]
-mod sha256;
+//! Where they are there, the archives of the crates test_export and test_check_export are
+//! linked too: they have the kernel's public step for `bench step`, the queue's functions
+//! for `bench queue` and the check of a table's words for `bench speed`, which the
+//! firmware's archive hasn't got.
 
 use std::env;
 use std::error::Error;
@@ -26,76 +14,35 @@ use std::fs;
 use std::path::{Path, PathBuf};
 use std::process::Command;
 
-/// An archive of the kit: the crate that it is made from, the variable that names
-/// another archive in its place, and what it exports.
+/// An archive for tests alone: the crate that it is made from, the variable that names
+/// another archive in its place, what it exports, and the flag that the program is compiled
+/// with where it is linked.
 struct Archive {
     name: &'static str,
     variable: &'static str,
     exports: &'static [&'static str],
-}
-
-const KERNEL: Archive = Archive {
-    name: "balkwizu",
-    variable: "BALKWIZU_ARCHIVE",
-    exports: &[
-        "balkwizu_table_check",
-        "balkwizu_run",
-        "balkwizu_run_working",
-        "balkwizu_run_by_length",
-        "balkwizu_component",
-        "balkwizu_repair",
-        "balkwizu_potential",
-        "balkwizu_could_influence",
-        "balkwizu_write",
-        "balkwizu_who_reaches",
-        "balkwizu_version",
-    ],
-};
-
-const TURNS: Archive = Archive {
-    name: "balkwizu_turns",
-    variable: "BALKWIZU_TURNS_ARCHIVE",
-    exports: &[
-        "balkwizu_turns_begin",
-        "balkwizu_hand_in",
-        "balkwizu_turn",
-        "balkwizu_step",
-        "balkwizu_turns_version",
-    ],
-};
-
-/// An archive for tests alone, and the flag that the program is compiled with where it is linked.
-struct TestArchive {
-    archive: Archive,
     flag: &'static str,
 }
 
-const TEST_ARCHIVES: [TestArchive; 2] = [
-    TestArchive {
-        archive: Archive {
-            name: "test_export",
-            variable: "BALKWIZU_TEST_ARCHIVE",
-            exports: &[
-                "balkwizu_test_step",
-                "balkwizu_test_send",
-                "balkwizu_test_receive",
-                "balkwizu_test_both_ways",
-            ],
-        },
+const ARCHIVES: [Archive; 2] = [
+    Archive {
+        name: "test_export",
+        variable: "BALKWIZU_TEST_ARCHIVE",
+        exports: &[
+            "balkwizu_test_step",
+            "balkwizu_test_send",
+            "balkwizu_test_receive",
+            "balkwizu_test_both_ways",
+        ],
         flag: "test_export",
     },
-    TestArchive {
-        archive: Archive {
-            name: "test_check_export",
-            variable: "BALKWIZU_CHECK_ARCHIVE",
-            exports: &["balkwizu_test_check"],
-        },
+    Archive {
+        name: "test_check_export",
+        variable: "BALKWIZU_CHECK_ARCHIVE",
+        exports: &["balkwizu_test_check"],
         flag: "check",
     },
 ];
-
-/// What stands before the logic's name in an archive of the kit.
-const LOGIC: &str = "rattle logic=";
 
 const PLAIN_SOURCES: [&str; 2] = ["plain_check", "plain_run"];
 const FLAGS: [&str; 6] = [
@@ -110,16 +57,8 @@ const FLAGS: [&str; 6] = [
 const WRONG_FLAGS: [&str; 4] = ["-std=c11", "-O1", "-pedantic-errors", "-w"];
 
 fn main() {
-    for archive in [&KERNEL, &TURNS] {
-        println!("cargo::rerun-if-env-changed={}", archive.variable);
-    }
-    for test in &TEST_ARCHIVES {
-        println!("cargo::rerun-if-env-changed={}", test.archive.variable);
-        println!("cargo::rustc-check-cfg=cfg({})", test.flag);
-    }
     println!("cargo::rerun-if-changed=build.rs");
     println!("cargo::rerun-if-changed=c");
-    println!("cargo::rerun-if-changed=src/reports/sha256.rs");
     println!("cargo::rustc-check-cfg=cfg(clang)");
     if let Err(wrong) = build() {
         println!("cargo::error={wrong}");
@@ -128,12 +67,8 @@ fn main() {
 
 fn build() -> Result<(), Box<dyn Error>> {
     let out = PathBuf::from(env::var("OUT_DIR")?);
-    tell_title();
-    println!("cargo::rustc-env=KIT={}", kit().unwrap_or_default());
-    tell_identity(&link_for_firmware(&out, &KERNEL)?);
-    link_for_firmware(&out, &TURNS)?;
-    for test in &TEST_ARCHIVES {
-        link_test_archive(&out, test)?;
+    for archive in &ARCHIVES {
+        archive.link(&out)?;
     }
     compile_wrong(&out)?;
     compile_plain("gcc", &out)?;
@@ -154,118 +89,45 @@ fn build() -> Result<(), Box<dyn Error>> {
 
 /// The first line that a compiler says of itself, where there is one.
 fn version(compiler: &str) -> Option<String> {
-    let told = Command::new(compiler).arg("--version").output().ok()?;
-    let text = String::from_utf8(told.stdout).ok()?;
+    let said = Command::new(compiler).arg("--version").output().ok()?;
+    let text = String::from_utf8(said.stdout).ok()?;
     text.lines().next().map(str::to_string)
 }
 
-/// Tells the program what to call the kernel's archive.
-fn tell_title() {
-    let title = match env::var_os(KERNEL.variable).map(PathBuf::from) {
-        None => "proved archive".to_string(),
-        Some(named) => {
-            let path = fs::canonicalize(&named).unwrap_or(named);
-            format!("archive {}", path.display())
-        }
-    };
-    println!("cargo::rustc-env=ARCHIVE_TITLE={title}");
-}
-
-/// Tells the program what a report says of the kernel's archive.
-fn tell_identity(archive: &[u8]) {
-    println!(
-        "cargo::rustc-env=ARCHIVE_SHA256={}",
-        sha256::sha256(archive)
-    );
-    println!("cargo::rustc-env=ARCHIVE_LOGIC={}", logic(archive));
-}
-
-/// Links an archive that the firmware links too, and hands on its bytes: it has no
-/// function for tests.
-fn link_for_firmware(out: &Path, wanted: &Archive) -> Result<Vec<u8>, Box<dyn Error>> {
-    let path = wanted.path()?;
-    let shown = path.display();
-    let bytes = fs::read(&path).map_err(|why| {
-        let (name, made) = (wanted.name, wanted.made());
-        format!("no archive {shown} ({why}): `rt staticlib {name}` makes {made}")
-    })?;
-    let mut for_tests = TEST_ARCHIVES.iter().flat_map(|test| test.archive.exports);
-    if let Some(name) = for_tests.find(|name| has(&bytes, name)) {
-        return Err(
-            format!("{shown} is for the firmware and has {name}, which is for tests").into(),
-        );
-    }
-    wanted.link(out, &path, &bytes)?;
-    Ok(bytes)
-}
-
-/// What the kit at hand says of itself, where there is one.
-fn kit() -> Option<String> {
-    let places = env::var_os("PATH")?;
-    let mut programs = env::split_paths(&places).map(|place| place.join("rt"));
-    let program = programs.find(|program| program.is_file())?;
-    println!("cargo::rerun-if-changed={}", program.display());
-    version("rt")
-}
-
-/// The logic that an archive says it was checked by, or nothing.
-fn logic(archive: &[u8]) -> String {
-    let mark = LOGIC.as_bytes();
-    let found = archive.windows(mark.len()).position(|part| part == mark);
-    let behind = found.map_or(&[][..], |place| &archive[place + mark.len()..]);
-    let digits = behind.iter().take_while(|byte| byte.is_ascii_hexdigit());
-    digits.map(|&byte| byte as char).collect()
-}
-
-/// Whether a name stands in an archive.
-fn has(archive: &[u8], name: &str) -> bool {
-    archive
-        .windows(name.len())
-        .any(|part| part == name.as_bytes())
-}
-
-/// Links an archive for tests, where there is one.
-fn link_test_archive(out: &Path, wanted: &TestArchive) -> Result<(), Box<dyn Error>> {
-    let path = wanted.archive.path()?;
-    let Ok(bytes) = fs::read(&path) else {
-        // Looked for again by the next build, so that it is found once it is made.
-        println!("cargo::rerun-if-changed={}", path.display());
-        return Ok(());
-    };
-    println!("cargo::rustc-cfg={}", wanted.flag);
-    wanted.archive.link(out, &path, &bytes)
-}
-
 impl Archive {
-    /// Where it is made in the repository.
-    fn made(&self) -> String {
-        format!("target/staticlib/lib{}.a", self.name)
-    }
-
-    /// The file that is linked: the one that is named, or the repository's own.
-    fn path(&self) -> Result<PathBuf, Box<dyn Error>> {
-        let named = env::var_os(self.variable).map(PathBuf::from);
-        named.map_or_else(|| in_repository(&self.made()), Ok)
-    }
-
-    /// Links the file, which has the exports. It is copied beside the others, so that it
-    /// has the name to link by wherever it came from.
-    fn link(&self, out: &Path, path: &Path, bytes: &[u8]) -> Result<(), Box<dyn Error>> {
+    /// Links the archive where there is one, which must have the exports.
+    fn link(&self, out: &Path) -> Result<(), Box<dyn Error>> {
+        println!("cargo::rerun-if-env-changed={}", self.variable);
+        println!("cargo::rustc-check-cfg=cfg({})", self.flag);
+        let path = self.path()?;
+        // Where there is none the next build looks again.
         println!("cargo::rerun-if-changed={}", path.display());
-        if let Some(name) = self.exports.iter().find(|name| !has(bytes, name)) {
+        let Ok(bytes) = fs::read(&path) else {
+            return Ok(());
+        };
+        let has = |name: &str| {
+            bytes
+                .windows(name.len())
+                .any(|part| part == name.as_bytes())
+        };
+        if let Some(name) = self.exports.iter().find(|name| !has(name)) {
             return Err(format!("{} has no function {name}", path.display()).into());
         }
         fs::write(out.join(format!("lib{}.a", self.name)), bytes)?;
         println!("cargo::rustc-link-lib=static={}", self.name);
+        println!("cargo::rustc-cfg={}", self.flag);
         Ok(())
     }
-}
 
-/// A file of the repository.
-fn in_repository(path: &str) -> Result<PathBuf, Box<dyn Error>> {
-    let package = PathBuf::from(env::var("CARGO_MANIFEST_DIR")?);
-    let repository = package.parent().ok_or("the package stands nowhere")?;
-    Ok(repository.join(path))
+    /// The file that is linked: the one that is named, or the repository's own.
+    fn path(&self) -> Result<PathBuf, Box<dyn Error>> {
+        if let Some(named) = env::var_os(self.variable) {
+            return Ok(PathBuf::from(named));
+        }
+        let package = PathBuf::from(env::var("CARGO_MANIFEST_DIR")?);
+        let repository = package.parent().ok_or("the package is in no folder")?;
+        Ok(repository.join(format!("target/staticlib/lib{}.a", self.name)))
+    }
 }
 
 /// Compiles bench/c with one compiler into libplain_COMPILER.a, each function

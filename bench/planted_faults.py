@@ -1,9 +1,9 @@
 #!/usr/bin/env python3
 """Shows that `bench fuzz`, `bench step`, `bench queue`, `bench tables`, `bench
-histories` and `bench roads` report a difference when there is one.
+histories` and `balkwizu influence` report a difference when there is one.
 
 The faults are those of the separate implementation's own mutants, by edits as
-reference/edits.py has them. The bench is built against a copy of the separate
+reference/edits.py has them. The programs are built against a copy of the separate
 implementation with the faults in it, and with each of them switched on the same
 seeded fuzz must end with a reported difference between that and the kernel. What it
 says to see it again must show it with the kernel's working run too, and the same seeded
@@ -11,7 +11,7 @@ steps must report the fault where it is one of a single call. A fault that shows
 words that no check accepts must be reported by the same seeded queues, one of a repair,
 of potential rights or of who could influence a domain by the same seeded tables, one of
 turns by the same seeded histories, one of the writer by the fuzz's lists alone, and one
-of a source set that leaves every view equal by `bench roads` on an example. With none
+of a source set that leaves every view equal by `balkwizu influence` on an example. With none
 switched on all must pass. A panic, a run that doesn't end and a code never met are no
 reported difference, and none may be told as one that is right when it is tried by itself.
 
@@ -44,7 +44,7 @@ TABLES = "tables --seed 20 --cases 10000".split()
 STEP = ["step", "--seed", "20", "--cases", "5000"]
 QUEUE = ["queue", "--seed", "20", "--cases", "10000"]
 HISTORIES = ["histories", "--seed", "20", "--cases", "1000"]
-ROADS = ["roads", str(ROOT / "bench" / "examples" / "roads.txt")]
+INFLUENCE = ["influence", str(ROOT / "balkwizu" / "examples" / "influence.txt")]
 LEAST = 20
 AGAIN = "To see it again: bench "
 
@@ -70,8 +70,8 @@ UNSEEN = {
 # from the waiting count on are empty, so queues of any words show what becomes of others.
 # A reader that tests the caller shows in no run, since a caller above the largest table's
 # is refused with 12 there. What a step does to the holders' words isn't what a run does.
-# A set that is another one but leaves every view equal shows where roads are told, which
-# are found without the separate machine: of a call that is refused or that gives up its
+# A set that is another one but leaves every view equal shows where influence is shown, which
+# is found without the separate machine: of a call that is refused or that gives up its
 # caller's own right, and where everything is kept.
 BY_ANOTHER = {
     "columns_*": LISTS,
@@ -79,14 +79,14 @@ BY_ANOTHER = {
     "influence_list_*": TABLES,
     "holders_of_the_caller_alone": STEP,
     "potential_*": TABLES,
-    "purge_keeps_everything": ROADS,
+    "purge_keeps_everything": INFLUENCE,
     "receive_clears_the_slots_from_the_free_one_on": QUEUE,
     "receive_moves_all_eight": QUEUE,
     "receive_up_to_the_capacity": QUEUE,
     "read_tests_the_caller": LISTS,
     "repair_*": TABLES,
-    "sources_by_the_table_after_the_call": ROADS,
-    "sources_without_refused_calls": ROADS,
+    "sources_by_the_table_after_the_call": INFLUENCE,
+    "sources_without_refused_calls": INFLUENCE,
     "turns_*": HISTORIES,
     "writer_*": LISTS,
 }
@@ -118,19 +118,25 @@ codegen-units = 16
 
 
 def prepare():
-    """A copy of both packages."""
-    return Copy(ROOT / "build" / "planted", ["reference", "bench"], PROFILE)
+    """A copy of all packages."""
+    return Copy(ROOT / "build" / "planted", ["reference", "line", "balkwizu", "bench"], PROFILE)
 
 
 def make(copy):
-    """The bench, built against the copy."""
-    return copy.build(["build", "--release", "-p", "balkwizu-bench"], "bench")
+    """Both programs, built against the copy: the path of the bench."""
+    return copy.build(["build", "--release", "-p", "balkwizu", "-p", "balkwizu-bench"], "bench")
+
+
+def ran_by(bench, command, fault):
+    """A command run by the program that has it, with a fault switched on."""
+    program = Path(bench).with_name("balkwizu") if command == INFLUENCE else bench
+    return run([program, *command], fault)
 
 
 def check_unedited(bench):
     """Against the separate implementation as it stands all must pass."""
-    for command in FUZZ, WORKING, LISTS, STEP, QUEUE, TABLES, HISTORIES, ROADS:
-        ran = run([bench, *command], 0)
+    for command in FUZZ, WORKING, LISTS, STEP, QUEUE, TABLES, HISTORIES, INFLUENCE:
+        ran = ran_by(bench, command, 0)
         if ran.returncode != 0:
             raise Wrong(f"{command[0]} fails:\n{ran.stdout}{ran.stderr}")
 
@@ -138,7 +144,7 @@ def check_unedited(bench):
 def reports(bench, command, fault):
     """The lines that a command prints with the fault switched on, from the difference
     on."""
-    ran = run([bench, *command], fault)
+    ran = ran_by(bench, command, fault)
     lines = ran.stdout.splitlines()
     found = [i for i, line in enumerate(lines) if line.startswith("DIFFERENCE")]
     if ran.returncode != 1 or not found:

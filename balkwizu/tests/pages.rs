@@ -3,44 +3,19 @@
 //! in a browser where there is one.
 
 use std::fs;
-use std::path::PathBuf;
 use std::process::Command;
-use std::thread;
 
+use line::trial::{worked_example, Trial};
 use reference::cut;
 use reference::example::{LIST_L, PRINTED, TABLE_T};
 use reference::influence::tables_before;
 use reference::table::{domains, endpoint_words, endpoints, lost, rights, waiting, SLOTS_PLACE};
 use reference::words::{content, to_bytes};
 
-/// The exit status, what is printed and what is said of an error.
-fn ran(line: &[&str]) -> (i32, String, String) {
-    let output = Command::new(env!("CARGO_BIN_EXE_bench"))
-        .args(line)
-        .output()
-        .expect("the program starts");
-    let text = |bytes| String::from_utf8(bytes).expect("text");
-    let status = output.status.code().expect("it ends by itself");
-    (status, text(output.stdout), text(output.stderr))
-}
-
-/// A path in a folder of its own for each test: a test's thread has its name.
-fn place(name: &str) -> String {
-    let test = thread::current().name().unwrap_or("main").to_string();
-    let folder = PathBuf::from(env!("CARGO_TARGET_TMPDIR")).join(test);
-    fs::create_dir_all(&folder).expect("a folder can be made");
-    let path = folder.join(name);
-    path.to_str().expect("a plain path").to_string()
-}
-
-fn file(name: &str, bytes: impl AsRef<[u8]>) -> String {
-    fs::write(place(name), bytes).expect("a file can be written");
-    place(name)
-}
-
-fn example() -> Vec<u8> {
-    to_bytes(&[&[34], &TABLE_T[..], &LIST_L[..]].concat())
-}
+const TOOL: Trial = Trial {
+    program: env!("CARGO_BIN_EXE_balkwizu"),
+    folder: env!("CARGO_TARGET_TMPDIR"),
+};
 
 const LINE: &str = "\
 domain link
@@ -60,19 +35,22 @@ calls
 #[test]
 fn the_help_says_how_each_command_ends() {
     for command in ["compare", "run"] {
-        let (status, help, _) = ran(&[command, "--help"]);
+        let (status, help, _) = TOOL.ran(&[command, "--help"]);
         assert_eq!(status, 0);
-        assert!(help.starts_with(&format!("bench {command} ")), "{help}");
+        assert!(help.starts_with(&format!("balkwizu {command} ")), "{help}");
         assert!(help.contains("\nExit status: 0 "), "{help}");
-        assert!(ran(&["--help"]).1.contains(&format!("  bench {command} ")));
+        assert!(TOOL
+            .ran(&["--help"])
+            .1
+            .contains(&format!("  balkwizu {command} ")));
     }
 }
 
 #[test]
 fn a_refused_call_is_shown_with_its_reason() {
-    let line = file("line.txt", LINE);
-    let picture = place("line.svg");
-    let (status, printed, _) = ran(&["show", &line, "--run", "--svg", &picture]);
+    let line = TOOL.file("line.txt", LINE);
+    let picture = TOOL.path("line.svg");
+    let (status, printed, _) = TOOL.ran(&["show", &line, "--run", "--svg", &picture]);
     assert_eq!(status, 0);
     let why = "-> refused with 17: domain 0 (link) has no SEND on domain 1 (loader), the owner of \
                endpoint 0 (routes); domain 1 (loader) and domain 2 (chute) hold it; call 1 \
@@ -85,55 +63,55 @@ fn a_refused_call_is_shown_with_its_reason() {
 
 #[test]
 fn tables_are_compared_in_each_form() {
-    let plan = file("plan.txt", LINE);
-    let card = file(
+    let plan = TOOL.file("plan.txt", LINE);
+    let card = TOOL.file(
         "card.txt",
         LINE.replace("chute on loader: SEND", "chute on loader: GRANT"),
     );
-    let (status, printed, told) = ran(&["compare", &card, &plan]);
+    let (status, printed, told) = TOOL.ran(&["compare", &card, &plan]);
     let wanted =
         "altered  the rights of domain 2 (chute) on domain 1 (loader): GRANT, in the plan \
                   SEND\n1 difference: 1 altered\n";
     assert_eq!((status, printed.as_str(), told.as_str()), (1, wanted, ""));
-    let (status, printed, _) = ran(&["compare", &plan, &plan]);
+    let (status, printed, _) = TOOL.ran(&["compare", &plan, &plan]);
     assert_eq!(
         (status, printed.as_str()),
         (0, "the same: 3 domains, 1 endpoint\n")
     );
-    let input = file("input.bin", example());
-    let image = file("image.bin", to_bytes(&TABLE_T));
-    let words = concat!(env!("CARGO_MANIFEST_DIR"), "/example.txt");
-    assert_eq!(ran(&["compare", &input, words]).0, 0);
-    assert_eq!(ran(&["compare", &image, words, "--image"]).0, 0);
-    assert_eq!(ran(&["compare", words, &image, "--image"]).0, 0);
-    assert_eq!(ran(&["compare", &image, &image, "--image"]).0, 0);
+    let input = TOOL.file("input.bin", worked_example());
+    let image = TOOL.file("image.bin", to_bytes(&TABLE_T));
+    let words = concat!(env!("CARGO_MANIFEST_DIR"), "/examples/worked.txt");
+    assert_eq!(TOOL.ran(&["compare", &input, words]).0, 0);
+    assert_eq!(TOOL.ran(&["compare", &image, words, "--image"]).0, 0);
+    assert_eq!(TOOL.ran(&["compare", words, &image, "--image"]).0, 0);
+    assert_eq!(TOOL.ran(&["compare", &image, &image, "--image"]).0, 0);
 }
 
 #[test]
 fn what_cannot_be_compared_is_said() {
-    let plan = file("plan.txt", LINE);
-    let image = file("image.bin", to_bytes(&TABLE_T));
-    let (status, _, told) = ran(&["compare", &image, &plan]);
+    let plan = TOOL.file("plan.txt", LINE);
+    let image = TOOL.file("image.bin", to_bytes(&TABLE_T));
+    let (status, _, told) = TOOL.ran(&["compare", &image, &plan]);
     assert_eq!(status, 2);
     assert!(told.contains("image.bin is refused with 7"), "{told}");
     let mut broken = TABLE_T;
     broken[9] = 0x3000_0000;
-    let broken = file("broken.bin", to_bytes(&broken));
-    let (status, _, told) = ran(&["compare", &broken, &plan, "--image"]);
+    let broken = TOOL.file("broken.bin", to_bytes(&broken));
+    let (status, _, told) = TOOL.ran(&["compare", &broken, &plan, "--image"]);
     assert_eq!(status, 2);
     assert!(told.contains("broken.bin is refused with 4"), "{told}");
-    let (status, _, told) = ran(&["compare", &plan]);
+    let (status, _, told) = TOOL.ran(&["compare", &plan]);
     assert_eq!(status, 2);
     assert!(
         told.contains("two files are needed, CARD and PLAN; 1 given"),
         "{told}"
     );
-    let other = file(
+    let other = TOOL.file(
         "other.txt",
         LINE.replace("domain chute", "domain slide")
             .replace("rights chute", "rights slide"),
     );
-    let (status, _, told) = ran(&["compare", &other, &plan]);
+    let (status, _, told) = TOOL.ran(&["compare", &other, &plan]);
     assert_eq!(status, 0);
     assert!(
         told.contains("domain 2 is slide in CARD and chute in PLAN"),
@@ -143,9 +121,9 @@ fn what_cannot_be_compared_is_said() {
 
 #[test]
 fn a_run_leaves_its_answers_and_its_table() {
-    let input = file("input.bin", example());
-    let (answers, left) = (place("answers.txt"), place("left.txt"));
-    let (status, printed, _) = ran(&["run", &input, "--answers", &answers, "--left", &left]);
+    let input = TOOL.file("input.bin", worked_example());
+    let (answers, left) = (TOOL.path("answers.txt"), TOOL.path("left.txt"));
+    let (status, printed, _) = TOOL.ran(&["run", &input, "--answers", &answers, "--left", &left]);
     assert_eq!(status, 0);
     assert!(
         printed.contains("-> refused with 17: domain 0 has no SEND on domain 2"),
@@ -154,56 +132,56 @@ fn a_run_leaves_its_answers_and_its_table() {
     assert_eq!(fs::read_to_string(&answers).unwrap(), PRINTED);
     let table = fs::read_to_string(&left).unwrap();
     let tables = tables_before(&TABLE_T, &cut(&LIST_L));
-    let wanted = file("wanted.bin", to_bytes(tables.last().unwrap()));
-    let (status, differs, _) = ran(&["compare", &wanted, &left, "--image"]);
+    let wanted = TOOL.file("wanted.bin", to_bytes(tables.last().unwrap()));
+    let (status, differs, _) = TOOL.ran(&["compare", &wanted, &left, "--image"]);
     assert_eq!(status, 0, "{differs} {table}");
     let read_back = ["commission", &input, "--answers", &answers, "--left", &left];
-    let (status, judged, told) = ran(&read_back);
+    let (status, judged, told) = TOOL.ran(&read_back);
     assert_eq!(status, 0, "{judged} {told}");
     assert!(judged.contains("line 2"), "{judged}");
     let wrong = fs::read_to_string(&answers)
         .unwrap()
         .replace("data 6 1", "data 5 1");
     fs::write(&answers, wrong).unwrap();
-    assert_eq!(ran(&read_back).0, 1, "another message was received");
+    assert_eq!(TOOL.ran(&read_back).0, 1, "another message was received");
 }
 
 #[test]
 fn names_stay_in_the_table_that_a_run_leaves() {
-    let (line, left) = (file("line.txt", LINE), place("left.txt"));
-    assert_eq!(ran(&["run", &line, "--left", &left]).0, 0);
-    let (status, printed, _) = ran(&["show", &left]);
+    let (line, left) = (TOOL.file("line.txt", LINE), TOOL.path("left.txt"));
+    assert_eq!(TOOL.ran(&["run", &line, "--left", &left]).0, 0);
+    let (status, printed, _) = TOOL.ran(&["show", &left]);
     assert_eq!(status, 0);
     assert!(
         printed.contains("endpoint 0 (routes, name 1) [- - - 65]"),
         "{printed}"
     );
-    let (status, _, told) = ran(&["run", &line, "--left", &left, "--answers", &left]);
+    let (status, _, told) = TOOL.ran(&["run", &line, "--left", &left, "--answers", &left]);
     assert_eq!(status, 2);
     assert!(
         told.contains("--answers and --left need a file each"),
         "{told}"
     );
-    let (status, _, told) = ran(&["run", &line, "--left", &line]);
+    let (status, _, told) = TOOL.ran(&["run", &line, "--left", &line]);
     assert_eq!(status, 2);
     assert!(
         told.contains("is the input, which it would overwrite"),
         "{told}"
     );
-    let refused = file("refused.txt", "table 10000100 30000000");
-    assert_eq!(ran(&["run", &refused]).0, 1);
+    let refused = TOOL.file("refused.txt", "table 10000100 30000000");
+    assert_eq!(TOOL.ran(&["run", &refused]).0, 1);
 }
 
 #[test]
 fn options_are_given_once_and_names_stay_in_their_line() {
-    let line = file("line.txt", LINE);
-    let (status, _, told) = ran(&["show", &line, "--run", "--run"]);
+    let line = TOOL.file("line.txt", LINE);
+    let (status, _, told) = TOOL.ran(&["show", &line, "--run", "--run"]);
     assert_eq!(status, 2);
-    assert_eq!(told, "bench show: --run is given twice\n");
-    let (status, _, told) = ran(&["show", "no\nsuch\u{1B}file"]);
+    assert_eq!(told, "balkwizu show: --run is given twice\n");
+    let (status, _, told) = TOOL.ran(&["show", "no\nsuch\u{1B}file"]);
     assert_eq!(status, 2);
     assert!(
-        told.starts_with("bench show: cannot read no\\nsuch\\u{1b}file: "),
+        told.starts_with("balkwizu show: cannot read no\\nsuch\\u{1b}file: "),
         "{told}"
     );
     assert_eq!(told.lines().count(), 1, "{told}");
@@ -215,9 +193,9 @@ fn a_text_in_utf_16_is_said_to_be_one() {
         .encode_utf16()
         .flat_map(|word| word.to_le_bytes())
         .collect();
-    let saved = file("saved.txt", bytes);
+    let saved = TOOL.file("saved.txt", bytes);
     for command in ["show", "words", "commission", "run"] {
-        let (status, _, told) = ran(&[command, &saved]);
+        let (status, _, told) = TOOL.ran(&[command, &saved]);
         assert_eq!(status, 2);
         assert!(
             told.contains("it is saved as UTF-16: save it as UTF-8"),
@@ -228,8 +206,8 @@ fn a_text_in_utf_16_is_said_to_be_one() {
 
 #[test]
 fn the_page_is_one_file_that_fetches_nothing() {
-    let (line, page) = (file("line.txt", LINE), place("line.html"));
-    let (status, printed, _) = ran(&["show", &line, "--page", &page]);
+    let (line, page) = (TOOL.file("line.txt", LINE), TOOL.path("line.html"));
+    let (status, printed, _) = TOOL.ran(&["show", &line, "--page", &page]);
     assert_eq!(status, 0);
     assert!(
         printed.ends_with(&format!("page written to {page}\n")),
@@ -240,14 +218,14 @@ fn the_page_is_one_file_that_fetches_nothing() {
     for fetched in ["http:", "https:", "src=", "href=", "@import", "url("] {
         assert!(!written.contains(fetched), "{fetched}");
     }
-    let (status, _, told) = ran(&["show", &line, "--page", &page, "--svg", &page]);
+    let (status, _, told) = TOOL.ran(&["show", &line, "--page", &page, "--svg", &page]);
     assert_eq!(status, 2);
     assert!(told.contains("--svg and --page need a file each"), "{told}");
-    let long = file(
+    let long = TOOL.file(
         "long.bin",
         to_bytes(&[&[34], &TABLE_T[..], &[0x5000_0000; 600]].concat()),
     );
-    assert_eq!(ran(&["show", &long, "--page", &page]).0, 0);
+    assert_eq!(TOOL.ran(&["show", &long, "--page", &page]).0, 0);
     let written = fs::read_to_string(&page).unwrap();
     assert!(written.contains("\"more\": 100,"), "{written}");
 }
@@ -312,8 +290,11 @@ fn members(word: u32, n: usize) -> String {
 #[test]
 #[ignore = "needs a browser, which BROWSER names: .ci/after/50-report-page runs it"]
 fn keys_step_through_the_list_in_a_browser() {
-    let (input, page) = (file("example.bin", example()), place("example.html"));
-    assert_eq!(ran(&["show", &input, "--page", &page]).0, 0);
+    let (input, page) = (
+        TOOL.file("example.bin", worked_example()),
+        TOOL.path("example.html"),
+    );
+    assert_eq!(TOOL.ran(&["show", &input, "--page", &page]).0, 0);
     let written = fs::read_to_string(&page).unwrap();
     let tables = tables_before(&TABLE_T, &cut(&LIST_L));
     let tried = [
@@ -330,7 +311,7 @@ fn keys_step_through_the_list_in_a_browser() {
         };
         let presses: String = keys.split(' ').map(press).collect();
         let script = format!("<script>\n{presses}</script>\n</body>");
-        let pressed = file("pressed.html", written.replace("</body>", &script));
+        let pressed = TOOL.file("pressed.html", written.replace("</body>", &script));
         let dom = opened(&pressed, "step=4");
         assert_eq!(element(&dom, "done"), done);
         compare_state(&dom, &tables[step]);
@@ -340,8 +321,11 @@ fn keys_step_through_the_list_in_a_browser() {
 #[test]
 #[ignore = "needs a browser, which BROWSER names: .ci/after/50-report-page runs it"]
 fn a_browser_shows_the_states_of_the_reference() {
-    let (input, page) = (file("example.bin", example()), place("example.html"));
-    assert_eq!(ran(&["show", &input, "--page", &page]).0, 0);
+    let (input, page) = (
+        TOOL.file("example.bin", worked_example()),
+        TOOL.path("example.html"),
+    );
+    assert_eq!(TOOL.ran(&["show", &input, "--page", &page]).0, 0);
     let calls = cut(&LIST_L);
     let tables = tables_before(&TABLE_T, &calls);
     for step in [0, 2, 4, 9] {

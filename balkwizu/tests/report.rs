@@ -1,51 +1,18 @@
 //! Reports of commissioning as they are made, and what is read back from a line judged:
 //! what is written, what is printed, and the exit status.
 
-mod campaign;
-
-use campaign::without_campaign;
 use std::fs;
-use std::path::{Path, PathBuf};
-use std::process::{Command, Output};
-use std::thread;
+use std::path::Path;
+use std::process::Command;
 
+use line::trial::{worked_example, Trial};
 use reference::example::{LIST_L, TABLE_T};
 use reference::words::{hex, to_bytes};
 
-fn bench(line: &[&str]) -> Output {
-    Command::new(env!("CARGO_BIN_EXE_bench"))
-        .args(line)
-        .args(without_campaign(line))
-        .output()
-        .expect("the program starts")
-}
-
-/// The exit status, what is printed and what is said of an error.
-fn ran(line: &[&str]) -> (i32, String, String) {
-    let output = bench(line);
-    let text = |bytes| String::from_utf8(bytes).expect("text");
-    let status = output.status.code().expect("it ends by itself");
-    (status, text(output.stdout), text(output.stderr))
-}
-
-/// A path in a folder of its own for each test: a test's thread has its name.
-fn place(name: &str) -> String {
-    let test = thread::current().name().unwrap_or("main").to_string();
-    let folder = PathBuf::from(env!("CARGO_TARGET_TMPDIR")).join(test);
-    fs::create_dir_all(&folder).expect("a folder can be made");
-    let path = folder.join(name);
-    path.to_str().expect("a plain path").to_string()
-}
-
-/// A file of its own for each test.
-fn file(name: &str, bytes: &[u8]) -> String {
-    fs::write(place(name), bytes).expect("a file can be written");
-    place(name)
-}
-
-fn example() -> Vec<u8> {
-    to_bytes(&[&[34], &TABLE_T[..], &LIST_L[..]].concat())
-}
+const TOOL: Trial = Trial {
+    program: env!("CARGO_BIN_EXE_balkwizu"),
+    folder: env!("CARGO_TARGET_TMPDIR"),
+};
 
 /// What the separate machine answers to the worked example, and the table that it leaves.
 fn right_words() -> (Vec<u32>, Vec<u32>) {
@@ -56,9 +23,10 @@ fn right_words() -> (Vec<u32>, Vec<u32>) {
 
 #[test]
 fn a_report_is_written_as_a_page_and_as_json() {
-    let input = file("reported.bin", &example());
-    let (page, json) = (place("reported.html"), place("reported.json"));
-    let (status, printed, _) = ran(&["commission", &input, "--report", &page, "--json", &json]);
+    let input = TOOL.file("reported.bin", worked_example());
+    let (page, json) = (TOOL.path("reported.html"), TOOL.path("reported.json"));
+    let (status, printed, _) =
+        TOOL.ran(&["commission", &input, "--report", &page, "--json", &json]);
     assert_eq!(status, 0);
     let end = format!("report written to {page}\nreport written to {json}\n");
     assert!(printed.ends_with(&end), "{printed}");
@@ -92,19 +60,12 @@ fn every_field_is_one_that_the_document_names() {
         .parent()
         .expect("the repository");
     let document = fs::read_to_string(repository.join("docs/REPORT.md")).expect("a document");
-    let input = file("fields.bin", &example());
+    let input = TOOL.file("fields.bin", worked_example());
     let (answers, left) = right_words();
-    let answers = file("fields.answers", &to_bytes(&answers));
-    let left = file("fields.left", &to_bytes(&left));
-    let json = place("fields.json");
-    let kernel = [
-        "commission",
-        &input,
-        "--json",
-        &json,
-        "--kernel",
-        "wrong-newest-first",
-    ];
+    let answers = TOOL.file("fields.answers", &to_bytes(&answers));
+    let left = TOOL.file("fields.left", &to_bytes(&left));
+    let json = TOOL.path("fields.json");
+    let kernel = ["commission", &input, "--json", &json];
     let words = [
         "commission",
         &input,
@@ -116,7 +77,7 @@ fn every_field_is_one_that_the_document_names() {
         &left,
     ];
     for (line, count) in [(&kernel[..], 45), (&words[..], 42)] {
-        ran(line);
+        TOOL.ran(line);
         let json = fs::read_to_string(&json).expect("the JSON is there");
         let fields = fields(&json);
         for field in &fields {
@@ -127,33 +88,10 @@ fn every_field_is_one_that_the_document_names() {
 }
 
 #[test]
-fn a_report_is_written_where_a_line_failed() {
-    let input = file("failed.bin", &example());
-    let page = place("failed.html");
-    let line = [
-        "commission",
-        &input,
-        "--report",
-        &page,
-        "--kernel",
-        "wrong-newest-first",
-    ];
-    let (status, printed, _) = ran(&line);
-    assert_eq!(status, 1);
-    assert!(printed.contains("\nline 2 failed "), "{printed}");
-    let page = fs::read_to_string(&page).expect("the page is there");
-    assert!(page.contains("FAILED: line 2 (answers and table), line 3 (isolation)"));
-    assert!(
-        page.contains("the newest message is received first"),
-        "the kernel is named"
-    );
-}
-
-#[test]
 fn a_report_that_cannot_be_written_ends_with_2_and_the_verdicts_are_told() {
-    let input = file("unwritten.bin", &example());
+    let input = TOOL.file("unwritten.bin", worked_example());
     for option in ["--report", "--json"] {
-        let (status, printed, told) = ran(&["commission", &input, option, "/dev/full"]);
+        let (status, printed, told) = TOOL.ran(&["commission", &input, option, "/dev/full"]);
         assert_eq!(status, 2);
         assert!(told.contains("cannot write /dev/full: "), "{told}");
         assert!(printed.ends_with("summary: 4 passed, 0 failed, 5 not shown\n"));
@@ -162,11 +100,11 @@ fn a_report_that_cannot_be_written_ends_with_2_and_the_verdicts_are_told() {
 
 #[test]
 fn nothing_that_is_read_is_overwritten() {
-    let input = file("read.bin", &example());
+    let input = TOOL.file("read.bin", worked_example());
     let (answers, left) = right_words();
-    let answers = file("read.answers", &to_bytes(&answers));
-    let left = file("read.left", &to_bytes(&left));
-    let link = place("read.link");
+    let answers = TOOL.file("read.answers", &to_bytes(&answers));
+    let left = TOOL.file("read.left", &to_bytes(&left));
+    let link = TOOL.path("read.link");
     let _ = fs::remove_file(&link);
     fs::hard_link(&left, &link).expect("a link can be made");
     for out in [&input, &answers, &left, &link] {
@@ -180,43 +118,46 @@ fn nothing_that_is_read_is_overwritten() {
             "--report",
             out,
         ];
-        let (status, printed, told) = ran(&line);
+        let (status, printed, told) = TOOL.ran(&line);
         assert!(status == 2 && printed.is_empty(), "{printed}");
         assert!(
             told.contains("is the input, which it would overwrite"),
             "{told}"
         );
     }
-    assert_eq!(fs::read(&input).expect("it is still there"), example());
+    assert_eq!(
+        fs::read(&input).expect("it is still there"),
+        worked_example()
+    );
 }
 
 #[test]
 fn what_is_refused_gets_no_report() {
-    let input = file("unreported.bin", &example()[..50]);
-    let page = place("unreported.html");
+    let input = TOOL.file("unreported.bin", &worked_example()[..50]);
+    let page = TOOL.path("unreported.html");
     let _ = fs::remove_file(&page);
-    assert_eq!(ran(&["commission", &input, "--report", &page]).0, 1);
+    assert_eq!(TOOL.ran(&["commission", &input, "--report", &page]).0, 1);
     assert!(!Path::new(&page).exists());
 }
 
 #[test]
 fn words_that_were_read_back_are_judged_in_both_forms() {
-    let input = file("back.bin", &example());
+    let input = TOOL.file("back.bin", worked_example());
     let (answers, left) = right_words();
     let bytes = [
-        file("back.answers", &to_bytes(&answers)),
-        file("back.left", &to_bytes(&left)),
+        TOOL.file("back.answers", &to_bytes(&answers)),
+        TOOL.file("back.left", &to_bytes(&left)),
     ];
     let text = [
-        file(
+        TOOL.file(
             "back-answers.txt",
             format!("# answers\n{}\n", hex(&answers)).as_bytes(),
         ),
-        file("back-left.txt", hex(&left).as_bytes()),
+        TOOL.file("back-left.txt", hex(&left).as_bytes()),
     ];
     for [answers, left] in [&bytes, &text] {
         let line = ["commission", &input, "--answers", answers, "--left", left];
-        let (status, printed, _) = ran(&line);
+        let (status, printed, _) = TOOL.ran(&line);
         assert_eq!(status, 0, "{printed}");
         assert!(printed.contains(" on what was read back from a line: 3 domains"));
         assert!(printed.contains("not shown: damaged tables"), "{printed}");
@@ -231,9 +172,13 @@ fn words_that_were_read_back_are_judged_in_both_forms() {
 #[test]
 fn words_that_show_nothing_end_with_a_status_of_their_own() {
     let table = to_bytes(&TABLE_T);
-    let input = file("no-list.bin", &[&34u32.to_le_bytes()[..], &table].concat());
-    let (answers, left) = (file("no-list.answers", &[]), file("no-list.left", &table));
-    let (status, printed, _) = ran(&["commission", &input, "--answers", &answers, "--left", &left]);
+    let input = TOOL.file("no-list.bin", &[&34u32.to_le_bytes()[..], &table].concat());
+    let (answers, left) = (
+        TOOL.file("no-list.answers", &[]),
+        TOOL.file("no-list.left", &table),
+    );
+    let (status, printed, _) =
+        TOOL.ran(&["commission", &input, "--answers", &answers, "--left", &left]);
     assert!(
         printed.contains("summary: 0 passed, 0 failed, "),
         "{printed}"
@@ -243,12 +188,12 @@ fn words_that_show_nothing_end_with_a_status_of_their_own() {
 
 #[test]
 fn wrong_words_that_were_read_back_fail_and_are_reported() {
-    let input = file("bad.bin", &example());
+    let input = TOOL.file("bad.bin", worked_example());
     let (answers, mut left) = right_words();
     left[25] = 0x6000_0000;
-    let answers = file("bad.answers", &to_bytes(&answers));
-    let left = file("bad.left", &to_bytes(&left));
-    let page = place("bad.html");
+    let answers = TOOL.file("bad.answers", &to_bytes(&answers));
+    let left = TOOL.file("bad.left", &to_bytes(&left));
+    let page = TOOL.path("bad.html");
     let line = [
         "commission",
         &input,
@@ -259,7 +204,7 @@ fn wrong_words_that_were_read_back_fail_and_are_reported() {
         "--report",
         &page,
     ];
-    let (status, printed, _) = ran(&line);
+    let (status, printed, _) = TOOL.ran(&line);
     assert_eq!(status, 1);
     assert!(printed.contains("line 1 passed, "), "{printed}");
     let lost = "line 4 failed  counts: endpoint 1: the lost count should be 1; the table says 0";
@@ -275,19 +220,20 @@ fn wrong_words_that_were_read_back_fail_and_are_reported() {
 
 #[test]
 fn other_numbers_of_words_than_there_must_be_are_told() {
-    let input = file("long.bin", &example());
+    let input = TOOL.file("long.bin", worked_example());
     let (answers, left) = right_words();
-    let right = file("long.answers", &to_bytes(&answers));
-    let short = file("short.answers", &to_bytes(&answers[3..]));
-    let left = file("long.left", &to_bytes(&left));
-    let (status, printed, _) = ran(&["commission", &input, "--answers", &short, "--left", &left]);
+    let right = TOOL.file("long.answers", &to_bytes(&answers));
+    let short = TOOL.file("short.answers", &to_bytes(&answers[3..]));
+    let left = TOOL.file("long.left", &to_bytes(&left));
+    let (status, printed, _) =
+        TOOL.ran(&["commission", &input, "--answers", &short, "--left", &left]);
     assert_eq!(status, 1);
     let told = "cannot be judged: the answer to 9 calls takes 27 words, and 24 were read back\n";
     assert!(printed.ends_with(told), "{printed}");
-    let odd = file("odd.left", &[0; 7]);
-    let (status, _, told) = ran(&["commission", &input, "--answers", &right, "--left", &odd]);
+    let odd = TOOL.file("odd.left", &[0; 7]);
+    let (status, _, told) = TOOL.ran(&["commission", &input, "--answers", &right, "--left", &odd]);
     assert_eq!(status, 2);
     assert!(told.contains("odd.left: 3 bytes left over"), "{told}");
-    let (status, _, told) = ran(&["commission", &input, "--answers", &right]);
+    let (status, _, told) = TOOL.ran(&["commission", &input, "--answers", &right]);
     assert!(status == 2 && told.contains("are given together"), "{told}");
 }

@@ -7,6 +7,7 @@ use std::path::Path;
 
 /// Says a line on standard error, put together as by `format!`. Where that can't be
 /// written there is nobody else to tell.
+#[macro_export]
 macro_rules! complain {
     ($($parts:tt)*) => {{
         use std::io::Write;
@@ -29,7 +30,7 @@ pub fn write(bytes: &[u8]) {
     let out = crate::closed::standard_output();
     if let Err(why) = out.and_then(|mut out| out.write_all(bytes)) {
         if why.kind() != ErrorKind::BrokenPipe {
-            complain!("bench: cannot write: {why}");
+            complain!("{}: cannot write: {why}", crate::program::name());
         }
         exit(2);
     }
@@ -129,14 +130,14 @@ pub fn write_file(out: &Path, bytes: &(impl AsRef<[u8]> + ?Sized)) -> Result<(),
 }
 
 /// Prints a line, put together as by `format!`.
+#[macro_export]
 macro_rules! say {
     ($($parts:tt)*) => {
         $crate::output::write(format!("{}\n", format_args!($($parts)*)).as_bytes())
     };
 }
 
-pub(crate) use complain;
-pub(crate) use say;
+pub use crate::{complain, say};
 
 #[cfg(test)]
 mod tests {

@@ -3,9 +3,9 @@
 
 use std::path::Path;
 
-use crate::line::explain::meaning;
-use crate::line::input::shown;
 use crate::output::{self, complain, say};
+use crate::text::explain::meaning;
+use crate::text::input::shown;
 
 /// The number that refuses an input or its table, and what is wrong with it.
 pub type Refusal = (u32, String);
@@ -30,7 +30,7 @@ pub fn tell(file: &Path, refusal: &Refusal, of_it: &str) {
 pub fn tell_mending(file: &Path, (code, _): &Refusal) {
     if let 4 | 5 = code {
         let file = output::shown(file);
-        say!("`bench repair {file} OUT` may make it fit again");
+        say!("`balkwizu repair {file} OUT` may make it fit again");
     }
 }
 
@@ -38,11 +38,11 @@ pub fn tell_mending(file: &Path, (code, _): &Refusal) {
 /// for what it makes alone.
 pub fn complain_of(command: &str, file: &Path, refusal: &Refusal) {
     let (file, told) = (shown(file), in_words(refusal));
-    complain!("bench {command}: {file} is {told}");
+    complain!("balkwizu {command}: {file} is {told}");
 }
 
 /// Warns of an input that is written all the same, and that will be refused.
 pub fn warn_of(command: &str, file: &Path, refusal: &Refusal) {
     let (file, told) = (shown(file), in_words(refusal));
-    complain!("bench {command}: {file} is written, and will be {told}");
+    complain!("balkwizu {command}: {file} is written, and will be {told}");
 }

@@ -1,17 +1,17 @@
-//! `bench codes`: what the numbers of refusals mean.
+//! `balkwizu codes`: what the numbers of refusals mean.
 
 use std::ffi::OsString;
 
-use crate::args::Options;
-use crate::line::explain::{is_code, meaning};
-use crate::output;
+use line::args::Options;
+use line::output;
+use line::text::explain::{is_code, meaning};
 
 pub const HELP: &str = "\
-bench codes [CODE]..
+balkwizu codes [CODE]..
 
 Tells what the numbers mean that the kernel, its programs and its C functions
-answer: those given, or all of them. `bench show FILE --run` tells for each call
-of a list what it is refused with.
+answer: those given, or all of them. `balkwizu show FILE --run` tells for each
+call of a list what it is refused with.
 
 Exit status: 0 told; 2 bad usage, or a number that nothing answers.
 ";
@@ -61,5 +61,5 @@ fn all() -> String {
 /// The number that a word is, if something answers it.
 fn code(word: &str) -> Result<u32, String> {
     let code = word.parse().ok().filter(|&code| is_code(code));
-    code.ok_or_else(|| format!("`{word}` is no number that is answered; `bench codes` has them"))
+    code.ok_or_else(|| format!("`{word}` is no number that is answered; `balkwizu codes` has them"))
 }

@@ -1,21 +1,21 @@
-//! `bench compare`: what differs between the table of a card and the one that was planned.
+//! `balkwizu compare`: what differs between the table of a card and the one that was planned.
 
 use std::ffi::OsString;
 use std::path::Path;
 
 use reference::table::{domains, endpoints, DOMAINS_MAX, ENDPOINTS_MAX};
 
-use crate::args::Options;
-use crate::commands::refused::{self, Refusal};
-use crate::line::differences::{differences, summary};
-use crate::line::explain::{counted, table_fault};
-use crate::line::given::{read_given, Given};
-use crate::line::input::{is_text, read_input, read_once, shown, Input};
-use crate::line::names::Names;
-use crate::output::{complain, say};
+use line::args::Options;
+use line::output::{complain, say};
+use line::refused::{self, Refusal};
+use line::text::differences::{differences, summary};
+use line::text::explain::{counted, table_fault};
+use line::text::given::{read_given, Given};
+use line::text::input::{is_text, read_input, read_once, shown, Input};
+use line::text::names::Names;
 
 pub const HELP: &str = "\
-bench compare CARD PLAN [--image]
+balkwizu compare CARD PLAN [--image]
 
 Compares two tables and prints what differs, one difference a line: a right or
 an endpoint that CARD alone has is added, one that PLAN alone has is lost, and
@@ -23,9 +23,9 @@ what both have in different ways is altered: rights, an endpoint's owner,
 capacity and name, the messages that wait in its queue, oldest first, and its
 lost count. Domains and endpoints are compared by their numbers.
 
-CARD and PLAN are inputs of linerun, texts as `bench words` takes them, or lines
-in words. Names are those of PLAN, and of CARD for what PLAN gives none; lists
-are not compared. One of them may be `-`, standard input.
+CARD and PLAN are inputs of linerun, texts as `balkwizu words` takes them, or
+lines in words. Names are those of PLAN, and of CARD for what PLAN gives none;
+lists are not compared. One of them may be `-`, standard input.
 
   --image   a file that is no text is a table's bytes alone, as a card has them
 
@@ -119,7 +119,7 @@ fn warn_of_names(card: &[u32], on_card: &Names, planned: &Names) {
         if let (Some(there), Some(name)) = both {
             if there != name {
                 complain!(
-                    "bench compare: domain {domain} is {there} in CARD and {name} in PLAN: \
+                    "balkwizu compare: domain {domain} is {there} in CARD and {name} in PLAN: \
                      numbers are compared, not names"
                 );
             }

@@ -1,20 +1,20 @@
-//! `bench roads`: whose calls count for whom, in a list and ever, and by which rights.
+//! `balkwizu influence`: whose calls count for whom, in a list and ever, and by which rights.
 
 use std::ffi::OsString;
 use std::path::Path;
 
 use reference::table::domains;
 
-use crate::args::Options;
-use crate::commands::refused;
-use crate::line::given::read_given;
-use crate::line::input::Input;
-use crate::line::names::Names;
-use crate::output::{self, say};
-use crate::pictures::chains::Asked;
+use line::args::Options;
+use line::output::{self, say};
+use line::pictures::chains::Asked;
+use line::refused;
+use line::text::given::read_given;
+use line::text::input::Input;
+use line::text::names::Names;
 
 pub const HELP: &str = "\
-bench roads FILE [FROM TO] [--calls N]
+balkwizu influence FILE [FROM TO] [--calls N]
 
 Do the calls of FROM count for TO? A call counts for a domain where its caller
 is in the domain's source set: going from the end of the list back, the caller
@@ -39,10 +39,10 @@ chains that calls could ever give, and what never shows.
 
   --calls N   print N of the calls that are kept at most (default: all)
 
-FILE is an input of linerun or a text that `bench words` takes. Who has a chain
-of rights, now or ever, and the connected components are the proved functions'.
-The chains themselves, and the source sets along the list, are found here and
-compared with these functions and with the reference implementation.
+FILE is an input of linerun or a text that `balkwizu words` takes. Who has a
+chain of rights, now or ever, and the connected components are the proved
+functions'. The chains themselves, and the source sets along the list, are found
+here and compared with these functions and with the reference implementation.
 
 Exit status: 0 answered, whatever the answer; 1 the input or its table is
 refused, with what is wrong, or what was found differs; 2 bad usage, or a file

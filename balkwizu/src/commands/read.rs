@@ -1,35 +1,36 @@
-//! `bench read`: a line in words, or a list into calls as text, one a line.
+//! `balkwizu read`: a line in words, or a list into calls as text, one a line.
 
 use std::ffi::OsString;
 
 use reference::writer::{to_columns, COLUMNS};
 use reference::Value;
 
-use crate::args::Options;
-use crate::commands::refused;
-use crate::kernels::boundary::PROVED_WRITER;
-use crate::line::calls;
-use crate::line::described;
-use crate::line::explain::{call_in_words, counted, meaning, table_fault};
-use crate::line::given::{read_given_list, Given};
-use crate::line::input::Input;
-use crate::line::names::Names;
-use crate::output::{self, complain};
+use line::args::Options;
+use line::kernels::boundary::PROVED_WRITER;
+use line::output::{self, complain};
+use line::refused;
+use line::text::calls;
+use line::text::described;
+use line::text::explain::{call_in_words, counted, meaning, table_fault};
+use line::text::given::{read_given_list, Given};
+use line::text::input::Input;
+use line::text::names::Names;
 
 pub const HELP: &str = "\
-bench read FILE [--calls]
+balkwizu read FILE [--calls]
 
-Describes a line in words, as every command takes it (`bench help words`): its
-domains, endpoints, rights and calls, by their names where FILE gives some. A
-call that no sentence says is written as its words. FILE is an input of linerun,
-or a text; `-` is standard input.
+Describes a line in words, as every command takes it (`balkwizu help words`):
+its domains, endpoints, rights and calls, by their names where FILE gives some.
+A call that no sentence says is written as its words. FILE is an input of
+linerun, or a text; `-` is standard input.
 
-With --calls, and where FILE has a list alone, as `bench write` gives it, writes
-the calls as text, one a line, as `bench write` takes them. They are written by
-the proved writer again, and must give the list as it came: two different lists
-of calls are never written in the same words, so these are the calls of the
-list. A call that the reader refuses whatever the table, with 10, 11, 13 or 14,
-has no such text: it is reported by its number, from 0, and its code.
+With --calls, and where FILE has a list alone, as `balkwizu write` gives it,
+writes the calls as text, one a line, as `balkwizu write` takes them. They are
+written by the proved writer again, and must give the list as it came: two
+different lists of calls are never written in the same words, so these are the
+calls of the list. A call that the reader refuses whatever the table, with 10,
+11, 13 or 14, has no such text: it is reported by its number, from 0, and its
+code.
 
 Exit status: 0 written; 1 the list has such a call, or FILE is refused; 2 bad
 usage, or a file that can't be read.
@@ -99,7 +100,7 @@ fn told_refused(list: &[u32], values: &[Value], names: &Names) -> String {
     let refused = values.iter().zip(&cut).enumerate();
     let refused = refused.filter_map(|(number, (value, call))| match value {
         Value::Refused(code) => Some(format!(
-            "bench read: call {number} is refused with {code} ({}): {}\n",
+            "balkwizu read: call {number} is refused with {code} ({}): {}\n",
             meaning(*code),
             call_in_words(call, names)
         )),
@@ -109,7 +110,7 @@ fn told_refused(list: &[u32], values: &[Value], names: &Names) -> String {
     let mut told = refused[..refused.len().min(TOLD_MAX)].concat();
     if refused.len() > TOLD_MAX {
         let more = counted(refused.len() - TOLD_MAX, "call");
-        told += &format!("bench read: {more} more\n");
+        told += &format!("balkwizu read: {more} more\n");
     }
     told
 }

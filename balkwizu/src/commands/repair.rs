@@ -1,4 +1,4 @@
-//! `bench repair`: a table that a worn card gives back damaged is made fit again, and told
+//! `balkwizu repair`: a table that a worn card gives back damaged is made fit again, and told
 //! in words; and the other way round.
 
 use std::ffi::OsString;
@@ -12,30 +12,30 @@ use reference::table::{
 };
 use reference::words::{content, from_bytes, kind, to_bytes};
 
-use crate::args::Options;
-use crate::commands::refused::{self, Refusal};
-use crate::kernels::boundary::repair;
-use crate::line::explain::{
+use line::args::Options;
+use line::kernels::boundary::repair;
+use line::output::{may_write, may_write_both, say, write_file};
+use line::pictures::chains::{actors, in_a_row};
+use line::pictures::potential::could_hold;
+use line::refused::{self, Refusal};
+use line::text::explain::{
     counted, endpoint_in_words, meaning, place_in_words, rights_in_words, table_fault,
 };
-use crate::line::given::{read_given, Given};
-use crate::line::input::{read_at_most, read_once, shown, Input, INPUT_BYTES_MAX};
-use crate::line::names::Names;
-use crate::line::text;
-use crate::output::{may_write, may_write_both, say, write_file};
-use crate::pictures::chains::{actors, in_a_row};
-use crate::pictures::potential::could_hold;
+use line::text::given::{read_given, Given};
+use line::text::hex;
+use line::text::input::{read_at_most, read_once, shown, Input, INPUT_BYTES_MAX};
+use line::text::names::Names;
 
 pub const HELP: &str = "\
-bench repair IN OUT [--image | --text] [--changes FILE]
-bench repair IN OUT [--image | --text] --undo FILE
+balkwizu repair IN OUT [--image | --text] [--changes FILE]
+balkwizu repair IN OUT [--image | --text] --undo FILE
 
 Makes a table that is refused with 4 or 5 fit again, without ever adding a
 right, by the proved function: a broken rights word becomes an empty set, and an
 endpoint with a broken waiting, lost or slot word gets an empty queue and lost
 0. Tells every word that was altered and what that means for the line. A table
 whose word 0, length, names, owners or capacities are wrong can't be repaired.
-IN may be a text as `bench words` takes it, OUT is an input of linerun.
+IN may be a text as `balkwizu words` takes it, OUT is an input of linerun.
 
   --image         IN and OUT are a table's bytes alone, as a card has them.
                   Without it they are inputs of linerun, and the list stays as
@@ -145,7 +145,7 @@ impl Asked<'_> {
         match self.form {
             Form::Image => write_file(self.to, &to_bytes(&input.table)),
             Form::Input => write_file(self.to, &input.to_bytes()),
-            Form::Text => write_file(self.to, &(names.lines() + &text::write(input))),
+            Form::Text => write_file(self.to, &(names.lines() + &hex::write(input))),
         }
     }
 

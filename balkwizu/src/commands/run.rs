@@ -1,28 +1,29 @@
-//! `bench run`: a list on the kernel, call by call, and what is left of it in files.
+//! `balkwizu run`: a list on the kernel, call by call, and what is left of it in files.
 
 use std::ffi::OsString;
 
-use crate::args::Options;
-use crate::commands::refused;
 use crate::commands::show::{file_for, ran};
-use crate::line::answers;
-use crate::line::given::read_given;
-use crate::line::input::{shown, Input};
-use crate::line::text;
-use crate::output::{self, say};
-use crate::pictures::diagram::calls_in_words;
+use line::args::Options;
+use line::output::{self, say};
+use line::pictures::diagram::calls_in_words;
+use line::refused;
+use line::text::answers;
+use line::text::given::read_given;
+use line::text::hex;
+use line::text::input::{shown, Input};
 
 pub const HELP: &str = "\
-bench run FILE [--answers OUT] [--left OUT]
+balkwizu run FILE [--answers OUT] [--left OUT]
 
 Runs the list of an input of linerun on the kernel, and prints each call with
-its answer; of a refused one, why. FILE may be a text as `bench words` takes it.
+its answer; of a refused one, why. FILE may be a text as `balkwizu words` takes
+it.
 
   --answers OUT  write the answers to OUT, in the lines that linerun prints
   --left OUT     write the table that the list leaves to OUT, as a text with the
                  names that FILE gives; it is a FILE for every command
 
-`bench commission FILE --answers A --left T` takes both.
+`balkwizu commission FILE --answers A --left T` takes both.
 
 Exit status: 0 it ran, refused calls or not; 1 the input or its table is
 refused, with what is wrong, and nothing written; 2 bad usage, or a file that
@@ -51,7 +52,7 @@ pub fn command(line: &[OsString]) -> Result<bool, String> {
     if let Some(out) = to_left {
         let table = left.table.clone();
         let list = Vec::new();
-        let table = text::write(&Input { table, list });
+        let table = hex::write(&Input { table, list });
         output::write_file(out, &(given.names.lines() + &table))?;
     }
     let told = calls_in_words(&input, &given.names, Some(&left.answers), usize::MAX);

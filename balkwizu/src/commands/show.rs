@@ -1,4 +1,4 @@
-//! `bench show`: a table and a list in words, as a small diagram, and as a
+//! `balkwizu show`: a table and a list in words, as a small diagram, and as a
 //! picture.
 
 use std::ffi::OsString;
@@ -8,27 +8,27 @@ use reference::cut;
 use reference::entry::ANSWER_WORDS;
 use reference::table::domains;
 
-use crate::args::Options;
-use crate::cases::Case;
-use crate::commands::refused;
-use crate::kernels::boundary::PROVED;
-use crate::kernels::child;
-use crate::kernels::lent::Ran;
-use crate::line::explain::meaning;
-use crate::line::given::read_given;
-use crate::line::input::{self, Input};
-use crate::line::names::Names;
-use crate::line::text;
-use crate::output::{self, say};
-use crate::pictures::diagram::in_words;
-use crate::pictures::{dot, picture, stepping};
+use line::args::Options;
+use line::cases::Case;
+use line::kernels::boundary::PROVED;
+use line::kernels::child;
+use line::kernels::lent::Ran;
+use line::output::{self, say};
+use line::pictures::diagram::in_words;
+use line::pictures::{dot, picture, stepping};
+use line::refused;
+use line::text::explain::meaning;
+use line::text::given::read_given;
+use line::text::hex;
+use line::text::input::{self, Input};
+use line::text::names::Names;
 
 pub const HELP: &str = "\
-bench show FILE [--run] [--svg OUT] [--dot OUT] [--page OUT] [--calls N]
+balkwizu show FILE [--run] [--svg OUT] [--dot OUT] [--page OUT] [--calls N]
 
 Shows an input of linerun in words: who has which right on whom, the queues with
-what waits in them, and the calls of the list. FILE may be a text as `bench
-words` takes it; the names that it gives stand beside the numbers.
+what waits in them, and the calls of the list. FILE may be a text as
+`balkwizu words` takes it; the names that it gives stand beside the numbers.
 
   --run       run the list on the kernel: each call with its answer, and the
               rights and queues that it leaves. Of a refused call: which right
@@ -79,7 +79,7 @@ pub fn command(line: &[OsString]) -> Result<bool, String> {
     let input = match given.accepted() {
         Ok(input) => input,
         Err(refusal) => {
-            let words = Input::parse(&given.bytes).map(|input| text::write(&input));
+            let words = Input::parse(&given.bytes).map(|input| hex::write(&input));
             refused::tell(file, &refusal, &words.unwrap_or_default());
             return Ok(false);
         }

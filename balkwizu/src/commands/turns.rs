@@ -1,4 +1,4 @@
-//! `bench turns`: handing in and turns as text, played on the proved layer and told in
+//! `balkwizu turns`: handing in and turns as text, played on the proved layer and told in
 //! words.
 
 use std::ffi::OsString;
@@ -9,22 +9,22 @@ use reference::turn_words::length;
 use reference::turns::PENDING_WORDS;
 use reference::{cut, Call};
 
-use crate::args::Options;
-use crate::commands::refused;
-use crate::judging::turning::{
+use line::args::Options;
+use line::judging::turning::{
     difference, pending_calls, pending_words, separate_event, served, Served, Waits,
 };
-use crate::kernels::boundary::PROVED_WRITER;
-use crate::kernels::layer::{event_here, Event, Layer, Left, Lent, PROVED_LAYER};
-use crate::line::explain::{answer_on_table, call_in_words, counted, meaning};
-use crate::line::given::{self, read_given};
-use crate::line::input::{read_text, shown, Input};
-use crate::line::names::Names;
-use crate::line::turns::{self, Given, Happens, Table};
-use crate::output::{self, say};
+use line::kernels::boundary::PROVED_WRITER;
+use line::kernels::layer::{event_here, Event, Layer, Left, Lent, PROVED_LAYER};
+use line::output::{self, say};
+use line::refused;
+use line::text::explain::{answer_on_table, call_in_words, counted, meaning};
+use line::text::given::{self, read_given};
+use line::text::input::{read_text, shown, Input};
+use line::text::names::Names;
+use line::text::turns::{self, Given, Happens, Table};
 
 pub const HELP: &str = "\
-bench turns FILE
+balkwizu turns FILE
 
 Plays what domains hand in and the turns that serve it, on the proved layer of
 turns, and tells each event in words: what was pending, who was served and after
@@ -37,13 +37,13 @@ Every event is compared with the separate layer, and the calls served with a run
 of them as one list. `-` is standard input. A text looks like this:
 
   table four.txt                        # a file, or the words themselves behind
-                                        # `table`, as `bench words` takes them
-  hand in 0 send caller 0 endpoint 1 message 5    # a call, as of `bench write`
+                                        # `table`, as `words` takes them
+  hand in 0 send caller 0 endpoint 1 message 5    # a call, as of `write`
   hand in 1 words F0000005                        # or any words
   turn
   turns 3
 
-A file is an input of linerun or a text as `bench words` takes it, looked for
+A file is an input of linerun or a text as `balkwizu words` takes it, looked for
 beside the text; its list isn't used. Lines as `domain 0 link` and `endpoint 1
 drives` give names, beside those that the file gives. A text has 100,000 turns
 at most, 10,000 in a line.

@@ -1,18 +1,18 @@
-//! `bench words`: words as text into an input of linerun, and back.
+//! `balkwizu words`: words as text into an input of linerun, and back.
 
 use std::ffi::OsString;
 use std::path::Path;
 
-use crate::args::Options;
-use crate::commands::refused::{self, Refusal};
-use crate::line::input::{read_input, read_text, shown, Input};
-use crate::line::text;
-use crate::output;
+use line::args::Options;
+use line::output;
+use line::refused::{self, Refusal};
+use line::text::hex;
+use line::text::input::{read_input, read_text, shown, Input};
 
 pub const HELP: &str = "\
-bench words FILE > INPUT
-bench words --back INPUT
-bench words --back --image IMAGE
+balkwizu words FILE > INPUT
+balkwizu words --back INPUT
+balkwizu words --back --image IMAGE
 
 Writes the input of linerun for a text of hexadecimal words; with --back, writes
 the text of an input, and with --image that of a table's bytes alone, as a card
@@ -30,7 +30,7 @@ Words are eight hexadecimal digits, with 0x before them or not; F0000000*8 is
 the same word eight times, and 4,097 times is the most. Spaces, new lines, `;`
 and `,` separate words; a comment goes from # to the end of its line. The
 table's length is counted. `list` may be left out: then there are no calls.
-`bench write` makes the words of a list out of calls.
+`balkwizu write` makes the words of a list out of calls.
 
 Names are given in lines of their own, before, between or behind these parts:
 
@@ -59,9 +59,9 @@ SEND, GRANT, REMOVE and REVOKE. Each kind of call has its sentence:
   D asks for its endpoints    D asks for its rights  D grants D SET on D
   D gives up SET on D         D takes SET on D back from D
 
-A call may also stand as `bench write` takes it, or as `words F0000009`. `bench
-read` writes such a text. All mistakes are reported, each by its line and
-column.
+A call may also stand as `balkwizu write` takes it, or as `words F0000009`.
+`balkwizu read` writes such a text. All mistakes are reported, each by its line
+and column.
 
 A text without `table` and `list` is written as it stands. Its first word must
 then be the table's length, hexadecimal like the rest: 00000022 for 34 words. Up
@@ -75,7 +75,7 @@ what is given is no such text, or what is written can't be.
 ";
 
 /// What is said where a file is no text.
-const NO_TEXT: &str = "`bench words --back FILE` makes the text of an input";
+const NO_TEXT: &str = "`balkwizu words --back FILE` makes the text of an input";
 
 /// The command: whether there was something to write.
 pub fn command(line: &[OsString]) -> Result<bool, String> {
@@ -87,7 +87,7 @@ pub fn command(line: &[OsString]) -> Result<bool, String> {
         (false, true) => return Err("--image is for --back".to_string()),
         (false, false) => {}
     }
-    let written = text::read(&read_text(file, NO_TEXT)?);
+    let written = hex::read(&read_text(file, NO_TEXT)?);
     let given = written.map_err(|why| format!("{}: {why}", shown(file)))?;
     output::write(&given.bytes);
     if let Err(refusal) = given.accepted() {
@@ -99,7 +99,7 @@ pub fn command(line: &[OsString]) -> Result<bool, String> {
 /// Writes the text of an input, unless the input is refused.
 fn back(file: &Path, read: Result<Input, Refusal>) -> bool {
     match &read {
-        Ok(input) => output::write(text::write(input).as_bytes()),
+        Ok(input) => output::write(hex::write(input).as_bytes()),
         Err(refusal) => refused::complain_of("words", file, refusal),
     }
     read.is_ok()

@@ -1,23 +1,23 @@
-//! `bench write`: calls as text, one a line, into a list, by the proved writer.
+//! `balkwizu write`: calls as text, one a line, into a list, by the proved writer.
 
 use std::ffi::OsString;
 use std::path::Path;
 
 use reference::calls::LIST_WORDS_MAX;
 
-use crate::args::Options;
-use crate::commands::refused::{self, Refusal};
-use crate::kernels::boundary::PROVED_WRITER;
-use crate::line::calls::{self, Typed};
-use crate::line::given::{read_given, Given};
-use crate::line::input::{read_once, read_text, shown, Input};
-use crate::line::names::Names;
-use crate::line::text;
-use crate::output;
+use line::args::Options;
+use line::kernels::boundary::PROVED_WRITER;
+use line::output;
+use line::refused::{self, Refusal};
+use line::text::calls::{self, Typed};
+use line::text::given::{read_given, Given};
+use line::text::hex;
+use line::text::input::{read_once, read_text, shown, Input};
+use line::text::names::Names;
 
 pub const HELP: &str = "\
-bench write FILE
-bench write FILE --table INPUT [--text]
+balkwizu write FILE
+balkwizu write FILE --table INPUT [--text]
 
 Writes the list of the calls that stand in a text, one a line, by the proved
 writer. `-` is standard input. A text looks like this:
@@ -36,18 +36,18 @@ hexadecimal behind 0x. Rights are a sum: SEND 1, GRANT 2, REMOVE 4, REVOKE 8. No
 table is asked: a field is within its bits or it isn't (caller and target 6,
 endpoint, recipient, holder and rights 8, name and message 28).
 
-The list is written as the text that `bench words` takes behind a table:
+The list is written as the text that `balkwizu words` takes behind a table:
 
-  (cat table.txt; bench write calls.txt) | bench words - > LINE
+  (cat table.txt; balkwizu write calls.txt) | balkwizu words - > LINE
 
 With --table the whole input of linerun is written: the table of INPUT, and this
 list in the place of INPUT's own. INPUT is an input of linerun, or a text as
-`bench words` takes it, whose names may then stand for the numbers of domains
+`balkwizu words` takes it, whose names may then stand for the numbers of domains
 and endpoints: `send caller link endpoint routes message 5`. With --text what is
 written is such a text too, with the names that INPUT gives.
 
 A mistake is told by its line and field, and a table that will be refused is
-written with a warning. `bench read` makes the text of a list again.
+written with a warning. `balkwizu read` makes the text of a list again.
 
 Exit status: 0 written; 1 the writer refuses a call with 30 or the list with 31,
 or INPUT is refused; 2 bad usage, or what is given is no such text.
@@ -77,7 +77,7 @@ pub fn command(line: &[OsString]) -> Result<bool, String> {
     match (input, &given) {
         (Some(path), Some(given)) => Ok(write_input(path, given, list, options.has("--text"))),
         _ => {
-            output::write(text::write_list(&list).as_bytes());
+            output::write(hex::write_list(&list).as_bytes());
             Ok(true)
         }
     }
@@ -93,7 +93,7 @@ fn write_input(path: &Path, given: &Given, list: Vec<u32>, as_text: bool) -> boo
         }
     };
     match as_text {
-        true => output::write((given.names.lines() + &text::write(&input)).as_bytes()),
+        true => output::write((given.names.lines() + &hex::write(&input)).as_bytes()),
         false => output::write(&input.to_bytes()),
     }
     if let Err(refusal) = given.accepted() {

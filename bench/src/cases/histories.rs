@@ -11,8 +11,8 @@ use reference::turn_words::{length, DOMAIN_WORDS};
 use reference::words::word;
 use reference::{cut, Call};
 
-use crate::cases::random::rng_for;
-use crate::kernels::layer::{Event, Lent};
+use line::cases::random::rng_for;
+use line::kernels::layer::{Event, Lent};
 
 /// How often a history is so long that more is served than a list can have, and how many
 /// events it has then.

@@ -9,8 +9,8 @@ use reference::generate::{linerun_input, Rng};
 use reference::table::TABLE_WORDS_MAX;
 use reference::words::{from_bytes, to_bytes};
 
-use crate::cases::random::rng_for;
 use crate::kernels::program::Feed;
+use line::cases::random::rng_for;
 
 /// A word that is a whole call. A list of it is written in a few letters, as
 /// 50000000*4097, so the list of an input that differs is made of it where the input

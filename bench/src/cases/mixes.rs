@@ -10,9 +10,8 @@ use reference::calls::MY_RIGHTS;
 use reference::generate::{call_word, Rng};
 use reference::{cut, Call};
 
-use crate::cases::workloads::{
-    closed_table, open_table, refused, rng, shuffled, Drawn, KINDS, ROTATION,
-};
+use crate::cases::workloads::{closed_table, refused, rng, shuffled, Drawn, KINDS, ROTATION};
+use line::cases::tables::open_table;
 
 /// Lists to go through in turn have so many words altogether, where that makes no fewer
 /// than sixty of them and no more than thousands.

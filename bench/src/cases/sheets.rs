@@ -11,9 +11,9 @@ use reference::totals::LISTS_MAX;
 use reference::words::to_bytes;
 
 use crate::cases::inputs::{Given, PLAIN_CALL};
-use crate::cases::random::rng_for;
 use crate::cases::workloads::{workloads, Workload};
 use crate::kernels::program::Feed;
+use line::cases::random::rng_for;
 
 /// The most domains, endpoints, lists and words of a list, in turn.
 const SIZES: [(usize, usize, usize, usize); 4] = [

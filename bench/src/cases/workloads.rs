@@ -8,15 +8,13 @@
 //! after each few calls, so that its calls come to the same wherever they stand in it
 //! and whichever list ran before it.
 
+use line::cases::tables::{open_table, second, table_with};
 use reference::calls::{
-    GRANT, LIST_WORDS_MAX, LOOK_UP, MY_ENDPOINTS, MY_RIGHTS, RECEIVE, REMOVE, REVOKE, SEND, STRAY,
+    GRANT, LIST_WORDS_MAX, LOOK_UP, MY_ENDPOINTS, MY_RIGHTS, RECEIVE, REMOVE, REVOKE, SEND,
 };
 use reference::generate::{call_word, table_of, Rng};
-use reference::table::{
-    endpoint_place, name, HEADER, INFO, LOST, NAME, RIGHTS, SLOTS, SLOTS_PLACE, WAITING,
-    WAITING_PLACE,
-};
-use reference::words::{content, word, EMPTY_SLOT};
+use reference::table::{endpoint_place, name, SLOTS, SLOTS_PLACE, WAITING_PLACE};
+use reference::words::content;
 
 /// How many lists of a workload are gone through in turn.
 pub const ROTATION: usize = 60;
@@ -128,13 +126,6 @@ pub const KINDS: [(&str, Calls); 8] = [
     ("unknown kind", |it| vec![call_word(9, it.caller, 0, 0, 0)]),
 ];
 
-/// A table in which every domain has every right on every domain, and the endpoints'
-/// owners, which go round.
-pub fn open_table(n: usize, m: usize) -> (Vec<u32>, Vec<usize>) {
-    let owners: Vec<usize> = (0..m).map(|e| e % n).collect();
-    (table_with(&vec![15; n * n], n, &owners), owners)
-}
-
 fn of_each_kind(seed: u64, n: usize, m: usize) -> Vec<Workload> {
     let (table, owners) = open_table(n, m);
     let mut rng = rng(seed, 6);
@@ -147,24 +138,6 @@ fn of_each_kind(seed: u64, n: usize, m: usize) -> Vec<Workload> {
         goal: if *name == REMOVE_AND_GRANT { 1.05 } else { 1.0 },
     };
     KINDS.iter().map(&mut workload).collect()
-}
-
-/// A table with the given rights, row by row, and endpoints of capacity 8, empty,
-/// named from 101 on.
-pub fn table_with(rights: &[u32], n: usize, owners: &[usize]) -> Vec<u32> {
-    let mut table = vec![word(HEADER, (n << 8 | owners.len()) as u32)];
-    table.extend(rights.iter().map(|&set| word(RIGHTS, set)));
-    for (endpoint, owner) in owners.iter().enumerate() {
-        table.push(word(NAME, (101 + endpoint) as u32));
-        table.push(word(INFO, (owner << 8 | SLOTS) as u32));
-        table.extend([word(WAITING, 0), word(LOST, 0)]);
-        table.extend([EMPTY_SLOT; SLOTS]);
-    }
-    table
-}
-
-pub fn second(content: u32) -> u32 {
-    word(STRAY, content)
 }
 
 /// So many lists as are gone through in turn.

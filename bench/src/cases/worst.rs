@@ -9,7 +9,8 @@ use reference::table::{
 };
 use reference::words::word;
 
-use crate::cases::workloads::{closed_table, refused, second, table_with};
+use crate::cases::workloads::{closed_table, refused};
+use line::cases::tables::{second, table_with};
 
 /// Domains and endpoints: the most of both, and one domain less, where rows end between the
 /// words that are gone over at a time. Of the sizes that were tried these two cost most.

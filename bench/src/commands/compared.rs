@@ -1,9 +1,9 @@
 //! What `bench linerun` and `bench totals` have in common: a program is run on random
 //! inputs by their numbers, and what it prints is compared with what the separate one does.
 
-use crate::judging::trying::Draws;
-use crate::output::{self, say};
-use crate::progress::Progress;
+use line::judging::trying::Draws;
+use line::output::{self, say};
+use line::progress::Progress;
 
 /// The codes that must be met: all that the program prints for what it reads.
 pub const CODES: [u32; 7] = [0, 1, 2, 3, 4, 5, 7];
@@ -88,7 +88,7 @@ impl<const WAYS: usize> Wanted<WAYS> {
 #[cfg(test)]
 mod tests {
     use super::*;
-    use crate::judging::trying::tests::draws;
+    use line::trial::draws;
 
     const WANTED: Wanted<2> = Wanted {
         ways: ["at once", "in parts"],

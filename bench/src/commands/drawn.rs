@@ -4,10 +4,10 @@
 
 use std::ffi::OsString;
 
-use crate::args::Options;
-use crate::judging::trying::{Draws, Summary};
-use crate::line::explain::counted;
-use crate::output::say;
+use line::args::Options;
+use line::judging::trying::{Draws, Summary};
+use line::output::say;
+use line::text::explain::counted;
 
 /// The options that say what is tried.
 pub const TRIED: [&str; 4] = ["--cases", "--seed", "--from", "--time"];
@@ -86,7 +86,7 @@ pub fn draws_of(options: &Options, usual: u64) -> Result<Draws, String> {
 #[cfg(test)]
 mod tests {
     use super::*;
-    use crate::judging::trying::tests::draws;
+    use line::trial::draws;
 
     struct Nothing;
 

@@ -4,15 +4,16 @@
 use std::ffi::OsString;
 use std::time::{Duration, Instant};
 
-use crate::args::Options;
-use crate::judging::images::try_images;
-use crate::judging::lists::{try_lists, Met};
-use crate::judging::runs::try_runs;
-use crate::judging::tally::Tally;
-use crate::judging::trying::Draws;
-use crate::kernels::boundary::{kernel, Kernel, PROVED_WRITER};
-use crate::line::explain::counted;
-use crate::output::{self, say};
+use crate::kernels::plain::kernel;
+use line::args::Options;
+use line::judging::images::try_images;
+use line::judging::lists::{try_lists, Met};
+use line::judging::runs::try_runs;
+use line::judging::tally::Tally;
+use line::judging::trying::Draws;
+use line::kernels::boundary::{Kernel, PROVED_WRITER};
+use line::output::{self, say};
+use line::text::explain::counted;
 
 pub const HELP: &str = "\
 bench fuzz [--cases N] [--seed S] [--table-checks N] [--lists N] [--from K]
@@ -43,10 +44,10 @@ in spaces that are large enough, just so and too short, every word of them.
   --time T          the processor seconds that one run, image or list may take
                     (default 10)
 
-The first difference ends it, with the words that show it as `bench words` takes
-them: with as few calls and on as small a table as still differ. The kernel runs
-in a child process: one that faults, that takes longer or that ends the program
-is told in the same way, as STOPPED.
+The first difference ends it, with the words that show it as `balkwizu words`
+takes them: with as few calls and on as small a table as still differ. The
+kernel runs in a child process: one that faults, that takes longer or that ends
+the program is told in the same way, as STOPPED.
 
 From 10,000 runs on, a code that no run was answered with is a failure too, and
 likewise from 10,000 table images and from 500 lists on; fewer may miss one by
@@ -265,9 +266,9 @@ fn verdict_on(plan: &Plan, way: &OnTheWay) -> Result<String, String> {
 #[cfg(test)]
 mod tests {
     use super::*;
-    use crate::judging::trying::tests::draws;
-    use crate::kernels::boundary::PROVED;
-    use crate::kernels::faulty::WRONG_ANSWER;
+    use line::kernels::boundary::PROVED;
+    use line::kernels::faulty::WRONG_ANSWER;
+    use line::trial::draws;
 
     fn small(kernel: Kernel) -> Plan {
         Plan {

@@ -4,7 +4,7 @@ use std::ffi::OsString;
 
 use crate::commands::drawn::Drawn;
 use crate::judging::histories::try_histories;
-use crate::kernels::layer::PROVED_LAYER;
+use line::kernels::layer::PROVED_LAYER;
 
 pub const HELP: &str = "\
 bench histories [--cases N] [--seed S] [--from K] [--time T]
@@ -14,7 +14,7 @@ the proved layer and on the separate one, and compares the code and every word
 that is lent, of the table, the state, the holders and the answer, after each
 event. Some tables are damaged, some states are such as no history makes or have
 another length, some calls are none or another's, and answers and holders now
-and then get too few or too many words. `bench turns` plays a history that is
+and then get too few or too many words. `balkwizu turns` plays a history that is
 written by hand.
 
 While only handing in and turns alter the state, the oldest call of a domain may

@@ -7,15 +7,15 @@ use std::fs;
 use std::path::Path;
 use std::process::{Command, Stdio};
 
-use crate::args::Options;
 use crate::judging::instructions::{
     at_most, compared, figures, near, parts, read_written, written, Figure, HEAD, PERCENT,
 };
 use crate::judging::jobs::{do_all, jobs, Job, BEHIND_A_JOB};
 use crate::judging::worst::{beyond, largest_of, worst_jobs};
-use crate::line::explain::counted;
-use crate::output::{self, say};
-use crate::scratch::Folder;
+use line::args::Options;
+use line::output::{self, say};
+use line::scratch::Folder;
+use line::text::explain::counted;
 
 pub const HELP: &str = "\
 bench instructions [--worst] [--write] [--file FILE]

@@ -10,16 +10,16 @@ use reference::calls::LIST_WORDS_MAX;
 use reference::check_table;
 use reference::words::from_bytes;
 
-use crate::args::Options;
 use crate::cases::inputs::{apart, due, fixed, given, Given};
 use crate::commands::compared::{none_differs, Met, Wanted};
 use crate::commands::drawn::{draws_of, TRIED};
 use crate::judging::printed::{difference, shorter};
-use crate::judging::trying::Draws;
 use crate::kernels::program::{run, Feed};
-use crate::line::explain::counted;
-use crate::line::input::shown;
-use crate::output::say;
+use line::args::Options;
+use line::judging::trying::Draws;
+use line::output::say;
+use line::text::explain::counted;
+use line::text::input::shown;
 
 pub const HELP: &str = "\
 bench linerun PROGRAM [--cases N] [--seed S] [--from K] [--time T]
@@ -42,9 +42,9 @@ any list of calls is answered with; and it must write nothing to standard error.
   --from K   the number of the first input (default 0)
   --time T   the seconds that it may take for one input (default 10)
 
-The first difference ends it, with the words that show it as `bench words` takes
-them. From 1,000 inputs on, a code that no input met is a failure too, and so is
-a way to give an input that was never used.
+The first difference ends it, with the words that show it as `balkwizu words`
+takes them. From 1,000 inputs on, a code that no input met is a failure too, and
+so is a way to give an input that was never used.
 
 With --speed, measures PROGRAM on lists of 4,096 words beside the same job in
 plain C (bench/c/plain_linerun.c, gcc -O3): the processor time of a run. They

@@ -5,7 +5,7 @@ use std::ffi::OsString;
 
 use crate::commands::drawn::Drawn;
 use crate::judging::queues::try_queues;
-use crate::kernels::boundary::PROVED_QUEUE;
+use crate::kernels::for_tests::PROVED_QUEUE;
 
 pub const HELP: &str = "\
 bench queue [--cases N] [--seed S] [--from K] [--time T]
@@ -56,7 +56,7 @@ pub fn command(line: &[OsString]) -> Result<bool, String> {
 mod tests {
     use super::*;
     use crate::judging::queues::Met;
-    use crate::judging::trying::Summary;
+    use line::judging::trying::Summary;
 
     #[test]
     fn everything_must_be_met_from_where_the_help_says() {

@@ -6,19 +6,19 @@ use std::fs;
 use std::path::Path;
 use std::time::SystemTime;
 
-use crate::args::Options;
 use crate::cases::mixes::{mixes, Mix};
 use crate::cases::workloads::{by_kind, workloads, Workload};
-use crate::clock;
 use crate::judging::growth;
 use crate::judging::lengths::{at, measured_crossing, working_is_slower, LENGTHS};
 use crate::judging::one_after_another::first_wrong;
 use crate::judging::rows::{median_row, read, side_by_side, Row, Run, Table};
 use crate::judging::timing::{rotating, subjects, Measured, Subject};
 use crate::judging::turn_times;
-use crate::line::explain::counted;
-use crate::output::{self, say};
 use crate::pictures::{merged, plot, speeds};
+use line::args::Options;
+use line::clock;
+use line::output::{self, say};
+use line::text::explain::counted;
 
 pub const HELP: &str = "\
 bench speed [--by-kind] [--lengths] [--growth] [--turns] [--all] [--rounds N]
@@ -205,7 +205,7 @@ impl Session {
         let made = [
             ("processor", speeds::processor()),
             ("plain C by", env!("PLAIN_COMPILERS").to_string()),
-            ("kernel", env!("ARCHIVE_TITLE").to_string()),
+            ("kernel", line::reports::facts::ARCHIVE.to_string()),
             ("program", mark()?),
             ("rounds", self.rounds.to_string()),
             ("seed", self.seed.to_string()),
@@ -313,7 +313,7 @@ impl Session {
         say!(
             "Processor: {}. {}. Medians of {}.\n\n{}",
             speeds::processor(),
-            env!("ARCHIVE_TITLE"),
+            line::reports::facts::ARCHIVE,
             counted(self.rounds, "interleaved round"),
             turn_times::HEAD
         );
@@ -332,7 +332,7 @@ mod tests {
     /// Nothing is measured, and no file is emptied, where what is asked for can't be done.
     #[test]
     fn what_cannot_be_measured_or_kept_is_refused_first() {
-        let folder = crate::scratch::Folder::make("speed").unwrap();
+        let folder = line::scratch::Folder::make("speed").unwrap();
         let file = folder.path().join("run");
         fs::write(&file, "kept").unwrap();
         let told = |line: &[&str]| {

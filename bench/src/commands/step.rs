@@ -5,7 +5,7 @@ use std::ffi::OsString;
 
 use crate::commands::drawn::Drawn;
 use crate::judging::steps::try_steps;
-use crate::kernels::boundary::PROVED_STEP;
+use crate::kernels::for_tests::PROVED_STEP;
 
 pub const HELP: &str = "\
 bench step [--cases N] [--seed S] [--from K] [--time T]
@@ -23,7 +23,7 @@ kind that takes none gets one, or it is of another kind than 15.
   --time T   the processor seconds that one list may take (default 10)
 
 The first difference ends it, with the table before the call and the call's
-words as `bench words` takes them. The step runs in a child process: one that
+words as `balkwizu words` takes them. The step runs in a child process: one that
 faults, that takes longer or that ends the program is told in the same way, as
 STOPPED.
 
@@ -56,7 +56,7 @@ pub fn command(line: &[OsString]) -> Result<bool, String> {
 mod tests {
     use super::*;
     use crate::judging::steps::Met;
-    use crate::judging::trying::Summary;
+    use line::judging::trying::Summary;
 
     #[test]
     fn everything_must_be_met_from_where_the_help_says() {

@@ -6,8 +6,8 @@ use crate::commands::drawn::Drawn;
 use crate::judging::influences::{self, try_influences};
 use crate::judging::potentials::{self, try_potentials};
 use crate::judging::repairs::{self, try_repairs};
-use crate::judging::trying::Summary;
-use crate::kernels::boundary::{could_influence, potential, repair};
+use line::judging::trying::Summary;
+use line::kernels::boundary::{could_influence, potential, repair};
 
 pub const HELP: &str = "\
 bench tables [--cases N] [--seed S] [--from K] [--time T]

@@ -1,51 +1,27 @@
-//! `bench totals`: the program `linetotals` beside the separate one, on random inputs; its
-//! speed; its input out of lines; and its sheet as a page for the shift leader.
+//! `bench totals`: the program `linetotals` beside the separate one, on random inputs; and its
+//! speed.
 
 mod speed;
 
 use std::ffi::OsString;
-use std::path::{Path, PathBuf};
+use std::path::Path;
 
-use reference::words::to_bytes;
-
-use crate::args::Options;
 use crate::cases::inputs::Given;
 use crate::cases::sheets::{fixed, given, most_lists};
 use crate::commands::compared::{none_differs, Met, Wanted};
 use crate::commands::drawn::{draws_of, TRIED};
-use crate::commands::refused;
 use crate::judging::printed::difference;
-use crate::judging::trying::Draws;
 use crate::kernels::program::{run, Feed};
-use crate::line::explain::counted;
-use crate::line::given::{read_given, read_given_list, read_names};
-use crate::line::input::{read_at_most, read_once, shown, Input};
-use crate::line::names::Names;
-use crate::output::{self, complain, say};
-use crate::pictures::sheet;
+use line::args::Options;
+use line::judging::trying::Draws;
+use line::output::say;
+use line::pictures::sheet;
+use line::text::explain::counted;
+use line::text::input::shown;
 
 pub const HELP: &str = "\
-bench totals --join LINE.. > INPUT
-bench totals --html SHEET [--names TEXT] > PAGE
 bench totals PROGRAM [--cases N] [--seed S] [--from K] [--time T]
 bench totals PROGRAM --speed [--lists N] [--rounds N]
-
-The page of a shift, whose first list stands in a.txt behind the table:
-
-  bench totals --join a.txt b.txt | target/bin/linetotals > SHEET
-  bench totals --html SHEET --names a.txt > PAGE
-
-With --join, makes an input of linetotals out of inputs of linerun: the table of
-the first, then the list of each with its length in words before it. The tables
-of the others aren't looked at, since each list runs from what the one before
-leaves. A LINE may be a text as `bench words` takes it; in that of another than
-the first the list may stand without a table, as `bench write` gives it.
-
-With --html, makes a page to read and to print out of what linetotals printed,
-which stands in the file SHEET. `-` is standard input.
-
-  --names TEXT  the endpoints' names, beside their numbers: a text with lines as
-                `endpoint 1 drives`, alone or as `bench words` takes it
 
 With PROGRAM, runs it, as target/bin/linetotals, on random inputs and compares
 every byte that it prints with what the separate implementation prints: lists
@@ -76,8 +52,8 @@ times are processor seconds.
   --rounds N  rounds, 1 to 100 (default 5)
 
 Exit status: 0 nothing differs, and every code was met where that is asked, or
-the page or the input was made, or the speed was measured; 1 otherwise; 2 bad
-usage, or a program that can't be started.
+the speed was measured; 1 otherwise; 2 bad usage, or a program that can't be
+started.
 ";
 
 /// What must be met.
@@ -86,43 +62,18 @@ const WANTED: Wanted<3> = Wanted {
     enough: 500,
 };
 
-/// What is said where no program is given, perhaps for lines that were meant to be joined.
-const LINES: &str =
-    "; inputs of linerun are joined with --join, a sheet is made a page with --html";
-
-/// The longest sheet that is made a page of: far more than 32 endpoints need.
-const SHEET_BYTES_MAX: usize = 100_000;
-
-/// The command: whether nothing differs, or the page was made.
+/// The command: whether nothing differs.
 pub fn command(line: &[OsString]) -> Result<bool, String> {
-    let valued = ["--html", "--names", "--lists", "--rounds"];
-    let valued = [&TRIED[..], &valued].concat();
-    let options = Options::parse(line, &valued, &["--speed", "--join"])?;
-    if options.has("--join") {
-        options.only("--join", &[])?;
-        return join(&options.files);
-    }
-    if let Some(file) = options.path("--html") {
-        options.only("--html", &["--names"])?;
-        options.no_file()?;
-        let names = options.path("--names");
-        read_once(&[file, names.unwrap_or(Path::new(""))])?;
-        return page(file, &names.map_or(Ok(Names::none()), read_names)?);
-    }
-    let program = options
-        .file()
-        .map_err(|why| format!("PROGRAM: {why}{LINES}"))?;
+    let valued = [&TRIED[..], &["--lists", "--rounds"]].concat();
+    let options = Options::parse(line, &valued, &["--speed"])?;
+    let program = options.file().map_err(|why| format!("PROGRAM: {why}"))?;
     if options.has("--speed") {
         options.only("--speed", &["--lists", "--rounds"])?;
         let lists = options.within("--lists", 65_536, 65_536)?;
         return speed::measure(program, lists, options.within("--rounds", 5, 100)?);
     }
     options.only("a comparison", &TRIED)?;
-    let compared = compare(program, &draws_of(&options, 1000)?);
-    compared.map_err(|why| match why.starts_with("cannot start") {
-        true => why + LINES,
-        false => why,
-    })
+    compare(program, &draws_of(&options, 1000)?)
 }
 
 /// Holds a program to the separate one: on random inputs, and first on as many lists as
@@ -157,57 +108,6 @@ fn compare(program: &Path, draws: &Draws) -> Result<bool, String> {
     let (inputs, lists) = (counted(draws.count(), "input"), counted(met.lists, "list"));
     let what = format!("{inputs} of {}, {lists} run", shown(program));
     Ok(WANTED.is_met(&met.met, draws.count(), &what))
-}
-
-/// Makes an input out of inputs of linerun.
-fn join(files: &[PathBuf]) -> Result<bool, String> {
-    if files.is_empty() {
-        return Err("--join needs an input of linerun".to_string());
-    }
-    read_once(&files.iter().map(PathBuf::as_path).collect::<Vec<_>>())?;
-    let mut inputs = Vec::new();
-    for (place, file) in files.iter().enumerate() {
-        let given = match place {
-            0 => read_given(file)?,
-            _ => read_given_list(file)?,
-        };
-        match Input::parse(&given.bytes) {
-            Ok(input) => inputs.push(input),
-            Err(refusal) => {
-                refused::complain_of("totals", file, &refusal);
-                return Ok(false);
-            }
-        }
-    }
-    output::write(&joined(&inputs));
-    Ok(true)
-}
-
-/// The first one's table, then the list of each; their lengths in words before them.
-fn joined(inputs: &[Input]) -> Vec<u8> {
-    let lists = inputs.iter().map(|input| &input.list);
-    let parts = inputs.iter().take(1).map(|input| &input.table).chain(lists);
-    let words: Vec<u32> = parts
-        .flat_map(|part| [&[part.len() as u32], part.as_slice()].concat())
-        .collect();
-    to_bytes(&words)
-}
-
-/// Makes the page of a sheet.
-fn page(file: &Path, names: &Names) -> Result<bool, String> {
-    let printed = read_at_most(file, SHEET_BYTES_MAX)?;
-    let printed = String::from_utf8_lossy(&printed);
-    match sheet::page(&printed, names) {
-        Ok(page) => output::write(page.as_bytes()),
-        Err(why) => {
-            complain!(
-                "bench totals: {} is no sheet of linetotals: {why}",
-                shown(file)
-            );
-            return Ok(false);
-        }
-    }
-    Ok(true)
 }
 
 /// What was met, and how many lists ran.
@@ -247,15 +147,6 @@ impl Tally {
 mod tests {
     use super::*;
     use std::time::Duration;
-
-    #[test]
-    fn inputs_of_linerun_are_joined() {
-        let input = Input::example();
-        let printed = reference::totals(&joined(&[input.clone(), input]));
-        let printed = String::from_utf8(printed).unwrap();
-        let last = "endpoint 1 sent 5 received 2 lost 3 start 0 end 0\nlists 2 code 0\n";
-        assert!(printed.ends_with(last), "{printed}");
-    }
 
     #[test]
     fn inputs_meet_every_code_and_every_way() {

@@ -4,9 +4,9 @@
 use reference::words::to_bytes;
 
 use crate::cases::mixes::{mixes, Mix};
-use crate::cases::workloads::open_table;
 use crate::judging::lengths::at;
 use crate::judging::timing::{checks_of, Measured};
+use line::cases::tables::open_table;
 
 /// The words of a list where the table's size is what grows.
 pub const WORDS: usize = 512;
@@ -88,7 +88,7 @@ impl Series {
 mod tests {
     use super::*;
     use crate::judging::timing::proved;
-    use crate::kernels::boundary::KERNELS;
+    use crate::kernels::plain::KERNELS;
 
     #[test]
     fn a_series_says_what_grows_and_of_what() {

@@ -16,12 +16,12 @@ use reference::words::{hex, kind};
 use reference::{holders, Call};
 
 use crate::cases::histories::{history, Next};
-use crate::judging::trying::{try_all, Counted, Draws, Found, Summary};
-use crate::judging::turning::{
+use line::judging::trying::{try_all, Counted, Draws, Found, Summary};
+use line::judging::turning::{
     difference, pending_words, separate_event, served, word_behind, Served, Waits,
 };
-use crate::kernels::layer::{event_here, Event, Layer, Left, Lent};
-use crate::line::explain::counted;
+use line::kernels::layer::{event_here, Event, Layer, Left, Lent};
+use line::text::explain::counted;
 
 /// The codes that handing in is refused with, and those of a turn and of a beginning.
 const HAND_IN_CODES: [u32; 8] = [2, 3, 4, 5, 35, 36, 99, 37];
@@ -384,8 +384,8 @@ fn report(draws: &Draws, found: &Found) -> String {
 #[cfg(test)]
 mod tests {
     use super::*;
-    use crate::judging::trying::tests::draws;
-    use crate::kernels::layer::PROVED_LAYER;
+    use line::kernels::layer::PROVED_LAYER;
+    use line::trial::draws;
 
     fn told(wrong: Layer) -> String {
         let found = try_histories(&wrong, &draws(0..2000), &mut Met::default());

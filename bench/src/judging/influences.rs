@@ -9,15 +9,15 @@ use reference::table::{domains, rights};
 use reference::words::hex;
 use reference::{could_influence, influence_list, members};
 
-use crate::cases::random::rng_for;
-use crate::judging::compare::influence_isolation;
-use crate::judging::panics::or_panic;
-use crate::judging::trying::{try_all, Counted, Draws, Found, Summary};
-use crate::judging::variants::case_of;
-use crate::kernels::boundary::{CouldInfluence, PROVED};
-use crate::kernels::lent::{all_done, run_here};
-use crate::line::explain::counted;
-use crate::line::input::Input;
+use line::cases::random::rng_for;
+use line::judging::compare::influence_isolation;
+use line::judging::panics::or_panic;
+use line::judging::trying::{try_all, Counted, Draws, Found, Summary};
+use line::judging::variants::case_of;
+use line::kernels::boundary::{CouldInfluence, PROVED};
+use line::kernels::lent::{all_done, run_here};
+use line::text::explain::counted;
+use line::text::input::Input;
 
 /// The codes of the function.
 const CODES: [u32; 6] = [0, 2, 3, 4, 5, 32];
@@ -203,8 +203,8 @@ fn report(draws: &Draws, found: &Found) -> String {
 #[cfg(test)]
 mod tests {
     use super::*;
-    use crate::judging::trying::tests::draws;
-    use crate::kernels::boundary;
+    use line::kernels::boundary;
+    use line::trial::draws;
 
     fn reported(wrong: CouldInfluence) -> String {
         let found = try_influences(wrong, &draws(0..3000), &mut Met::default());

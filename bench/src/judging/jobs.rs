@@ -16,12 +16,13 @@ use reference::words::to_bytes;
 use reference::writer::to_columns;
 
 use crate::cases::mixes::{mixes, Mix};
-use crate::cases::workloads::{largest_table, open_table};
+use crate::cases::workloads::largest_table;
 use crate::judging::timing::proved;
-use crate::kernels::boundary::{
+use line::cases::tables::open_table;
+use line::kernels::boundary::{
     component, potential, repair, who_reaches, Kernel, PROVED, PROVED_WRITER,
 };
-use crate::kernels::layer::PROVED_LAYER;
+use line::kernels::layer::PROVED_LAYER;
 
 /// The seed of the lists.
 const SEED: u64 = 1;

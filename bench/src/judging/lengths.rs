@@ -7,7 +7,8 @@ use reference::table::domains;
 
 use crate::cases::mixes::Mix;
 use crate::judging::timing::{Measured, Subject};
-use crate::kernels::boundary::{Kernel, KERNELS, PROVED, WORKING};
+use crate::kernels::plain::KERNELS;
+use line::kernels::boundary::{Kernel, PROVED, WORKING};
 
 /// The lengths that are told, in words.
 pub const LENGTHS: [usize; 5] = [1, 8, 64, 512, 4096];

@@ -2,11 +2,12 @@
 
 use reference::table::domains;
 
-use crate::cases::Case;
-use crate::judging::compare::{difference, separate_run};
-use crate::kernels::boundary::{Kernel, KERNELS};
-use crate::kernels::child;
-use crate::kernels::lent::Ran;
+use crate::kernels::plain::KERNELS;
+use line::cases::Case;
+use line::judging::compare::{difference, separate_run};
+use line::kernels::boundary::Kernel;
+use line::kernels::child;
+use line::kernels::lent::Ran;
 
 /// What differs between some kernel's runs of lists and the separate machine's, the table
 /// handed on from each list to the next.
@@ -52,7 +53,8 @@ fn first_difference(kernel: &Kernel, runs: &[(Case, Ran)]) -> Option<String> {
 #[cfg(test)]
 mod tests {
     use super::*;
-    use crate::kernels::boundary::{PROVED, WRONG};
+    use crate::kernels::plain::WRONG;
+    use line::kernels::boundary::PROVED;
     use reference::example::{LIST_L, TABLE_T};
 
     #[test]

@@ -8,13 +8,13 @@ use reference::table::{domains, rights};
 use reference::words::hex;
 use reference::{grants_for_all, potential_rights};
 
-use crate::cases::random::rng_for;
-use crate::judging::compare::first_unequal;
-use crate::judging::panics::or_panic;
-use crate::judging::trying::{try_all, Counted, Draws, Found, Summary};
-use crate::kernels::boundary::{Potential, PROVED};
-use crate::kernels::lent::{table_left, words_here};
-use crate::line::explain::counted;
+use line::cases::random::rng_for;
+use line::judging::compare::first_unequal;
+use line::judging::panics::or_panic;
+use line::judging::trying::{try_all, Counted, Draws, Found, Summary};
+use line::kernels::boundary::{Potential, PROVED};
+use line::kernels::lent::{table_left, words_here};
+use line::text::explain::counted;
 
 /// The codes of the function.
 const CODES: [u32; 7] = [0, 2, 3, 4, 5, 6, 32];
@@ -196,8 +196,8 @@ fn report(draws: &Draws, found: &Found) -> String {
 #[cfg(test)]
 mod tests {
     use super::*;
-    use crate::judging::trying::tests::draws;
-    use crate::kernels::boundary::potential;
+    use line::kernels::boundary::potential;
+    use line::trial::draws;
 
     fn told(wrong: Potential) -> String {
         let found = try_potentials(wrong, &draws(0..3000), &mut Met::default());

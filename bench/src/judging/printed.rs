@@ -6,10 +6,10 @@ use std::path::Path;
 use reference::words::to_bytes;
 
 use crate::cases::inputs::{apart, due, PLAIN_CALL};
-use crate::judging::shrink::fewest;
 use crate::kernels::program::{run, End, Feed, Ran};
-use crate::line::explain::counted;
-use crate::line::text;
+use line::judging::shrink::fewest;
+use line::text::explain::counted;
+use line::text::hex;
 
 /// How much of a line is shown.
 const SHOWN_MAX: usize = 120;
@@ -96,8 +96,8 @@ pub fn shorter(program: &Path, input: &[u8], feed: Feed, ran: &Ran) -> String {
     told + &match smaller.as_slice() {
         [] => "The input is empty.\n".to_string(),
         _ => format!(
-            "Its words, as `bench words` takes them:\n{}",
-            text::write_bytes(&smaller)
+            "Its words, as `balkwizu words` takes them:\n{}",
+            hex::write_bytes(&smaller)
         ),
     }
 }
@@ -114,7 +114,7 @@ fn with_fewer_words(input: &[u8], differs: impl Fn(&[u8]) -> bool) -> Vec<u8> {
 #[cfg(test)]
 mod tests {
     use super::*;
-    use crate::line::input::Input;
+    use line::text::input::Input;
     use reference::words::from_bytes;
 
     fn told(printed: &[u8], end: End, expected: &[u8]) -> Option<String> {
@@ -173,7 +173,7 @@ mod tests {
         assert_eq!(odd, [&input[..4 * 35], &[9]].concat());
         let long = to_bytes(&[vec![0], (0..4097).collect()].concat());
         let too_long = with_fewer_words(&long, |input| input.len() > 4 * 4097);
-        assert_eq!(text::write_bytes(&too_long), "00000000 50000000*4097\n");
+        assert_eq!(hex::write_bytes(&too_long), "00000000 50000000*4097\n");
         assert_eq!(with_fewer_words(&[1, 2], |_| true), [1, 2]);
     }
 }

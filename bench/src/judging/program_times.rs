@@ -8,7 +8,7 @@ use std::io;
 use std::path::{Path, PathBuf};
 use std::process::{Command, Stdio};
 
-use crate::output;
+use line::output;
 
 /// How the plain C is compiled, here as by the build: each word an option.
 const FLAGS: &str = env!("PLAIN_FLAGS");

@@ -12,11 +12,11 @@ use reference::queue::Endpoint;
 use reference::table::{INFO_PLACE, LOST_PLACE, SLOTS, SLOTS_PLACE, WAITING_PLACE};
 use reference::words::{bits, content, hex, CONTENT_MAX, EMPTY_SLOT};
 
-use crate::cases::random::rng_for;
-use crate::judging::trying::{try_all, Counted, Draws, Summary};
-use crate::kernels::boundary::Queue;
-use crate::kernels::lent::words_here;
-use crate::line::explain::counted;
+use crate::kernels::for_tests::Queue;
+use line::cases::random::rng_for;
+use line::judging::trying::{try_all, Counted, Draws, Summary};
+use line::kernels::lent::words_here;
+use line::text::explain::counted;
 
 /// With how many waiting a receive is done.
 const RECEIVABLE: RangeInclusive<u32> = 1..=8;
@@ -203,8 +203,8 @@ fn compare(
 #[cfg(all(test, test_export))]
 mod tests {
     use super::*;
-    use crate::judging::trying::tests::draws;
-    use crate::kernels::boundary::PROVED_QUEUE;
+    use crate::kernels::for_tests::PROVED_QUEUE;
+    use line::trial::draws;
 
     const PROVED: Queue = match PROVED_QUEUE {
         Some(queue) => queue,

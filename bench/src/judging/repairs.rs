@@ -6,13 +6,13 @@ use reference::generate::{repair_case, RepairCase};
 use reference::repair::{undo, PAIR_WORDS};
 use reference::words::{hex, to_bytes};
 
-use crate::cases::random::rng_for;
-use crate::judging::compare::first_unequal;
-use crate::judging::panics::or_panic;
-use crate::judging::trying::{try_all, Counted, Draws, Found, Summary};
-use crate::kernels::boundary::{Repair, PROVED};
-use crate::kernels::lent::{words_here, Failure};
-use crate::line::explain::counted;
+use line::cases::random::rng_for;
+use line::judging::compare::first_unequal;
+use line::judging::panics::or_panic;
+use line::judging::trying::{try_all, Counted, Draws, Found, Summary};
+use line::kernels::boundary::{Repair, PROVED};
+use line::kernels::lent::{words_here, Failure};
+use line::text::explain::counted;
 
 /// The codes of a repair.
 const CODES: [u32; 3] = [0, 33, 34];
@@ -211,8 +211,8 @@ fn report(draws: &Draws, found: &Found) -> String {
 #[cfg(test)]
 mod tests {
     use super::*;
-    use crate::judging::trying::tests::draws;
-    use crate::kernels::boundary::repair;
+    use line::kernels::boundary::repair;
+    use line::trial::draws;
 
     fn told(wrong: Repair) -> String {
         let found = try_repairs(wrong, &draws(0..2000), &mut Met::default());

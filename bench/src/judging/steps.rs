@@ -13,18 +13,19 @@ use reference::generate::Rng;
 use reference::step_with_holders;
 use reference::words::{bits, content, kind, word};
 
-use crate::cases::random::{holders_space, rng_for, run_case};
-use crate::cases::Case;
-use crate::judging::compare::{answer_as_printed, first_unequal, holders_difference};
-use crate::judging::panics::or_panic;
-use crate::judging::trying::{try_all, Counted, Draws, Found, Summary};
-use crate::kernels::boundary::{Outcome, Step, NO_SPACE};
-use crate::kernels::child::{self, LIMIT};
-use crate::kernels::lent::{step_here, Failure, Ran};
-use crate::line::explain::{call_in_words, counted, meaning, place_in_words};
-use crate::line::input::Input;
-use crate::line::names::Names;
-use crate::line::text;
+use line::cases::random::{holders_space, rng_for, run_case};
+use line::cases::Case;
+use line::judging::compare::{answer_as_printed, first_unequal, holders_difference};
+use line::judging::panics::or_panic;
+use line::judging::trying::{try_all, Counted, Draws, Found, Summary};
+use line::kernels::boundary::Outcome;
+use line::kernels::boundary::{Step, NO_SPACE};
+use line::kernels::child::{self, LIMIT};
+use line::kernels::lent::{step_here, Failure, Ran};
+use line::text::explain::{call_in_words, counted, meaning, place_in_words};
+use line::text::hex;
+use line::text::input::Input;
+use line::text::names::Names;
 
 /// No more calls of one list are tried than this.
 const CALLS_MAX: usize = 64;
@@ -271,10 +272,10 @@ fn with_words(case: &Case, call: &Call, told: &str) -> String {
         list: case.list.clone(),
     };
     format!(
-        "{told}\nThe call ({}) and the table before it, as `bench words` takes them:\n{}\
+        "{told}\nThe call ({}) and the table before it, as `balkwizu words` takes them:\n{}\
          # answer space: {}",
         call_in_words(call, &Names::none()),
-        text::write(&input),
+        hex::write(&input),
         counted(case.answers.len(), "word")
     )
 }
@@ -282,8 +283,8 @@ fn with_words(case: &Case, call: &Call, told: &str) -> String {
 #[cfg(all(test, test_export))]
 mod tests {
     use super::*;
-    use crate::judging::trying::tests::draws;
-    use crate::kernels::boundary::PROVED_STEP;
+    use crate::kernels::for_tests::PROVED_STEP;
+    use line::trial::draws;
 
     const PROVED: Step = match PROVED_STEP {
         Some(step) => step,

@@ -9,8 +9,10 @@ use reference::table::domains;
 use reference::words::to_bytes;
 
 use crate::cases::workloads::{largest_table, Workload};
-use crate::kernels::boundary::{Kernel, HAS_WORDS_CHECK, KERNELS, PROVED};
-use crate::line::explain::counted;
+use crate::kernels::for_tests::{words_check, HAS_WORDS_CHECK};
+use crate::kernels::plain::KERNELS;
+use line::kernels::boundary::{Kernel, PROVED};
+use line::text::explain::counted;
 
 /// How long one kernel is timed in one round, about: so short that it is seldom
 /// interrupted, and so long that what came before it is soon forgotten.
@@ -89,7 +91,7 @@ pub fn checks_of(name: &str, bytes: Vec<u8>) -> Subject<'static> {
 /// The check of a table's words, which every run begins with.
 fn words_checks(name: &str, table: Vec<u32>) -> Subject<'static> {
     let name = format!("table check, {name} ({} words)", table.len());
-    checks(name, move |kernel| kernel.words_check(black_box(&table)))
+    checks(name, move |kernel| words_check(kernel, black_box(&table)))
 }
 
 /// Checks that accept. Nothing is written, so nothing is reset. There is one check for all
@@ -271,7 +273,7 @@ mod tests {
     use super::*;
     use std::cell::{Cell, RefCell};
 
-    use crate::kernels::boundary::PLAIN_GCC;
+    use crate::kernels::plain::PLAIN_GCC;
 
     #[test]
     fn the_median_is_the_one_in_the_middle_and_a_tenth_is_left_out_on_either_side() {

@@ -14,11 +14,11 @@ use reference::table::{domains, endpoints};
 use reference::turn_words::length;
 use reference::words::{to_bytes, word};
 
-use crate::cases::workloads::open_table;
 use crate::judging::timing::{spread, TURN};
-use crate::judging::turning::{difference, separate_event};
-use crate::kernels::boundary::PROVED;
-use crate::kernels::layer::{event_here, Event, Lent, PROVED_LAYER};
+use line::cases::tables::open_table;
+use line::judging::turning::{difference, separate_event};
+use line::kernels::boundary::PROVED;
+use line::kernels::layer::{event_here, Event, Lent, PROVED_LAYER};
 
 /// The numbers of domains and of endpoints that are measured, each with each.
 const DOMAINS: [usize; 3] = [1, 4, 16];

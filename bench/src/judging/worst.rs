@@ -12,16 +12,16 @@ use reference::words::to_bytes;
 use reference::writer::to_columns;
 use reference::{cut, read};
 
-use crate::cases::workloads::second;
 use crate::cases::worst::{broken, calls, holders, largest, spreading, table_of, Calls, SIZES};
 use crate::judging::instructions::Figure;
 use crate::judging::jobs::Job;
 use crate::judging::timing::proved;
-use crate::kernels::boundary::{
+use line::cases::tables::second;
+use line::kernels::boundary::{
     component, could_influence, potential, repair, single, who_reaches, Kernel, PROVED,
     PROVED_WRITER,
 };
-use crate::kernels::layer::PROVED_LAYER;
+use line::kernels::layer::PROVED_LAYER;
 
 /// The lengths of lists in words: none, either side of where the run by length changes over,
 /// and the most.

@@ -11,8 +11,8 @@ use std::sync::mpsc::{channel, sync_channel, Receiver, RecvTimeoutError, Sender}
 use std::thread;
 use std::time::{Duration, Instant};
 
-use crate::kernels::process::{end_group, signal_in_words, unread};
-use crate::output;
+use line::kernels::process::{end_group, signal_in_words, unread};
+use line::output;
 
 /// How often it is looked whether a part of the input was read.
 const LOOK_AGAIN: Duration = Duration::from_micros(20);

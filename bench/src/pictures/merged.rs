@@ -2,7 +2,7 @@
 //! and which goals were met.
 
 use crate::judging::rows::{over_runs, OverRuns, Row, Run, TABLES};
-use crate::line::explain::counted;
+use line::text::explain::counted;
 
 /// All tables of runs whose rows stand side by side, and what became of the goals.
 pub fn tables(runs: &[Run], rows: &[Vec<&Row>]) -> String {

@@ -3,8 +3,8 @@
 //! ten; by domains and endpoints they begin at zero.
 
 use crate::judging::rows::Row;
-use crate::pictures::sheet::grouped;
-use crate::pictures::svg::{Drawing, Style, INK, LINE, QUIET};
+use line::pictures::sheet::grouped;
+use line::pictures::svg::{Drawing, Style, INK, LINE, QUIET};
 
 /// Panels stand in columns of so many.
 const COLUMNS: usize = 2;

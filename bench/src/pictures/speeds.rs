@@ -4,8 +4,9 @@ use crate::cases::mixes::Mix;
 use crate::cases::workloads::Workload;
 use crate::judging::lengths::Crossing;
 use crate::judging::timing::{proved, Measured, Spread, Subject};
-use crate::kernels::boundary::{KERNELS, PROVED, WORKING};
-use crate::line::explain::counted;
+use crate::kernels::plain::KERNELS;
+use line::kernels::boundary::{PROVED, WORKING};
+use line::text::explain::counted;
 
 /// The head of a table with a row for each subject.
 pub fn head(seed: u64, rounds: usize) -> String {
@@ -166,7 +167,7 @@ mod tests {
     use crate::cases::workloads::workloads;
     use crate::judging::lengths::at;
     use crate::judging::timing::subjects;
-    use crate::kernels::boundary::HAS_WORDS_CHECK;
+    use crate::kernels::for_tests::HAS_WORDS_CHECK;
 
     fn cells(line: &str) -> usize {
         line.matches('|').count()

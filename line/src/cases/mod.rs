@@ -1,14 +1,7 @@
-//! What is drawn to be tried: random runs and table images, random histories of turns,
-//! random inputs of `linerun`, and the lists that the speed is measured on, of one length
-//! or of any. Beside these, what is made to cost as much as possible.
+//! What is drawn to be tried: random runs and table images, and plain tables.
 
-pub mod histories;
-pub mod inputs;
-pub mod mixes;
 pub mod random;
-pub mod sheets;
-pub mod workloads;
-pub mod worst;
+pub mod tables;
 
 /// What is lent to one run.
 #[derive(Debug, Clone, PartialEq, Eq)]

@@ -1,4 +1,4 @@
-//! What `bench commission` is asked for: on what the lines are judged, and what is to be
+//! What commissioning is asked for: on what the lines are judged, and what is to be
 //! filed.
 
 use std::path::Path;
@@ -6,13 +6,13 @@ use std::path::Path;
 use reference::table::domains;
 
 use crate::args::Options;
-use crate::kernels::boundary::{kernel, Kernel};
-use crate::line::input::read_once;
-use crate::line::names::Names;
+use crate::kernels::boundary::{named, Kernel};
 use crate::output::{may_write, may_write_both, write_file};
 use crate::reports::facts::Report;
 use crate::reports::json_facts::json;
 use crate::reports::page::page;
+use crate::text::input::read_once;
+use crate::text::names::Names;
 
 pub struct Asked<'a> {
     pub file: &'a Path,
@@ -47,10 +47,10 @@ pub const VALUED: [&str; 8] = [
 ];
 
 impl Asked<'_> {
-    pub fn of(options: &Options) -> Result<Asked<'_>, String> {
+    pub fn of<'a>(options: &'a Options, kernels: &[Kernel]) -> Result<Asked<'a>, String> {
         let asked = Asked {
             file: options.file()?,
-            on: on(options)?,
+            on: on(options, kernels)?,
             struck: options.text("--struck"),
             report: options.path("--report"),
             json: options.path("--json"),
@@ -93,11 +93,11 @@ impl Asked<'_> {
     }
 }
 
-fn on(options: &Options) -> Result<On<'_>, String> {
+fn on<'a>(options: &'a Options, kernels: &[Kernel]) -> Result<On<'a>, String> {
     let (answers, left) = match (options.path("--answers"), options.path("--left")) {
         (Some(answers), Some(left)) => (answers, left),
         (None, None) => {
-            let kernel = kernel(options.text("--kernel").unwrap_or("balkwizu"))?;
+            let kernel = named(options.text("--kernel").unwrap_or("balkwizu"), kernels)?;
             let seed = options.number("--seed")?.unwrap_or(1);
             let campaign = options.number("--campaign")?.unwrap_or(CAMPAIGN);
             return Ok(On::Kernel(kernel, seed, campaign));
@@ -119,12 +119,13 @@ fn on(options: &Options) -> Result<On<'_>, String> {
 #[cfg(test)]
 mod tests {
     use super::*;
+    use crate::kernels::boundary::PROVED_RUNS;
     use std::ffi::OsString;
 
     fn wrong(line: &str) -> String {
         let words: Vec<OsString> = line.split_whitespace().map(OsString::from).collect();
         let options = Options::parse(&words, &VALUED, &[]).unwrap();
-        Asked::of(&options).err().unwrap_or_default()
+        Asked::of(&options, PROVED_RUNS).err().unwrap_or_default()
     }
 
     #[test]

@@ -436,7 +436,7 @@ fn done_and_joined(table: &[u32], list: &[u32], from: usize, to: usize) -> Resul
 #[cfg(test)]
 mod tests {
     use super::*;
-    use crate::line::input::Input;
+    use crate::text::input::Input;
     use reference::example::TABLE_T;
     use reference::generate::{chained_table, list, walled_table, Rng};
 

@@ -12,8 +12,8 @@ use crate::cases::Case;
 use crate::judging::panics::or_panic;
 use crate::kernels::boundary::Outcome;
 use crate::kernels::lent::Ran;
-use crate::line::explain::{call_in_words, counted, meaning, place_in_words};
-use crate::line::names::Names;
+use crate::text::explain::{call_in_words, counted, meaning, place_in_words};
+use crate::text::names::Names;
 
 /// The separate machine's run of a case; an error where it panics, which is a
 /// difference from a kernel that answers.
@@ -324,7 +324,7 @@ mod tests {
     use crate::kernels::boundary::{Kernel, PROVED};
     use crate::kernels::faulty;
     use crate::kernels::lent::run_here;
-    use crate::line::input::Input;
+    use crate::text::input::Input;
 
     fn example() -> Case {
         case_of(&Input::example())

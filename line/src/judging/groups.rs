@@ -58,7 +58,7 @@ mod tests {
     use crate::judging::variants::case_of;
     use crate::kernels::boundary::PROVED;
     use crate::kernels::lent::run_here;
-    use crate::line::input::Input;
+    use crate::text::input::Input;
     use reference::example::TABLE_T;
     use reference::generate::{list, walled_table, Rng};
 

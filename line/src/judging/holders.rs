@@ -120,7 +120,7 @@ mod tests {
     use crate::judging::variants::case_of;
     use crate::kernels::boundary::PROVED;
     use crate::kernels::lent::run_here;
-    use crate::line::input::Input;
+    use crate::text::input::Input;
 
     #[test]
     fn the_proved_kernel_keeps_the_words_call_by_call() {

@@ -7,7 +7,7 @@ use crate::judging::tally::Tally;
 use crate::judging::trying::{try_all, Draws, Found};
 use crate::kernels::boundary::Kernel;
 use crate::kernels::child::{self, LIMIT};
-use crate::line::explain::counted;
+use crate::text::explain::counted;
 
 /// Tries the images; the first that is wrong, in words and with its bytes.
 pub fn try_images(kernel: &Kernel, draws: &Draws, tally: &mut Tally) -> Result<(), String> {
@@ -88,9 +88,9 @@ fn wrong_by_itself(kernel: &Kernel, draws: &Draws, number: u64, bytes: &[u8]) ->
 #[cfg(test)]
 mod tests {
     use super::*;
-    use crate::judging::trying::tests::draws;
-    use crate::kernels::boundary::{KERNELS, PROVED};
+    use crate::kernels::boundary::{PROVED, PROVED_RUNS};
     use crate::kernels::faulty;
+    use crate::trial::draws;
 
     fn found(kernel: Kernel) -> String {
         let found = try_images(&kernel, &draws(0..2000), &mut Tally::default());
@@ -99,7 +99,7 @@ mod tests {
 
     #[test]
     fn no_kernel_differs_and_every_code_is_met() {
-        for kernel in KERNELS {
+        for kernel in PROVED_RUNS {
             let mut tally = Tally::default();
             let found = try_images(kernel, &draws(0..2000), &mut tally);
             assert_eq!(found, Ok(()), "{}", kernel.name);

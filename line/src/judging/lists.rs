@@ -14,8 +14,8 @@ use crate::judging::compare::first_unequal;
 use crate::judging::trying::{try_all, Counted, Draws};
 use crate::kernels::boundary::{Writer, Written};
 use crate::kernels::lent::words_here;
-use crate::line::calls::width;
-use crate::line::explain::{counted, meaning};
+use crate::text::calls::width;
+use crate::text::explain::{counted, meaning};
 
 /// The codes by which the reader refuses a call whatever the table.
 const READER_CODES: [u32; 4] = [10, 11, 13, 14];
@@ -319,8 +319,8 @@ pub fn read_as_answered(writer: Writer, list: &[u32], answers: &[u32]) -> Result
 #[cfg(test)]
 mod tests {
     use super::*;
-    use crate::judging::trying::tests::draws;
     use crate::kernels::boundary::PROVED_WRITER;
+    use crate::trial::draws;
     use reference::example::LIST_L;
 
     fn first_difference(writer: Writer) -> String {

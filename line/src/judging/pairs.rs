@@ -81,7 +81,9 @@ fn second_line(
     };
     match agree(&case.table, &other.table, calls, domain) {
         true => Ok(Some((domain, other))),
-        false => Err("the drawn table doesn't agree on the members: a fault of the bench".into()),
+        false => {
+            Err("the drawn table doesn't agree on the members: a fault of this program".into())
+        }
     }
 }
 

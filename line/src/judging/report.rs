@@ -1,5 +1,5 @@
 //! What is wrong with a run, told so that it can be seen again: cut down to fewer calls,
-//! on a smaller table where it was drawn, with its words as `bench words` takes them.
+//! on a smaller table where it was drawn, with its words as `balkwizu words` takes them.
 
 use std::time::Duration;
 
@@ -8,9 +8,9 @@ use crate::judging::shrink::{shrink, shrink_with_table};
 use crate::kernels::boundary::Kernel;
 use crate::kernels::child;
 use crate::kernels::lent::Failure;
-use crate::line::explain::counted;
-use crate::line::input::Input;
-use crate::line::text;
+use crate::text::explain::counted;
+use crate::text::hex;
+use crate::text::input::Input;
 
 /// How long a kernel may take at most while calls are left out: so little that many can
 /// be tried on a kernel that loops.
@@ -72,8 +72,8 @@ fn words(case: &Case) -> String {
         list: case.list.clone(),
     };
     format!(
-        "Its words, as `bench words` takes them:\n{}# answer space: {}\n",
-        text::write(&input),
+        "Its words, as `balkwizu words` takes them:\n{}# answer space: {}\n",
+        hex::write(&input),
         counted(case.answers.len(), "word")
     )
 }

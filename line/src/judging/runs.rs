@@ -158,9 +158,9 @@ fn report(kernel: &Kernel, draws: &Draws, found: &Found) -> String {
 #[cfg(test)]
 mod tests {
     use super::*;
-    use crate::judging::trying::tests::draws;
-    use crate::kernels::boundary::{KERNELS, PROVED};
+    use crate::kernels::boundary::{PROVED, PROVED_RUNS};
     use crate::kernels::faulty;
+    use crate::trial::draws;
 
     fn found(kernel: Kernel) -> String {
         let found = try_runs(&kernel, &draws(0..1500), &mut Tally::default());
@@ -169,7 +169,7 @@ mod tests {
 
     #[test]
     fn no_kernel_differs_and_every_code_is_met() {
-        for kernel in KERNELS {
+        for kernel in PROVED_RUNS {
             let mut tally = Tally::default();
             let found = try_runs(kernel, &draws(0..1500), &mut tally);
             assert_eq!(found, Ok(()), "{}", kernel.name);

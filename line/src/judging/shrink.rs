@@ -63,7 +63,7 @@ fn with_calls(case: &Case, calls: &[Call]) -> Case {
 mod tests {
     use super::*;
     use crate::judging::variants::case_of;
-    use crate::line::input::Input;
+    use crate::text::input::Input;
     use reference::example::TABLE_T;
 
     fn example() -> Case {

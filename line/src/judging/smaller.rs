@@ -167,7 +167,7 @@ fn without_right(case: &Case, place: usize) -> Option<Case> {
 #[cfg(test)]
 mod tests {
     use super::*;
-    use crate::cases::workloads::{open_table, second};
+    use crate::cases::tables::{open_table, second};
     use reference::generate::call_word;
     use reference::table::{name, rights};
     use reference::words::bits;

@@ -12,7 +12,7 @@ use crate::judging::holders::Asked;
 use crate::judging::pairs::Pair;
 use crate::judging::trying::Counted;
 use crate::kernels::lent::Ran;
-use crate::line::explain::{counted, meaning};
+use crate::text::explain::{counted, meaning};
 
 /// The codes that a run ends with, and those that a call is answered with.
 const ENTRY_CODES: std::ops::RangeInclusive<u32> = 0..=6;

@@ -106,23 +106,15 @@ fn text_left(board: &Board, place: usize) -> String {
 }
 
 #[cfg(test)]
-pub mod tests {
+mod tests {
     use super::*;
+    use crate::trial::draws;
 
     struct Sum(u64);
 
     impl Counted for Sum {
         fn numbers(&mut self) -> impl Iterator<Item = &mut u64> {
             std::iter::once(&mut self.0)
-        }
-    }
-
-    /// Draws of a seed, each with little time.
-    pub fn draws(numbers: Range<u64>) -> Draws {
-        Draws {
-            seed: 1,
-            numbers,
-            limit: Duration::from_millis(500),
         }
     }
 

@@ -17,8 +17,8 @@ use crate::judging::panics::or_panic;
 use crate::kernels::boundary::{Outcome, PROVED};
 use crate::kernels::layer::{Event, Left, Lent};
 use crate::kernels::lent::run_here;
-use crate::line::explain::{call_in_words, meaning};
-use crate::line::names::Names;
+use crate::text::explain::{call_in_words, meaning};
+use crate::text::names::Names;
 
 /// What the separate layer makes of an event; an error where it panics, which is a
 /// difference from a layer that answers.

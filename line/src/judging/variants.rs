@@ -11,8 +11,8 @@ use reference::table::{
 use reference::words::{word, CONTENT_MAX};
 
 use crate::cases::Case;
-use crate::line::explain::counted;
-use crate::line::input::Input;
+use crate::text::explain::counted;
+use crate::text::input::Input;
 
 /// One variant, with what was done to make it.
 #[derive(Clone)]

@@ -14,9 +14,6 @@ use reference::Call;
 /// The check of bytes that are valid for reads.
 type TableCheck = unsafe fn(bytes: *const [u8]) -> u32;
 
-/// The check of a table's words that are valid for reads.
-type WordsCheck = unsafe fn(table: *const [u32]) -> u32;
-
 /// A run on words that are valid for reads, all but those of the list for writes too, and
 /// that don't overlap.
 type Run = unsafe fn(
@@ -34,7 +31,6 @@ pub struct Kernel {
     /// What it is, for the head of a table.
     pub title: &'static str,
     table_check: TableCheck,
-    words_check: WordsCheck,
     run: Run,
 }
 
@@ -47,17 +43,21 @@ pub struct Outcome {
 }
 
 impl Kernel {
+    /// A kernel by its name and title, its check and its run, which `kernel!` takes from two
+    /// C functions.
+    pub const fn of([name, title]: [&'static str; 2], table_check: TableCheck, run: Run) -> Kernel {
+        Kernel {
+            name,
+            title,
+            table_check,
+            run,
+        }
+    }
+
     /// The check of a table image: 0, or 2 to 5.
     pub fn table_check(&self, bytes: &[u8]) -> u32 {
         // SAFETY: a slice is valid for reads of its length, and nobody writes it.
         unsafe { (self.table_check)(bytes) }
-    }
-
-    /// The check of a table's words: 0, or 2 to 5. Where a kernel has none of its own it is
-    /// the check of the image that they are in memory.
-    pub fn words_check(&self, table: &[u32]) -> u32 {
-        // SAFETY: a slice is valid for reads of its length, and nobody writes it.
-        unsafe { (self.words_check)(table) }
     }
 
     /// Runs a list on a table, writes the answers and sets the holders' words.
@@ -83,8 +83,8 @@ impl Kernel {
         self.name.starts_with("plain-")
     }
 
-    /// The kernel with another check, for tests of the bench itself.
-    #[cfg(test)]
+    /// The kernel with another check, for tests of what judges it.
+    #[cfg(any(test, feature = "trials"))]
     pub const fn with_check(self, name: &'static str, table_check: TableCheck) -> Kernel {
         Kernel {
             name,
@@ -93,8 +93,8 @@ impl Kernel {
         }
     }
 
-    /// The kernel with another run, for tests of the bench itself.
-    #[cfg(test)]
+    /// The kernel with another run, for tests of what judges it.
+    #[cfg(any(test, feature = "trials"))]
     pub const fn with_run(self, name: &'static str, run: Run) -> Kernel {
         Kernel { name, run, ..self }
     }
@@ -108,6 +108,7 @@ impl Kernel {
 ///                       const uint32_t *list, size_t list_len,
 ///                       uint32_t *answers, size_t answers_len,
 ///                       uint32_t *holders, size_t holders_len);
+#[macro_export]
 macro_rules! kernel {
     ($name:literal, $title:expr, $table_check:ident, $run:ident) => {{
         extern "C" {
@@ -123,14 +124,11 @@ macro_rules! kernel {
                 holders_len: usize,
             ) -> u32;
         }
-        Kernel {
-            name: $name,
-            title: $title,
-            // SAFETY: in all three, the caller's duties are those of the C function; a word
-            // is four bytes.
-            table_check: |bytes| unsafe { $table_check(bytes.cast(), bytes.len()) },
-            words_check: |table| unsafe { $table_check(table.cast(), 4 * table.len()) },
-            run: |table, list, answers, holders| unsafe {
+        $crate::kernels::boundary::Kernel::of(
+            [$name, $title],
+            // SAFETY: in both, the caller's duties are those of the C function.
+            |bytes| unsafe { $table_check(bytes.cast(), bytes.len()) },
+            |table, list, answers, holders| unsafe {
                 $run(
                     table.cast(),
                     table.len(),
@@ -142,30 +140,17 @@ macro_rules! kernel {
                     holders.len(),
                 )
             },
-        }
+        )
     }};
 }
 
 /// The proved kernel, or what the program was built over in its place.
-pub const PROVED: Kernel = Kernel {
-    #[cfg(check)]
-    words_check: |table| {
-        extern "C" {
-            fn balkwizu_test_check(table: *const u32, table_len: usize) -> u32;
-        }
-        // SAFETY: the caller's duties are those of the C function.
-        unsafe { balkwizu_test_check(table.cast(), table.len()) }
-    },
-    ..kernel!(
-        "balkwizu",
-        env!("ARCHIVE_TITLE"),
-        balkwizu_table_check,
-        balkwizu_run
-    )
-};
-
-/// Whether the proved check of words is in this program: an archive for tests has it.
-pub const HAS_WORDS_CHECK: bool = cfg!(check);
+pub const PROVED: Kernel = kernel!(
+    "balkwizu",
+    env!("ARCHIVE_TITLE"),
+    balkwizu_table_check,
+    balkwizu_run
+);
 
 /// The same with the run that works in a layout of its own. The check is that of the
 /// other.
@@ -184,22 +169,18 @@ pub const BY_LENGTH: Kernel = kernel!(
     balkwizu_run_by_length
 );
 
-/// The plain C kernel as gcc -O3 makes it.
-pub const PLAIN_GCC: Kernel = kernel!(
-    "plain-gcc",
-    "plain C, gcc -O3",
-    plain_gcc_table_check,
-    plain_gcc_run
-);
+/// The three runs of the proved archive.
+pub const PROVED_RUNS: &[Kernel] = &[PROVED, WORKING, BY_LENGTH];
 
-/// The plain C kernel as clang -O3 makes it.
-#[cfg(clang)]
-pub const PLAIN_CLANG: Kernel = kernel!(
-    "plain-clang",
-    "plain C, clang -O3",
-    plain_clang_table_check,
-    plain_clang_run
-);
+/// The kernel that has the name. One with a fault isn't listed where there is none of it.
+pub fn named(name: &str, kernels: &[Kernel]) -> Result<Kernel, String> {
+    let found = kernels.iter().find(|kernel| kernel.name == name);
+    found.copied().ok_or_else(|| {
+        let right = kernels.iter().map(|kernel| kernel.name);
+        let right: Vec<&str> = right.filter(|name| !name.starts_with("wrong-")).collect();
+        format!("no kernel `{name}`: there are {}", right.join(", "))
+    })
+}
 
 /// One call on any table: 0 with three words of the answer written and the holders' words
 /// set, the table's 2 to 5, 6 where other than n words are lent for the holders, or
@@ -209,41 +190,6 @@ pub type Step = fn(table: &mut [u32], call: &Call, answer: &mut [u32], holders: 
 /// What the exported step returns for an answer space under three words. No paper
 /// uses the number.
 pub const NO_SPACE: u32 = 99;
-
-/// The public step of the proved kernel, where the program was built with it.
-#[cfg(not(test_export))]
-pub const PROVED_STEP: Option<Step> = None;
-
-#[cfg(test_export)]
-pub const PROVED_STEP: Option<Step> = Some(|table, call, answer, holders| {
-    extern "C" {
-        fn balkwizu_test_step(
-            table: *mut u32,
-            table_len: usize,
-            first: u32,
-            second: u32,
-            has_second: u32,
-            answer: *mut u32,
-            answer_len: usize,
-            holders: *mut u32,
-            holders_len: usize,
-        ) -> u32;
-    }
-    // SAFETY: three slices, each valid for its length, aligned and borrowed alone.
-    unsafe {
-        balkwizu_test_step(
-            table.as_mut_ptr(),
-            table.len(),
-            call.first,
-            call.second.unwrap_or(0),
-            u32::from(call.second.is_some()),
-            answer.as_mut_ptr(),
-            answer.len(),
-            holders.as_mut_ptr(),
-            holders.len(),
-        )
-    }
-});
 
 /// The component of a domain in a table, by the proved kernel: its code, and the members
 /// as bits.
@@ -402,67 +348,10 @@ pub fn single(table: &mut [u32], holders: &mut [u32], words: &[u32], answer: &mu
     }
 }
 
-/// A send of a message to an endpoint's words, and a receive from them: whether it
-/// was done, or the words stayed as they were.
-#[derive(Clone, Copy)]
-pub struct Queue {
-    pub send: fn(words: &mut [u32], message: u32) -> bool,
-    pub receive: fn(words: &mut [u32]) -> bool,
-}
-
-/// The queue's functions of the proved kernel, where the program was built with them.
-#[cfg(not(test_export))]
-pub const PROVED_QUEUE: Option<Queue> = None;
-
-#[cfg(test_export)]
-pub const PROVED_QUEUE: Option<Queue> = Some(Queue {
-    send: |words, message| {
-        extern "C" {
-            fn balkwizu_test_send(words: *mut u32, words_len: usize, message: u32) -> u32;
-        }
-        // SAFETY: a slice, valid for its length, aligned and borrowed alone.
-        let done = unsafe { balkwizu_test_send(words.as_mut_ptr(), words.len(), message) };
-        done != 0
-    },
-    receive: |words| {
-        extern "C" {
-            fn balkwizu_test_receive(words: *mut u32, words_len: usize) -> u32;
-        }
-        // SAFETY: as above.
-        let done = unsafe { balkwizu_test_receive(words.as_mut_ptr(), words.len()) };
-        done != 0
-    },
-});
-
-/// Every kernel of this program, the proved ones first.
-pub const KERNELS: &[Kernel] = &[
-    PROVED,
-    WORKING,
-    BY_LENGTH,
-    PLAIN_GCC,
-    #[cfg(clang)]
-    PLAIN_CLANG,
-];
-
-/// Kernels with a fault each, of bench/c/wrong: commissioning and fuzz must find it.
-pub const WRONG: &[Kernel] = include!(concat!(env!("OUT_DIR"), "/wrong.rs"));
-
-/// The kernel that has the name, a right one or a wrong one.
-pub fn kernel(name: &str) -> Result<Kernel, String> {
-    let mut all = KERNELS.iter().chain(WRONG);
-    let found = all.find(|kernel| kernel.name == name);
-    found.copied().ok_or_else(|| {
-        let names: Vec<&str> = KERNELS.iter().map(|kernel| kernel.name).collect();
-        format!("no kernel `{name}`: there are {}", names.join(", "))
-    })
-}
-
 #[cfg(test)]
 mod tests {
     use super::*;
     use crate::cases::random::run_case;
-    #[cfg(test_export)]
-    use crate::cases::Case;
     use reference::calls::cut;
     use reference::example::{LIST_L, TABLE_T};
 
@@ -471,7 +360,7 @@ mod tests {
 
     #[test]
     fn every_kernel_runs_the_worked_example() {
-        for kernel in KERNELS {
+        for kernel in PROVED_RUNS {
             let mut table = TABLE_T;
             let mut answers = [7; 28];
             let mut holders = [7; 3];
@@ -485,37 +374,13 @@ mod tests {
 
     #[test]
     fn every_kernel_checks_bytes() {
-        for kernel in KERNELS {
+        for kernel in PROVED_RUNS {
             let bytes = reference::words::to_bytes(&TABLE_T);
             assert_eq!(kernel.table_check(&bytes), 0, "{}", kernel.name);
             assert_eq!(kernel.table_check(&bytes[1..]), 2, "{}", kernel.name);
             assert_eq!(kernel.table_check(&bytes[..135]), 3, "{}", kernel.name);
             assert_eq!(kernel.table_check(&[]), 2, "{}", kernel.name);
         }
-    }
-
-    #[test]
-    fn every_kernel_checks_words() {
-        let (mut rights, mut slot) = (TABLE_T, TABLE_T);
-        rights[1] ^= 1 << 4;
-        slot[33] ^= 1;
-        for kernel in KERNELS {
-            assert_eq!(kernel.words_check(&TABLE_T), 0, "{}", kernel.name);
-            assert_eq!(kernel.words_check(&[]), 2, "{}", kernel.name);
-            assert_eq!(kernel.words_check(&TABLE_T[..33]), 3, "{}", kernel.name);
-            assert_eq!(kernel.words_check(&rights), 4, "{}", kernel.name);
-            assert_eq!(kernel.words_check(&slot), 5, "{}", kernel.name);
-        }
-    }
-
-    #[test]
-    fn a_kernel_is_found_by_its_name() {
-        assert_eq!(kernel("plain-gcc").unwrap().title, "plain C, gcc -O3");
-        let wrong = kernel("fast").err().unwrap();
-        assert!(
-            wrong.contains("balkwizu, balkwizu-working, balkwizu-by-length, plain-gcc"),
-            "{wrong}"
-        );
     }
 
     #[test]
@@ -542,84 +407,5 @@ mod tests {
             );
         }
         assert!(calls > 10_000, "{calls} calls");
-    }
-
-    /// Both runs of a list by the one function of the proved kernel that runs both, in
-    /// place on a case and on the working layout of its copy: whether it says that they
-    /// ended the same.
-    #[cfg(test_export)]
-    fn both_ways(case: &mut Case, copy: &mut Case) -> bool {
-        extern "C" {
-            fn balkwizu_test_both_ways(
-                table: *mut u32,
-                table_len: usize,
-                copy: *mut u32,
-                copy_len: usize,
-                list: *const u32,
-                list_len: usize,
-                answers: *mut u32,
-                answers_len: usize,
-                copied_answers: *mut u32,
-                copied_answers_len: usize,
-                holders: *mut u32,
-                holders_len: usize,
-                copied_holders: *mut u32,
-                copied_holders_len: usize,
-            ) -> u32;
-        }
-        // SAFETY: seven slices, each valid for its length, aligned and borrowed alone.
-        let same = unsafe {
-            balkwizu_test_both_ways(
-                case.table.as_mut_ptr(),
-                case.table.len(),
-                copy.table.as_mut_ptr(),
-                copy.table.len(),
-                case.list.as_ptr(),
-                case.list.len(),
-                case.answers.as_mut_ptr(),
-                case.answers.len(),
-                copy.answers.as_mut_ptr(),
-                copy.answers.len(),
-                case.holders.as_mut_ptr(),
-                case.holders.len(),
-                copy.holders.as_mut_ptr(),
-                copy.holders.len(),
-            )
-        };
-        same == 1
-    }
-
-    #[cfg(test_export)]
-    #[test]
-    fn both_runs_of_a_list_leave_the_same_words() {
-        for number in 0..5000 {
-            let mut case = run_case(1, number);
-            let mut copy = case.clone();
-            let mut alone = case.clone();
-            assert!(both_ways(&mut case, &mut copy), "run {number}");
-            assert_eq!(case, copy, "run {number}");
-            let Case {
-                table,
-                list,
-                answers,
-                holders,
-            } = &mut alone;
-            PROVED.run(table, list, answers, holders);
-            assert_eq!(case, alone, "run {number}");
-        }
-    }
-
-    #[cfg(test_export)]
-    #[test]
-    fn runs_of_different_tables_do_not_end_the_same() {
-        let mut case = Case {
-            table: TABLE_T.to_vec(),
-            list: LIST_L.to_vec(),
-            answers: vec![0; 27],
-            holders: vec![0; 3],
-        };
-        let mut copy = case.clone();
-        copy.table.clear();
-        assert!(!both_ways(&mut case, &mut copy));
     }
 }

@@ -116,7 +116,10 @@ fn end_of(child: &mut Child, board: &Board, limit: Duration) -> Result<ExitStatu
 /// What the system gives, or the end of the program with 2.
 fn or_give_up<T>(given: io::Result<T>) -> T {
     given.unwrap_or_else(|why| {
-        eprintln!("bench: no child process can be started: {why}");
+        eprintln!(
+            "{}: no child process can be started: {why}",
+            crate::program::name()
+        );
         std::process::exit(2)
     })
 }
@@ -255,7 +258,7 @@ mod tests {
     use crate::judging::variants::case_of;
     use crate::kernels::boundary::PROVED;
     use crate::kernels::faulty;
-    use crate::line::input::Input;
+    use crate::text::input::Input;
     use reference::example::TABLE_T;
     use reference::words::to_bytes;
 

@@ -1,4 +1,4 @@
-//! Kernels with one fault each, for the tests of the bench itself: every
+//! Kernels with one fault each, for tests of what judges them: every
 //! comparison must tell them from a right one.
 
 use reference::calls::GRANT;

@@ -1,6 +1,6 @@
 //! What the system is asked for beyond Rust's library: a child process that does part
 //! of this program's work, how long processors worked on it, memory that both see, an end
-//! put to a program, and what a pipe holds. This file and the boundary have all of the bench's `unsafe` but its tests'.
+//! put to a program, and what a pipe holds. This file and the boundary have all of this library's `unsafe` but its tests'.
 
 use std::ffi::{c_int, c_long, c_uint, c_ulong, c_void};
 use std::ops::Deref;

@@ -6,10 +6,10 @@ use reference::calls::cut;
 use reference::table::domains;
 
 use crate::judging::chains::{could_ever, Chains, Ever, Hold, Kept, Run, Verdict};
-use crate::line::explain::{call_in_words, counted, rights_in_words};
-use crate::line::input::Input;
-use crate::line::names::Names;
 use crate::pictures::groups::groups_in_words;
+use crate::text::explain::{call_in_words, counted, rights_in_words};
+use crate::text::input::Input;
+use crate::text::names::Names;
 
 /// For so many pairs that could come to a chain of rights the calls are printed.
 const PAIRS_MAX: usize = 40;

@@ -1,4 +1,4 @@
-//! A table and a list in words, with a small diagram of the queues: what `bench show`
+//! A table and a list in words, with a small diagram of the queues: what `balkwizu show`
 //! prints.
 
 use reference::cut;
@@ -9,13 +9,13 @@ use reference::table::{
 use reference::words::content;
 
 use crate::kernels::lent::Ran;
-use crate::line::explain::{call_on_table, counted, endpoint_in_words, letters, senders};
-use crate::line::input::Input;
-use crate::line::names::Names;
-use crate::line::reasons::Replay;
 use crate::pictures::groups::groups_in_words;
 use crate::pictures::potential::potential_in_words;
 use crate::pictures::reach::{holders_of, reach_in_words};
+use crate::text::explain::{call_on_table, counted, endpoint_in_words, letters, senders};
+use crate::text::input::Input;
+use crate::text::names::Names;
+use crate::text::reasons::Replay;
 
 /// An accepted table and a list in words, and what was left where it was run.
 pub fn in_words(input: &Input, names: &Names, left: Option<&Ran>, calls: usize) -> String {

@@ -3,10 +3,10 @@
 
 use reference::table::{capacity, domains, endpoints, lost, name, owner, rights, waiting};
 
-use crate::line::explain::{letters, rights_in_words};
-use crate::line::names::Names;
 use crate::pictures::groups::groups;
 use crate::pictures::parts::colour;
+use crate::text::explain::{letters, rights_in_words};
+use crate::text::names::Names;
 
 /// The graph of an accepted table, and of what a list left of it where it was run. The
 /// clusters are the groups of the table before the list, which no list joins.
@@ -143,8 +143,8 @@ fn quoted(text: &str) -> String {
 #[cfg(test)]
 mod tests {
     use super::*;
-    use crate::line::input::Input;
-    use crate::line::text;
+    use crate::text::hex;
+    use crate::text::input::Input;
     use reference::generate::{walled_table, Rng};
 
     /// The statements of a graph, the braces told apart; what is wrong otherwise.
@@ -211,7 +211,7 @@ mod tests {
 
     #[test]
     fn names_stand_beside_the_numbers_and_nothing_breaks_a_text() {
-        let given = text::read(
+        let given = hex::read(
             "domain 0 link\ntable 10000101 20000001 30000011 40000002 50000000 60000000 F0000000*8",
         );
         let given = given.expect("a text");

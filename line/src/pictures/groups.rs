@@ -4,7 +4,7 @@
 use reference::table::domains;
 
 use crate::kernels::boundary::component;
-use crate::line::names::Names;
+use crate::text::names::Names;
 
 /// The components of an accepted table, each in order, the one with the lowest domain first.
 pub fn groups(table: &[u32]) -> Vec<Vec<usize>> {

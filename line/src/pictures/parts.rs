@@ -1,9 +1,9 @@
 //! The parts that the panels of a picture share: their frames, the discs of domains, the
 //! letters of rights, and the sizes and colours of all of them.
 
-use crate::line::explain::NAMED_RIGHTS;
 use crate::pictures::geometry::Point;
 use crate::pictures::svg::{Drawing, Style, INK, QUIET};
+use crate::text::explain::NAMED_RIGHTS;
 
 pub const WIDTH: f64 = 1080.0;
 pub const MARGIN: f64 = 32.0;

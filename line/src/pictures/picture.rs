@@ -10,9 +10,6 @@ use reference::table::{
 use reference::words::{content, hex};
 
 use crate::kernels::lent::Ran;
-use crate::line::explain::{call_on_table, counted, senders};
-use crate::line::input::Input;
-use crate::line::names::Names;
 use crate::pictures::diagram::told_answers;
 use crate::pictures::parts::{
     chip, panel, GAP, INNER, LABEL, MARGIN, NAMED, NAMED_LETTER, PANEL_HEAD, SMALL, SUBTITLE, WIDTH,
@@ -20,6 +17,9 @@ use crate::pictures::parts::{
 use crate::pictures::reach::{holders_of, reached_by};
 use crate::pictures::rights::Stage;
 use crate::pictures::svg::{Drawing, Style, ARROW, INK, LINE, QUIET};
+use crate::text::explain::{call_on_table, counted, senders};
+use crate::text::input::Input;
+use crate::text::names::Names;
 
 /// The highest picture that programs draw.
 const HIGHEST: f64 = 32_767.0;
@@ -360,7 +360,7 @@ mod tests {
     fn names_stand_beside_the_numbers() {
         let text = "domain 0 link\nendpoint 0 routes\ntable 10000101 20000001 30000011 40000002 \
                     50000000 60000000 F0000000*8\nlist 50000000";
-        let given = crate::line::text::read(text).unwrap();
+        let given = crate::text::hex::read(text).unwrap();
         let input = Input::parse(&given.bytes).unwrap();
         let picture = svg(&input, &given.names, None, 24);
         assert!(opened_and_closed(&picture));

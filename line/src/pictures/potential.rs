@@ -7,9 +7,9 @@ use reference::table::{domains, rights};
 
 use crate::kernels::boundary::{potential, PROVED};
 use crate::kernels::lent::table_left;
-use crate::line::explain::{call_in_words, counted, rights_in_words};
-use crate::line::names::Names;
 use crate::pictures::chains::{actors, in_a_row};
+use crate::text::explain::{call_in_words, counted, rights_in_words};
+use crate::text::names::Names;
 
 /// For so many pairs of domains the calls are printed, and so many of them each.
 const PAIRS_MAX: usize = 40;

@@ -4,7 +4,7 @@
 use reference::table::domains;
 
 use crate::kernels::boundary::{who_reaches, PROVED};
-use crate::line::names::Names;
+use crate::text::names::Names;
 
 /// The holders' words of an accepted table: those that a run of an empty list leaves.
 pub fn holders_of(table: &[u32]) -> Vec<u32> {

@@ -3,8 +3,6 @@
 
 use reference::table::{domains, endpoints, owner, rights};
 
-use crate::line::explain::{counted, NAMED_RIGHTS};
-use crate::line::names::Names;
 use crate::pictures::arrows::{Arrow, Layout, LETTER, TEXT_HIGH};
 use crate::pictures::geometry::{Point, Rect};
 use crate::pictures::groups::groups;
@@ -14,6 +12,8 @@ use crate::pictures::parts::{
 };
 use crate::pictures::places::{Places, DISC};
 use crate::pictures::svg::Drawing;
+use crate::text::explain::{counted, NAMED_RIGHTS};
+use crate::text::names::Names;
 
 /// The least height of a row of the grid, and the most.
 const ROW: f64 = 28.0;

@@ -1,7 +1,7 @@
 //! The end-of-shift sheet as a page to read and to print, out of what `linetotals` prints.
 
-use crate::line::explain::{is_code, meaning};
-use crate::line::names::Names;
+use crate::text::explain::{is_code, meaning};
+use crate::text::names::Names;
 
 /// What one endpoint's line says.
 struct Row {

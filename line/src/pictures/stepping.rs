@@ -9,12 +9,12 @@ use reference::table::{
 use reference::words::{bits, content};
 use reference::Call;
 
-use crate::line::explain::{call_on_table, letters};
-use crate::line::input::Input;
-use crate::line::names::Names;
-use crate::line::reasons::Replay;
 use crate::reports::json::Json;
 use crate::reports::page::escaped;
+use crate::text::explain::{call_on_table, letters};
+use crate::text::input::Input;
+use crate::text::names::Names;
+use crate::text::reasons::Replay;
 
 /// The most calls that a page has.
 pub const CALLS_MAX: usize = 500;

@@ -7,8 +7,8 @@ use reference::table::{capacity, domains, endpoints, lost, owner, rights_place, 
 use crate::judging::checklist::Verdicts;
 use crate::judging::counts;
 use crate::kernels::lent::Ran;
-use crate::line::input::Input;
-use crate::line::names::Names;
+use crate::text::input::Input;
+use crate::text::names::Names;
 
 /// A report: what was judged, on what, and what came of it.
 pub struct Report<'a> {

@@ -29,7 +29,7 @@ pub fn json(report: &Report) -> String {
         ("failed", number(summary.failed)),
         ("not_shown", number(summary.not_shown)),
         ("made", Json::text(&report.made)),
-        ("bench", Json::text(VERSION)),
+        ("program", Json::text(VERSION)),
         ("kit", Json::text_or_null(kit())),
         ("archive", archive()),
         ("input", input(report)),
@@ -169,9 +169,10 @@ fn rights(cell: &RightsCell) -> Json {
 #[cfg(test)]
 mod tests {
     use super::*;
-    use crate::kernels::boundary::{kernel, PROVED};
-    use crate::line::names::Names;
+    use crate::kernels::boundary::PROVED;
+    use crate::kernels::faulty;
     use crate::reports::facts::tests::{verdicts, with_report};
+    use crate::text::names::Names;
 
     #[test]
     fn every_fact_has_its_field() {
@@ -197,9 +198,8 @@ mod tests {
 
     #[test]
     fn a_failure_is_told_in_its_line() {
-        let wrong = kernel("wrong-newest-first").unwrap();
-        let text = with_report(&verdicts(wrong), &Names::none(), json);
-        assert!(text.contains("\"verdict\": \"failed\",\n  \"passed\": 2,\n  \"failed\": 2,"));
+        let text = with_report(&verdicts(faulty::WRONG_ANSWER), &Names::none(), json);
+        assert!(text.contains("\"verdict\": \"failed\",\n  \"passed\": 1,\n  \"failed\": 3,"));
         assert!(text.contains("\"failure\": \"exercise list "), "{text}");
     }
 }

@@ -149,8 +149,8 @@ td.changed { outline: .6mm solid #111; outline-offset: -.6mm; font-weight: 700; 
 #[cfg(test)]
 mod tests {
     use super::*;
-    use crate::line::input::Input;
-    use crate::line::names::Names;
+    use crate::text::input::Input;
+    use crate::text::names::Names;
 
     #[test]
     fn the_size_of_a_picture_is_read_off_it() {

@@ -4,12 +4,12 @@ use reference::table::{domains, right, rights_place, RIGHTS};
 use reference::words::{content, kind};
 
 use crate::judging::checklist::{Line, Verdicts};
-use crate::line::explain::{letters, rights_in_words};
 use crate::reports::facts::{
     archive_logic, kit, EndpointRow, Judged, Report, RightsCell, Source, ARCHIVE, ARCHIVE_SHA256,
     VERSION,
 };
 use crate::reports::page::escaped;
+use crate::text::explain::{letters, rights_in_words};
 
 /// The two grids of rights stand side by side up to so many domains.
 const SIDE_BY_SIDE: usize = 6;
@@ -104,19 +104,19 @@ fn judged(judged: &Judged) -> [(&'static str, String); 3] {
 
 /// What this program is built of.
 fn built() -> [(&'static str, String); 4] {
-    let unknown = "not known: no kit was at hand when this bench was built";
+    let unknown = "not known: no kit was at hand when this program was built";
     let logic = match archive_logic() {
         Some(logic) => format!("<br>it names the logic<br>{}", hash(logic)),
         None => "<br>it names no logic".to_string(),
     };
-    let told = format!("{}, linked into this bench{logic}", escaped(ARCHIVE));
+    let told = format!("{}, linked into this program{logic}", escaped(ARCHIVE));
     [
         ("Archive", told),
         ("SHA-256 of the archive", hash(ARCHIVE_SHA256)),
         (
             "Kit",
             match kit() {
-                Some(kit) => format!("{}, at hand when this bench was built", escaped(kit)),
+                Some(kit) => format!("{}, at hand when this program was built", escaped(kit)),
                 None => unknown.to_string(),
             },
         ),
@@ -350,11 +350,12 @@ pub fn signatures() -> String {
 mod tests {
     use super::*;
     use crate::judging::checklist::Checklist;
-    use crate::kernels::boundary::{kernel, PROVED};
-    use crate::line::input::Input;
-    use crate::line::names::Names;
+    use crate::kernels::boundary::PROVED;
+    use crate::kernels::faulty;
     use crate::reports::facts::tests::{verdicts, with_report, with_report_on};
     use crate::reports::page::page;
+    use crate::text::input::Input;
+    use crate::text::names::Names;
 
     fn has(page: &str, parts: &[&str]) {
         for part in parts {
@@ -435,9 +436,8 @@ mod tests {
 
     #[test]
     fn a_failure_stands_on_top() {
-        let wrong = kernel("wrong-newest-first").unwrap();
-        let page = with_report(&verdicts(wrong), &Names::none(), page);
-        let top = "<div class=\"result failed\">FAILED: line 2 (answers and table), line 3";
+        let page = with_report(&verdicts(faulty::WRONG_ANSWER), &Names::none(), page);
+        let top = "<div class=\"result failed\">FAILED: line 1 (refusals), line 2 (answers and";
         let (top, line) = (page.find(top), page.find("<pre>exercise list "));
         assert!(top.is_some() && top < line, "{page}");
     }

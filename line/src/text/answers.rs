@@ -3,7 +3,7 @@
 use reference::entry::ANSWER_WORDS;
 use reference::words::{bits, word};
 
-use crate::line::text::lines_of;
+use crate::text::hex::lines_of;
 
 /// Returns the lines that linerun prints for a run that is not refused.
 pub fn write(answers: &[u32]) -> String {
@@ -84,7 +84,7 @@ fn numbers<const N: usize>(line: &str, names: [&str; N]) -> Option<[u64; N]> {
 #[cfg(test)]
 mod tests {
     use super::*;
-    use crate::line::input::Input;
+    use crate::text::input::Input;
     use reference::cut;
     use reference::example::PRINTED;
     use reference::generate::{self, Rng};

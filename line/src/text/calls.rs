@@ -1,16 +1,16 @@
 //! Calls as text, one a line, the way they are written by hand, and back.
 //!
-//! The help of `bench write` says what a text looks like. A call goes to the writer and
+//! The help of `balkwizu write` says what a text looks like. A call goes to the writer and
 //! comes from the reader as five words: its kind, its caller, A, B, and C or what the
 //! second word holds.
 
 use reference::calls::{GRANT, LOOK_UP, MY_ENDPOINTS, MY_RIGHTS, RECEIVE, REMOVE, REVOKE, SEND};
 use reference::writer::COLUMNS;
 
-use crate::line::explain::NAMED_RIGHTS;
-use crate::line::names::Names;
-use crate::line::sentences;
-use crate::line::text::lines_of;
+use crate::text::explain::NAMED_RIGHTS;
+use crate::text::hex::lines_of;
+use crate::text::names::Names;
+use crate::text::sentences;
 
 /// A kind of call: its name and number, and its fields in the order that they are
 /// written in.
@@ -52,7 +52,7 @@ impl Field {
             "rights" => "a set is written as SEND+GRANT, of SEND, GRANT, REMOVE and REVOKE".into(),
             "name" | "message" => "17 or 0x11 is one".into(),
             _ if names.is_empty() => {
-                "17 or 0x11 is one; `bench write --table INPUT` takes the names that INPUT gives"
+                "17 or 0x11 is one; `balkwizu write --table INPUT` takes the names that INPUT gives"
                     .into()
             }
             "endpoint" => names.no_endpoint(typed),
@@ -175,9 +175,9 @@ fn meant(word: &str) -> &'static str {
     let digits = word.len() == 8 && word.bytes().all(|digit| digit.is_ascii_hexdigit());
     match word {
         "table" | "list" | "domain" | "endpoint" => {
-            "; a text of words is given with --table, and read by `bench read`"
+            "; a text of words is given with --table, and read by `balkwizu read`"
         }
-        _ if digits => "; of words `bench read` makes the calls",
+        _ if digits => "; of words `balkwizu read` makes the calls",
         _ => "",
     }
 }

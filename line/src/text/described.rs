@@ -1,7 +1,7 @@
 //! A line described in words: its domains, endpoints, rights and calls by their names, and
 //! back.
 //!
-//! The help of `bench words` says what such a text looks like.
+//! The help of `balkwizu words` says what such a text looks like.
 
 mod heads;
 
@@ -11,13 +11,13 @@ use reference::table::{endpoint_words, SLOTS_PLACE};
 use reference::words::content;
 use reference::writer::to_columns;
 
-use crate::line::calls::{self, Typed};
-use crate::line::explain::rights_in_words;
-use crate::line::given::Given;
-use crate::line::input::Input;
-use crate::line::names::Names;
-use crate::line::sentences::{self, items_of, Item, Wrong};
-use crate::line::text::{lines_of, words_of};
+use crate::text::calls::{self, Typed};
+use crate::text::explain::rights_in_words;
+use crate::text::given::Given;
+use crate::text::hex::{lines_of, words_of};
+use crate::text::input::Input;
+use crate::text::names::Names;
+use crate::text::sentences::{self, items_of, Item, Wrong};
 use heads::Heads;
 
 /// What is wrong with a text: where, and what.
@@ -73,7 +73,7 @@ impl Reader {
         }
     }
 
-    /// Takes in a call: a sentence, a line as `bench write` takes it, or words as they stand.
+    /// Takes in a call: a sentence, a line as `balkwizu write` takes it, or words as they stand.
     fn call(&mut self, line: usize, items: &[Item]) -> Result<(), Wrong> {
         let first = items[0].column;
         let words = match items[0].text {

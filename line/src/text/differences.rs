@@ -7,8 +7,8 @@ use reference::table::{
 };
 use reference::words::content;
 
-use crate::line::explain::{counted, rights_in_words};
-use crate::line::names::Names;
+use crate::text::explain::{counted, rights_in_words};
+use crate::text::names::Names;
 
 /// How a part of the card differs from the plan.
 #[derive(Debug, Clone, Copy, PartialEq, Eq)]
@@ -165,8 +165,8 @@ pub fn summary(all: &[Difference]) -> String {
 #[cfg(test)]
 mod tests {
     use super::*;
-    use crate::line::described;
-    use crate::line::input::Input;
+    use crate::text::described;
+    use crate::text::input::Input;
     use reference::check_table;
     use reference::generate::{self, Rng};
 

@@ -5,10 +5,10 @@ use std::path::Path;
 
 use reference::words::from_bytes;
 
-use crate::line::answers;
-use crate::line::explain::counted;
-use crate::line::input::{read_typed, typed, Input};
-use crate::line::text::{self, items_of, lines_of, words_of};
+use crate::text::answers;
+use crate::text::explain::counted;
+use crate::text::hex::{self, items_of, lines_of, words_of};
+use crate::text::input::{read_typed, typed, Input};
 
 /// The most words that are taken: far more than the answers of the longest list, so that
 /// a few repetitions too many can't take all memory.
@@ -56,13 +56,13 @@ fn words_of_text(text: &str) -> Result<Vec<u32>, String> {
     }
 }
 
-/// Whether a text has a table by its label, as `bench run` writes it.
+/// Whether a text has a table by its label, as `balkwizu run` writes it.
 fn has_table(text: &str) -> bool {
     lines_of(text).any(|(_, line)| items_of(line).first() == Some(&"table"))
 }
 
 fn table_of(text: &str) -> Result<Vec<u32>, String> {
-    let given = text::read(text)?;
+    let given = hex::read(text)?;
     Input::parse(&given.bytes)
         .map(|input| input.table)
         .map_err(|(_, why)| why)

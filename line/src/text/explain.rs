@@ -14,7 +14,7 @@ use reference::table::{
 };
 use reference::words::{bits, content, kind, EMPTY_SLOT};
 
-use crate::line::names::Names;
+use crate::text::names::Names;
 
 /// A number of things, as `1 call` or `3 calls`.
 pub fn counted<N: Display + PartialEq + From<u8>>(number: N, one: &str) -> String {

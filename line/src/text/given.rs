@@ -2,11 +2,11 @@
 
 use std::path::Path;
 
-use crate::line::explain::table_fault;
-use crate::line::input::{read_text, read_typed, shown, typed, Input, INPUT_BYTES_MAX};
-use crate::line::names::Names;
-use crate::line::text;
 use crate::output::complain;
+use crate::text::explain::table_fault;
+use crate::text::hex;
+use crate::text::input::{read_text, read_typed, shown, typed, Input, INPUT_BYTES_MAX};
+use crate::text::names::Names;
 
 /// What was given: the bytes for `linerun`, and the names that a text gives with them.
 #[derive(Debug, Clone, PartialEq, Eq)]
@@ -32,19 +32,19 @@ impl Given {
 /// A file that is an input of linerun or a text that stands for one (`-` is standard
 /// input).
 pub fn read_given(path: impl AsRef<Path>) -> Result<Given, String> {
-    read_by(path.as_ref(), text::read)
+    read_by(path.as_ref(), hex::read)
 }
 
 /// The same of a file whose list may stand without a table where it is a text.
 pub fn read_given_list(path: impl AsRef<Path>) -> Result<Given, String> {
-    read_by(path.as_ref(), text::read_list)
+    read_by(path.as_ref(), hex::read_list)
 }
 
 /// The names that a text gives, alone or with words.
 pub fn read_names(path: impl AsRef<Path>) -> Result<Names, String> {
     let path = path.as_ref();
     let text = read_text(path, "a text with lines as `endpoint 1 drives` is wanted")?;
-    text::read_names(&text).map_err(|why| format!("{}: {why}", shown(path)))
+    hex::read_names(&text).map_err(|why| format!("{}: {why}", shown(path)))
 }
 
 fn read_by(path: &Path, read: fn(&str) -> Result<Given, String>) -> Result<Given, String> {
@@ -77,12 +77,12 @@ mod tests {
 
     #[test]
     fn a_text_stands_for_its_input() {
-        let given = read_given(example("example.txt")).unwrap();
+        let given = read_given(example("../balkwizu/examples/worked.txt")).unwrap();
         assert_eq!(given.bytes, Input::example().to_bytes());
         assert!(given.names.is_empty());
         let wrong = read_given(example("Cargo.toml")).unwrap_err();
         assert!(wrong.contains("Cargo.toml: line 1: "), "{wrong}");
-        let list = read_given_list(example("example.txt")).unwrap();
+        let list = read_given_list(example("../balkwizu/examples/worked.txt")).unwrap();
         assert_eq!(list, given);
     }
 

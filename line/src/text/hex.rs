@@ -1,13 +1,13 @@
 //! Words as text, the way document 01 writes them, and back. A text that describes the line
 //! is read by [`described`].
 //!
-//! The help of `bench words` says what a text looks like.
+//! The help of `balkwizu words` says what a text looks like.
 
-use crate::line::calls;
-use crate::line::described;
-use crate::line::given::Given;
-use crate::line::input::Input;
-use crate::line::names::{Names, Namings};
+use crate::text::calls;
+use crate::text::described;
+use crate::text::given::Given;
+use crate::text::input::Input;
+use crate::text::names::{Names, Namings};
 
 /// How often a word may be repeated: once for each word of a list that is too long.
 const REPEATS_MAX: usize = 4097;
@@ -275,10 +275,10 @@ pub fn words_of(item: &str) -> Result<Vec<u32>, String> {
 /// What else a text may be that has this in the place of a word.
 fn meant(item: &str) -> &'static str {
     match item {
-        _ if calls::is_kind(item) => "; of a text of calls `bench write` makes the words",
-        "hand" | "turn" | "turns" => "; a text of turns is for `bench turns`",
+        _ if calls::is_kind(item) => "; of a text of calls `balkwizu write` makes the words",
+        "hand" | "turn" | "turns" => "; a text of turns is for `balkwizu turns`",
         "calls" => "; a line that linerun prints is no word either",
-        _ if item.contains('.') => "; only `bench turns` takes a file's name here",
+        _ if item.contains('.') => "; only `balkwizu turns` takes a file's name here",
         _ => "",
     }
 }

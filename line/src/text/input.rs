@@ -1,4 +1,4 @@
-//! What `linerun` reads, and the bench with it: little-endian words, the table's
+//! What `linerun` reads, and the programs with it: little-endian words, the table's
 //! length in words, the table, then the list to the end.
 
 use std::fs::File;
@@ -9,8 +9,8 @@ use reference::calls::{cut, LIST_WORDS_MAX};
 use reference::table::{domains, endpoints, TABLE_WORDS_MAX};
 use reference::words::{from_bytes, to_bytes};
 
-use crate::line::explain::counted;
 use crate::output;
+use crate::text::explain::counted;
 
 /// The most bytes that can matter: the length word, the longest table, and a list
 /// that is one word too long.
@@ -32,10 +32,10 @@ impl Input {
     pub fn parse(bytes: &[u8]) -> Result<Input, (u32, String)> {
         Input::of_words(bytes).map_err(|(code, mut why)| {
             if is_text(bytes) {
-                why += "; is this a text? `bench words FILE` makes the input of it";
+                why += "; is this a text? `balkwizu words FILE` makes the input of it";
             } else if is_table_alone(bytes) {
-                why += "; are these a table's bytes alone? `bench words --back --image FILE` \
-                        makes a text of them, and `bench repair --image` takes them";
+                why += "; are these a table's bytes alone? `balkwizu words --back --image FILE` \
+                        makes a text of them, and `balkwizu repair --image` takes them";
             }
             (code, why)
         })
@@ -106,7 +106,7 @@ impl Input {
     }
 }
 
-#[cfg(test)]
+#[cfg(any(test, feature = "trials"))]
 impl Input {
     /// Document 01's table T and list L.
     pub fn example() -> Input {
@@ -271,7 +271,7 @@ mod tests {
     fn a_text_is_told_from_an_input() {
         let why = |bytes: &[u8]| Input::parse(bytes).unwrap_err().1;
         let typed = why(b"table\n10000302 # \xC3\xA9\r\n");
-        assert!(typed.ends_with("is this a text? `bench words FILE` makes the input of it"));
+        assert!(typed.ends_with("is this a text? `balkwizu words FILE` makes the input of it"));
         assert!(why(b"ab").contains("is this a text?"));
         assert!(!why(b"").contains("text"));
         assert!(!why(b"table\0").contains("text"));

@@ -4,7 +4,7 @@
 use std::collections::BTreeMap;
 use std::fmt::Display;
 
-use crate::line::calls::number;
+use crate::text::calls::number;
 use reference::table::{domains, endpoints, header_is_right, DOMAINS_MAX, ENDPOINTS_MAX};
 
 /// The most characters of a name.
@@ -347,7 +347,7 @@ fn check_name(name: &str) -> Result<(), String> {
     }
 }
 
-#[cfg(test)]
+#[cfg(any(test, feature = "trials"))]
 impl Names {
     /// The names that a text gives, for tests.
     pub fn given(text: &str) -> Names {

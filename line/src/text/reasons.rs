@@ -9,8 +9,8 @@ use reference::table::{domains, endpoints, name, owner, right, rights, waiting};
 use reference::words::bits;
 use reference::Call;
 
-use crate::line::explain::{answer_on_table, call_on_table, rights_in_words};
-use crate::line::names::Names;
+use crate::text::explain::{answer_on_table, call_on_table, rights_in_words};
+use crate::text::names::Names;
 
 /// A list that is played on a table, and what its calls took away.
 pub struct Replay<'a> {
@@ -287,8 +287,8 @@ fn row(all: &[String]) -> String {
 #[cfg(test)]
 mod tests {
     use super::*;
-    use crate::line::described;
-    use crate::line::input::Input;
+    use crate::text::described;
+    use crate::text::input::Input;
     use reference::cut;
     use reference::generate::{self, Rng};
 

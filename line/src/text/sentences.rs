@@ -3,11 +3,11 @@
 use reference::calls::{GRANT, LOOK_UP, MY_ENDPOINTS, MY_RIGHTS, RECEIVE, REMOVE, REVOKE, SEND};
 use reference::writer::COLUMNS;
 
-use crate::line::calls::{
+use crate::text::calls::{
     Field, Typed, CALLER, ENDPOINT, HOLDER, MESSAGE, NAME, RECIPIENT, RIGHTS, TARGET,
 };
-use crate::line::explain::rights_in_words;
-use crate::line::names::Names;
+use crate::text::explain::rights_in_words;
+use crate::text::names::Names;
 
 /// A word of a text with its place, the column counted from 1.
 #[derive(Debug, Clone, Copy, PartialEq, Eq)]

@@ -1,11 +1,11 @@
 //! Turns as text, the way they are written by hand: a table, then what happens, one event
 //! a line.
 //!
-//! The help of `bench turns` says what a text looks like.
+//! The help of `balkwizu turns` says what a text looks like.
 
-use crate::line::calls::{self, number, Typed};
-use crate::line::names::{Names, Namings};
-use crate::line::text::{self, lines_of, words_of};
+use crate::text::calls::{self, number, Typed};
+use crate::text::hex::{self, lines_of, words_of};
+use crate::text::names::{Names, Namings};
 
 /// The most turns that one line can ask for, and all lines together: each is told, so that
 /// a few lines too many can't take all memory.
@@ -121,7 +121,7 @@ fn read_table(head: &[&str]) -> Result<Table, String> {
         ["table" | "table:", file] if alone && words_of(file).is_err() => {
             Ok(Table::File(file.to_string()))
         }
-        _ => Ok(Table::Here(text::read(&head.join("\n"))?.bytes)),
+        _ => Ok(Table::Here(hex::read(&head.join("\n"))?.bytes)),
     }
 }
 

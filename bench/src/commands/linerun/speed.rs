@@ -9,9 +9,9 @@ use reference::words::to_bytes;
 
 use crate::cases::workloads::{by_kind, workloads};
 use crate::judging::program_times::{compiled, level, median, timed, Plain};
-use crate::line::explain::counted;
-use crate::output::{self, say};
-use crate::scratch::Folder;
+use line::output::{self, say};
+use line::scratch::Folder;
+use line::text::explain::counted;
 
 /// The plain C program.
 const PLAIN: Plain = ("plain_linerun", include_str!("../../../c/plain_linerun.c"));

@@ -12,9 +12,9 @@ use reference::words::to_bytes;
 use crate::cases::sheets::long_inputs;
 use crate::cases::workloads::Workload;
 use crate::judging::program_times::{compiled, level, median, timed, Plain};
-use crate::line::explain::counted;
-use crate::output::{self, say};
-use crate::scratch::Folder;
+use line::output::{self, say};
+use line::scratch::Folder;
+use line::text::explain::counted;
 
 /// The plain C program.
 const PLAIN: Plain = ("plain_totals", include_str!("../../../c/plain_totals.c"));

@@ -11,7 +11,7 @@ use crate::judging::runs::try_runs;
 use crate::judging::tally::Tally;
 use crate::judging::trying::Draws;
 use crate::kernels::boundary::Kernel;
-use crate::line::explain::counted;
+use crate::text::explain::counted;
 
 /// What no run from outside can show.
 pub const BLACK_BOX: &str =
@@ -110,10 +110,10 @@ pub fn with_limits(mut verdicts: Verdicts) -> Verdicts {
 mod tests {
     use super::*;
     use crate::judging::checklist::Checklist;
-    use crate::kernels::boundary::{kernel, PROVED};
+    use crate::kernels::boundary::PROVED;
     use crate::kernels::faulty;
-    use crate::line::input::Input;
-    use crate::line::names::Names;
+    use crate::text::input::Input;
+    use crate::text::names::Names;
 
     fn own(kernel: Kernel) -> Verdicts {
         Checklist::new(kernel, &Input::example(), &Names::none(), 1).verdicts()
@@ -137,7 +137,7 @@ mod tests {
 
     #[test]
     fn a_kernel_that_failed_is_tried_no_further() {
-        let wrong = kernel("wrong-newest-first").unwrap();
+        let wrong = faulty::WRONG_ANSWER;
         let verdicts = with_drills(&wrong, &Input::example().table, own(wrong));
         let before = own(wrong);
         for (line, before) in verdicts.lines.iter().zip(&before.lines) {

@@ -12,8 +12,8 @@ use crate::judging::compare::{difference, isolation, separate_run, Struck};
 use crate::judging::counts;
 use crate::judging::variants::Variant;
 use crate::kernels::lent::Ran;
-use crate::line::explain::counted;
-use crate::line::names::Names;
+use crate::text::explain::counted;
+use crate::text::names::Names;
 
 /// So many domains are told by their names where each may have to be told for each.
 const DOMAINS_BY_NAME: usize = 6;

@@ -18,10 +18,10 @@ use crate::judging::variants::{case_of, damaged_tables, scrambled_lists, Variant
 use crate::kernels::boundary::Kernel;
 use crate::kernels::child;
 use crate::kernels::lent::{Failure, Ran, Stopped};
-use crate::line::explain::counted;
-use crate::line::input::Input;
-use crate::line::names::Names;
 use crate::progress::Progress;
+use crate::text::explain::counted;
+use crate::text::input::Input;
+use crate::text::names::Names;
 
 /// What the list that was handed in is called.
 pub const THIS_LIST: &str = "this list";

@@ -18,9 +18,9 @@ use crate::judging::checklist::shown;
 use crate::judging::compare::{answer_as_printed, isolation, separate_run, Struck};
 use crate::kernels::boundary::Outcome;
 use crate::kernels::lent::Ran;
-use crate::line::explain::{call_in_words, counted, place_in_words};
-use crate::line::input::Input;
-use crate::line::names::Names;
+use crate::text::explain::{call_in_words, counted, place_in_words};
+use crate::text::input::Input;
+use crate::text::names::Names;
 
 /// What a run on a real line left, beside the separate machine's run.
 pub struct ReadBack {
@@ -216,11 +216,7 @@ fn same_length(what: &str, read: &[u32], right: &[u32]) -> Result<(), String> {
 #[cfg(test)]
 mod tests {
     use super::*;
-    use crate::judging::exercise::{exercise, Planned};
     use crate::judging::variants::case_of;
-    use crate::kernels::boundary::{Kernel, WRONG};
-    use crate::kernels::child;
-    use crate::line::text;
 
     /// The right words of an input.
     fn words(input: &Input) -> (Vec<u32>, Vec<u32>) {
@@ -352,51 +348,6 @@ mod tests {
         for judged in judged(&input, &[], &left) {
             let found = judged.expect("nothing fails");
             assert!(!found.shown && !found.not_shown.is_empty());
-        }
-    }
-
-    /// What a kernel leaves of a list, as it would be read back, where it comes to an end.
-    fn left_by(kernel: &Kernel, case: &Case) -> Option<ReadBack> {
-        let ran = child::run(kernel, case, child::LIMIT).ok()?;
-        let answers = ran.answers[..ANSWER_WORDS * cut(&case.list).len()].to_vec();
-        let input = Input {
-            table: case.table.clone(),
-            list: case.list.clone(),
-        };
-        let read = ReadBack::new(&input, &Names::none(), answers, ran.table);
-        read.ok().filter(|_| ran.outcome.code == 0)
-    }
-
-    /// Faults that no words read back of an accepted table's run tell: of the entry and the
-    /// check, of words that aren't read back, and of the count that a run returns; and those
-    /// that the drills are for, which no list of the exercise need show.
-    fn is_unseen(name: &str) -> bool {
-        let entry = [
-            "code-1-", "code-2-", "code-3-", "code-4-", "code-5-", "code-6-",
-        ];
-        let unread = ["holders-", "faults", "loops", "one-call-too-many"];
-        let drilled = [
-            "order-", "bits-", "partial-", "size-", "history-", "beyond-", "drill-",
-        ];
-        let name = name.strip_prefix("wrong-").unwrap();
-        let all = entry.iter().chain(&unread).chain(&drilled);
-        all.into_iter().any(|start| name.starts_with(start))
-    }
-
-    #[test]
-    fn the_words_of_every_wrong_kernel_fail() {
-        // On the worked example nobody can revoke.
-        let four = text::read(include_str!("../../../examples/four.txt")).unwrap();
-        let four = Input::parse(&four.bytes).unwrap();
-        let mut lists = exercise(&Input::example().table);
-        lists.extend(exercise(&four.table));
-        let seen = WRONG.iter().filter(|kernel| !is_unseen(kernel.name));
-        for kernel in seen {
-            let fails = |list: &Planned| {
-                let read = left_by(kernel, &list.case);
-                read.is_some_and(|read| read.answers_and_table().is_err())
-            };
-            assert!(lists.iter().any(fails), "{}", kernel.name);
         }
     }
 }

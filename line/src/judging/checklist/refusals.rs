@@ -23,8 +23,8 @@ use crate::judging::variants::{case_of, entry_edges, Variant};
 use crate::kernels::boundary::Kernel;
 use crate::kernels::child;
 use crate::kernels::lent::{Failure, Ran};
-use crate::line::explain::counted;
-use crate::line::input::Input;
+use crate::text::explain::counted;
+use crate::text::input::Input;
 
 /// How often runs ended with each number.
 #[derive(Default)]

@@ -5,8 +5,8 @@ use reference::table::{capacity, domains, endpoints};
 
 use crate::judging::checklist::basis::{AtEndpoint, Basis, OnTarget, CALL_CODES};
 use crate::judging::compare::Struck;
-use crate::line::explain::meaning;
-use crate::line::names::Names;
+use crate::text::explain::meaning;
+use crate::text::names::Names;
 
 /// Things that aren't shown, each in words.
 pub type NotShown = Vec<String>;

@@ -14,7 +14,7 @@ use super::{Given, Tables, Take};
 use crate::cases::Case;
 use crate::judging::exercise::planner::{grant, look_up, receive, send};
 use crate::judging::variants::case_of;
-use crate::line::input::Input;
+use crate::text::input::Input;
 
 /// So many calls a list has that has several.
 const SEVERAL: usize = 5;

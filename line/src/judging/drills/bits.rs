@@ -16,7 +16,7 @@ use crate::judging::exercise::planner::{
     grant, look_up, my_endpoints, my_rights, receive, remove, revoke, send,
 };
 use crate::judging::variants::case_of;
-use crate::line::input::Input;
+use crate::text::input::Input;
 
 /// So many calls of one kind have each of their bits turned on one table.
 const OF_A_KIND: usize = 6;

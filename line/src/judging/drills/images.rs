@@ -11,7 +11,7 @@ use crate::cases::Case;
 use crate::judging::images::rows;
 use crate::kernels::boundary::Kernel;
 use crate::kernels::lent::Edges;
-use crate::line::explain::counted;
+use crate::text::explain::counted;
 
 /// An image: the first bytes, so many, of what is there from a place on; and the code that
 /// it is checked with.

@@ -379,7 +379,7 @@ fn stops(kernel: &Kernel, tables: &Tables, board: &Board, stopped: Stopped) -> W
 #[cfg(test)]
 mod tests {
     use super::*;
-    use crate::kernels::boundary::{kernel, Kernel, PROVED};
+    use crate::kernels::boundary::{Kernel, PROVED};
     use crate::kernels::faulty;
     use reference::example::TABLE_T;
 
@@ -400,7 +400,7 @@ mod tests {
     }
 
     #[test]
-    fn what_differs_is_cut_down_and_is_a_refusal_where_it_is_one() {
+    fn what_differs_is_cut_down() {
         let answer = wrong(faulty::WRONG_ANSWER);
         assert!(
             answer.word.contains("in every combination, case 0: "),
@@ -412,17 +412,6 @@ mod tests {
             "{}",
             answer.word
         );
-        let order = wrong(kernel("wrong-order-20-before-13").unwrap());
-        assert!(order.refusal.unwrap().contains("code 20 data 0 0"));
-        let far = wrong(kernel("wrong-size-far-behind").unwrap());
-        assert!(far.refusal.is_none() && far.word.contains("belongs to no call"));
-    }
-
-    #[test]
-    fn what_shows_only_after_other_runs_is_reported_as_such() {
-        let kept = wrong(kernel("wrong-history-grants-of-two-bytes").unwrap());
-        let told = "Only after the runs before it in one process";
-        assert!(kept.word.contains(told), "{}", kept.word);
     }
 
     #[test]

@@ -10,7 +10,7 @@ use super::{Given, Tables, Take};
 use crate::cases::Case;
 use crate::judging::exercise::planner::{grant, look_up, my_endpoints, my_rights, receive, send};
 use crate::judging::variants::case_of;
-use crate::line::input::Input;
+use crate::text::input::Input;
 
 /// So many runs there are at least.
 pub const RUNS: usize = 100_000;

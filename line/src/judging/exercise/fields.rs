@@ -13,7 +13,7 @@ use super::planner::{
 };
 use crate::judging::variants::case_of;
 use crate::kernels::lent::OUTSIDE;
-use crate::line::input::Input;
+use crate::text::input::Input;
 
 /// The bits of a first word below its caller's, which are the fields A, B and C.
 const FIELD_BITS: u32 = 22;

@@ -52,8 +52,8 @@ fn at_the_top(table: &[u32]) -> Vec<Planned> {
 mod tests {
     use super::*;
     use crate::judging::checklist::basis::{Basis, CALL_CODES};
-    use crate::line::input::Input;
-    use crate::line::text;
+    use crate::text::hex;
+    use crate::text::input::Input;
     use reference::calls::{cut, LIST_WORDS_MAX, SEND};
     use reference::example::TABLE_T;
     use reference::generate::{table, table_of, Rng};
@@ -131,7 +131,7 @@ mod tests {
 
     #[test]
     fn on_the_ring_every_right_is_granted_given_up_and_taken_back() {
-        let ring = text::read(include_str!("../../../examples/ring.txt"))
+        let ring = hex::read(include_str!("../../../../balkwizu/examples/ring.txt"))
             .unwrap()
             .bytes;
         let ring = Input::parse(&ring).unwrap().table;

@@ -14,7 +14,7 @@ use reference::words::{word, CONTENT_MAX};
 
 use crate::cases::Case;
 use crate::judging::variants::case_of;
-use crate::line::input::Input;
+use crate::text::input::Input;
 
 /// A list of the exercise with the table that it starts on, and what it goes through.
 pub struct Planned {

@@ -7,9 +7,9 @@ use reference::table::{
 use reference::words::{word, CONTENT_MAX, EMPTY_SLOT};
 
 use super::Problem;
-use crate::line::calls::{number, set_of};
-use crate::line::names::Names;
-use crate::line::sentences::{Item, Wrong};
+use crate::text::calls::{number, set_of};
+use crate::text::names::Names;
+use crate::text::sentences::{Item, Wrong};
 
 /// What may stand behind an endpoint's name.
 const FIELDS: [&str; 5] = ["owner", "capacity", "name", "lost", "waiting"];

@@ -1,0 +1,118 @@
+//! `balkwizu`: plans, checks, commissions and repairs a line's table, and plays its lists. Its
+//! help says what each command is for.
+
+mod commands;
+
+use std::process::ExitCode;
+
+use commands::{
+    codes, commission, compare, influence, read, repair, run, shift, show, turns, words, write,
+};
+use line::program::{Command, Program};
+
+const FOOT: &str = "\
+FILE is an input of linerun: little-endian words, the table's length in words,
+the table, then the list to the end; or a text of hexadecimal words that stands
+for one, as `words` takes it, which may give names. For `write` and `turns` it
+is a text of theirs. `-` is standard input, and behind `--` are no options.
+
+Exit status: 0 all is well; 1 something failed, was refused or differs; 2 bad
+usage, a file that can't be read or written, or a closed pipe: nobody reads what
+is printed any more.
+";
+
+const PROGRAM: Program = Program {
+    name: "balkwizu",
+    purpose: "a line's table and its list of calls, planned, tried and commissioned",
+    foot: FOOT,
+    commands: &[
+        Command {
+            name: "commission",
+            given: "FILE",
+            purpose: "the checklist on an input of linerun",
+            help: commission::HELP,
+            act: commission::command,
+        },
+        Command {
+            name: "show",
+            given: "FILE",
+            purpose: "an input in words and as a picture",
+            help: show::HELP,
+            act: show::command,
+        },
+        Command {
+            name: "run",
+            given: "FILE",
+            purpose: "the list on the kernel, and what it leaves in files",
+            help: run::HELP,
+            act: run::command,
+        },
+        Command {
+            name: "compare",
+            given: "CARD PLAN",
+            purpose: "what differs between two tables, in words",
+            help: compare::HELP,
+            act: compare::command,
+        },
+        Command {
+            name: "influence",
+            given: "FILE",
+            purpose: "whose calls count for whom, in this list and ever",
+            help: influence::HELP,
+            act: influence::command,
+        },
+        Command {
+            name: "repair",
+            given: "IN OUT",
+            purpose: "a damaged table made fit again",
+            help: repair::HELP,
+            act: repair::command,
+        },
+        Command {
+            name: "write",
+            given: "FILE",
+            purpose: "calls as text, one a line, to a list",
+            help: write::HELP,
+            act: write::command,
+        },
+        Command {
+            name: "read",
+            given: "FILE",
+            purpose: "a list to calls as text",
+            help: read::HELP,
+            act: read::command,
+        },
+        Command {
+            name: "words",
+            given: "FILE",
+            purpose: "hexadecimal words as text to an input, and back",
+            help: words::HELP,
+            act: words::command,
+        },
+        Command {
+            name: "turns",
+            given: "FILE",
+            purpose: "handing in and turns as text, played and told",
+            help: turns::HELP,
+            act: turns::command,
+        },
+        Command {
+            name: "shift",
+            given: "LINE..",
+            purpose: "the end-of-shift sheet of a line, as a page",
+            help: shift::HELP,
+            act: shift::command,
+        },
+        Command {
+            name: "codes",
+            given: "[CODE]..",
+            purpose: "what the numbers of refusals mean",
+            help: codes::HELP,
+            act: codes::command,
+        },
+    ],
+};
+
+fn main() -> ExitCode {
+    PROGRAM.main()
+}
