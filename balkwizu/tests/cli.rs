@@ -1376,12 +1376,12 @@ fn the_lists_of_a_shift_are_joined_and_a_sheet_says_what_was_refused() {
     assert!(bytes.contains("is no sheet of linetotals"), "{bytes}");
 }
 
-/// The commands of docs/WAYS.md that need nothing but the program, one after another in a
+/// The commands of docs/USERS.md that need nothing but the program, one after another in a
 /// folder that has the repository's examples and nothing else.
 #[test]
 fn the_ways_are_walked() {
     let root = PathBuf::from(env!("CARGO_MANIFEST_DIR")).join("..");
-    let ways = fs::read_to_string(root.join("docs/WAYS.md")).expect("the ways are there");
+    let ways = fs::read_to_string(root.join("docs/USERS.md")).expect("the ways are there");
     let folder = PathBuf::from(TOOL.path("ways"));
     let _ = fs::remove_dir_all(&folder);
     fs::create_dir_all(folder.join("build")).expect("a folder can be made");
