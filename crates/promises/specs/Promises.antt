@@ -129,9 +129,9 @@ pub record Promises : Type 0 where
   -- ---- Document 01, "Where each number is checked": a refusal is by its number and changes nothing
   -- What the entry leaves keeps the promise of a run, for arbitrary words.
   pub D-entry-keeps : machine-promise.EveryEntryKeeps
-  -- A step is a run of one call: where a list is one call and the answer space has three words, what the kernel's step leaves is
-  -- what any function leaves that keeps the promise of a run: the same code, table and holders, and, where neither is refused, the
-  -- same answer.
+  -- A step is a run of one call: where a list is one call and the answer space has at least three words, what the kernel's step
+  -- leaves is what any function leaves that keeps the promise of a run: the same code, table and holders, and, where neither is
+  -- refused, the same answer.
   pub D-step-is-run : kernel-step-is-run.StepIsRun
   -- "The first failing place decides": on any table, a call is refused by a code exactly where the first place of its kind that
   -- refuses, in the order of the paper's table, has it, and where none refuses the decision is its row.
@@ -208,7 +208,7 @@ pub record Promises : Type 0 where
   pub N-refusing-held-fails : machine-shortcuts.RefusingHeldFails
   -- "Several pass the striking rule alone": a kernel that refuses every call and leaves its table passes it,
   pub N-refusing-all-passes : machine-shortcuts.RefusingAllPasses
-  -- but its answers are not the machine's, so that no function which keeps the promise of a run gives them.
+  -- but its answers are not always the machine's, which the promise of a run requires.
   pub N-refusing-all-differs : machine-shortcuts.RefusingAllDiffers
   -- ---- Document 01, "Conditions of acceptance", 2: a kernel "inventing lost or call counts" is rejected
   -- Each call is answered by three words, on any table.
@@ -272,8 +272,8 @@ pub record Promises : Type 0 where
   pub W-written-as-it-came : writer-theory-list-claims.WrittenAsItCame
   -- A call needs at least one word, so more than 4,096 calls are more than 4,096 words.
   pub W-each-wants-a-word : writer-theory-list-claims.EachWantsAWord
-  -- "30 .. with the number from 0 of the first such call; then 31, with 0, if the words would pass 4,096 or the lent space"; where the
-  -- code is 0, the number is that of the words written.
+  -- "30 .. with the number from 0 of the first such call; then 31, with 0, if the words would pass 4,096 or the lent space", or if more
+  -- than 4,096 calls are counted, of which an array may lack some; where the code is 0, the number is that of the words written.
   pub W-codes : writer-theory-list-claims.EveryWritingCode
   -- "Neither writes a word", and what is written "leaves the space past" it.
   pub W-others-left : writer-theory-list-claims.OthersLeft
@@ -336,8 +336,9 @@ pub record Promises : Type 0 where
   pub E-sheet-rows : linetotals-theory-examples.EveryRow linetotals-theory-examples.rows
   -- Rows: a byte after 65,536 empty lists gives 1, and after 65,535 it is a length word cut short.
   pub E-most-lists : linetotals-theory-examples.EveryMostListsRow
-  -- "The table as linerun takes it, then each list with its length in words before it": such an input, with up to 65,536 lists, gives
-  -- just this table and these lists, and for an accepted table their totals are printed with code 0.
+  -- "The table as linerun takes it, then each list with its length in words before it": such an input, with up to 641 table words and
+  -- up to 65,536 lists of up to 4,096 words, gives just this table and these lists, and for an accepted table their totals are printed
+  -- with code 0.
   pub E-input-read : linetotals-theory-claims.EveryInputRead
   -- "A refused list changes nothing and ends the sheet with the totals so far and its number": "1, before 7, for a length word above
   -- 4,096 or any length word after the 65,536th; 7 also for a list or length word cut short", of every such input and what follows it.
@@ -524,7 +525,7 @@ pub record Promises : Type 0 where
   -- "33 .. then 34 if the lent list is too short": 33 exactly where mending is not enough, then 34 exactly where the list has fewer than
   -- two words for each word that mending alters, else 0.
   pub K-codes : repair-theory-repair-claims.EveryRepairCode
-  -- A list of twice as many words as the table has is enough.
+  -- For a table that can be mended a list of twice as many words as it has is enough.
   pub K-twice-is-enough : repair-theory-repair-claims.TwiceTheTableIsEnough
   -- A sound table stays and yields an empty list.
   pub K-sound-table-stays : repair-theory-repair-claims.EverySoundTableStays

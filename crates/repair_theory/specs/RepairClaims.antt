@@ -46,7 +46,7 @@ pub record CodeExactly (t : List ℕ) (size code : ℕ) : Type 0 where
 abbrev pub EveryRepairCode : Type 0
 EveryRepairCode = (t list : List ℕ) (r : PromisedRepair t list) → CodeExactly t (length list) (r .code)
 
--- Twice as many words as the table has are enough.
+-- For a table that can be mended, twice as many words as it has are enough.
 abbrev pub TwiceTheTableIsEnough : Type 0
 TwiceTheTableIsEnough =
     (t list : List ℕ) (r : PromisedRepair t list)

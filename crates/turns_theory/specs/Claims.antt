@@ -130,7 +130,7 @@ StartsAfterLast =
     (begun .place ≡ 0) × ((l : Layer) (es : List Event) → layerAfter l es .turns .place ≡ placeAfter (l .turns .place) (turnsOf l es))
 
 -- Words of served calls are used again: once a call of a domain is served, the domain can hand in one that is no longer, however
--- many words it had pending.
+-- many of its 16 words were pending.
 abbrev pub ServedWordsUsedAgain : Type 0
 ServedWordsUsedAgain =
     (l : Layer) (space lent d : ℕ) (c : Call) (ws : List ℕ)
