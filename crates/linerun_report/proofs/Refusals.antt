@@ -1,11 +1,11 @@
--- Refusals of `linerun` for every input. What is refused prints the first line alone. A list one word too long gives code 1,
--- whatever is wrong with the table and whatever follows. Code 6 never comes, since there is space for every list that is short
--- enough, and a word for each domain of a table that is accepted. Assumes nothing.
-use Prim.Native.Nat.{ℕ, _-_, _*_, _≤_, _<_}
+-- Refusals of `linerun` for every input. What is refused prints the first line alone. Each of the conditions of 7 gives it. A list one
+-- word too long gives code 1, whatever is wrong with the table and whatever follows. Code 6 never comes, since there is space for
+-- every list that is short enough, and a word for each domain of a table that is accepted. Assumes nothing.
+use Prim.Native.Nat.{ℕ, _-_, _*_, _%_, _≤_, _<_}
 use mathlib.Core.Path.{_≡_, refl, sym, ap, _∙_}
-use mathlib.Core.Bool.{not}
+use mathlib.Core.Bool.{true, not, or-true}
 use mathlib.Core.List.{List, _++_, append-nil}
-use borrow.Author.Tests.{eqb-true, ltb-true, ltb-false}
+use borrow.Author.Tests.{eqb-true, ltb-true, ltb-false, lt-ltb, ne-eqb}
 use native.Mathlib.Nat.{min-eq-left}
 use native.Mathlib.Omega.{arith}
 use lib.Dec.{eqb, ltb}
@@ -18,16 +18,18 @@ use Rattle.machine.proofs.Bools.{cond-elim}
 use Rattle.machine.proofs.Split.{split-few}
 use Rattle.machine.proofs.Accepted.{accepted-counts}
 use Rattle.machine.proofs.Promise.{entry-code, entry-refused, code-long, holders-fit}
-use Rattle.input_words.specs.Bytes.{wordsOf}
-use Rattle.input_words.specs.TableInput.{tableOf, afterTable}
-use Rattle.input_words.proofs.WordLaws.{length-wordsOf}
+use Rattle.input_words.specs.Bytes.{wordsOf, bytesOf}
+use Rattle.input_words.specs.TableInput.{noTable, tableOf, afterTable}
+use Rattle.input_words.proofs.WordLaws.{length-wordsOf, length-bytesOf}
+use Rattle.input_words.proofs.GivenTable.{given-rest}
 use Rattle.input_words.proofs.TableLaws.{Whole, whole, whole-table, whole-more, afterTable-more}
-use Rattle.linerun_input.specs.Input.{listWordsRead, listOf, unreadable, wanted}
+use Rattle.linerun_input.specs.Input.{listWordsRead, listOf, leftOver, unreadable, wanted}
 use Rattle.linerun_text.specs.Lines.{firstLine}
 use Rattle.linerun_report.specs.Lines.{callLines, allLines}
 use Rattle.linerun_report.specs.Report.{answerSpace, holdersSpace, outcomeLines, answered, report}
-use Rattle.linerun_report.specs.Report.{EveryLongListStops, EveryRefusedAlone, NeverSix}
+use Rattle.linerun_report.specs.Report.{EveryLongListStops, SevenByTable, EverySeven, EveryRefusedAlone, NeverSix}
 use Rattle.linerun_input.proofs.InputLaws.{no-left-over}
+use Rattle.linerun_report.proofs.ReportLaws.{answered-unreadable}
 
 -- where there are as many list words as are read, the list is one word too long
 long : (bytes : List ℕ) → 4 * listWordsRead ≤ length (afterTable bytes) → longestList < length (listOf bytes)
@@ -81,6 +83,37 @@ refused-alone bytes code = no-calls (answered bytes answerSpace) (calls code)
         (eqb (entryCode t (listOf bytes) (length answerSpace) (length (holdersSpace t))) 0)
         (λ _ some. absurd (omega arith))
         (λ _ _. refl))
+
+-- an input that is refused by 7
+unreadable-seven : (bytes : List ℕ) → unreadable bytes ≡ true → report bytes ≡ firstLine 0 7
+unfolding report outcomeLines allLines callLines refusal
+unreadable-seven bytes e = simp (answered-unreadable bytes answerSpace e, append-nil)
+
+seven-by-table : (bytes : List ℕ) → SevenByTable bytes
+unfolding unreadable noTable
+seven-by-table bytes =
+    record {
+      noWord = λ short. unreadable-seven bytes (simp (lt-ltb _ _ short));
+      longTable = λ _ long. unreadable-seven bytes (simp (lt-ltb _ _ long, or-true));
+      cutTable = λ _ cut. unreadable-seven bytes (simp (lt-ltb _ _ cut, or-true));
+    }
+
+bytes-left-over : (ws tail : List ℕ) → length ws ≤ longestList → 0 < length tail → length tail < 4 → leftOver (bytesOf ws ++ tail) ≡ true
+unfolding leftOver
+bytes-left-over ws tail short some few =
+    let all = length-append (bytesOf ws) tail in
+    let words = length-bytesOf ws in
+    let within : length (bytesOf ws ++ tail) < 4 * listWordsRead = omega (arith, all, words) in
+    let over : length (bytesOf ws ++ tail) % 4 ≡ 0 → ⊥ = λ z. omega (arith, all, words) in
+    simp (lt-ltb _ _ within, ne-eqb _ _ over)
+
+pub every-seven : EverySeven
+unfolding unreadable
+every-seven = (
+  seven-by-table,
+  λ t ws tail given short some few.
+      unreadable-seven _ (simp (given-rest t (bytesOf ws ++ tail) given, bytes-left-over ws tail short some few, or-true)),
+)
 
 -- Code 6 comes from an answer space that is too small, and one with three words for each word of the longest list never is.
 no-table-six : (t : List ℕ) → tableCode t ≡ 6 → ⊥

@@ -7,7 +7,7 @@ use lib.ListN.{length, replicate}
 use Rattle.machine.specs.Table.{domains}
 use Rattle.machine.specs.Entry.{Outcome, refusal, entry, longestList}
 use Rattle.input_words.specs.Bytes.{bytesOf, AllWords}
-use Rattle.input_words.specs.TableInput.{noTable, tableOf, afterTable, withLength, TableWords}
+use Rattle.input_words.specs.TableInput.{longestTable, tableLength, tableEnd, noTable, tableOf, afterTable, withLength, TableWords}
 use Rattle.linerun_input.specs.Input.{listWordsRead, listOf, unreadable, wanted}
 use Rattle.linerun_text.specs.Lines.{firstLine}
 use Rattle.linerun_report.specs.Lines.{allLines}
@@ -57,6 +57,19 @@ pub record StopsByOne (bytes : List ℕ) : Type 0 where
 
 abbrev pub EveryLongListStops : Type 0
 EveryLongListStops = (bytes : List ℕ) → noTable bytes ≡ false → 4 * listWordsRead ≤ length (afterTable bytes) → StopsByOne bytes
+
+-- `linerun` refuses by 7 an input under 4 bytes, one whose first word is above 641, and one in which fewer words than that follow.
+pub record SevenByTable (bytes : List ℕ) : Type 0 where
+  pub noWord : length bytes < 4 → report bytes ≡ firstLine 0 7
+  pub longTable : 4 ≤ length bytes → longestTable < tableLength bytes → report bytes ≡ firstLine 0 7
+  pub cutTable : 4 ≤ length bytes → length bytes < tableEnd bytes → report bytes ≡ firstLine 0 7
+
+-- Besides these, bytes that are left after the last whole word of a list that isn't longer than a list may be.
+abbrev pub EverySeven : Type 0
+EverySeven =
+    ((bytes : List ℕ) → SevenByTable bytes)
+    × ((t ws tail : List ℕ) → TableWords t → length ws ≤ longestList → 0 < length tail → length tail < 4
+    → report (withLength t ++ (bytesOf ws ++ tail)) ≡ firstLine 0 7)
 
 -- What is refused prints the first line alone, with its code and no calls.
 abbrev pub EveryRefusedAlone : Type 0

@@ -234,6 +234,9 @@ pub record Promises : Type 0 where
   pub P-linerun-words : linerun-report-report.EveryWordsReported
   -- "It stops reading at list word 4,097 and gives 1, whatever bytes follow or are left over", and whatever is wrong with the table.
   pub P-linerun-long-list : linerun-report-report.EveryLongListStops
+  -- "Input under 4 bytes; its first word above 641; fewer words than that follow; or bytes left after the last whole word", of a list
+  -- of up to 4,096 words on a table of up to 641: each of these prints the first line only, with 7.
+  pub P-linerun-seven : linerun-report-report.EverySeven
   -- "An entry refusal or 7 prints the first line only, with N 0".
   pub P-linerun-refused-alone : linerun-report-report.EveryRefusedAlone
   -- Before linerun reads anything, its stage is that after no byte.

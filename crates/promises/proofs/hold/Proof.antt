@@ -155,6 +155,7 @@ returns c =
       P-decimal = text-decimal-claim-proofs.every-decimal;
       P-linerun-words = linerun-report-report-laws-proofs.words-reported;
       P-linerun-long-list = linerun-report-refusals-proofs.long-list-stops;
+      P-linerun-seven = linerun-report-refusals-proofs.every-seven;
       P-linerun-refused-alone = linerun-report-refusals-proofs.refused-alone;
       P-linerun-start = linerun-input-stage-laws-proofs.starts;
       P-linerun-step = linerun-input-stage-laws-proofs.steps;
