@@ -566,7 +566,8 @@ pub record Promises : Type 0 where
   -- A state stored to an accepted table is the accepted table that it represents, where both have the same unchanging parts.
   pub L-stored : working-load-claims.StoreIsTable
   -- Loaded once and stored once, at the end: a state loaded from an accepted table, on which any calls run one after the other with no
-  -- table beside it, gives the machine's answers and, stored after them, the machine's table.
+  -- table beside it, gives the machine's answers and, stored after them, the machine's table; the table's holders, noted after each
+  -- of these calls by what the state says, are those of the table at the end.
   pub L-loaded-once : working-load-run.EveryRunLoadedOnce
   -- Rows loaded from an accepted table represent its rights.
   pub L-rights-loaded : rights-matrix-theory-claims.LoadedRights

@@ -1,5 +1,5 @@
--- A run of calls on a loaded state simulates the machine's, call by call, and what is stored at its end is the machine's table
--- (specs/Run). Assumes nothing.
+-- A run of calls on a loaded state simulates the machine's, call by call, what is stored at its end is the machine's table, and the
+-- holders noted beside it are that table's (specs/Run). Assumes nothing.
 use Prim.Native.Nat.{ℕ}
 use mathlib.Core.Path.{_≡_, refl, sym, ap, ap₂, subst₂, _∙_}
 use mathlib.Core.List.{List, [], _∷_, _++_}
@@ -8,12 +8,14 @@ use Rattle.machine.specs.Check.{Accepted}
 use Rattle.machine.specs.Call.{Call, first, Call.one, Call.two}
 use Rattle.machine.specs.Machine.{Decision, decide, step, answer}
 use Rattle.machine.specs.Run as machine
+use Rattle.machine.specs.Holders.{holdersOf}
 use Rattle.machine.proofs.Step.{stays-accepted, run-accepted}
 use Rattle.calls.specs.Split.{callOf}
+use Rattle.holders.specs.Noted.{holdersAfter}
 use Rattle.working_theory.specs.State.{answerFrom, effectFrom, rowsAfter, ringsAfter}
 use Rattle.working_theory.specs.Represents.{Represents}
 use Rattle.working_theory.proofs.Simulation.{calls-simulate}
-use Rattle.working_load.specs.Run.{Unchanging, Parts, secondOf, decidedOn, partsAfter, runOn, answersOn, loadedOnce, loadedParts, EveryRunLoadedOnce}
+use Rattle.working_load.specs.Run.{Unchanging, Parts, secondOf, decidedOn, partsAfter, runOn, answersOn, holdersOn, loadedOnce, loadedParts, EveryRunLoadedOnce}
 use Rattle.working_load.proofs.Loaded.{loaded-represents}
 use Rattle.working_load.proofs.Stored.{store-is-table}
 
@@ -52,6 +54,13 @@ module _ (u : Unchanging) where
         (ap (step t) (call-of c))
         (x .state)
 
+    noted : holdersAfter (holdersOf t) (effectFrom (p .rows) (p .rings) (decidedOn u p c)) ≡ holdersOf (step t c)
+    noted =
+        let x = calls-simulate (first c) (secondOf c) (u .n) (u .m) (p .rows) (p .rings) (u .names) (u .hints) (u .owned) t a s in
+        ap (λ (d : Decision). holdersAfter (holdersOf t) (effectFrom (p .rows) (p .rings) d)) (same ∙ ap (decide t) (sym (call-of c)))
+        ∙ x .holders
+        ∙ ap (λ (d : Call). holdersOf (step t d)) (call-of c)
+
   -- calls, one after the other
   all-answered : (cs : List Call) (p : Parts) (t : List ℕ) → Accepted t → PartsRepresent p t → answersOn u p cs ≡ machine.answers t cs
   unfolding answersOn machine.answers
@@ -64,6 +73,13 @@ module _ (u : Unchanging) where
   all-represent [] p t a s = s
   all-represent (c ∷ cs) p t a s = all-represent cs (partsAfter u p c) (step t c) (stays-accepted t c a .accepted) (represents p c t a s)
 
+  all-noted : (cs : List Call) (p : Parts) (t : List ℕ) → Accepted t → PartsRepresent p t → holdersOn u p (holdersOf t) cs ≡ holdersOf (machine.run t cs)
+  unfolding holdersOn machine.run
+  all-noted [] p t a s = refl
+  all-noted (c ∷ cs) p t a s =
+      ap (λ (kept : List ℕ). holdersOn u (partsAfter u p c) kept cs) (noted p c t a s)
+      ∙ all-noted cs (partsAfter u p c) (step t c) (stays-accepted t c a .accepted) (represents p c t a s)
+
 pub every-run-loaded-once : EveryRunLoadedOnce
 every-run-loaded-once t hints cs a =
     let u = loadedOnce t hints in
@@ -72,4 +88,5 @@ every-run-loaded-once t hints cs a =
       all-answered u cs p t a (loaded-represents t a),
       store-is-table t (machine.run t cs) (domains t) (endpoints t) (runOn u p cs .rows) (runOn u p cs .rings) (u .names) (u .owned) a
           (kept .accepted) (kept .frame) (all-represent u cs p t a (loaded-represents t a)),
+      all-noted u cs p t a (loaded-represents t a),
     )

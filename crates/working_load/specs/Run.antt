@@ -8,10 +8,12 @@ use Rattle.machine.specs.Check.{Accepted}
 use Rattle.machine.specs.Call.{Call, first, Call.one, Call.two}
 use Rattle.machine.specs.Machine.{Decision}
 use Rattle.machine.specs.Run as machine
+use Rattle.machine.specs.Holders.{holdersOf}
 use Rattle.calls.specs.declared.split.Second.{Second}
 use Rattle.calls.specs.declared.split.Second.the-variants.{Nothing, Word}
 use Rattle.calls.specs.Decode.{decoded}
 use Rattle.rules.specs.Access.{decidedBy}
+use Rattle.holders.specs.Noted.{holdersAfter}
 use Rattle.rights_matrix.specs.Rows.{rowsOf, storedRows}
 use Rattle.working_theory.specs.State.{namedIn, readingFrom, answerFrom, effectFrom, rowsAfter, ringsAfter}
 use Rattle.working_load.specs.Layout.{ringsOf, storedQueues, namesOf, ownedOf}
@@ -55,6 +57,12 @@ answersOn u p [] = []
 answersOn u p (c ∷ cs) =
     answerFrom (first c) (p .rows) (p .rings) (u .owned) (decidedOn u p c) ++ answersOn u (partsAfter u p c) cs
 
+-- the holders after calls, of those that were kept before them, noted call by call by what the state says
+unfoldable pub holdersOn : Unchanging → Parts → List ℕ → List Call → List ℕ
+holdersOn u p kept [] = kept
+holdersOn u p kept (c ∷ cs) =
+    holdersOn u (partsAfter u p c) (holdersAfter kept (effectFrom (p .rows) (p .rings) (decidedOn u p c))) cs
+
 -- what is loaded from a table, with any hints
 abbrev pub loadedOnce : List ℕ → List ℕ → Unchanging
 loadedOnce t hints =
@@ -73,11 +81,12 @@ loadedParts t = record { rows = rowsOf (domains t) t; rings = ringsOf (domains t
 abbrev pub storedOnce : List ℕ → Parts → List ℕ
 storedOnce t p = storedQueues (domains t) (endpoints t) (p .rings) (storedRows (domains t) (p .rows) t)
 
--- From an accepted table, of any calls, however many, and whatever the hints: the answers are the machine's, and what is stored at the
--- end is the machine's table.
+-- From an accepted table, of any calls, however many, and whatever the hints: the answers are the machine's, what is stored at the end
+-- is the machine's table, and the table's holders, noted call by call, are those of the table at the end.
 abbrev pub EveryRunLoadedOnce : Type 0
 EveryRunLoadedOnce =
     (t hints : List ℕ) (cs : List Call)
     → Accepted t
     → (answersOn (loadedOnce t hints) (loadedParts t) cs ≡ machine.answers t cs)
     × (storedOnce t (runOn (loadedOnce t hints) (loadedParts t) cs) ≡ machine.run t cs)
+    × (holdersOn (loadedOnce t hints) (loadedParts t) (holdersOf t) cs ≡ holdersOf (machine.run t cs))
