@@ -620,6 +620,12 @@ pub record Promises : Type 0 where
   -- With none pending on an accepted table, a turn that is lent n holders has code 0 and leaves table, pending calls and place as
   -- they are, however few words are lent for an answer.
   pub M-idle : turns-theory-claims.IdleChangesNothing
+  -- "35 if the domain isn't below n; then 36 if the words aren't exactly one call, no stray, with that caller; then 37 if its pending
+  -- words would pass 16", 2 to 5 before these, and 0 where none of this is so: of arbitrary words as a table.
+  pub M-hand-in-codes : turns-theory-claims.EveryHandInCode
+  -- "2 to 5 first, on a turn as well, and there then 6" if other than n holders are lent; then 6 too if a call is to be served and fewer
+  -- than three words are lent for its answer, and 0 where none of this is so: likewise.
+  pub M-turn-codes : turns-theory-claims.EveryTurnCode
   -- A refused event leaves table, pending calls and place as they are.
   pub M-refused : turns-theory-claims.RefusedChangesNothing
   -- The beginning is proper: each domain has at most 16 words pending, calls of its own, and an index that is no domain has none.

@@ -3,4 +3,5 @@ pub mod Pending
 pub mod Histories
 pub mod InTime
 pub mod Order
+pub mod Codes
 pub mod Examples

@@ -4,15 +4,16 @@ use Prim.Native.Nat.{ℕ, _+_, _*_, _<_, _≤_}
 use mathlib.Core.Path.{_≡_}
 use mathlib.Core.Bool.{Bool, true, false, cond, _&&_, _||_}
 use mathlib.Core.List.{List, [], _∷_, _++_}
+use mathlib.Core.Option.{some}
 use lib.Dec.{eqb, leb, ltb}
 use lib.ListN.{length, getD, take, drop}
 use Rattle.machine.specs.Table.{domains}
-use Rattle.machine.specs.Check.{Accepted}
+use Rattle.machine.specs.Check.{tableCode, Accepted}
 use Rattle.machine.specs.Call.{Call, callerOf, split}
 use Rattle.machine.specs.Run as machine
 use Rattle.machine.specs.DomainSet.{calledBy}
 use Rattle.machine.specs.RunClaims.{Noninterference}
-use Rattle.turns_theory.specs.Turns.{Turns, Turn, begun, mostPending, isOneOf, turnOf, width, Turn.idle, Turn.serves}
+use Rattle.turns_theory.specs.Turns.{Turns, Turn, begun, mostPending, isOneOf, handInCode, turnOf, turnCode, width, Turn.idle, Turn.serves}
 use Rattle.turns_theory.specs.History.{Layer, Event, eventCode, nextTurn, afterEvent, layerAfter, turnsOf, answersServed, holdersThroughout, handedInBy, served, servedOf, holdersEach, Event.handIn, Event.turn}
 
 -- Among the turns ts, one of the first m serves the call c of the domain d, and those before it serve of d the calls earlier, which
@@ -99,6 +100,36 @@ IdleChangesNothing =
 -- A refused event changes nothing.
 abbrev pub RefusedChangesNothing : Type 0
 RefusedChangesNothing = (l : Layer) (e : Event) → eqb (eventCode l e) 0 ≡ false → afterEvent l e ≡ l
+
+-- ---- the codes
+
+-- The words are exactly one call, which is no stray, and its caller is d.
+pub record OneCallOf (d : ℕ) (ws : List ℕ) : Type 0 where
+  pub call : Call
+  pub one : split ws ≡ call ∷ []
+  pub calledBy : callerOf call ≡ some d
+
+-- What each code of handing in is for. The conditions are those of the paper in its order, and one of them holds.
+pub record HandInCode (t : List ℕ) (s : Turns) (d : ℕ) (ws : List ℕ) : Type 0 where
+  pub badTable : (Accepted t → ⊥) → handInCode t s d ws ≡ tableCode t
+  pub unknownDomain : Accepted t → domains t ≤ d → handInCode t s d ws ≡ 35
+  pub notOneCall : Accepted t → d < domains t → (OneCallOf d ws → ⊥) → handInCode t s d ws ≡ 36
+  pub noSpace : Accepted t → d < domains t → OneCallOf d ws → mostPending < length (s .pending d) + length ws → handInCode t s d ws ≡ 37
+  pub passed : Accepted t → d < domains t → OneCallOf d ws → length (s .pending d) + length ws ≤ mostPending → handInCode t s d ws ≡ 0
+
+abbrev pub EveryHandInCode : Type 0
+EveryHandInCode = (t : List ℕ) (s : Turns) (d : ℕ) (ws : List ℕ) → HandInCode t s d ws
+
+-- What each code of a turn is for, with so many words lent for its answer and for the holders: likewise.
+pub record TurnCode (t : List ℕ) (s : Turns) (space lent : ℕ) : Type 0 where
+  pub badTable : (Accepted t → ⊥) → turnCode t s space lent ≡ tableCode t
+  pub otherHolders : Accepted t → (lent ≡ domains t → ⊥) → turnCode t s space lent ≡ 6
+  pub noSpace : Accepted t → lent ≡ domains t → (d : ℕ) (c : Call) → turnOf (domains t) s ≡ serves d c → space < 3 → turnCode t s space lent ≡ 6
+  pub serving : Accepted t → lent ≡ domains t → (d : ℕ) (c : Call) → turnOf (domains t) s ≡ serves d c → 3 ≤ space → turnCode t s space lent ≡ 0
+  pub idling : Accepted t → lent ≡ domains t → turnOf (domains t) s ≡ idle → turnCode t s space lent ≡ 0
+
+abbrev pub EveryTurnCode : Type 0
+EveryTurnCode = (t : List ℕ) (s : Turns) (space lent : ℕ) → TurnCode t s space lent
 
 -- ---- the order of turns
 

@@ -74,6 +74,7 @@ use Rattle.turns.proofs.OneEvent as turns-one-event-proofs
 use Rattle.turns.proofs.Service as turns-service-proofs
 use Rattle.turns.proofs.WordHistory as turns-word-history-proofs
 use Rattle.turns_state.proofs.Examples as turns-state-examples-proofs
+use Rattle.turns_theory.proofs.Codes as turns-theory-codes-proofs
 use Rattle.turns_theory.proofs.Examples as turns-theory-examples-proofs
 use Rattle.turns_theory.proofs.Histories as turns-theory-histories-proofs
 use Rattle.turns_theory.proofs.InTime as turns-theory-in-time-proofs
@@ -319,6 +320,8 @@ returns c =
       M-words-used-again = turns-theory-order-proofs.served-words-used-again;
       M-idle-exactly = turns-theory-histories-proofs.idle-exactly;
       M-idle = turns-theory-histories-proofs.idle-changes-nothing;
+      M-hand-in-codes = turns-theory-codes-proofs.hand-in-code;
+      M-turn-codes = turns-theory-codes-proofs.turn-code;
       M-refused = turns-theory-histories-proofs.refused-changes-nothing;
       M-begins-proper = turns-theory-histories-proofs.begins-proper;
       M-stays-proper = turns-theory-histories-proofs.stays-proper;
