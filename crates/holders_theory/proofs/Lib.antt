@@ -3,5 +3,6 @@ pub mod OneBit
 pub mod Filled
 pub mod Kept
 pub mod Reported
+pub mod AskCode
 pub mod EveryCall
 pub mod Examples

@@ -61,6 +61,19 @@ HoldersAfterEveryCall =
     → RunPromise t ws space holders 0 calls answers end kept
     → HoldersAfterCalls t ws (length space) (length holders) k
 
+-- Which words can be asked about d: 32, with the empty set, if they aren't 1 to 16, one has a bit from their count on, or d isn't
+-- below it; else 0.
+pub record AskCode (ws : List ℕ) (d : ℕ) : Type 0 where
+  pub noWords : length ws ≡ 0 → askCode ws d ≡ 32
+  pub tooMany : 16 < length ws → askCode ws d ≡ 32
+  pub otherBit : (v h : ℕ) → v < length ws → length ws ≤ h → hasBit (getD ws v 0) h ≡ true → askCode ws d ≡ 32
+  pub otherDomain : length ws ≤ d → askCode ws d ≡ 32
+  pub passed : length ws ≤ 16 → d < length ws → ((v h : ℕ) → v < length ws → length ws ≤ h → hasBit (getD ws v 0) h ≡ false) → askCode ws d ≡ 0
+  pub empty : askCode ws d ≡ 32 → asked ws d ≡ 0
+
+abbrev pub EveryAskCode : Type 0
+EveryAskCode = (ws : List ℕ) (d : ℕ) → AskCode ws d
+
 -- Of any words that can be asked, the set holds exactly those that have a chain in these words, d itself among them.
 abbrev pub AskedExactly : Type 0
 AskedExactly =

@@ -392,6 +392,9 @@ pub record Promises : Type 0 where
   -- "From the start of a list that runs, and after every call": after the first k calls of a list that ran, for any k, the holders
   -- as they are defined to be noted call by call are those of the table then, and a run of these calls alone runs and leaves them.
   pub H-after-every-call : holders-theory-claims.HoldersAfterEveryCall
+  -- "32, with no domain named, if the words aren't 1 to 16, one has a bit from their number on, or the domain isn't below it", and 0 if
+  -- none of this is so: of any words.
+  pub H-codes : holders-theory-claims.EveryAskCode
   -- Of any words that can be asked, the set holds exactly those that have a chain in these words, d itself among them.
   pub H-asked-exactly : holders-theory-claims.AskedExactly
   -- The holders of an accepted table can be asked about each of its domains: the set holds exactly those that have a chain of

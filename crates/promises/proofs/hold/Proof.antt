@@ -1,4 +1,5 @@
 -- `hold` meets its contract: each field is a theorem of the crate that states the claim. Assumes nothing.
+use Rattle.holders_theory.proofs.AskCode as holders-theory-ask-code-proofs
 use Rattle.holders_theory.proofs.EveryCall as holders-theory-every-call-proofs
 use Rattle.holders_theory.proofs.Examples as holders-theory-examples-proofs
 use Rattle.holders_theory.proofs.Kept as holders-theory-kept-proofs
@@ -223,6 +224,7 @@ returns c =
       H-kept = holders-theory-kept-proofs.holders-kept;
       H-kept-along = holders-theory-kept-proofs.holders-kept-along;
       H-after-every-call = holders-theory-every-call-proofs.holders-after-every-call;
+      H-codes = holders-theory-ask-code-proofs.ask-code;
       H-asked-exactly = holders-theory-reported-proofs.asked-exactly;
       H-asked-now = holders-theory-reported-proofs.asked-now;
       H-asked-after-run = holders-theory-reported-proofs.asked-after-run;
