@@ -102,6 +102,9 @@ pub record Promises : Type 0 where
   pub D-bytes-same-code : table-check-bytes-bytes.SameCode
   -- Bytes left over after the last whole word get 3, unless the first word is broken.
   pub D-bytes-left-over : table-check-bytes-bytes.LeftOver
+  -- "Under four bytes is 2; a length that isn't four times the right one is 3", of any bytes: 2 also where the first word is broken,
+  -- before 3; else the bytes have the code of their words.
+  pub D-bytes-exactly : table-check-bytes-bytes.EveryBytesCode
   -- "The result is 0 or 2 to 5": the check of any bytes has one of these codes.
   pub D-bytes-codes : table-check-bytes-bytes.CodesOfBytes
   -- ---- Document 01, "The table" and "The calls": single words

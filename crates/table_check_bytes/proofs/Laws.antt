@@ -1,12 +1,12 @@
--- What ties the code of a table in bytes to the machine's check of words (specs/Bytes: SameCode, LeftOver), and which codes there are (CodesOfBytes).
--- Assumes nothing.
+-- What ties the code of a table in bytes to the machine's check of words (specs/Bytes: SameCode, LeftOver), what each code is for
+-- (EveryBytesCode), and which codes there are (CodesOfBytes). Assumes nothing.
 use mathlib.Core.Path.{_≡_, refl, sym, ap, _∙_}
 use mathlib.Core.Bool.{Bool, true, false, not, _||_}
 use mathlib.Core.Logic.{_⊎_, _⊎_.inl, _⊎_.inr}
 use mathlib.Core.List.{List}
 use Prim.Native.Nat.{ℕ, _*_, _^_, _<_, _≤_}
 use native.Mathlib.Omega.{arith}
-use borrow.Author.Tests.{eqb-true, eqb-false, eq-eqb, ne-eqb}
+use borrow.Author.Tests.{eqb-true, eqb-false, eq-eqb, ne-eqb, lt-ltb}
 use lib.Dec.{eqb, ltb}
 use lib.ListN.{length, getD}
 use Rattle.machine.specs.Table.{domains, endpoints, lengthFor}
@@ -15,12 +15,22 @@ use Rattle.machine.proofs.Bools.{cond-elim}
 use Rattle.table_check.proofs.Places.{code-2, code-3}
 use Rattle.input_words.specs.Bytes.{wordsOf, bytesOf}
 use Rattle.input_words.proofs.WordLaws.{wordsOf-bytesOf, length-bytesOf}
-use Rattle.table_check_bytes.specs.Bytes.{bytesFor, bytesCode, SameCode, LeftOver, CodesOfBytes}
+use Rattle.table_check_bytes.specs.Bytes.{bytesFor, bytesCode, SameCode, LeftOver, EveryBytesCode, CodesOfBytes}
 use Rattle.table_check_bytes.proofs.Places.{bytes-2, bytes-3, bytes-words}
 
 pub left-over : LeftOver
 unfolding bytesFor
 left-over b h odd = sym (bytes-3 b h (ne-eqb (length b) (bytesFor (wordsOf b)) (λ e. odd (omega arith))))
+
+pub every-bytes-code : EveryBytesCode
+unfolding bytesCode
+every-bytes-code b =
+    record {
+      short = λ l. rw (lt-ltb (length b) 4 l) refl;
+      broken = λ h. sym (bytes-2 b h);
+      otherLength = λ h other. sym (bytes-3 b h (ne-eqb (length b) (bytesFor (wordsOf b)) other));
+      byWords = λ h size. sym (bytes-words b (record { header = h; size = size }));
+    }
 
 pub codes-of-bytes : CodesOfBytes
 unfolding bytesCode tableCode

@@ -1,7 +1,7 @@
 -- A table as little-endian bytes, and the code of its check (document 01, 'Into firmware and onto the bench').
 use Prim.Native.Nat.{ℕ, _*_, _%_, _^_, _<_, _≤_}
 use mathlib.Core.Path.{_≡_}
-use mathlib.Core.Bool.{true, cond, not, _||_}
+use mathlib.Core.Bool.{true, false, cond, not, _||_}
 use mathlib.Core.Logic.{_⊎_}
 use mathlib.Core.List.{List}
 use lib.ListN.{length, getD}
@@ -29,6 +29,17 @@ SameCode = (ws : List ℕ) → ((i : ℕ) → getD ws i 0 < 2 ^ 32) → bytesCod
 -- Bytes left over after the last whole word get 3, unless the first word is broken.
 abbrev pub LeftOver : Type 0
 LeftOver = (bytes : List ℕ) → headerOk (wordsOf bytes) ≡ true → (length bytes % 4 ≡ 0 → ⊥) → bytesCode bytes ≡ 3
+
+-- "Under four bytes is 2; a length that isn't four times the right one is 3" (document 01, 'Into firmware and onto the bench'), of any
+-- bytes: 2 also where the first word is broken, before 3; else the words decide.
+pub record BytesCode (bytes : List ℕ) : Type 0 where
+  pub short : length bytes < 4 → bytesCode bytes ≡ 2
+  pub broken : headerOk (wordsOf bytes) ≡ false → bytesCode bytes ≡ 2
+  pub otherLength : headerOk (wordsOf bytes) ≡ true → (length bytes ≡ bytesFor (wordsOf bytes) → ⊥) → bytesCode bytes ≡ 3
+  pub byWords : headerOk (wordsOf bytes) ≡ true → length bytes ≡ bytesFor (wordsOf bytes) → bytesCode bytes ≡ tableCode (wordsOf bytes)
+
+abbrev pub EveryBytesCode : Type 0
+EveryBytesCode = (bytes : List ℕ) → BytesCode bytes
 
 -- "The result is 0 or 2 to 5" (document 01, 'Into firmware and onto the bench'), of any bytes.
 abbrev pub CodesOfBytes : Type 0

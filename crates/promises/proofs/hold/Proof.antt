@@ -109,6 +109,7 @@ returns c =
       D-limits = machine-limits-rows-proofs.every-bound-row;
       D-bytes-same-code = table-check-bytes-laws-proofs.same-code;
       D-bytes-left-over = table-check-bytes-laws-proofs.left-over;
+      D-bytes-exactly = table-check-bytes-laws-proofs.every-bytes-code;
       D-bytes-codes = table-check-bytes-laws-proofs.codes-of-bytes;
       D-table-short = machine-word-claims-proofs.accepted-short;
       D-split-by-kinds = machine-word-claims-proofs.split-by-kinds;
