@@ -3,6 +3,7 @@
 -- headings of our own. A field's type is the claim as its crate states it. What is claimed of the words that a function leaves is in
 -- its contract. Rows that only a crate's proofs state are not here.
 use mathlib.Core.List.{[], _∷_}
+use Rattle.codes_theory.specs.Claims as codes-theory-claims
 use Rattle.holders_theory.specs.Claims as holders-theory-claims
 use Rattle.holders_theory.specs.Examples as holders-theory-examples
 use Rattle.influence_theory.specs.Claims as influence-theory-claims
@@ -155,8 +156,16 @@ pub record Promises : Type 0 where
   pub D-refusal-codes : machine-call-claims.EveryRefusalCode
   -- The check of any words as a table has the code 0 or one from 2 to 5.
   pub D-table-codes : machine-call-claims.EveryTableCode
+  -- What each of these is for, by the layout of documents 01 and 02 (i), word by word: 2 exactly where the table is empty or word 0
+  -- breaks its layout; then 3 exactly where the length differs; then 4 exactly where a rights word breaks its layout; then 5 exactly
+  -- where an endpoint word does or a name repeats; 0 exactly where none of this is so.
+  pub D-table-exactly : codes-theory-claims.EveryTableCodeExactly
   -- The entry's code is at most 6, for arbitrary words.
   pub D-entry-codes : machine-call-claims.EveryEntryCode
+  -- What each of these is for: 1 exactly where the list is above 4,096 words; then one from 2 to 5 exactly where it is the table's
+  -- code; then 6 exactly where the answer space is under three words a call, or other than one word a domain is lent for the holders;
+  -- 0 exactly where none of this is so.
+  pub D-entry-exactly : codes-theory-claims.EveryEntryCodeExactly
   -- ---- Document 01, "Influence": what a call may alter, and what its answer may depend on
   -- A call on an accepted table leaves an accepted table, with the same unchanging parts.
   pub I-stays-accepted : machine-machine-claims.EveryCallStaysAccepted

@@ -1,4 +1,6 @@
 -- `hold` meets its contract: each field is a theorem of the crate that states the claim. Assumes nothing.
+use Rattle.codes_theory.proofs.EntryCodes as codes-theory-entry-codes-proofs
+use Rattle.codes_theory.proofs.TableCodes as codes-theory-table-codes-proofs
 use Rattle.holders_theory.proofs.AskCode as holders-theory-ask-code-proofs
 use Rattle.holders_theory.proofs.EveryCall as holders-theory-every-call-proofs
 use Rattle.holders_theory.proofs.Examples as holders-theory-examples-proofs
@@ -128,7 +130,9 @@ returns c =
       D-requires = machine-call-claims-proofs.requires;
       D-refusal-codes = machine-call-claims-proofs.refusal-code;
       D-table-codes = machine-call-claims-proofs.table-code;
+      D-table-exactly = codes-theory-table-codes-proofs.table-code-exactly;
       D-entry-codes = machine-call-claims-proofs.entry-code-most;
+      D-entry-exactly = codes-theory-entry-codes-proofs.entry-code-exactly;
       I-stays-accepted = machine-step-proofs.stays-accepted;
       I-run-stays-accepted = machine-step-proofs.run-accepted;
       I-promised-accepted = machine-promise-claims-proofs.promised-accepted;

@@ -1,0 +1,3 @@
+-- The claims hold.
+pub mod TableCodes
+pub mod EntryCodes

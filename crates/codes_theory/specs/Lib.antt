@@ -1,0 +1,3 @@
+-- The layout of a table, and claims about codes.
+pub mod Layout
+pub mod Claims
