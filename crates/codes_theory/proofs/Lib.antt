@@ -1,3 +1,4 @@
 -- The claims hold.
 pub mod TableCodes
 pub mod EntryCodes
+pub mod Space

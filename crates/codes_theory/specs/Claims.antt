@@ -1,14 +1,19 @@
--- What each code of the entry is for, in closed statements about any words. Each is the type of a theorem in proofs/.
+-- What each code of the entry is for, and what a run leaves of the answer space, in closed statements about any words. Each is the
+-- type of a theorem in proofs/.
 use Prim.Native.Nat.{ℕ, _*_, _<_, _≤_}
 use mathlib.Core.Path.{_≡_}
 use mathlib.Core.Logic.{_⊎_, _↔_}
 use mathlib.Core.List.{List}
-use lib.ListN.{length}
+use lib.ListN.{length, take, drop}
 use Rattle.machine.specs.Table.{domains}
 use Rattle.machine.specs.Check.{tableCode, Accepted}
 use Rattle.machine.specs.Call.{split}
+use Rattle.machine.specs.Run as machine
 use Rattle.machine.specs.Entry.{entryCode}
+use Rattle.machine.specs.Promise.{RunPromise}
 use Rattle.codes_theory.specs.Layout.{HeaderHolds, LengthHolds, RightsHold, EndpointsHold}
+
+-- ---- the codes
 
 -- A table's code: 2 exactly where it is empty or word 0 breaks its layout; then 3 exactly where the length differs; then 4 exactly
 -- where a rights word breaks its layout; then 5 exactly where an endpoint word does or a name repeats; 0 exactly where none of this is
@@ -39,3 +44,22 @@ EveryTableCodeExactly = (t : List ℕ) → TableCodeExactly t
 -- The same of the places 1 to 6.
 abbrev pub EveryEntryCodeExactly : Type 0
 EveryEntryCodeExactly = (t ws : List ℕ) (size lent : ℕ) → EntryCodeExactly t ws size lent
+
+-- ---- the answer space
+
+-- What a run of the list ws on the table t with so many calls left of the answer space: three words for each call of the list, which are
+-- the machine's answers, and beyond them the words that were there.
+pub record SpaceLeft (t ws space : List ℕ) (calls : ℕ) (left : List ℕ) : Type 0 where
+  pub counted : calls ≡ length (split ws)
+  pub answered : take (3 * calls) left ≡ machine.answers t (split ws)
+  pub beyond : drop (3 * calls) left ≡ drop (3 * calls) space
+  pub size : length left ≡ length space
+
+-- "Space beyond three words a call is untouched" (document 01, 'The calls'), where the list ran, of the words that any function leaves
+-- which keeps the promise of a run.
+abbrev pub EverySpaceBeyondUntouched : Type 0
+EverySpaceBeyondUntouched =
+    (t ws space holders : List ℕ) (code calls : ℕ) (left end kept : List ℕ)
+    → RunPromise t ws space holders code calls left end kept
+    → code ≡ 0
+    → SpaceLeft t ws space calls left

@@ -130,6 +130,10 @@ pub record Promises : Type 0 where
   -- A look up that no place before 15 refuses finds an endpoint exactly where that has the name, and answers its index; it is
   -- refused by 15 exactly where none has the name, on an accepted table.
   pub D-look-up : machine-answer-claims.EveryLookUp
+  -- "Space beyond three words a call is untouched": where the list ran, of the words that any function leaves which keeps the promise of
+  -- a run. The count is that of the list's calls, the first three words a call are the machine's answers, the rest of the space is as it
+  -- was, and so is its length.
+  pub D-space-beyond : codes-theory-claims.EverySpaceBeyondUntouched
   -- ---- Document 01, "Where each number is checked": a refusal is by its number and changes nothing
   -- What the entry leaves keeps the promise of a run, for arbitrary words.
   pub D-entry-keeps : machine-promise.EveryEntryKeeps

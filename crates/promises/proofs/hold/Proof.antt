@@ -1,5 +1,6 @@
 -- `hold` meets its contract: each field is a theorem of the crate that states the claim. Assumes nothing.
 use Rattle.codes_theory.proofs.EntryCodes as codes-theory-entry-codes-proofs
+use Rattle.codes_theory.proofs.Space as codes-theory-space-proofs
 use Rattle.codes_theory.proofs.TableCodes as codes-theory-table-codes-proofs
 use Rattle.holders_theory.proofs.AskCode as holders-theory-ask-code-proofs
 use Rattle.holders_theory.proofs.EveryCall as holders-theory-every-call-proofs
@@ -121,6 +122,7 @@ returns c =
       D-rights-digits = machine-word-claims-proofs.rights-digits;
       D-answers-by-kind = machine-answer-claims-proofs.unrefused-answer;
       D-look-up = machine-answer-claims-proofs.look-up;
+      D-space-beyond = codes-theory-space-proofs.space-beyond;
       D-entry-keeps = machine-promise-proofs.promise-kept;
       D-step-is-run = kernel-step-is-run-proofs.step-is-run;
       D-refused-exactly = machine-exactly-proofs.refused-exactly;
