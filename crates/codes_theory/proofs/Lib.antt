@@ -2,3 +2,4 @@
 pub mod TableCodes
 pub mod EntryCodes
 pub mod Space
+pub mod Named

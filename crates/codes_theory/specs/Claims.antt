@@ -1,5 +1,5 @@
--- What each code of the entry is for, and what a run leaves of the answer space, in closed statements about any words. Each is the
--- type of a theorem in proofs/.
+-- What each code of the entry is for, what a run leaves of the answer space, and which domains and sets a call about rights may name:
+-- closed statements about any words, each the type of a theorem in proofs/.
 use Prim.Native.Nat.{ℕ, _*_, _<_, _≤_}
 use mathlib.Core.Path.{_≡_}
 use mathlib.Core.Logic.{_⊎_, _↔_}
@@ -7,8 +7,9 @@ use mathlib.Core.List.{List}
 use lib.ListN.{length, take, drop}
 use Rattle.machine.specs.Table.{domains}
 use Rattle.machine.specs.Check.{tableCode, Accepted}
-use Rattle.machine.specs.Call.{split}
+use Rattle.machine.specs.Call.{Call, split}
 use Rattle.machine.specs.Run as machine
+use Rattle.machine.specs.Machine.{decide, Decision.grants, Decision.removes, Decision.revokes}
 use Rattle.machine.specs.Entry.{entryCode}
 use Rattle.machine.specs.Promise.{RunPromise}
 use Rattle.codes_theory.specs.Layout.{HeaderHolds, LengthHolds, RightsHold, EndpointsHold}
@@ -63,3 +64,15 @@ EverySpaceBeyondUntouched =
     → RunPromise t ws space holders code calls left end kept
     → code ≡ 0
     → SpaceLeft t ws space calls left
+
+-- ---- the calls about rights
+
+-- A grant, a remove and a revoke that aren't refused name domains below n and a set of rights from 1 to 15.
+pub record NamesKnown (t : List ℕ) (c : Call) : Type 0 where
+  pub grant : (g h r : ℕ) → decide t c ≡ grants g h r → (g < domains t) × (h < domains t) × (1 ≤ r) × (r ≤ 15)
+  pub remove : (g h r : ℕ) → decide t c ≡ removes g h r → (g < domains t) × (1 ≤ r) × (r ≤ 15)
+  pub revoke : (g h r : ℕ) → decide t c ≡ revokes g h r → (g < domains t) × (h < domains t) × (1 ≤ r) × (r ≤ 15)
+
+-- 20 and 21 (document 01, 'Where each number is checked', with the sets of document 02 (b) and (i)), the other way round, on any table.
+abbrev pub EveryCallNamesKnown : Type 0
+EveryCallNamesKnown = (t : List ℕ) (c : Call) → NamesKnown t c

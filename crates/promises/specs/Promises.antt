@@ -156,6 +156,9 @@ pub record Promises : Type 0 where
   -- and a message waits; a grant GRANT and all that it gives, a remove REMOVE and all that it clears, a revoke REVOKE, and a grant
   -- and a revoke some right on the recipient or holder, unless that is the caller.
   pub D-requires : machine-call-claims.EveryCallRequires
+  -- Nor does such a call name what 20 and 21 refuse, on any table: the target of a grant, of a remove and of a revoke, and the recipient
+  -- or holder of a grant and of a revoke, are below n, and the set of rights of each is from 1 to 15.
+  pub D-names-known : codes-theory-claims.EveryCallNamesKnown
   -- A call is refused by a code from 10 to 23, on any table.
   pub D-refusal-codes : machine-call-claims.EveryRefusalCode
   -- The check of any words as a table has the code 0 or one from 2 to 5.

@@ -1,5 +1,6 @@
 -- `hold` meets its contract: each field is a theorem of the crate that states the claim. Assumes nothing.
 use Rattle.codes_theory.proofs.EntryCodes as codes-theory-entry-codes-proofs
+use Rattle.codes_theory.proofs.Named as codes-theory-named-proofs
 use Rattle.codes_theory.proofs.Space as codes-theory-space-proofs
 use Rattle.codes_theory.proofs.TableCodes as codes-theory-table-codes-proofs
 use Rattle.holders_theory.proofs.AskCode as holders-theory-ask-code-proofs
@@ -130,6 +131,7 @@ returns c =
       D-entry-refusal = machine-promise-claims-proofs.refused-run;
       D-unrefused-zero = machine-word-claims-proofs.unrefused-zero;
       D-requires = machine-call-claims-proofs.requires;
+      D-names-known = codes-theory-named-proofs.names-known;
       D-refusal-codes = machine-call-claims-proofs.refusal-code;
       D-table-codes = machine-call-claims-proofs.table-code;
       D-table-exactly = codes-theory-table-codes-proofs.table-code-exactly;
