@@ -43,7 +43,6 @@ use Rattle.machine.specs.WordClaims as machine-word-claims
 use Rattle.machine_limits.specs.Rows as machine-limits-rows
 use Rattle.potential_theory.specs.Claims as potential-theory-claims
 use Rattle.potential_theory.specs.Examples as potential-theory-examples
-use Rattle.queue.specs.Examples as queue-examples
 use Rattle.queue.specs.LaterSlots as queue-later-slots
 use Rattle.reachability.specs.Chain as reachability-chain
 use Rattle.reachability.specs.Examples as reachability-examples
@@ -337,8 +336,6 @@ pub record Promises : Type 0 where
   pub Q-run-as-before : machine-as-before.EveryRunAsBefore
   -- Words and what a receive leaves of them, with messages in the slots from the waiting count on too.
   pub Q-receive-rows : queue-later-slots.EveryReceive queue-later-slots.receiveRows
-  -- Which words a send is done with, on both sides of each test.
-  pub Q-send-rows : queue-examples.EverySendRow queue-examples.sendRows
   -- ---- Document 02 (e): end-of-shift totals
   -- Sends plus waiting at the start are received plus lost plus waiting at the end, each the count of all calls as one list: from
   -- every accepted table, for every endpoint that it has.

@@ -1,5 +1,4 @@
 -- What is proved of a send and a receive besides the functions.
-pub mod Examples
 pub mod Laws
 pub mod Received
 pub mod LaterSlots

@@ -1,4 +1,3 @@
--- What the contracts of a send and a receive cite, what is claimed of the slots after the waiting messages, and rows for both.
+-- What the contracts of a send and a receive cite, what is claimed of the slots after the waiting messages, and rows for a receive.
 pub mod Queue
 pub mod LaterSlots
-pub mod Examples

@@ -56,7 +56,6 @@ use Rattle.potential_theory.proofs.Exact as potential-theory-exact-proofs
 use Rattle.potential_theory.proofs.Examples as potential-theory-examples-proofs
 use Rattle.potential_theory.proofs.Lists as potential-theory-lists-proofs
 use Rattle.potential_theory.proofs.Sound as potential-theory-sound-proofs
-use Rattle.queue.proofs.Examples as queue-examples-proofs
 use Rattle.queue.proofs.LaterSlots as queue-later-slots-proofs
 use Rattle.reachability.proofs.Chain as reachability-chain-proofs
 use Rattle.reachability.proofs.Examples as reachability-examples-proofs
@@ -202,7 +201,6 @@ returns c =
       Q-as-before = machine-word-claims-proofs.receive-as-before;
       Q-run-as-before = machine-as-before-proofs.run-as-before;
       Q-receive-rows = queue-later-slots-proofs.every-receive;
-      Q-send-rows = queue-examples-proofs.every-send-row;
       E-sheet = totals-theory-totals-laws-proofs.sheet-holds;
       E-one-run = totals-theory-totals-laws-proofs.one-run;
       E-list-by-list = totals-theory-totals-laws-proofs.list-by-list;
