@@ -29,7 +29,7 @@ every-purge-row =
 
 pub every-code-row : EveryRow codeRows
 unfolding everything
-every-code-row = (refl, (refl, (refl, (refl, (refl, (refl, (refl, (refl, (refl, (refl, tt))))))))))
+every-code-row = (refl, (refl, (refl, (refl, (refl, (refl, (refl, tt)))))))
 
 pub every-table : EveryTable tableRows
 unfolding everything altered namedCodes foundCodes

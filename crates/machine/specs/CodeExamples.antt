@@ -133,14 +133,10 @@ codeRows =
       answers = 0x5000_0000 ∷ 0 ∷ 5 ∷ [];
       holders = replicate 8 0 ++ (1 ∷ []);
     })
-    -- a repeated name
-    ∷ leaves (set T 22 0x3000_0011) [] [] (spaceOf 3) (unchanged 5 (set T 22 0x3000_0011) [] (spaceOf 3))
-    -- 4,096 words are a list, and 4,097 are none, whatever the table is
+    -- 4,096 words are a list, and 4,097 are none, though they make 4,096 calls and whatever the table is
     ∷ leaves T (replicate 4096 0x4080_0000) [] (spaceOf 3) (unchanged 6 T [] (spaceOf 3))
-    ∷ leaves [] (replicate 4097 0x4080_0000) [] [] (unchanged 1 [] [] [])
-    ∷ leaves [] (replicate 4096 0x4080_0000) [] [] (unchanged 2 [] [] [])
-    -- 6: for the holders one word fewer than there are domains, one more, or none; the table's 5 is tested before it
-    ∷ leaves T (0x4080_0000 ∷ []) (spaceOf 3) (spaceOf 2) (unchanged 6 T (spaceOf 3) (spaceOf 2))
+    ∷ leaves [] (0x1000_0000 ∷ 0xF000_0011 ∷ replicate 4095 0x4080_0000) [] [] (unchanged 1 [] [] [])
+    -- 6: for the holders one word more than there are domains, or none; the table's 5 is tested before it
     ∷ leaves T (0x4080_0000 ∷ []) (spaceOf 3) (spaceOf 4) (unchanged 6 T (spaceOf 3) (spaceOf 4))
     ∷ leaves T [] [] [] (unchanged 6 T [] [])
     ∷ leaves (set T 22 0x3000_0011) [] [] (spaceOf 2) (unchanged 5 (set T 22 0x3000_0011) [] (spaceOf 2))

@@ -1,7 +1,7 @@
 -- Rows that pin the fields of a call and what each call reads and writes by them: every bit of a spare field and of the
 -- caller, every unknown kind, which words make one call, which right each call requires, the sets that a grant, a remove and
--- a revoke take, and a queue through all its slots. Both ends of the largest table are in crate machine_limits. Worked out by
--- hand from documents 01 and 02.
+-- a revoke take, and a queue through all its slots. Worked out by hand from documents 01
+-- and 02.
 use Prim.Native.Nat.{ℕ, _+_, _*_}
 use mathlib.Core.List.{List, [], _∷_, _++_}
 use lib.ListN.{set}

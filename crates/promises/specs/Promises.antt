@@ -40,7 +40,6 @@ use Rattle.machine.specs.QueueClaims as machine-queue-claims
 use Rattle.machine.specs.Shortcuts as machine-shortcuts
 use Rattle.machine.specs.TableExamples as machine-table-examples
 use Rattle.machine.specs.WordClaims as machine-word-claims
-use Rattle.machine_limits.specs.Rows as machine-limits-rows
 use Rattle.potential_theory.specs.Claims as potential-theory-claims
 use Rattle.potential_theory.specs.Examples as potential-theory-examples
 use Rattle.queue.specs.LaterSlots as queue-later-slots
@@ -84,7 +83,7 @@ pub record Promises : Type 0 where
   -- Every code from 10 to 23, most pairs of them in their order, what calls of the kinds 1 to 7 answer, a table in which the caller,
   -- the target and the owner differ, and the edges of the entry.
   pub D-codes : machine-examples.EveryRow machine-code-examples.codeRows
-  -- The check of a table: rows for each kind of word, bits 27–16 of word 0 and of an info one by one, and the order of its places.
+  -- The check of a table: rows for each kind of word, on both sides of each test, and the order of its places.
   pub D-tables : machine-table-examples.EveryTable machine-table-examples.tableRows
   -- The fields of a call, of a look up bit by bit and of the others by their lowest and highest bit, which words make one call,
   -- which right each call requires, and a queue through all its slots.
@@ -93,11 +92,6 @@ pub record Promises : Type 0 where
   pub D-any-words : machine-any-words-examples.AnyWordsHold
   -- The counts and the order of messages of one list, of endpoint 1 and of endpoint 0.
   pub D-counts-row : machine-count-examples.CountRowHolds
-  -- The smallest table, one with no endpoint and the largest; then the largest with its last rights word or its last slot wrong,
-  -- with the name of its last endpoint repeated; then 17 domains with no endpoint, and one domain with 33 endpoints.
-  pub D-sizes : machine-table-examples.EveryTable (machine-limits-rows.sizeRows ∷ [])
-  -- Calls at both ends of the largest table, every right there is, and a list that is one word too long.
-  pub D-limits : machine-examples.EveryRow machine-limits-rows.boundRows
   -- Bytes that are those of words of 32 bits get the code of the words.
   pub D-bytes-same-code : table-check-bytes-bytes.SameCode
   -- Bytes left over after the last whole word get 3, unless the first word is broken.
@@ -692,7 +686,5 @@ pub record Promises : Type 0 where
   pub M-holders-throughout : turns-word-history.HoldersThroughout
   -- States, a beginning, and the words left.
   pub M-begin-rows : turns-examples.EveryRow turns-examples.beginRows
-  -- States, what is handed in, and the words left.
-  pub M-hand-in-rows : turns-examples.EveryRow turns-examples.handInRows
   -- States, a turn, and the words left.
   pub M-turn-rows : turns-examples.EveryRow turns-examples.turnRows

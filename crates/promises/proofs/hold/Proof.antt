@@ -51,7 +51,6 @@ use Rattle.machine.proofs.Shortcuts as machine-shortcuts-proofs
 use Rattle.machine.proofs.Step as machine-step-proofs
 use Rattle.machine.proofs.Trail as machine-trail-proofs
 use Rattle.machine.proofs.WordClaims as machine-word-claims-proofs
-use Rattle.machine_limits.proofs.Rows as machine-limits-rows-proofs
 use Rattle.potential_theory.proofs.Exact as potential-theory-exact-proofs
 use Rattle.potential_theory.proofs.Examples as potential-theory-examples-proofs
 use Rattle.potential_theory.proofs.Lists as potential-theory-lists-proofs
@@ -108,8 +107,6 @@ returns c =
       D-fields = machine-examples-proofs.every-field-row;
       D-any-words = machine-examples-proofs.any-words-row;
       D-counts-row = machine-examples-proofs.count-row;
-      D-sizes = machine-limits-rows-proofs.every-size;
-      D-limits = machine-limits-rows-proofs.every-bound-row;
       D-bytes-same-code = table-check-bytes-laws-proofs.same-code;
       D-bytes-left-over = table-check-bytes-laws-proofs.left-over;
       D-bytes-exactly = table-check-bytes-laws-proofs.every-bytes-code;
@@ -351,7 +348,6 @@ returns c =
       M-from-the-beginning = turns-word-history-proofs.from-the-beginning;
       M-holders-throughout = turns-service-proofs.holders-throughout;
       M-begin-rows = turns-examples-proofs.every-begin-row;
-      M-hand-in-rows = turns-examples-proofs.every-hand-in-row;
       M-turn-rows = turns-examples-proofs.every-turn-row;
     }
 

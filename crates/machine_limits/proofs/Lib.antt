@@ -1,2 +1,0 @@
--- The rows hold.
-pub mod Rows

@@ -1,2 +1,0 @@
--- Rows at the bounds of tables and lists.
-pub mod Rows
