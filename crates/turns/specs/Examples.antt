@@ -1,22 +1,20 @@
--- Rows that pin the contracts of the beginning, handing in and turns (document 02 (m)) on whole words: a table of two domains and a state of 35
--- words. Inputs and outcomes are literals, worked out by hand.
+-- Rows that pin the contracts of the beginning and of turns (document 02 (m)) on whole words: a table of two domains and a state
+-- of 35 words. Inputs and outcomes are literals, worked out by hand.
 use Prim.Native.Nat.{ℕ}
 use mathlib.Core.List.{List, [], _∷_, _++_}
 use lib.ListN.{set, replicate}
 use Rattle.machine.specs.Examples.{emptySlots}
-use Rattle.turns.specs.Promise.{BeginPromise, HandInPromise, TurnWords, TurnOutcome, TurnPromise, words, outcome}
+use Rattle.turns.specs.Promise.{BeginPromise, TurnWords, TurnOutcome, TurnPromise, words, outcome}
 
--- A row: a beginning, with its code and the state and the holders that are left; the words vs handed in for the domain d, with the
--- code and the state that is left; or a turn, of the words that it is lent, with its outcome.
+-- A row: a beginning, with its code and the state and the holders that are left; or a turn, of the words that it is lent, with its
+-- outcome.
 pub data Row : Type 0 where
   begins : (table state holders : List ℕ) (code : ℕ) (left kept : List ℕ) → Row
-  handsIn : (table state : List ℕ) (d : ℕ) (words : List ℕ) (code : ℕ) (left : List ℕ) → Row
   turns : (lent : TurnWords) (outcome : TurnOutcome) → Row
 
 -- what a row says
 abbrev pub RowHolds : Row → Type 0
 RowHolds (begins t ws holders code ws′ kept) = BeginPromise t ws holders code ws′ kept
-RowHolds (handsIn t ws d vs code ws′) = HandInPromise t ws d vs code ws′
 RowHolds (turns w o) = TurnPromise w o
 
 -- a turn that changes nothing, with this code
@@ -59,30 +57,6 @@ ofBoth =
     ∷ 0xF000_0001
     ∷ replicate 14 0
     ++ (3 ∷ 0x2040_0000 ∷ 0xF000_0007 ∷ 0x3040_0000 ∷ 0x5040_0000 ∷ replicate 12 0)
-
-abbrev pub handInRows : List Row
-handInRows =
-    -- a call of one word; after it one of two; one of the other domain
-    handsIn two nonePending 0 (0x5000_0000 ∷ []) 0 (0 ∷ 1 ∷ 0x5000_0000 ∷ replicate 32 0)
-    ∷ handsIn two (0 ∷ 1 ∷ 0x5000_0000 ∷ replicate 32 0) 0 (0x2000_0000 ∷ 0xF000_0007 ∷ []) 0 (0 ∷ 3 ∷ 0x5000_0000 ∷ 0x2000_0000 ∷ 0xF000_0007 ∷ replicate 30 0)
-    ∷ handsIn two nonePending 1 (0x5040_0000 ∷ []) 0 (replicate 18 0 ++ (1 ∷ 0x5040_0000 ∷ replicate 15 0))
-    -- the sixteenth word is accepted, and then there is no room
-    ∷ handsIn two (ofZero 0 15 (replicate 15 0x5000_0000 ++ (0 ∷ []))) 0 (0x5000_0000 ∷ []) 0 (ofZero 0 16 (replicate 16 0x5000_0000))
-    ∷ handsIn two (ofZero 0 14 (replicate 16 0x5000_0000)) 0 (0x2000_0000 ∷ 0xF000_0001 ∷ []) 0 (ofZero 0 16 (replicate 14 0x5000_0000 ++ (0x2000_0000 ∷ 0xF000_0001 ∷ [])))
-    ∷ handsIn two (ofZero 0 15 (replicate 16 0x5000_0000)) 0 (0x2000_0000 ∷ 0xF000_0001 ∷ []) 37 (ofZero 0 15 (replicate 16 0x5000_0000))
-    ∷ handsIn two (ofZero 0 16 (replicate 16 0x5000_0000)) 0 (0x5000_0000 ∷ []) 37 (ofZero 0 16 (replicate 16 0x5000_0000))
-    -- 36: no word, three words, a stray, another's call; it is checked before 99
-    ∷ handsIn two nonePending 0 [] 36 nonePending
-    ∷ handsIn two nonePending 0 (0x2000_0000 ∷ 0xF000_0001 ∷ 0xF000_0002 ∷ []) 36 nonePending
-    ∷ handsIn two nonePending 0 (0xF000_0001 ∷ []) 36 nonePending
-    ∷ handsIn two [] 0 (0x5040_0000 ∷ []) 36 []
-    -- 35 for a domain from n on, and 2 to 5 before all others
-    ∷ handsIn two nonePending 2 (0x5080_0000 ∷ []) 35 nonePending
-    ∷ handsIn [] nonePending 2 [] 2 nonePending
-    -- 99 for a state of another length, before 37
-    ∷ handsIn two (replicate 34 16) 0 (0x5000_0000 ∷ []) 99 (replicate 34 16)
-    ∷ handsIn two (replicate 36 16) 0 (0x5000_0000 ∷ []) 99 (replicate 36 16)
-    ∷ []
 
 abbrev pub beginRows : List Row
 beginRows =
