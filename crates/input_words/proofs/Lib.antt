@@ -3,4 +3,3 @@ pub mod WordLaws
 pub mod TableLaws
 pub mod GivenTable
 pub mod Needed
-pub mod Examples

@@ -4,4 +4,3 @@ pub mod DigitLaws
 pub mod DecimalClaim
 pub mod LabelLaws
 pub mod Spelling
-pub mod Examples
