@@ -14,4 +14,4 @@ use Rattle.linerun_report.specs.Examples.{EveryRow, rows}
 pub every-row : EveryRow rows
 unfolding everything ascii wordsOf bytesOf digitsWithin decimal labelled noTable tableOf afterTable listOf leftOver unreadable firstLine
     callLine callLines allLines answerSpace holdersSpace outcomeLines answered report
-every-row = (refl, (refl, (refl, (refl, (refl, (refl, (refl, (refl, (refl, (refl, (refl, (refl, tt))))))))))))
+every-row = (refl, tt)
