@@ -10,13 +10,12 @@ use Rattle.holders_theory.specs.Examples.{EveryHoldersRow, tableRows, ch
 
 pub every-table-row : EveryHoldersRow tableRows
 unfolding everything wordsBelow bitsBelow holdersOf withBit noted roomFor filled holdersAfter holdersAfterCalls
-every-table-row = (refl, (refl, (refl, (refl, (refl, (refl, (refl, (refl, (refl, (refl, (refl, (refl, tt))))))))))))
+every-table-row = (refl, (refl, (refl, (refl, (refl, (refl, (refl, (refl, tt))))))))
 
 pub every-change-row : EveryHoldersRow changeRows
 unfolding everything withBit noted
-every-change-row = (refl, (refl, (refl, (refl, (refl, (refl, (refl, (refl, tt))))))))
+every-change-row = (refl, (refl, (refl, (refl, (refl, (refl, tt))))))
 
 pub every-asking-row : EveryHoldersRow askingRows
 unfolding everything withWords widened rounds closed bitsWithin askable askCode asked
-every-asking-row =
-    ((refl, refl), ((refl, refl), ((refl, refl), ((refl, refl), ((refl, refl), ((refl, refl), ((refl, refl), ((refl, refl), ((refl, refl), ((refl, refl), ((refl, refl), ((refl, refl), ((refl, refl), tt)))))))))))))
+every-asking-row = ((refl, refl), ((refl, refl), ((refl, refl), ((refl, refl), ((refl, refl), ((refl, refl), ((refl, refl), ((refl, refl), ((refl, refl), tt)))))))))

@@ -1,7 +1,7 @@
 -- Rows that pin the holders, the noting of changes and what is asked (document 02 (h)), on literal words. Worked out by hand.
 use Prim.Native.Nat.{ℕ}
 use mathlib.Core.Path.{_≡_}
-use mathlib.Core.List.{List, [], _∷_, _++_}
+use mathlib.Core.List.{List, [], _∷_}
 use lib.ListN.{take, replicate}
 use Rattle.machine.specs.Call.{split}
 use Rattle.machine.specs.Holders.{holdersOf}
@@ -10,10 +10,9 @@ use Rattle.reachability.specs.Examples.{chain, ring}
 use Rattle.holders_theory.specs.Noted.{noted, filled, holdersAfterCalls}
 use Rattle.holders_theory.specs.Asked.{askCode, asked}
 
--- A row is one of five: the holders of a table, lent words once a table's holders are computed into them, the holders noted
--- along a list that runs from a table, words before and after new rights of a holder on a target, or the report of a domain.
+-- A row is one of four: lent words once a table's holders are computed into them, the holders noted along a list that runs from a
+-- table, words before and after new rights of a holder on a target, or the report of a domain.
 pub data HoldersRow : Type 0 where
-  shows : (table words : List ℕ) → HoldersRow
   fills : (table lent words : List ℕ) → HoldersRow
   keeps : (table list words : List ℕ) → HoldersRow
   notes : (before : List ℕ) (holder target rights : ℕ) (after : List ℕ) → HoldersRow
@@ -21,7 +20,6 @@ pub data HoldersRow : Type 0 where
 
 -- what a row says
 abbrev pub HoldersRowHolds : HoldersRow → Type 0
-HoldersRowHolds (shows t ws) = holdersOf t ≡ ws
 HoldersRowHolds (fills t p ws) = filled t p ≡ ws
 HoldersRowHolds (keeps t l ws) = holdersAfterCalls (holdersOf t) t (split l) ≡ ws
 HoldersRowHolds (notes p h g s ws) = noted p h g s ≡ ws
@@ -32,10 +30,6 @@ abbrev pub EveryHoldersRow : List HoldersRow → Type 0
 EveryHoldersRow [] = Unit {0}
 EveryHoldersRow (r ∷ rs) = HoldersRowHolds r × EveryHoldersRow rs
 
--- two domains, each with a right on itself alone
-abbrev pub onThemselves : List ℕ
-onThemselves = 0x1000_0200 ∷ 0x2000_0001 ∷ 0x2000_0000 ∷ 0x2000_0000 ∷ 0x2000_0008 ∷ []
-
 -- two domains, of which 0 has SEND, GRANT and REMOVE on 1
 abbrev pub oneOnOther : List ℕ
 oneOnOther = 0x1000_0200 ∷ 0x2000_0000 ∷ 0x2000_0007 ∷ 0x2000_0000 ∷ 0x2000_0000 ∷ []
@@ -43,19 +37,12 @@ oneOnOther = 0x1000_0200 ∷ 0x2000_0000 ∷ 0x2000_0007 ∷ 0x2000_0000 ∷ 0x2
 -- the rows of tables
 abbrev pub tableRows : List HoldersRow
 tableRows =
-    -- table T: 1 has rights on 0 and 2, and 0 on 1
-    shows T (0b010 ∷ 0b001 ∷ 0b010 ∷ [])
-    -- a right on oneself counts like any other
-    ∷ shows onThemselves (0b01 ∷ 0b10 ∷ [])
-    -- sixteen domains with every right on each other
-    ∷ shows (0x1000_1000 ∷ replicate 256 0x2000_000F) (replicate 16 0xFFFF)
-    -- whatever the lent words held
-    ∷ fills T (7 ∷ 0xFFFF_FFFF ∷ 9 ∷ []) (0b010 ∷ 0b001 ∷ 0b010 ∷ [])
-    -- fewer and more words than domains, a table without its last rights word, an empty one, and one of seventeen domains
+    -- table T, whatever the lent words held: 1 has rights on 0 and 2, and 0 on 1
+    fills T (7 ∷ 0xFFFF_FFFF ∷ 9 ∷ []) (0b010 ∷ 0b001 ∷ 0b010 ∷ [])
+    -- fewer and more words than domains, a table without its last rights word, and one of seventeen domains
     ∷ fills T (7 ∷ 8 ∷ []) (7 ∷ 8 ∷ [])
     ∷ fills T (7 ∷ 8 ∷ 9 ∷ 10 ∷ []) (7 ∷ 8 ∷ 9 ∷ 10 ∷ [])
     ∷ fills (take 9 T) (7 ∷ 8 ∷ 9 ∷ []) (7 ∷ 8 ∷ 9 ∷ [])
-    ∷ fills [] (7 ∷ []) (7 ∷ [])
     ∷ fills (0x1000_1100 ∷ replicate 289 0x2000_0001) (replicate 17 7) (replicate 17 7)
     -- list L: 0 is given SEND on 2
     ∷ keeps T L (0b010 ∷ 0b001 ∷ 0b011 ∷ [])
@@ -73,12 +60,9 @@ changeRows =
     ∷ notes (0b000 ∷ 0b000 ∷ 0b111 ∷ []) 1 2 0 (0b000 ∷ 0b000 ∷ 0b101 ∷ [])
     -- none before and none after
     ∷ notes (0b000 ∷ 0b000 ∷ 0b101 ∷ []) 1 2 0 (0b000 ∷ 0b000 ∷ 0b101 ∷ [])
-    -- a right on oneself
-    ∷ notes (0b00 ∷ 0b00 ∷ []) 1 1 8 (0b00 ∷ 0b10 ∷ [])
-    -- the last bit of a word, a bit that no word has, and a word that isn't there
+    -- the last bit of a word, and a bit that no word has
     ∷ notes (0 ∷ []) 31 0 1 (0x8000_0000 ∷ [])
     ∷ notes (0 ∷ []) 32 0 1 (0 ∷ [])
-    ∷ notes (0 ∷ []) 0 1 1 (0 ∷ [])
     ∷ []
 
 -- the rows of asking
@@ -90,16 +74,11 @@ askingRows =
     ∷ tells chain 0 0 0b0001
     -- table T: its link reaches the drive through 1
     ∷ tells (0b010 ∷ 0b001 ∷ 0b010 ∷ []) 2 0 0b111
-    ∷ tells (0b010 ∷ 0b001 ∷ 0b010 ∷ []) 0 0 0b011
     -- a ring of sixteen
     ∷ tells ring 0 0 0xFFFF
     ∷ tells ring 9 0 0xFFFF
-    -- every bit that sixteen words can have
-    ∷ tells (replicate 16 0xFFFF) 15 0 0xFFFF
-    -- 32: no word, seventeen words, a bit at or above their count, and an index that is no domain's
-    ∷ tells [] 0 32 0
+    -- 32: seventeen words, a bit at or above their count, and an index that is no domain's
     ∷ tells (replicate 17 0) 0 32 0
     ∷ tells (0b00 ∷ 0b100 ∷ []) 0 32 0
-    ∷ tells (replicate 15 0 ++ (0x1_0000 ∷ [])) 0 32 0
     ∷ tells (0b00 ∷ 0b01 ∷ []) 2 32 0
     ∷ []

@@ -5,4 +5,4 @@ use Rattle.reachability.specs.Examples.{EveryClosureRow, closureRows}
 
 pub every-closure-row : EveryClosureRow closureRows
 unfolding withWords widened rounds closed
-every-closure-row = (refl, (refl, (refl, (refl, (refl, (refl, (refl, (refl, (refl, (refl, tt))))))))))
+every-closure-row = (refl, (refl, (refl, (refl, tt))))

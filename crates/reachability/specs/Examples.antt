@@ -48,15 +48,7 @@ closureRows =
     -- steps count towards the set and not away from it
     closes chain 0b1000 0b1111
     ∷ closes chain 0b0100 0b0111
-    ∷ closes chain 0b0001 0b0001
-    -- of several members, and of none
-    ∷ closes (0b0010 ∷ 0b0000 ∷ 0b1000 ∷ 0b0000 ∷ []) 0b0101 0b1111
-    ∷ closes chain 0b0000 0b0000
     -- a ring is closed from each of its members
     ∷ closes ring 0x0001 0xFFFF
     ∷ closes ring 0x0100 0xFFFF
-    -- bits at or above the count of words are joined and stay, but have no word of their own
-    ∷ closes (0b100 ∷ []) 0b001 0b101
-    ∷ closes (0b100 ∷ []) 0b010 0b010
-    ∷ closes [] 0b011 0b011
     ∷ []
