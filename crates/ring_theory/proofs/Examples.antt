@@ -7,4 +7,4 @@ use Rattle.ring_theory.specs.Examples.{EveryRing, ringRows}
 
 pub every-ring : EveryRing ringRows
 unfolding firstPlace count lostCount info ringCapacity messageAt putLast ringSent ringTake ringOf storedSlot storedQueue wordsBelow waiting lost
-every-ring = (refl, (refl, (refl, (refl, (refl, (refl, (refl, (refl, (refl, tt)))))))))
+every-ring = (refl, (refl, (refl, (refl, (refl, (refl, tt))))))

@@ -32,16 +32,12 @@ filled waiting =
 
 abbrev pub ringRows : List RingRow
 ringRows =
-    -- with space: the new message is after the last, also where that wraps round
-    sends (numbered 0 2 4 0x4000_0103) 9 (0 ∷ 3 ∷ 4 ∷ 0x4000_0103 ∷ 1 ∷ 2 ∷ 9 ∷ 4 ∷ 5 ∷ 6 ∷ 7 ∷ 8 ∷ [])
-    ∷ sends (numbered 6 2 4 0x4000_0103) 9 (6 ∷ 3 ∷ 4 ∷ 0x4000_0103 ∷ 9 ∷ 2 ∷ 3 ∷ 4 ∷ 5 ∷ 6 ∷ 7 ∷ 8 ∷ [])
+    -- with space: the new message is after the last, where that wraps round
+    sends (numbered 6 2 4 0x4000_0103) 9 (6 ∷ 3 ∷ 4 ∷ 0x4000_0103 ∷ 9 ∷ 2 ∷ 3 ∷ 4 ∷ 5 ∷ 6 ∷ 7 ∷ 8 ∷ [])
     -- full: the first place moves by one and lost rises, up to its largest
     ∷ sends (numbered 6 3 4 0x4000_0103) 9 (7 ∷ 3 ∷ 5 ∷ 0x4000_0103 ∷ 1 ∷ 9 ∷ 3 ∷ 4 ∷ 5 ∷ 6 ∷ 7 ∷ 8 ∷ [])
     ∷ sends (numbered 7 1 0x0FFF_FFFF 0x4000_0001) 9 (0 ∷ 1 ∷ 0x0FFF_FFFF ∷ 0x4000_0001 ∷ 9 ∷ 2 ∷ 3 ∷ 4 ∷ 5 ∷ 6 ∷ 7 ∷ 8 ∷ [])
-    -- full to the last place: the new message is where the oldest was
-    ∷ sends (numbered 2 8 0 0x4000_0008) 9 (3 ∷ 8 ∷ 1 ∷ 0x4000_0008 ∷ 1 ∷ 2 ∷ 9 ∷ 4 ∷ 5 ∷ 6 ∷ 7 ∷ 8 ∷ [])
-    -- a receive moves the first place, also where that wraps round
-    ∷ takes (numbered 2 3 4 0x4000_0103) (numbered 3 2 4 0x4000_0103)
+    -- a receive moves the first place, where that wraps round
     ∷ takes (numbered 7 1 4 0x4000_0103) (numbered 0 0 4 0x4000_0103)
     -- a loaded ring begins at place 0
     ∷ takesIn (filled 0x5000_0002) (0 ∷ 2 ∷ 4 ∷ 0x4000_0103 ∷ 10 ∷ 11 ∷ 12 ∷ 13 ∷ 14 ∷ 15 ∷ 16 ∷ 17 ∷ [])
