@@ -7,7 +7,7 @@ use Rattle.writer_theory.specs.Examples.{EveryRow, EveryBadCall, rows}
 
 pub every-row : EveryRow rows
 unfolding wantsSecond fieldsOf withinBits firstWord fieldWords fits encodedWords written unfitFrom firstUnfit tooLong wordsPut writing
-every-row = (refl, (refl, (refl, (refl, (refl, (refl, (refl, (refl, (refl, (refl, tt))))))))))
+every-row = (refl, (refl, (refl, (refl, (refl, (refl, (refl, tt)))))))
 
 pub every-bad-call : EveryBadCall
 unfolding wantsSecond fieldsOf withinBits firstWord fieldWords fits encodedWords written unfitFrom firstUnfit tooLong wordsPut writing

@@ -80,16 +80,13 @@ abbrev pub rows : List Row
 rows =
     record { calls = eachKind; count = 8; list = replicate 12 7; leaves = record { code = 0; number = 10; list = eachKindWords ++ (7 ∷ 7 ∷ []) } }
     ∷ record { calls = noTable; count = 9; list = replicate 11 7; leaves = record { code = 0; number = 11; list = noTableWords } }
-    -- no call
-    ∷ record { calls = []; count = 0; list = 7 ∷ []; leaves = record { code = 0; number = 0; list = 7 ∷ [] } }
     -- 31: a space that is too short by one word
     ∷ record { calls = eachKind; count = 8; list = replicate 9 7; leaves = refusal 31 0 (replicate 9 7) }
     -- 30 before 31: a bad call and no space at all
     ∷ record { calls = Send 0 1 5 ∷ MyRights 64 ∷ []; count = 2; list = []; leaves = refusal 30 1 [] }
-    -- a count above 4,096: 31, but 30 if one of the calls that are there is bad
+    -- 31: a count above 4,096
     ∷ record { calls = MyRights 0 ∷ []; count = 4097; list = 7 ∷ []; leaves = refusal 31 0 (7 ∷ []) }
-    ∷ record { calls = MyRights 64 ∷ []; count = 4097; list = 7 ∷ []; leaves = refusal 30 0 (7 ∷ []) }
-    -- exactly 4,096 words, of one word a call and of two; and one word more
+    -- exactly 4,096 words, and one word more
     ∷ record {
       calls = replicate 4096 (MyRights 0);
       count = 4096;
@@ -101,11 +98,5 @@ rows =
       count = 4096;
       list = replicate 4097 7;
       leaves = refusal 31 0 (replicate 4097 7);
-    }
-    ∷ record {
-      calls = replicate 4094 (MyRights 0) ++ (Send 0 1 5 ∷ []);
-      count = 4095;
-      list = replicate 4096 7;
-      leaves = record { code = 0; number = 4096; list = replicate 4094 0x5000_0000 ++ (0x2000_0100 ∷ 0xF000_0005 ∷ []) };
     }
     ∷ []

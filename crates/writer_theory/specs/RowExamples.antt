@@ -1,7 +1,7 @@
 -- Rows of five words and the calls that they are, and the results of writing them. Worked out by hand from document 02, (c).
-use Prim.Native.Nat.{ℕ, zero, suc}
+use Prim.Native.Nat.{ℕ}
 use mathlib.Core.Path.{_≡_}
-use mathlib.Core.List.{List, [], _∷_, _++_}
+use mathlib.Core.List.{List, [], _∷_}
 use lib.ListN.{replicate}
 use Rattle.calls.specs.declared.Call.the-variants.{LookUp, Send, Receive, MyEndpoints, MyRights, Grant, Remove, Revoke}
 use Rattle.writer_theory.specs.Write.{WriteOutcome, refusal}
@@ -59,17 +59,9 @@ abbrev pub EveryRow : List Row → Type 0
 EveryRow [] = Unit {0}
 EveryRow (r ∷ rs) = (writingRows (r .rows) (r .list) ≡ r .leaves) × EveryRow rs
 
--- so many calls of one word each
-unfoldable pub myRights : ℕ → List ℕ
-myRights zero = []
-myRights (suc n) = 5 ∷ 0 ∷ 0 ∷ 0 ∷ 0 ∷ myRights n
-
 abbrev pub writtenRows : List Row
 writtenRows =
     record { rows = 2 ∷ 1 ∷ 0 ∷ 3 ∷ 5 ∷ 3 ∷ 2 ∷ 0 ∷ 1 ∷ 0 ∷ []; list = 7 ∷ 7 ∷ 7 ∷ 7 ∷ []; leaves = record { code = 0; number = 3; list = 0x2040_0300 ∷ 0xF000_0005 ∷ 0x3080_0100 ∷ 7 ∷ [] } }
     -- one word left over is a third call that can't be written
     ∷ record { rows = 2 ∷ 1 ∷ 0 ∷ 3 ∷ 5 ∷ 3 ∷ 2 ∷ 0 ∷ 1 ∷ 0 ∷ 5 ∷ []; list = 7 ∷ 7 ∷ 7 ∷ 7 ∷ []; leaves = refusal 30 2 (7 ∷ 7 ∷ 7 ∷ 7 ∷ []) }
-    -- 4,097 calls: 31, and 30 where the last of them is bad
-    ∷ record { rows = myRights 4097; list = 7 ∷ []; leaves = refusal 31 0 (7 ∷ []) }
-    ∷ record { rows = myRights 4096 ++ (5 ∷ 64 ∷ 0 ∷ 0 ∷ 0 ∷ []); list = 7 ∷ []; leaves = refusal 30 4096 (7 ∷ []) }
     ∷ []
