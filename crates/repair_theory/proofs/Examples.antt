@@ -16,24 +16,23 @@ rows-compute = tt
 
 pub every-sound-row : EveryRow soundRows
 unfolding rows-compute
-every-sound-row = (refl, (refl, (refl, (refl, tt))))
+every-sound-row = (refl, (refl, tt))
 
 pub every-rights-row : EveryRow rightsRows
 unfolding rows-compute
-every-rights-row = (refl, (refl, (refl, (refl, tt))))
+every-rights-row = (refl, (refl, tt))
 
 pub every-queue-row : EveryRow queueRows
 unfolding rows-compute
-every-queue-row = (refl, (refl, (refl, (refl, (refl, (refl, (refl, tt)))))))
+every-queue-row = (refl, (refl, tt))
 
 pub every-list-row : EveryRow listRows
 unfolding rows-compute
-every-list-row = (refl, (refl, (refl, (refl, (refl, tt)))))
+every-list-row = (refl, (refl, (refl, tt)))
 
 pub every-frame-row : EveryRow frameRows
 unfolding rows-compute
-every-frame-row =
-    (refl, (refl, (refl, (refl, (refl, (refl, (refl, (refl, (refl, (refl, (refl, (refl, (refl, (refl, (refl, (refl, (refl, tt)))))))))))))))))
+every-frame-row = (refl, (refl, (refl, (refl, (refl, (refl, tt))))))
 
 pub put-back-rows : PutBackHolds
 unfolding rows-compute
