@@ -14,5 +14,4 @@ use Rattle.linetotals_theory.specs.Examples.{EveryRow, rows}
 pub every-row : EveryRow rows
 unfolding everything ascii digitsWithin decimal labelled wordsOf bytesOf noTable tableOf afterTable noCounts together listTotals tableAfterLists
     totals endpointLine lastLine stopped then headWanted listFirst listsFrom totalsLine endpointLines totalsLines tableSheet sheet
-every-row =
-    (refl, (refl, (refl, (refl, (refl, (refl, (refl, (refl, (refl, (refl, (refl, (refl, (refl, (refl, (refl, (refl, (refl, tt)))))))))))))))))
+every-row = (refl, (refl, (refl, (refl, (refl, (refl, (refl, (refl, tt))))))))

@@ -1,10 +1,10 @@
--- Inputs of `linetotals` and what it prints for them: list L of document 01 twice on table T, two lists each of which is split by
--- itself, each refusal, a table without endpoints, an empty list and no list.
+-- Inputs of `linetotals` and what it prints for them: list L of document 01 twice on table T, a queue that is full at the start, an
+-- empty list, a table without endpoints, and refusals.
 use Prim.Native.Nat.{ℕ, zero, suc}
 use Prim.Native.String.{String}
 use mathlib.Core.Path.{_≡_}
 use mathlib.Core.List.{List, [], _∷_, _++_}
-use lib.ListN.{length, take, set, replicate}
+use lib.ListN.{length, take, set}
 use Rattle.machine.specs.Examples.{T, L}
 use Rattle.text.specs.Ascii.{ascii}
 use Rattle.input_words.specs.Bytes.{bytesOf}
@@ -28,11 +28,6 @@ rows =
       input = bytesOf (34 ∷ T ++ (12 ∷ L) ++ (12 ∷ L));
       printed = "endpoint 0 sent 0 received 0 lost 0 start 0 end 0\nendpoint 1 sent 5 received 2 lost 3 start 0 end 0\nlists 2 code 0\n";
     }
-    -- a list that ends in a send, and one that begins with a word of kind 15: nothing is sent
-    ∷ record {
-      input = bytesOf (34 ∷ T ++ (1 ∷ 0x2000_0000 ∷ 1 ∷ 0xF000_0007 ∷ []));
-      printed = "endpoint 0 sent 0 received 0 lost 0 start 0 end 0\nendpoint 1 sent 0 received 0 lost 0 start 0 end 0\nlists 2 code 0\n";
-    }
     -- what waits at the start and at the end are distinct, and lost isn't the table's count, which is at its largest
     ∷ record {
       input =
@@ -42,39 +37,25 @@ rows =
           ++ (6 ∷ 0x2000_0000 ∷ 0xF000_0007 ∷ 0x2000_0000 ∷ 0xF000_0008 ∷ 0x3040_0000 ∷ 0x4040_0000 ∷ []));
       printed = "endpoint 0 sent 2 received 1 lost 2 start 2 end 1\nendpoint 1 sent 0 received 0 lost 0 start 0 end 0\nlists 1 code 0\n";
     }
-    -- no list, and an empty one, which ran
-    ∷ record {
-      input = bytesOf (34 ∷ T);
-      printed = "endpoint 0 sent 0 received 0 lost 0 start 0 end 0\nendpoint 1 sent 0 received 0 lost 0 start 0 end 0\nlists 0 code 0\n";
-    }
+    -- an empty list, which ran
     ∷ record {
       input = bytesOf (34 ∷ T ++ (0 ∷ []));
       printed = "endpoint 0 sent 0 received 0 lost 0 start 0 end 0\nendpoint 1 sent 0 received 0 lost 0 start 0 end 0\nlists 1 code 0\n";
     }
     -- m is 0: the last line only
     ∷ record { input = bytesOf (2 ∷ 0x1000_0100 ∷ 0x2000_0000 ∷ 1 ∷ 0x5000_0000 ∷ []); printed = "lists 1 code 0\n" }
-    -- 7: the table's length word cut short, above 641, or with fewer words after it
-    ∷ record { input = []; printed = "lists 0 code 7\n" }
+    -- 7: the table's length word cut short
     ∷ record { input = 34 ∷ 0 ∷ 0 ∷ []; printed = "lists 0 code 7\n" }
-    ∷ record { input = bytesOf (642 ∷ replicate 642 0); printed = "lists 0 code 7\n" }
-    ∷ record { input = bytesOf (34 ∷ take 33 T); printed = "lists 0 code 7\n" }
-    -- 2 to 5, whatever follows the table
-    ∷ record { input = bytesOf (0 ∷ 4097 ∷ []); printed = "lists 0 code 2\n" }
-    ∷ record { input = bytesOf (33 ∷ take 33 T ++ (0 ∷ [])); printed = "lists 0 code 3\n" }
+    -- 4, whatever follows the table
     ∷ record { input = bytesOf (34 ∷ set T 9 0x2000_0010 ++ (0 ∷ [])); printed = "lists 0 code 4\n" }
-    ∷ record { input = bytesOf (34 ∷ set T 24 0x5000_0002) ++ (0 ∷ []); printed = "lists 0 code 5\n" }
     -- 1, before 7: a length word above 4,096; the totals so far stay
     ∷ record {
       input = bytesOf (34 ∷ T ++ (12 ∷ L) ++ (4097 ∷ []));
       printed = "endpoint 0 sent 0 received 0 lost 0 start 0 end 0\nendpoint 1 sent 2 received 1 lost 1 start 0 end 0\nlists 1 code 1\n";
     }
-    -- 7: a list cut short changes nothing; a length word cut short
+    -- 7: a list cut short changes nothing
     ∷ record {
       input = bytesOf (34 ∷ T ++ (12 ∷ L) ++ (12 ∷ take 11 L)) ++ (0 ∷ 0 ∷ 0x80 ∷ []);
-      printed = "endpoint 0 sent 0 received 0 lost 0 start 0 end 0\nendpoint 1 sent 2 received 1 lost 1 start 0 end 0\nlists 1 code 7\n";
-    }
-    ∷ record {
-      input = bytesOf (34 ∷ T ++ (12 ∷ L)) ++ (12 ∷ 0 ∷ 0 ∷ []);
       printed = "endpoint 0 sent 0 received 0 lost 0 start 0 end 0\nendpoint 1 sent 2 received 1 lost 1 start 0 end 0\nlists 1 code 7\n";
     }
     ∷ []

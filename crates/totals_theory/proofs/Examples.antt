@@ -6,4 +6,4 @@ use Rattle.totals_theory.specs.Examples.{EveryRow, rows}
 
 pub every-row : EveryRow rows
 unfolding everything noCounts together listTotals totals
-every-row = (refl, (refl, (refl, (refl, (refl, (refl, (refl, tt)))))))
+every-row = (refl, (refl, (refl, tt)))

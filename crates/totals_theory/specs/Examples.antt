@@ -1,5 +1,5 @@
 -- Rows that pin the totals (document 02 (e)), worked out by hand: list L of document 01 twice on table T, lists that are split
--- separately, a queue whose lost word reaches its largest, and no list.
+-- separately, and a queue whose lost word reaches its largest.
 use Prim.Native.Nat.{ℕ}
 use mathlib.Core.Path.{_≡_}
 use mathlib.Core.List.{List, [], _∷_}
@@ -29,21 +29,12 @@ rows =
     -- L twice: in the first run a send is refused by 17, one is done and one finds the queue full; in the second the first finds
     -- space and two find the queue full
     record { table = T; lists = L ∷ L ∷ []; at = 1; counted = record { sent = 5; received = 2; lost = 3 } }
-    ∷ record { table = T; lists = L ∷ L ∷ []; at = 0; counted = record { sent = 0; received = 0; lost = 0 } }
-    ∷ record { table = T; lists = L ∷ []; at = 1; counted = record { sent = 2; received = 1; lost = 1 } }
     -- a list that ends in a send, and one that begins with a word of kind 15: no message is sent
     ∷ record {
       table = T;
       lists = (0x2000_0000 ∷ []) ∷ (0xF000_0007 ∷ []) ∷ [];
       at = 0;
       counted = record { sent = 0; received = 0; lost = 0 };
-    }
-    -- the same words as one list: one message is sent
-    ∷ record {
-      table = T;
-      lists = (0x2000_0000 ∷ 0xF000_0007 ∷ []) ∷ [];
-      at = 0;
-      counted = record { sent = 1; received = 0; lost = 0 };
     }
     -- three messages are lost where the table's count rises by one
     ∷ record {
@@ -52,6 +43,4 @@ rows =
       at = 0;
       counted = record { sent = 3; received = 1; lost = 3 };
     }
-    -- no list
-    ∷ record { table = T; lists = []; at = 1; counted = record { sent = 0; received = 0; lost = 0 } }
     ∷ []
