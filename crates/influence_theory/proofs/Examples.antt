@@ -12,7 +12,7 @@ use Rattle.machine.specs.PurgeExamples.{bitsOf, setsAt, purged, EveryPurgeRow}
 use Rattle.machine.proofs.Everything.{everything}
 use Rattle.reachability.specs.Closure.{withWords, widened, rounds, closed}
 use Rattle.reachability.specs.Chain.{linkWords}
-use Rattle.isolation_theory.specs.Component.{joined, component, callsFrom}
+use Rattle.isolation_theory.specs.Component.{callsFrom}
 use Rattle.potential_theory.specs.Closure as closure
 use Rattle.potential_theory.specs.Lists as grants
 use Rattle.influence_theory.specs.Influence.{couldReach, couldInfluence}
@@ -22,14 +22,13 @@ use Rattle.influence_theory.specs.Examples.{fiveDomains, sixCalls, influ
 use Rattle.influence_theory.specs.Examples.{chainedAlong, ChainsAreNotEnough}
 
 pub every-influence-row : EveryInfluenceRow influenceRows
-unfolding everything numbersBelow wordsBelow bitsBelow hasBit withWords widened rounds closed linkWords joined component
+unfolding everything numbersBelow wordsBelow bitsBelow hasBit withWords widened rounds closed linkWords
     closure.cell closure.matrixOf closure.stepsBelow closure.grantedOn closure.grantedTo closure.grantedBy closure.round closure.total
     closure.settled closure.potential closure.potentialRights
     grants.grantWord grants.callsBelow grants.callsOn grants.callsTo grants.callsBy grants.roundCalls grants.settledCalls
     grants.potentialList
     couldReach couldInfluence askWord askRound askRounds influenceList chainsTo chainsAlong
-every-influence-row =
-    (refl, (refl, (refl, (refl, (refl, (refl, (refl, (refl, (refl, (refl, (refl, (refl, (refl, tt)))))))))))))
+every-influence-row = (refl, (refl, (refl, (refl, (refl, (refl, (refl, (refl, (refl, (refl, (refl, (refl, tt))))))))))))
 
 pub every-six-call-row : EveryPurgeRow sixCallRows
 unfolding everything wordsBelow bitsOf setsAt purged

@@ -18,7 +18,7 @@ use Rattle.machine.specs.Examples.{emptySlots}
 use Rattle.machine.specs.PurgeExamples.{PurgeRow, PurgeRow.pins, justOne}
 use Rattle.reachability.specs.Closure.{closed}
 use Rattle.reachability.specs.Chain.{linkWords}
-use Rattle.isolation_theory.specs.Component.{component, callsFrom}
+use Rattle.isolation_theory.specs.Component.{callsFrom}
 use Rattle.potential_theory.specs.Examples.{bare, fourInChain, byAThird}
 use Rattle.influence_theory.specs.Influence.{couldInfluence}
 use Rattle.influence_theory.specs.Lists.{influenceList}
@@ -32,20 +32,17 @@ unfoldable pub chainsAlong : List ℕ → List Call → ℕ → List ℕ
 chainsAlong t [] d = chainsTo t d ∷ []
 chainsAlong t (c ∷ cs) d = chainsTo t d ∷ chainsAlong (step t c) cs d
 
--- A row is one of four: from a table and those that act to the sets of all its domains, lowest index first, or to the list that
--- makes the sources; from a table to the components of all its domains; or from a table, a list and a domain to those that have
--- a chain of rights to it in each table along the list.
+-- A row is one of three: from a table and those that act to the sets of all its domains, lowest index first, or to the list that
+-- makes the sources; or from a table, a list and a domain to those that have a chain of rights to it in each table along the list.
 pub data InfluenceRow : Type 0 where
   could : (table : List ℕ) (actors : ℕ) (sets : List ℕ) → InfluenceRow
   lists : (table : List ℕ) (actors : ℕ) (words : List ℕ) → InfluenceRow
-  components : (table members : List ℕ) → InfluenceRow
   chains : (table list : List ℕ) (d : ℕ) (sets : List ℕ) → InfluenceRow
 
 -- what a row says
 abbrev pub InfluenceRowHolds : InfluenceRow → Type 0
 InfluenceRowHolds (could t s sets) = wordsBelow (domains t) (couldInfluence t s) ≡ sets
 InfluenceRowHolds (lists t s ws) = influenceList t s ≡ ws
-InfluenceRowHolds (components t members) = wordsBelow (domains t) (component t) ≡ members
 InfluenceRowHolds (chains t ws d sets) = chainsAlong t (split ws) d ≡ sets
 
 -- the single claim about a list of such rows: each holds
@@ -87,9 +84,8 @@ influenceRows =
     -- where the link doesn't act, 2 can't either; where 3 doesn't act, nobody can, whatever 3 holds
     ∷ could fiveDomains 0b11110 (0b00001 ∷ 0b01010 ∷ 0b00100 ∷ 0b01000 ∷ 0b11010 ∷ [])
     ∷ could fiveDomains 0b10111 (0b00001 ∷ 0b00011 ∷ 0b00111 ∷ 0b01000 ∷ 0b10000 ∷ [])
-    -- a chain of four, against which nothing goes: the sets are smaller than the component, which is the same for all
+    -- a chain of four, against which nothing goes
     ∷ could fourInChain 0b1111 (0b0001 ∷ 0b0011 ∷ 0b0111 ∷ 0b1111 ∷ [])
-    ∷ components fourInChain (0b1111 ∷ 0b1111 ∷ 0b1111 ∷ 0b1111 ∷ [])
     -- where 1 doesn't act the chain ends at it: 0 could no longer influence 2
     ∷ could fourInChain 0b1101 (0b0001 ∷ 0b0011 ∷ 0b0100 ∷ 0b1001 ∷ [])
     -- 1 could give 0 and 2 its rights on 2, but where it alone acts they don't use them

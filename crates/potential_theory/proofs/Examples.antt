@@ -11,5 +11,4 @@ unfolding everything wordsBelow hasBit
     closure.cell closure.matrixOf closure.stepsBelow closure.grantedOn closure.grantedTo closure.grantedBy closure.round closure.total
     closure.settled closure.potential
     lists.grantWord lists.callsBelow lists.callsOn lists.callsTo lists.callsBy lists.roundCalls lists.settledCalls lists.potentialList
-every-potential-row =
-    (refl, (refl, (refl, (refl, (refl, (refl, (refl, (refl, (refl, (refl, (refl, (refl, (refl, (refl, tt))))))))))))))
+every-potential-row = (refl, (refl, (refl, (refl, (refl, (refl, (refl, (refl, (refl, (refl, (refl, (refl, (refl, tt)))))))))))))

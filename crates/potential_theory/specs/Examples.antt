@@ -65,10 +65,6 @@ byAThird =
     ∷ 1 ∷ 0 ∷ 3
     ∷ 0 ∷ 0 ∷ 0 ∷ [])
 
--- two that have every right but GRANT, on each other and on themselves
-abbrev pub withoutGrant : List ℕ
-withoutGrant = bare 2 (13 ∷ 13 ∷ 13 ∷ 13 ∷ [])
-
 -- 0 has GRANT and REVOKE on 2, and REVOKE on 1
 abbrev pub revokeOn : List ℕ
 revokeOn =
@@ -125,8 +121,6 @@ potentialRows =
     ∷ 1 ∷ 0 ∷ 3
     ∷ 0 ∷ 0 ∷ 3 ∷ [])
     ∷ lists byAThird 0b010 (0x6042_0003 ∷ 0x6042_0203 ∷ [])
-    -- nothing is given without GRANT, whatever else is held
-    ∷ could withoutGrant 0b11 (13 ∷ 13 ∷ 13 ∷ 13 ∷ [])
     -- REVOKE is passed on like any right, and is enough to reach the recipient
     ∷ could revokeOn 0b111
     (0 ∷ 8 ∷ 10
