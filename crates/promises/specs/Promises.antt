@@ -1,7 +1,7 @@
 -- What is claimed, on one page: a field for each closed claim in the specs of a crate, of documents 01 and 02 and of our own. The
 -- worked example is first, then come the sections of document 01 and the requests of document 02, in this order but for a few
 -- headings of our own. A field's type is the claim as its crate states it. What is claimed of the words that a function leaves is in
--- its contract. Rows that only a crate's proofs state are not here.
+-- its contract.
 use mathlib.Core.List.{[], _∷_}
 use Rattle.codes_theory.specs.Claims as codes-theory-claims
 use Rattle.holders_theory.specs.Claims as holders-theory-claims
@@ -234,7 +234,7 @@ pub record Promises : Type 0 where
   -- the same endpoint for each name give one decision on every call.
   pub R-same-decision : rules-readings.SameDecision
   -- ---- The program linerun
-  -- Inputs and what linerun prints, byte for byte.
+  -- List L on table T, and what linerun prints for it, byte for byte, as document 01 shows it.
   pub P-linerun-rows : linerun-report-examples.EveryRow linerun-report-examples.rows
   -- "Little-endian words": a word of 32 bits has four bytes, of which byte k counts 256 ^ k, and the words of these bytes are the
   -- words.
@@ -555,11 +555,11 @@ pub record Promises : Type 0 where
   pub K-reported-exactly : repair-theory-repair-claims.EveryRepairReportedExactly
   -- The old table can be restored: the pairs put back into the table that was left give the table as it was.
   pub K-put-back : repair-theory-repair-claims.EveryRepairPutBack
-  -- Sound tables stay and yield an empty list, one of them with every right there is.
+  -- A sound table stays and yields an empty list, of words and of none.
   pub K-sound-rows : repair-theory-examples.EveryRow repair-theory-examples.soundRows
-  -- Four tables with a broken rights word, by its kind or by its bits, the first and the last among them: it becomes 20000000.
+  -- Tables with a broken rights word, the last among them: it becomes 20000000.
   pub K-rights-rows : repair-theory-examples.EveryRow repair-theory-examples.rightsRows
-  -- Tables whose endpoints have a broken waiting, lost or slot word: these are emptied. Words that already are those of an empty
+  -- Tables of which an endpoint has a broken waiting or slot word: it is emptied. Words that already are those of an empty
   -- queue are not reported; a sound lost count that is not 0 is.
   pub K-queue-rows : repair-theory-examples.EveryRow repair-theory-examples.queueRows
   -- The lent list longer than needed, of exactly two words for each altered word, and one word less.
@@ -649,7 +649,7 @@ pub record Promises : Type 0 where
   pub M-serves-own : turns-theory-claims.ServesOwn
   -- Histories and which calls their turns serve.
   pub M-order-rows : turns-theory-examples.EveryTurnRow turns-theory-examples.turnRows
-  -- Seventeen words of one domain: the words that are pending, what appending and removing leave, the second word of the oldest call.
+  -- Seventeen words of one domain, and those of them that are pending.
   pub M-pending-rows : turns-state-examples.EveryPendingRow turns-state-examples.pendingRows
   -- Words that are all 0, however many, represent the beginning.
   pub M-words-begin : turns-claims.Begins
