@@ -684,7 +684,7 @@ pub record Promises : Type 0 where
   -- After a beginning, where each event is lent the holders that the one before it left, they are what the table says, at once and
   -- after every event.
   pub M-holders-throughout : turns-word-history.HoldersThroughout
-  -- States, a beginning, and the words left.
+  -- A beginning: whatever the words held, nothing is pending then, and the holders are what the table says.
   pub M-begin-rows : turns-examples.EveryRow turns-examples.beginRows
-  -- States, a turn, and the words left.
+  -- A turn that is refused: all words stay.
   pub M-turn-rows : turns-examples.EveryRow turns-examples.turnRows

@@ -19,7 +19,7 @@ unfolding everything wordsBelow bitsBelow holdersOf
     pending.count pending.pendingIn pending.enqueued pending.dequeued
     state.block state.setBlock state.turnsIn state.turnIn state.stateHandedIn state.stateServed state.stateAfter
     holdersCode stepEntryCode thenCode stateCode beginCode handInCodeOnState turnCodeOnState servedBy spaceAfter turnMade turnOutcome
-every-begin-row = (record { sameCode = refl; state = refl; sameHolders = refl }, (record { sameCode = refl; state = refl; sameHolders = refl }, (record { sameCode = refl; state = refl; sameHolders = refl }, (record { sameCode = refl; state = refl; sameHolders = refl }, (record { sameCode = refl; state = refl; sameHolders = refl }, (record { sameCode = refl; state = refl; sameHolders = refl }, (record { sameCode = refl; state = refl; sameHolders = refl }, tt)))))))
+every-begin-row = (record { sameCode = refl; state = refl; sameHolders = refl }, tt)
 
 pub every-turn-row : EveryRow turnRows
 unfolding everything wordsBelow bitsBelow holdersOf
@@ -28,4 +28,4 @@ unfolding everything wordsBelow bitsBelow holdersOf
     pending.count pending.pendingIn pending.enqueued pending.dequeued
     state.block state.setBlock state.turnsIn state.turnIn state.stateHandedIn state.stateServed state.stateAfter
     holdersCode stepEntryCode thenCode stateCode beginCode handInCodeOnState turnCodeOnState servedBy spaceAfter turnMade turnOutcome
-every-turn-row = (refl, (refl, (refl, (refl, (refl, (refl, (refl, (refl, (refl, (refl, (refl, (refl, (refl, (refl, (refl, tt)))))))))))))))
+every-turn-row = (refl, tt)
