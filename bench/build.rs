@@ -183,7 +183,7 @@ fn compile_wrong(out: &Path) -> Result<(), Box<dyn Error>> {
 ///
 ///     what: the fault in words
 ///     file: plain_run.c
-///     line: the line of the checklist that must fail for it
+///     check: the check of the checklist that must fail for it
 ///     --- old
 ///     whole lines that stand in the file just once
 ///     --- new
@@ -201,8 +201,9 @@ impl Edit {
         let (head, body) = edit.split_once("--- old\n").ok_or("no line `--- old`")?;
         let (old, new) = body.split_once("--- new\n").ok_or("no line `--- new`")?;
         let fields: Vec<(&str, &str)> = head.lines().filter_map(|l| l.split_once(": ")).collect();
-        let [("what", what), ("file", source), ("line", "1" | "2" | "3" | "4")] = fields[..] else {
-            return Err("needs what, file and line, which is 1 to 4, before `--- old`".into());
+        let [("what", what), ("file", source), ("check", "1" | "2" | "3" | "4")] = fields[..]
+        else {
+            return Err("needs what, file and check, which is 1 to 4, before `--- old`".into());
         };
         let text = fs::read_to_string(format!("c/{source}"))?;
         match text.matches(old).count() {

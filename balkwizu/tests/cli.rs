@@ -256,8 +256,8 @@ fn the_worked_example_is_commissioned() {
     let list = TOOL.printed(&["commission", &input, "--struck", "1"]);
     assert!(list.contains("struck for domain 1: 4 of 9 calls"), "{list}");
     assert!(list.contains(&format!(" on {}: 3 domains", archive_title())));
-    for line in 1..=4 {
-        assert!(list.contains(&format!("line {line} passed")), "{list}");
+    for check in 1..=4 {
+        assert!(list.contains(&format!("check {check} passed")), "{list}");
     }
     assert!(
         list.ends_with("summary: 4 passed, 0 failed, 5 not shown\n"),

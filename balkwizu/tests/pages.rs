@@ -138,7 +138,7 @@ fn a_run_leaves_its_answers_and_its_table() {
     let read_back = ["commission", &input, "--answers", &answers, "--left", &left];
     let (status, judged, told) = TOOL.ran(&read_back);
     assert_eq!(status, 0, "{judged} {told}");
-    assert!(judged.contains("line 2"), "{judged}");
+    assert!(judged.contains("check 2"), "{judged}");
     let wrong = fs::read_to_string(&answers)
         .unwrap()
         .replace("data 6 1", "data 5 1");

@@ -206,8 +206,8 @@ fn wrong_words_that_were_read_back_fail_and_are_reported() {
     ];
     let (status, printed, _) = TOOL.ran(&line);
     assert_eq!(status, 1);
-    assert!(printed.contains("line 1 passed, "), "{printed}");
-    let lost = "line 4 failed  counts: endpoint 1: the lost count should be 1; the table says 0";
+    assert!(printed.contains("check 1 passed, "), "{printed}");
+    let lost = "check 4 failed  counts: endpoint 1: the lost count should be 1; the table says 0";
     assert!(printed.contains(lost), "{printed}");
     let leaves = "lost count, was 60000000: the line leaves 60000000, the separate machine";
     assert!(printed.contains(leaves), "{printed}");

@@ -108,7 +108,7 @@ fn bad_usage_ends_with_2_and_says_why() {
 }
 
 #[test]
-fn a_line_that_fails_is_told_with_names() {
+fn a_check_that_fails_is_reported_with_names() {
     let four = concat!(env!("CARGO_MANIFEST_DIR"), "/../balkwizu/examples/four.txt");
     let list = TOOL.printed(&["commission", four, "--kernel", "wrong-newest-first"]);
     let failed: Vec<&str> = list
@@ -220,12 +220,15 @@ fn a_kernel_that_loops_is_told_by_the_fuzz_with_its_input() {
 }
 
 #[test]
-fn a_kernel_that_stops_fails_a_line_of_the_checklist_and_the_others_go_on() {
+fn a_kernel_that_stops_fails_a_check_of_the_checklist_and_the_others_go_on() {
     let input = TOOL.file("stops.bin", worked_example());
     let line = ["commission", &input, "--kernel", "wrong-faults"];
     let list = TOOL.printed(&line);
     for number in 1..=4 {
-        assert!(list.contains(&format!("\nline {number} failed ")), "{list}");
+        assert!(
+            list.contains(&format!("\ncheck {number} failed ")),
+            "{list}"
+        );
     }
     assert!(list.contains("ended by signal 11 (segmentation fault)\nCut down to 1 call:"));
     assert!(list.contains("\nlist\n7"), "{list}");
@@ -244,7 +247,7 @@ fn a_wrong_kernel_is_named_with_its_fault() {
     let list = TOOL.printed(&line);
     let title = "kernel wrong-newest-first (the newest message is received first)";
     assert!(
-        list.contains(title) && list.contains("\nline 2 failed "),
+        list.contains(title) && list.contains("\ncheck 2 failed "),
         "{list}"
     );
     assert_eq!(TOOL.status(&line), 1);
@@ -444,7 +447,7 @@ fn histories_show_the_longest_waits_beside_the_bound() {
 }
 
 #[test]
-fn a_report_is_written_where_a_line_failed() {
+fn a_report_is_written_where_a_check_failed() {
     let input = TOOL.file("failed.bin", worked_example());
     let page = TOOL.path("failed.html");
     let line = [
@@ -457,9 +460,9 @@ fn a_report_is_written_where_a_line_failed() {
     ];
     let (status, printed, _) = TOOL.ran(&line);
     assert_eq!(status, 1);
-    assert!(printed.contains("\nline 2 failed "), "{printed}");
+    assert!(printed.contains("\ncheck 2 failed "), "{printed}");
     let page = fs::read_to_string(&page).expect("the page is there");
-    assert!(page.contains("FAILED: line 2 (answers and table), line 3 (isolation)"));
+    assert!(page.contains("FAILED: check 2 (answers and table), check 3 (isolation)"));
     assert!(
         page.contains("the newest message is received first"),
         "the kernel is named"
@@ -471,9 +474,9 @@ fn a_kernel_that_only_the_drills_show_fails_by_them() {
     let input = TOOL.file("drills.bin", worked_example());
     let passes = ["commission", &input, "--kernel", "wrong-size-domain-15"];
     let list = TOOL.printed(&passes);
-    assert!(list.contains("\nline 1 passed"), "{list}");
+    assert!(list.contains("\ncheck 1 passed"), "{list}");
     assert!(
-        list.contains("\nline 2 failed  answers and table: the fields of calls at "),
+        list.contains("\ncheck 2 failed  answers and table: the fields of calls at "),
         "{list}"
     );
     assert_eq!(TOOL.status(&passes), 1);

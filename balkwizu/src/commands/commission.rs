@@ -16,39 +16,39 @@ Goes through the checklist with the table and the list of an input of linerun,
 and with an exercise: lists made from the table that go through everything it
 allows.
 
-  line 1  refusals: hundreds of damaged variants of the table, lists that are
-          scrambled, too long or have too little answer space, and every refused
-          call of the exercise and of the list: each refused by its number with
-          nothing changed, and all else finished
-  line 2  answers and table: every word equal to the separate machine's
-  line 3  isolation: for every domain, the calls kept for it, run again without
-          the others, give it the same answers, rights, queues and lost counts
-  line 4  counts: the number of calls, and at every endpoint what was sent is
-          received, lost or waiting
+  check 1  refusals: hundreds of damaged variants of the table, lists that are
+           scrambled, too long or have too little answer space, and every
+           refused call of the exercise and of the list: each refused by its
+           number with nothing changed, and all else finished
+  check 2  answers and table: every word equal to the separate machine's
+  check 3  isolation: for every domain, the calls kept for it, run again without
+           the others, give it the same answers, rights, queues and lost counts
+  check 4  counts: the number of calls, and at every endpoint what was sent is
+           received, lost or waiting
 
-Where no line failed, the drills follow: finite sets gone through whole, on this
-table and on tables of the checklist's own (n 1, 2, 8, 9, 15 and 16 with m 0, 1,
-31 and 32), since a kernel takes any table. They have every combination of two
-refusals, every bit of every field, queues and rights in every state, images of
-every length, words damaged alike, each kind of call after each, each run after
-each refusal, sizes around each limit, and more than 100,000 runs in one
+Where no check failed, the drills follow: finite sets gone through whole, on
+this table and on tables of the checklist's own (n 1, 2, 8, 9, 15 and 16 with m
+0, 1, 31 and 32), since a kernel takes any table. They have every combination of
+two refusals, every bit of every field, queues and rights in every state, images
+of every length, words damaged alike, each kind of call after each, each run
+after each refusal, sizes around each limit, and more than 100,000 runs in one
 process, with every word compared after each. Then a campaign: N runs and four
 table images for each, drawn as by `bench fuzz`; the same ones on every machine.
-Both are judged by lines 1 and 2. A line of progress is shown on a terminal
+Both are judged by checks 1 and 2. A line of progress is shown on a terminal
 only.
 
-Each line says passed, with what it stands on, or failed with the first
+Each check says passed, with what it stands on, or failed with the first
 difference. What this table and list don't allow to be shown, and what holds
 only because there is nothing to show, is said as `not shown`, with the reason.
 
-A kernel that faults or loops fails the line that met it, with the words that do
-it; the other lines go on.
+A kernel that faults or loops fails the check that met it, with the words that
+do it; the other checks go on.
 
-Before the lines it says what rights calls could ever give on this table, by
+Before the checks it says what rights calls could ever give on this table, by
 whom and by which calls, as the proved function has it. That is no verdict: it
 is for whoever planned the table.
 
-With --answers and --left the lines are judged on what a real line left: the
+With --answers and --left the checks are judged on what a real line left: the
 answers to the list, three words a call, and the table behind it, each as
 little-endian bytes or as a text of hexadecimal words. No kernel is run and no
 exercise; what one run can't show is said as `not shown`.
@@ -65,16 +65,16 @@ exercise; what one run can't show is said as `not shown`.
   --report OUT   write a report: a page of HTML to print on A4 and to sign
   --json OUT     write the same facts as JSON; docs/REPORT.md has the fields
 
-A report is written where a line failed too, and says so on top. The archive's
+A report is written where a check failed too, and says so on top. The archive's
 hash in it was worked out when this program was built, of the bytes that it
 links.
 
-Exit status: 0 no line failed; 1 a line failed, the input is refused, or other
+Exit status: 0 no check failed; 1 a check failed, the input is refused, or other
 words were read back than there must be; 2 bad usage, or a file that can't be
-read or written; 3 no line failed and none was shown.
+read or written; 3 no check failed and none was shown.
 ";
 
-/// The command: whether no line failed.
+/// The command: whether no check failed.
 pub fn command(options: &[OsString]) -> Result<bool, String> {
     commission::command(options, PROVED_RUNS)
 }

@@ -10,19 +10,19 @@ pub const HELP: &str = "\
 bench commission FILE [--kernel NAME] [OPTION]..
 
 Goes through the checklist of `balkwizu commission` with a kernel of the bench:
-the plain C kernel must pass, and one with a fault must fail on the line that
+the plain C kernel must pass, and one with a fault must fail on the check that
 its file names. The other options are those of `balkwizu commission`.
 
   --kernel NAME  balkwizu (default), balkwizu-working, balkwizu-by-length,
                  plain-gcc, plain-clang, or wrong-NAME, which has the fault of
                  bench/c/wrong/NAME.edit
 
-Exit status: 0 no line failed; 1 a line failed, or the input is refused; 2 bad
-usage, or a file that can't be read or written; 3 no line failed and none was
+Exit status: 0 no check failed; 1 a check failed, or the input is refused; 2 bad
+usage, or a file that can't be read or written; 3 no check failed and none was
 shown.
 ";
 
-/// The command: whether no line failed.
+/// The command: whether no check failed.
 pub fn command(options: &[OsString]) -> Result<bool, String> {
     commission::command(options, &[KERNELS, WRONG].concat())
 }

@@ -75,7 +75,7 @@ fn the_words_of_every_wrong_kernel_fail() {
     for kernel in seen {
         let fails = |list: &Planned| {
             let read = left_by(kernel, &list.case);
-            read.is_some_and(|read| read.verdicts().lines[1].judged.is_err())
+            read.is_some_and(|read| read.verdicts().checks[1].judged.is_err())
         };
         assert!(lists.iter().any(fails), "{}", kernel.name);
     }

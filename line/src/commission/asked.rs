@@ -1,4 +1,4 @@
-//! What commissioning is asked for: on what the lines are judged, and what is to be
+//! What commissioning is asked for: on what the checks are judged, and what is to be
 //! filed.
 
 use std::path::Path;
@@ -23,7 +23,7 @@ pub struct Asked<'a> {
     json: Option<&'a Path>,
 }
 
-/// What the lines are judged on.
+/// What the checks are judged on.
 pub enum On<'a> {
     /// A kernel, with the seed of the variants and the runs of the campaign.
     Kernel(Kernel, u64, u64),

@@ -15,7 +15,7 @@ use crate::clock::in_utc;
 use crate::commission::asked::{Asked, On, VALUED};
 use crate::judging::checklist::beyond::{with_campaign, with_drills, with_limits};
 use crate::judging::checklist::read_back::ReadBack;
-use crate::judging::checklist::{Checklist, Line, Summary, Verdicts};
+use crate::judging::checklist::{Check, Checklist, Summary, Verdicts};
 use crate::judging::compare::kept_calls;
 use crate::judging::variants::case_of;
 use crate::kernels::boundary::Kernel;
@@ -30,7 +30,7 @@ use crate::text::given::read_given;
 use crate::text::input::{shown, Input};
 use crate::text::names::Names;
 
-/// The command of a program that has these kernels: whether no line failed.
+/// The command of a program that has these kernels: whether no check failed.
 pub fn command(options: &[OsString], kernels: &[Kernel]) -> Result<bool, String> {
     let options = Options::parse(options, &VALUED, &[])?;
     let asked = Asked::of(&options, kernels)?;
@@ -74,7 +74,7 @@ pub fn command(options: &[OsString], kernels: &[Kernel]) -> Result<bool, String>
     Ok(well)
 }
 
-/// The status where no line failed and none was shown.
+/// The status where no check failed and none was shown.
 const NOTHING_SHOWN: i32 = 3;
 
 /// An input that is commissioned: an accepted table, its list and its names.
@@ -144,14 +144,14 @@ impl Commissioned<'_> {
 /// Verdicts on words that were read back. The judges tell them as a kernel's, as which they
 /// compare them; no kernel was run, and they are the line's.
 fn of_a_line(verdicts: Verdicts) -> Verdicts {
-    let told = |line: Line| Line {
-        judged: line
+    let told = |check: Check| Check {
+        judged: check
             .judged
             .map_err(|why| why.replace("the kernel ", "the line ")),
-        ..line
+        ..check
     };
     Verdicts {
-        lines: verdicts.lines.map(told),
+        checks: verdicts.checks.map(told),
         ..verdicts
     }
 }
@@ -185,10 +185,10 @@ fn struck_calls(case: &Case, domain: usize, names: &Names) -> String {
     )
 }
 
-/// Prints the four lines and the summary; whether none failed.
+/// Prints the four checks and the summary; whether none failed.
 fn tell(verdicts: &Verdicts) -> bool {
-    for (number, line) in verdicts.lines.iter().enumerate() {
-        output::write(in_words(number + 1, line).as_bytes());
+    for (number, check) in verdicts.checks.iter().enumerate() {
+        output::write(in_words(number + 1, check).as_bytes());
     }
     let Summary {
         passed,
@@ -208,18 +208,18 @@ fn or_nothing(not_shown: usize) -> String {
     }
 }
 
-/// A line with its verdict, what it stands on and what isn't shown.
-fn in_words(number: usize, line: &Line) -> String {
-    let name = line.name;
-    let found = match &line.judged {
-        Err(why) => return format!("line {number} failed  {name}: {why}\n"),
+/// A check with its verdict, what it stands on and what isn't shown.
+fn in_words(number: usize, check: &Check) -> String {
+    let name = check.name;
+    let found = match &check.judged {
+        Err(why) => return format!("check {number} failed  {name}: {why}\n"),
         Ok(found) => found,
     };
     let verdict = match found.shown {
         true => format!("passed{}", or_nothing(found.not_shown.len())),
         false => "not shown".to_string(),
     };
-    let mut text = format!("line {number} {verdict}  {name}: {}\n", found.in_order);
+    let mut text = format!("check {number} {verdict}  {name}: {}\n", found.in_order);
     let not_shown = found
         .not_shown
         .iter()
@@ -261,7 +261,7 @@ mod tests {
         assert!(told.ends_with("domain 45, which the table hasn't, asks for its rights\n"));
     }
 
-    fn lines(kernel: Kernel, table: &[u32]) -> [String; 4] {
+    fn checks(kernel: Kernel, table: &[u32]) -> [String; 4] {
         let input = Input {
             table: table.to_vec(),
             list: vec![],
@@ -269,32 +269,32 @@ mod tests {
         let mut number = 0;
         Checklist::new(kernel, &input, &Names::none(), 1)
             .verdicts()
-            .lines
-            .map(|line| {
+            .checks
+            .map(|check| {
                 number += 1;
-                in_words(number, &line)
+                in_words(number, &check)
             })
     }
 
     #[test]
-    fn a_line_is_no_bare_passed_where_something_is_not_shown() {
-        let [refusals, answers, isolation, counts] = lines(PROVED, &[0x1000_0100, 0x2000_0000]);
-        assert!(refusals.starts_with("line 1 passed, 4 not shown  refusals: "));
-        assert!(answers.starts_with("line 2 passed, 5 not shown  answers and table: "));
+    fn a_check_is_no_bare_passed_where_something_is_not_shown() {
+        let [refusals, answers, isolation, counts] = checks(PROVED, &[0x1000_0100, 0x2000_0000]);
+        assert!(refusals.starts_with("check 1 passed, 4 not shown  refusals: "));
+        assert!(answers.starts_with("check 2 passed, 5 not shown  answers and table: "));
         assert!(answers.contains("\n    not shown: anything by this list: it has no call\n"));
-        assert!(isolation.starts_with("line 3 not shown  isolation: "));
+        assert!(isolation.starts_with("check 3 not shown  isolation: "));
         assert!(isolation.ends_with("not shown: isolation of domain 0: there is no other domain\n"));
-        assert!(counts.starts_with("line 4 passed, 1 not shown  counts: "));
+        assert!(counts.starts_with("check 4 passed, 1 not shown  counts: "));
     }
 
     #[test]
-    fn a_line_that_fails_says_why_and_no_more() {
+    fn a_check_that_fails_says_why_and_no_more() {
         let table = Input::example().table;
-        let [refusals, answers, isolation, counts] = lines(faulty::WRONG_ANSWER, &table);
-        assert!(refusals.starts_with("line 1 failed  refusals: the list "));
-        assert!(answers.starts_with("line 2 failed  answers and table: exercise list 0"));
+        let [refusals, answers, isolation, counts] = checks(faulty::WRONG_ANSWER, &table);
+        assert!(refusals.starts_with("check 1 failed  refusals: the list "));
+        assert!(answers.starts_with("check 2 failed  answers and table: exercise list 0"));
         assert!(answers.ends_with("data 0 0\n") && !answers.contains("not shown"));
-        assert!(isolation.starts_with("line 3 failed  isolation: exercise list"));
-        assert!(counts.starts_with("line 4 passed  counts: "), "{counts}");
+        assert!(isolation.starts_with("check 3 failed  isolation: exercise list"));
+        assert!(counts.starts_with("check 4 passed  counts: "), "{counts}");
     }
 }

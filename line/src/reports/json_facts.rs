@@ -4,7 +4,7 @@
 use reference::calls::cut;
 use reference::table::{domains, endpoints};
 
-use crate::judging::checklist::Line;
+use crate::judging::checklist::Check;
 use crate::reports::facts::{
     archive_logic, kit, EndpointRow, Judged, Report, RightsCell, Source, ARCHIVE, ARCHIVE_SHA256,
     VERSION,
@@ -12,13 +12,13 @@ use crate::reports::facts::{
 use crate::reports::json::Json;
 
 /// The number of this form.
-const FORMAT: u64 = 1;
+const FORMAT: u64 = 2;
 
 /// The JSON of a report, with a line's end behind it.
 pub fn json(report: &Report) -> String {
     let summary = report.verdicts.summary();
     let verdict = match summary.failed {
-        0 => "no line failed",
+        0 => "no check failed",
         _ => "failed",
     };
     let number = |number: usize| Json::Number(number as u64);
@@ -34,7 +34,7 @@ pub fn json(report: &Report) -> String {
         ("archive", archive()),
         ("input", input(report)),
         ("judged", judged(&report.judged)),
-        ("lines", Json::List(lines(&report.verdicts.lines))),
+        ("checks", Json::List(checks(&report.verdicts.checks))),
         ("domains", Json::List(named_domains(report))),
         (
             "endpoints",
@@ -93,15 +93,15 @@ fn source(source: &Source) -> Json {
     ])
 }
 
-/// The four lines; of one that failed its failure, of another what it stands on.
-fn lines(lines: &[Line; 4]) -> Vec<Json> {
-    let line = |(number, line): (usize, &Line)| {
+/// The four checks; of one that failed its failure, of another what it stands on.
+fn checks(checks: &[Check; 4]) -> Vec<Json> {
+    let check = |(number, check): (usize, &Check)| {
         let mut all = vec![
-            ("line", Json::Number(number as u64 + 1)),
-            ("name", Json::text(line.name)),
-            ("verdict", Json::text(line.verdict())),
+            ("check", Json::Number(number as u64 + 1)),
+            ("name", Json::text(check.name)),
+            ("verdict", Json::text(check.verdict())),
         ];
-        match &line.judged {
+        match &check.judged {
             Err(why) => all.push(("failure", Json::text(why))),
             Ok(found) => all.extend([
                 ("in_order", Json::text(found.in_order)),
@@ -111,7 +111,7 @@ fn lines(lines: &[Line; 4]) -> Vec<Json> {
         }
         Json::Object(all)
     };
-    lines.iter().enumerate().map(line).collect()
+    checks.iter().enumerate().map(check).collect()
 }
 
 fn named_domains(report: &Report) -> Vec<Json> {
@@ -179,8 +179,8 @@ mod tests {
         let names = Names::given("domain 0 link\nendpoint 1 drives\n");
         let text = with_report(&verdicts(PROVED), &names, json);
         for part in [
-            "\"format\": 1,",
-            "\"verdict\": \"no line failed\",",
+            "\"format\": 2,",
+            "\"verdict\": \"no check failed\",",
             "\"passed\": 4,",
             "\"made\": \"2026-11-16T11:24:43Z\",",
             "\"file\": \"<script>\\\"&'\",",
@@ -197,7 +197,7 @@ mod tests {
     }
 
     #[test]
-    fn a_failure_is_told_in_its_line() {
+    fn a_failure_is_told_in_its_check() {
         let text = with_report(&verdicts(faulty::WRONG_ANSWER), &Names::none(), json);
         assert!(text.contains("\"verdict\": \"failed\",\n  \"passed\": 1,\n  \"failed\": 3,"));
         assert!(text.contains("\"failure\": \"exercise list "), "{text}");

@@ -19,7 +19,7 @@ pub fn page(report: &Report) -> String {
     let sections = [
         sections::head(report),
         sections::about(report),
-        sections::lines(report.verdicts),
+        sections::checks(report.verdicts),
         sections::counts(report),
         sections::rights(report),
         sections::signatures(),
@@ -111,7 +111,7 @@ li { overflow-wrap: anywhere; break-inside: avoid }
 .verdict.failed { border-color: #b00020; background: #b00020; color: #fff }
 .verdict.unshown { border-style: dashed; border-color: #666 }
 .unshown { color: #444 }
-.line { margin: 0 0 3mm; font-size: 9pt }
+.check { margin: 0 0 3mm; font-size: 9pt }
 pre { font: 8pt/1.3 'DejaVu Sans Mono', Consolas, monospace; white-space: pre-wrap; overflow-wrap: anywhere;
   border-left: 1.5mm solid #b00020; padding-left: 2mm; margin: 1mm 0 }
 table { border-collapse: collapse; width: 100%; font-size: 8.5pt }

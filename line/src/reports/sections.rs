@@ -3,7 +3,7 @@
 use reference::table::{domains, right, rights_place, RIGHTS};
 use reference::words::{content, kind};
 
-use crate::judging::checklist::{Line, Verdicts};
+use crate::judging::checklist::{Check, Verdicts};
 use crate::reports::facts::{
     archive_logic, kit, EndpointRow, Judged, Report, RightsCell, Source, ARCHIVE, ARCHIVE_SHA256,
     VERSION,
@@ -18,21 +18,21 @@ const SIDE_BY_SIDE: usize = 6;
 pub fn head(report: &Report) -> String {
     let summary = report.verdicts.summary();
     let failed: Vec<String> = (1..)
-        .zip(&report.verdicts.lines)
-        .filter(|(_, line)| line.judged.is_err())
-        .map(|(number, line)| format!("line {number} ({})", line.name))
+        .zip(&report.verdicts.checks)
+        .filter(|(_, check)| check.judged.is_err())
+        .map(|(number, check)| format!("check {number} ({})", check.name))
         .collect();
     let (class, result) = match (summary.failed, summary.passed) {
-        (0, 4) => ("result", "No line failed".to_string()),
+        (0, 4) => ("result", "No check failed".to_string()),
         (0, passed) => (
             "result open",
-            format!("No line failed, and {passed} of 4 passed"),
+            format!("No check failed, and {passed} of 4 passed"),
         ),
         _ => ("result failed", format!("FAILED: {}", failed.join(", "))),
     };
     format!(
         "<h1>Commissioning report</h1>\n<div class=\"{class}\">{result}\
-         <p>{} of 4 lines passed, {} failed; {} told as not shown. {}</p></div>\n",
+         <p>{} of 4 checks passed, {} failed; {} told as not shown. {}</p></div>\n",
         summary.passed,
         summary.failed,
         counted_things(summary.not_shown),
@@ -128,21 +128,21 @@ fn hash(hash: &str) -> String {
     format!("<span class=\"hash\">{}</span>", escaped(hash))
 }
 
-/// The four lines, each with what it stands on and what isn't shown.
-pub fn lines(verdicts: &Verdicts) -> String {
-    let each = (1..).zip(&verdicts.lines);
-    let each: String = each.map(|(number, judged)| line(number, judged)).collect();
-    format!("<h2>The four lines</h2>\n{each}")
+/// The four checks, each with what it stands on and what isn't shown.
+pub fn checks(verdicts: &Verdicts) -> String {
+    let each = (1..).zip(&verdicts.checks);
+    let each: String = each.map(|(number, judged)| check(number, judged)).collect();
+    format!("<h2>The four checks</h2>\n{each}")
 }
 
-fn line(number: usize, line: &Line) -> String {
-    let verdict = line.verdict();
+fn check(number: usize, check: &Check) -> String {
+    let verdict = check.verdict();
     let class = match verdict {
         "failed" => " failed",
         "not shown" => " unshown",
         _ => "",
     };
-    let body = match &line.judged {
+    let body = match &check.judged {
         Err(why) => format!("<pre>{}</pre>", escaped(why)),
         Ok(found) => {
             let stands_on = found.stands_on.iter();
@@ -156,9 +156,9 @@ fn line(number: usize, line: &Line) -> String {
         }
     };
     format!(
-        "<div class=\"line\">\n<h3>Line {number}, {}: <span class=\"verdict{class}\">{verdict}</span></h3>\n\
+        "<div class=\"check\">\n<h3>Check {number}, {}: <span class=\"verdict{class}\">{verdict}</span></h3>\n\
          {body}\n</div>\n",
-        escaped(line.name)
+        escaped(check.name)
     )
 }
 
@@ -370,11 +370,11 @@ mod tests {
         has(
             &page,
             &[
-                "<div class=\"result\">No line failed<p>4 of 4 lines passed, 0 failed; 5 things are",
+                "<div class=\"result\">No check failed<p>4 of 4 checks passed, 0 failed; 5 things are",
                 "Made 2026-11-16, 11:24:43 UTC.",
                 "<tr><th>Seed</th><td>7</td></tr>",
                 ARCHIVE_SHA256,
-                "Line 4, counts: <span class=\"verdict\">passed</span>",
+                "Check 4, counts: <span class=\"verdict\">passed</span>",
                 "<li class=\"unshown\"><b>not shown:</b> messages in turn at endpoint 1",
                 "<td class=\"row\">1 commands</td><td class=\"row\">2 drives</td><td>1</td>\
                  <td>0</td><td>2</td><td>1</td><td>1</td><td>0</td><td>0</td><td>1</td></tr>",
@@ -437,21 +437,21 @@ mod tests {
     #[test]
     fn a_failure_stands_on_top() {
         let page = with_report(&verdicts(faulty::WRONG_ANSWER), &Names::none(), page);
-        let top = "<div class=\"result failed\">FAILED: line 1 (refusals), line 2 (answers and";
-        let (top, line) = (page.find(top), page.find("<pre>exercise list "));
-        assert!(top.is_some() && top < line, "{page}");
+        let top = "<div class=\"result failed\">FAILED: check 1 (refusals), check 2 (answers and";
+        let (top, check) = (page.find(top), page.find("<pre>exercise list "));
+        assert!(top.is_some() && top < check, "{page}");
     }
 
     #[test]
-    fn a_line_on_which_nothing_is_shown_is_no_passed_one() {
+    fn a_check_on_which_nothing_is_shown_is_no_passed_one() {
         let mut verdicts = verdicts(PROVED);
-        verdicts.lines[2].judged.as_mut().unwrap().shown = false;
+        verdicts.checks[2].judged.as_mut().unwrap().shown = false;
         let page = with_report(&verdicts, &Names::none(), page);
         has(
             &page,
             &[
-                "<div class=\"result open\">No line failed, and 3 of 4 passed<p>3 of 4 lines",
-                "Line 3, isolation: <span class=\"verdict unshown\">not shown</span>",
+                "<div class=\"result open\">No check failed, and 3 of 4 passed<p>3 of 4 checks",
+                "Check 3, isolation: <span class=\"verdict unshown\">not shown</span>",
             ],
         );
     }

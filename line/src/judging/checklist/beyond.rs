@@ -1,10 +1,10 @@
 //! What the checklist goes through beyond the line's table and list: the drills, and a
 //! campaign of drawn runs. Both are for a kernel with which nothing was found wrong so far:
-//! what is wrong with one of them fails line 2, and line 1 where it is a refusal.
+//! what is wrong with one of them fails check 2, and check 1 where it is a refusal.
 
 use std::time::Duration;
 
-use super::{Found, Line, Verdicts};
+use super::{Check, Found, Verdicts};
 use crate::judging::drills::{go_through, orders, Wrong, DRILLS};
 use crate::judging::images::try_images;
 use crate::judging::runs::try_runs;
@@ -29,7 +29,7 @@ const IMAGES: u64 = 4;
 /// How long one run of the campaign may take.
 const LIMIT: Duration = Duration::from_secs(10);
 
-/// Goes through the drills where no line failed.
+/// Goes through the drills where no check failed.
 pub fn with_drills(kernel: &Kernel, line: &[u32], verdicts: Verdicts) -> Verdicts {
     if verdicts.summary().failed != 0 {
         return verdicts;
@@ -46,11 +46,11 @@ pub fn with_drills(kernel: &Kernel, line: &[u32], verdicts: Verdicts) -> Verdict
         format!("of these: {}", each.collect::<Vec<_>>().join("; ")),
         orders::in_words(),
     ];
-    let second = vec![format!("the drills of line 1, {runs}")];
+    let second = vec![format!("the drills of check 1, {runs}")];
     added(verdicts, [first, second], drilled.wrong)
 }
 
-/// Tries so many drawn runs, and table images, where no line failed.
+/// Tries so many drawn runs, and table images, where no check failed.
 pub fn with_campaign(kernel: &Kernel, seed: u64, runs: u64, verdicts: Verdicts) -> Verdicts {
     if verdicts.summary().failed != 0 || runs == 0 {
         return verdicts;
@@ -79,30 +79,30 @@ fn tried(kernel: &Kernel, seed: u64, runs: u64) -> Result<(), String> {
     try_images(kernel, &draws(IMAGES.saturating_mul(runs)), &mut tally)
 }
 
-/// The verdicts with what lines 1 and 2 stand on besides, or with what is wrong.
+/// The verdicts with what checks 1 and 2 stand on besides, or with what is wrong.
 fn added(mut verdicts: Verdicts, more: [Vec<String>; 2], wrong: Option<Wrong>) -> Verdicts {
     let Some(Wrong { refusal, word }) = wrong else {
-        for (line, more) in verdicts.lines.iter_mut().zip(more) {
-            stands_on(line, more);
+        for (check, more) in verdicts.checks.iter_mut().zip(more) {
+            stands_on(check, more);
         }
         return verdicts;
     };
-    verdicts.lines[1].judged = Err(word);
+    verdicts.checks[1].judged = Err(word);
     if let Some(refusal) = refusal {
-        verdicts.lines[0].judged = Err(refusal);
+        verdicts.checks[0].judged = Err(refusal);
     }
     verdicts
 }
 
-fn stands_on(line: &mut Line, more: Vec<String>) {
-    if let Ok(Found { stands_on, .. }) = &mut line.judged {
+fn stands_on(check: &mut Check, more: Vec<String>) {
+    if let Ok(Found { stands_on, .. }) = &mut check.judged {
         stands_on.extend(more);
     }
 }
 
-/// Says of line 2 what no run from outside can show.
+/// Says of check 2 what no run from outside can show.
 pub fn with_limits(mut verdicts: Verdicts) -> Verdicts {
-    stands_on(&mut verdicts.lines[1], vec![BLACK_BOX.to_string()]);
+    stands_on(&mut verdicts.checks[1], vec![BLACK_BOX.to_string()]);
     verdicts
 }
 
@@ -120,9 +120,9 @@ mod tests {
     }
 
     #[test]
-    fn a_campaign_is_counted_and_what_it_finds_fails_line_2() {
+    fn a_campaign_is_counted_and_what_it_finds_fails_check_2() {
         let right = with_limits(with_campaign(&PROVED, 1, 200, own(PROVED)));
-        let found = right.lines[1].judged.as_ref().expect("it passes");
+        let found = right.checks[1].judged.as_ref().expect("it passes");
         let [.., campaign, limits] = &found.stands_on[..] else {
             panic!("{:?}", found.stands_on)
         };
@@ -130,8 +130,8 @@ mod tests {
         assert_eq!(campaign, told);
         assert_eq!(limits, BLACK_BOX);
         let wrong = with_campaign(&faulty::WRONG_ANSWER, 1, 200, own(PROVED));
-        assert!(wrong.lines[0].judged.is_ok());
-        let why = wrong.lines[1].judged.as_ref().unwrap_err();
+        assert!(wrong.checks[0].judged.is_ok());
+        let why = wrong.checks[1].judged.as_ref().unwrap_err();
         assert!(why.starts_with("DIFFERENCE in run "), "{why}");
     }
 
@@ -140,8 +140,8 @@ mod tests {
         let wrong = faulty::WRONG_ANSWER;
         let verdicts = with_drills(&wrong, &Input::example().table, own(wrong));
         let before = own(wrong);
-        for (line, before) in verdicts.lines.iter().zip(&before.lines) {
-            assert_eq!(line.verdict(), before.verdict());
+        for (check, before) in verdicts.checks.iter().zip(&before.checks) {
+            assert_eq!(check.verdict(), before.verdict());
         }
     }
 

@@ -1,9 +1,9 @@
-//! The four lines of the checklist, judged on the exercise and on the list that was
+//! The four checks of the checklist, judged on the exercise and on the list that was
 //! handed in. Each says what it stands on, and what of it this table can't show.
 
 pub mod basis;
 pub mod beyond;
-mod lines;
+mod checks;
 pub mod read_back;
 mod refusals;
 mod shown;
@@ -34,12 +34,12 @@ const WORDS_AT_A_TIME: usize = 400_000;
 
 /// What the checklist came to.
 pub struct Verdicts {
-    pub lines: [Line; 4],
+    pub checks: [Check; 4],
     /// What the run of this list left, or why there is no such run.
     pub left: Result<Ran, String>,
 }
 
-/// How many lines passed and failed, and how many things aren't shown.
+/// How many checks passed and failed, and how many things aren't shown.
 #[derive(Debug, Clone, Copy, Default, PartialEq, Eq)]
 pub struct Summary {
     pub passed: usize,
@@ -50,8 +50,8 @@ pub struct Summary {
 impl Verdicts {
     pub fn summary(&self) -> Summary {
         let mut summary = Summary::default();
-        for line in &self.lines {
-            match &line.judged {
+        for check in &self.checks {
+            match &check.judged {
                 Err(_) => summary.failed += 1,
                 Ok(found) => {
                     summary.passed += usize::from(found.shown);
@@ -77,19 +77,19 @@ pub struct Checklist {
 /// The kernel's runs of all lists, as far as they were made.
 type Runs = [Result<Ran, Failure>];
 
-/// A line that was judged: what was found in order, or the first difference.
-pub struct Line {
+/// A check that was judged: what was found in order, or the first difference.
+pub struct Check {
     pub name: &'static str,
     pub judged: Judged,
 }
 
 pub type Judged = Result<Found, String>;
 
-impl Line {
-    /// A line, with the names beside the numbers of a failure: those who judge know none.
-    fn new(name: &'static str, judged: Judged, names: &Names) -> Line {
+impl Check {
+    /// A check, with the names beside the numbers of a failure: those who judge know none.
+    fn new(name: &'static str, judged: Judged, names: &Names) -> Check {
         let judged = judged.map_err(|why| names.beside(&why));
-        Line { name, judged }
+        Check { name, judged }
     }
 
     /// The verdict in a word or two.
@@ -102,13 +102,13 @@ impl Line {
     }
 }
 
-/// What a line that didn't fail was found to be.
+/// What a check that didn't fail was found to be.
 #[derive(Debug)]
 pub struct Found {
     pub in_order: &'static str,
     pub stands_on: Vec<String>,
     pub not_shown: NotShown,
-    /// False where all that the line is about holds only because there is nothing to show.
+    /// False where all that the check is about holds only because there is nothing to show.
     pub shown: bool,
 }
 
@@ -147,18 +147,18 @@ impl Checklist {
 
     pub fn verdicts(&self) -> Verdicts {
         let runs = self.runs();
-        let line = |name, judged| Line::new(name, judged, &self.names);
-        let lines = [
-            line("refusals", self.refusals(&runs)),
-            line("answers and table", self.answers_and_table(&runs)),
-            line("isolation", self.isolation(&runs)),
-            line("counts", self.counts(&runs)),
+        let check = |name, judged| Check::new(name, judged, &self.names);
+        let checks = [
+            check("refusals", self.refusals(&runs)),
+            check("answers and table", self.answers_and_table(&runs)),
+            check("isolation", self.isolation(&runs)),
+            check("counts", self.counts(&runs)),
         ];
         let left = match runs.into_iter().nth(self.lists.len() - 1) {
             Some(ran) => ran.map_err(String::from),
             None => Err(format!("{THIS_LIST} was not run")),
         };
-        Verdicts { lines, left }
+        Verdicts { checks, left }
     }
 
     /// A line of progress for whoever goes through all lists.
@@ -231,21 +231,21 @@ mod tests {
     use crate::kernels::boundary::PROVED;
     use crate::kernels::faulty;
 
-    fn lines(kernel: Kernel) -> [Judged; 4] {
-        let lines = Checklist::new(kernel, &Input::example(), &Names::none(), 1)
+    fn checks(kernel: Kernel) -> [Judged; 4] {
+        let checks = Checklist::new(kernel, &Input::example(), &Names::none(), 1)
             .verdicts()
-            .lines;
-        lines.map(|line| line.judged)
+            .checks;
+        checks.map(|check| check.judged)
     }
 
-    fn failed(kernel: Kernel, line: usize) -> String {
-        let mut lines = lines(kernel);
-        let judged = std::mem::replace(&mut lines[line - 1], Err(String::new()));
-        judged.expect_err("the line fails")
+    fn failed(kernel: Kernel, check: usize) -> String {
+        let mut checks = checks(kernel);
+        let judged = std::mem::replace(&mut checks[check - 1], Err(String::new()));
+        judged.expect_err("the check fails")
     }
 
     #[test]
-    fn each_line_fails_for_the_fault_that_it_is_for() {
+    fn each_check_fails_for_the_fault_that_it_is_for() {
         let code = failed(faulty::WRONG_CODE, 1);
         assert!(code.contains("the kernel ends with code 6"), "{code}");
         let changed = failed(faulty::WRONG_TABLE, 1);
@@ -268,8 +268,8 @@ mod tests {
 
     #[test]
     fn a_kernel_that_alters_word_0_is_judged_all_the_same() {
-        for line in [1, 2, 3, 4] {
-            failed(faulty::WRITES_WORD_0, line);
+        for check in [1, 2, 3, 4] {
+            failed(faulty::WRITES_WORD_0, check);
         }
         let told = failed(faulty::WRITES_WORD_0, 3);
         assert!(
@@ -279,7 +279,7 @@ mod tests {
     }
 
     #[test]
-    fn a_wrong_check_of_images_fails_line_1() {
+    fn a_wrong_check_of_images_fails_check_1() {
         let told = failed(faulty::LENIENT_CHECK, 1);
         assert!(
             told.ends_with("its image is checked with 0, it should be 5"),
@@ -288,7 +288,7 @@ mod tests {
     }
 
     #[test]
-    fn a_kernel_that_stops_fails_line_1_with_the_call_that_does_it() {
+    fn a_kernel_that_stops_fails_check_1_with_the_call_that_does_it() {
         let told = failed(faulty::FAULTS_AT_A_GRANT, 1);
         assert!(told.starts_with("exercise list 0 ("), "{told}");
         assert!(
@@ -302,9 +302,9 @@ mod tests {
     }
 
     #[test]
-    fn what_a_line_stands_on_is_told() {
-        let [refusals, answers, isolation, counts] = lines(PROVED).map(|judged| {
-            let found = judged.expect("no line fails");
+    fn what_a_check_stands_on_is_told() {
+        let [refusals, answers, isolation, counts] = checks(PROVED).map(|judged| {
+            let found = judged.expect("no check fails");
             found.stands_on.join("\n")
         });
         assert!(refusals.contains(" damaged tables: ") && refusals.contains(" with another name"));
@@ -325,10 +325,10 @@ mod tests {
     fn a_count_at_its_top_is_told() {
         let mut input = Input::example();
         input.table[25] = 0x6FFF_FFFF;
-        let lines = Checklist::new(PROVED, &input, &Names::none(), 1)
+        let checks = Checklist::new(PROVED, &input, &Names::none(), 1)
             .verdicts()
-            .lines;
-        let counts = lines[3].judged.as_ref().expect("it passes");
+            .checks;
+        let counts = checks[3].judged.as_ref().expect("it passes");
         let told = counts.stands_on.join("\n");
         assert!(told.contains("lost count 268435455, at its top: it tells no further loss; in"));
         assert!(told.ends_with("on this table and on a copy with all lost counts one below it"));

@@ -1,4 +1,4 @@
-//! The four lines judged on words that were read back from a real line: the answers and
+//! The four checks judged on words that were read back from a real line: the answers and
 //! the table that its own run of the list left. One run shows less than a kernel that can
 //! be run at will; what it can't show is told.
 
@@ -8,10 +8,10 @@ use reference::influence::tables_before;
 use reference::table::{domains, endpoints};
 use reference::words::bits;
 
-use super::lines::{
+use super::checks::{
     count_difference, endpoint_counts, same_size, sources_in_words, struck_by_list, word_difference,
 };
-use super::{Found, Judged, Line, Verdicts};
+use super::{Check, Found, Judged, Verdicts};
 use crate::cases::Case;
 use crate::judging::checklist::basis::Basis;
 use crate::judging::checklist::shown;
@@ -69,15 +69,15 @@ impl ReadBack {
     }
 
     pub fn verdicts(self) -> Verdicts {
-        let line = |name, judged| Line::new(name, judged, &self.names);
-        let lines = [
-            line("refusals", self.refusals()),
-            line("answers and table", self.answers_and_table()),
-            line("isolation", self.isolation()),
-            line("counts", self.counts()),
+        let check = |name, judged| Check::new(name, judged, &self.names);
+        let checks = [
+            check("refusals", self.refusals()),
+            check("answers and table", self.answers_and_table()),
+            check("isolation", self.isolation()),
+            check("counts", self.counts()),
         ];
         Verdicts {
-            lines,
+            checks,
             left: Ok(self.ran),
         }
     }
@@ -86,7 +86,7 @@ impl ReadBack {
         Basis::of([&self.case])
     }
 
-    /// Line 1, as far as one run shows it: each call is refused that should be, by its
+    /// Check 1, as far as one run shows it: each call is refused that should be, by its
     /// number, and no other; and words that no done call alters are as they were.
     fn refusals(&self) -> Judged {
         self.refused_alike()?;
@@ -149,7 +149,7 @@ impl ReadBack {
         }
     }
 
-    /// Line 2.
+    /// Check 2.
     fn answers_and_table(&self) -> Judged {
         word_difference(&self.case, &self.ran)?;
         let basis = self.basis();
@@ -168,7 +168,7 @@ impl ReadBack {
         })
     }
 
-    /// Line 3.
+    /// Check 3.
     fn isolation(&self) -> Judged {
         same_size(&self.case, &self.ran)?;
         let each = (0..domains(&self.case.table)).map(|d| isolation(&self.case, &self.ran, d));
@@ -184,7 +184,7 @@ impl ReadBack {
         })
     }
 
-    /// Line 4.
+    /// Check 4.
     fn counts(&self) -> Judged {
         same_size(&self.case, &self.ran)?;
         count_difference(&self.case, &self.ran)?;
@@ -227,16 +227,16 @@ mod tests {
 
     fn judged(input: &Input, answers: &[u32], left: &[u32]) -> [Judged; 4] {
         let read = ReadBack::new(input, &Names::none(), answers.to_vec(), left.to_vec()).unwrap();
-        read.verdicts().lines.map(|line| line.judged)
+        read.verdicts().checks.map(|check| check.judged)
     }
 
-    /// Which of the lines fail once some words of the worked example are altered.
+    /// Which of the checks fail once some words of the worked example are altered.
     fn failing(alter: impl FnOnce(&mut [u32], &mut [u32])) -> Vec<usize> {
         let input = Input::example();
         let (mut answers, mut left) = words(&input);
         alter(&mut answers, &mut left);
         let judged = judged(&input, &answers, &left);
-        (1..5).filter(|line| judged[line - 1].is_err()).collect()
+        (1..5).filter(|check| judged[check - 1].is_err()).collect()
     }
 
     #[test]
@@ -270,12 +270,12 @@ mod tests {
     }
 
     #[test]
-    fn nothing_altered_fails_no_line() {
+    fn nothing_altered_fails_no_check() {
         assert_eq!(failing(|_, _| {}), Vec::<usize>::new());
     }
 
     #[test]
-    fn each_line_fails_for_words_of_its_own() {
+    fn each_check_fails_for_words_of_its_own() {
         // A refusal by another number, one that is told as done, and a call refused that
         // is done.
         assert!(failing(|answers, _| answers[0] ^= 3).contains(&1));
@@ -294,7 +294,7 @@ mod tests {
     }
 
     #[test]
-    fn endpoints_exchanged_and_another_owner_fail_line_3() {
+    fn endpoints_exchanged_and_another_owner_fail_check_3() {
         let exchanged = failing(|_, left| {
             let (first, second) = left[10..].split_at_mut(12);
             first.swap_with_slice(second);
@@ -307,7 +307,7 @@ mod tests {
     }
 
     #[test]
-    fn every_single_bit_of_every_word_fails_line_2() {
+    fn every_single_bit_of_every_word_fails_check_2() {
         let (answers, left) = words(&Input::example());
         for bit in 0..32 * answers.len() {
             let failing = failing(|answers, _| answers[bit / 32] ^= 1 << (bit % 32));
@@ -338,7 +338,7 @@ mod tests {
     }
 
     #[test]
-    fn a_list_that_shows_nothing_passes_no_line() {
+    fn a_list_that_shows_nothing_passes_no_check() {
         let table = Input::example().table;
         let left = table.clone();
         let input = Input {

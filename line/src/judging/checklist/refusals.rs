@@ -1,4 +1,4 @@
-//! Line 1: any words are taken without fault and finished; what breaks a rule is refused
+//! Check 1: any words are taken without fault and finished; what breaks a rule is refused
 //! by its number, and a refusal changes nothing.
 
 use std::collections::BTreeMap;

@@ -11,7 +11,7 @@ use crate::text::names::Names;
 /// Things that aren't shown, each in words.
 pub type NotShown = Vec<String>;
 
-/// Of line 1: the numbers that no call is refused by.
+/// Of check 1: the numbers that no call is refused by.
 pub fn numbers(table: &[u32], basis: &Basis) -> NotShown {
     let never = CALL_CODES.filter(|&code| basis.refused_by(code) == 0);
     let told = |code| {
@@ -25,7 +25,7 @@ pub fn numbers(table: &[u32], basis: &Basis) -> NotShown {
     never.map(told).collect()
 }
 
-/// Of line 2: queues that go in turn, who may not send, and rights given and given up.
+/// Of check 2: queues that go in turn, who may not send, and rights given and given up.
 pub fn answers_and_table(table: &[u32], basis: &Basis, list: &Basis, names: &Names) -> NotShown {
     let mut all = NotShown::new();
     if list.calls == 0 {
@@ -92,7 +92,7 @@ fn rights(basis: &Basis, names: &Names) -> NotShown {
     all
 }
 
-/// Of line 3: domains for which no call of another domain is struck, in the exercise and
+/// Of check 3: domains for which no call of another domain is struck, in the exercise and
 /// in the list that was handed in.
 pub fn isolation(
     table: &[u32],
@@ -112,7 +112,7 @@ pub fn isolation(
     all
 }
 
-/// Of line 3, by a list alone.
+/// Of check 3, by a list alone.
 pub fn isolation_by_list(list: &[Struck], names: &Names) -> NotShown {
     let everyone = "each call of another domain counts for it, so nothing is struck";
     told(
@@ -130,7 +130,7 @@ fn nothing_struck(struck: &[Struck], names: &Names) -> Vec<String> {
         .collect()
 }
 
-/// Of line 4: endpoints that nothing was sent to.
+/// Of check 4: endpoints that nothing was sent to.
 pub fn counts(table: &[u32], basis: &Basis, names: &Names) -> NotShown {
     if endpoints(table) == 0 {
         return vec!["counts of a queue: there is no endpoint".to_string()];
@@ -151,7 +151,7 @@ fn silent(basis: &Basis, names: &Names) -> Vec<String> {
         .collect()
 }
 
-/// Of line 1, by the words that one run left: what only a kernel at hand shows, and the
+/// Of check 1, by the words that one run left: what only a kernel at hand shows, and the
 /// numbers that this list has no refusal by.
 pub fn refusals_by_one_run(basis: &Basis) -> NotShown {
     let mut all = vec![
@@ -168,7 +168,7 @@ pub fn refusals_by_one_run(basis: &Basis) -> NotShown {
     all
 }
 
-/// Of line 2, by the words that one run left.
+/// Of check 2, by the words that one run left.
 pub fn answers_by_one_run(basis: &Basis) -> NotShown {
     let mut all = vec![
         "the words of the holders: they aren't read back".to_string(),
@@ -184,7 +184,7 @@ pub fn answers_by_one_run(basis: &Basis) -> NotShown {
     all
 }
 
-/// Of line 4, by the words that one run left.
+/// Of check 4, by the words that one run left.
 pub fn counts_by_one_run(basis: &Basis, names: &Names) -> NotShown {
     let mut all = vec!["the number of calls that the run returned: it isn't read back".to_string()];
     all.extend(told(

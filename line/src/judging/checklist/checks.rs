@@ -1,4 +1,4 @@
-//! Lines 2, 3 and 4: answers and table, isolation, counts.
+//! Checks 2, 3 and 4: answers and table, isolation, counts.
 
 use reference::table::{domains, endpoints, lost, waiting};
 use reference::words::CONTENT_MAX;
@@ -19,7 +19,7 @@ use crate::text::names::Names;
 const DOMAINS_BY_NAME: usize = 6;
 
 impl Checklist {
-    /// Line 2.
+    /// Check 2.
     pub(super) fn answers_and_table(&self, runs: &Runs) -> Judged {
         self.judged(runs, |_, case, ran| word_difference(case, ran))?;
         let variants = self.variants()?;
@@ -60,7 +60,7 @@ impl Checklist {
         first.map(|()| ran_to_the_end)
     }
 
-    /// Line 3.
+    /// Check 3.
     pub(super) fn isolation(&self, runs: &Runs) -> Judged {
         let table = &self.this_list().table;
         let nothing = vec![Struck::default(); domains(table)];
@@ -88,7 +88,7 @@ impl Checklist {
         })
     }
 
-    /// Line 4.
+    /// Check 4.
     pub(super) fn counts(&self, runs: &Runs) -> Judged {
         self.judged(runs, |_, case, ran| count_difference(case, ran))?;
         let mut stands_on = vec![format!(
