@@ -20,7 +20,7 @@ allows.
            scrambled, too long or have too little answer space, and every
            refused call of the exercise and of the list: each refused by its
            number with nothing changed, and all else finished
-  check 2  answers and table: every word equal to the separate machine's
+  check 2  answers and table: every word is the reference's
   check 3  isolation: for every domain, the calls kept for it, run again without
            the others, give it the same answers, rights, queues and lost counts
   check 4  counts: the number of calls, and at every endpoint what was sent is
@@ -37,7 +37,7 @@ table images for each, drawn as by `bench fuzz`; the same ones on every machine.
 Both are judged by checks 1 and 2. A line of progress is shown on a terminal
 only.
 
-Each check says passed, with what it stands on, or failed with the first
+Each check says passed, with what it is based on, or failed with the first
 difference. What this table and list don't allow to be shown, and what holds
 only because there is nothing to show, is said as `not shown`, with the reason.
 

@@ -208,7 +208,7 @@ fn or_nothing(not_shown: usize) -> String {
     }
 }
 
-/// A check with its verdict, what it stands on and what isn't shown.
+/// A check with its verdict, what it is based on and what isn't shown.
 fn in_words(number: usize, check: &Check) -> String {
     let name = check.name;
     let found = match &check.judged {
@@ -224,7 +224,7 @@ fn in_words(number: usize, check: &Check) -> String {
         .not_shown
         .iter()
         .map(|thing| format!("not shown: {thing}"));
-    for more in found.stands_on.iter().cloned().chain(not_shown) {
+    for more in found.based_on.iter().cloned().chain(not_shown) {
         text += &format!("    {more}\n");
     }
     text

@@ -93,7 +93,7 @@ fn source(source: &Source) -> Json {
     ])
 }
 
-/// The four checks; of one that failed its failure, of another what it stands on.
+/// The four checks; of one that failed its failure, of another what it is based on.
 fn checks(checks: &[Check; 4]) -> Vec<Json> {
     let check = |(number, check): (usize, &Check)| {
         let mut all = vec![
@@ -105,7 +105,7 @@ fn checks(checks: &[Check; 4]) -> Vec<Json> {
             Err(why) => all.push(("failure", Json::text(why))),
             Ok(found) => all.extend([
                 ("in_order", Json::text(found.in_order)),
-                ("stands_on", Json::texts(&found.stands_on)),
+                ("based_on", Json::texts(&found.based_on)),
                 ("not_shown", Json::texts(&found.not_shown)),
             ]),
         }

@@ -128,7 +128,7 @@ fn hash(hash: &str) -> String {
     format!("<span class=\"hash\">{}</span>", escaped(hash))
 }
 
-/// The four checks, each with what it stands on and what isn't shown.
+/// The four checks, each with what it is based on and what isn't shown.
 pub fn checks(verdicts: &Verdicts) -> String {
     let each = (1..).zip(&verdicts.checks);
     let each: String = each.map(|(number, judged)| check(number, judged)).collect();
@@ -145,13 +145,13 @@ fn check(number: usize, check: &Check) -> String {
     let body = match &check.judged {
         Err(why) => format!("<pre>{}</pre>", escaped(why)),
         Ok(found) => {
-            let stands_on = found.stands_on.iter();
-            let stands_on = stands_on.map(|told| format!("<li>{}</li>\n", escaped(told)));
+            let based_on = found.based_on.iter();
+            let based_on = based_on.map(|told| format!("<li>{}</li>\n", escaped(told)));
             let not_shown = found.not_shown.iter().map(|told| {
                 let told = escaped(told);
                 format!("<li class=\"unshown\"><b>not shown:</b> {told}</li>\n")
             });
-            let all: String = stands_on.chain(not_shown).collect();
+            let all: String = based_on.chain(not_shown).collect();
             format!("<p>{}</p>\n<ul>\n{all}</ul>", escaped(found.in_order))
         }
     };
@@ -435,7 +435,7 @@ mod tests {
     }
 
     #[test]
-    fn a_failure_stands_on_top() {
+    fn a_failure_based_on_top() {
         let page = with_report(&verdicts(faulty::WRONG_ANSWER), &Names::none(), page);
         let top = "<div class=\"result failed\">FAILED: check 1 (refusals), check 2 (answers and";
         let (top, check) = (page.find(top), page.find("<pre>exercise list "));

@@ -1,6 +1,6 @@
-//! What a judgement stands on: of the lists that it goes through, how many calls of each
+//! What a judgement is based on: of the lists that it goes through, how many calls of each
 //! kind are done and how many are refused by each number, and what is shown of each
-//! endpoint and of the rights on each domain. All by the separate machine.
+//! endpoint and of the rights on each domain. All by the reference.
 
 use std::ops::RangeInclusive;
 
@@ -135,7 +135,7 @@ impl Basis {
         or_none(each.collect())
     }
 
-    /// What is to be told of the calls of a kind besides how many there are.
+    /// What is to be said of the calls of a kind besides how many there are.
     fn more_in_words(&self, kind: u32) -> String {
         let at = |of: fn(&AtEndpoint) -> u64| self.at.iter().map(of).sum::<u64>();
         let on = |of: fn(&OnTarget) -> u64| self.on.iter().map(of).sum::<u64>();

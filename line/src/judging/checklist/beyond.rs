@@ -55,7 +55,7 @@ pub fn with_campaign(kernel: &Kernel, seed: u64, runs: u64, verdicts: Verdicts) 
     if verdicts.summary().failed != 0 || runs == 0 {
         return verdicts;
     }
-    let told = vec![format!(
+    let campaign = vec![format!(
         "a campaign with seed {seed}: {} and {}, drawn",
         counted(runs, "run"),
         counted(IMAGES.saturating_mul(runs), "table image")
@@ -64,7 +64,7 @@ pub fn with_campaign(kernel: &Kernel, seed: u64, runs: u64, verdicts: Verdicts) 
         refusal: word.starts_with("STOPPED").then(|| word.clone()),
         word,
     });
-    added(verdicts, [told.clone(), told], wrong)
+    added(verdicts, [campaign.clone(), campaign], wrong)
 }
 
 /// Draws runs and images; the first that is wrong.
@@ -79,11 +79,11 @@ fn tried(kernel: &Kernel, seed: u64, runs: u64) -> Result<(), String> {
     try_images(kernel, &draws(IMAGES.saturating_mul(runs)), &mut tally)
 }
 
-/// The verdicts with what checks 1 and 2 stand on besides, or with what is wrong.
+/// The verdicts with what checks 1 and 2 are based on besides, or with what is wrong.
 fn added(mut verdicts: Verdicts, more: [Vec<String>; 2], wrong: Option<Wrong>) -> Verdicts {
     let Some(Wrong { refusal, word }) = wrong else {
         for (check, more) in verdicts.checks.iter_mut().zip(more) {
-            stands_on(check, more);
+            based_on(check, more);
         }
         return verdicts;
     };
@@ -94,15 +94,15 @@ fn added(mut verdicts: Verdicts, more: [Vec<String>; 2], wrong: Option<Wrong>) -
     verdicts
 }
 
-fn stands_on(check: &mut Check, more: Vec<String>) {
-    if let Ok(Found { stands_on, .. }) = &mut check.judged {
-        stands_on.extend(more);
+fn based_on(check: &mut Check, more: Vec<String>) {
+    if let Ok(Found { based_on, .. }) = &mut check.judged {
+        based_on.extend(more);
     }
 }
 
 /// Says of check 2 what no run from outside can show.
 pub fn with_limits(mut verdicts: Verdicts) -> Verdicts {
-    stands_on(&mut verdicts.checks[1], vec![BLACK_BOX.to_string()]);
+    based_on(&mut verdicts.checks[1], vec![BLACK_BOX.to_string()]);
     verdicts
 }
 
@@ -123,11 +123,11 @@ mod tests {
     fn a_campaign_is_counted_and_what_it_finds_fails_check_2() {
         let right = with_limits(with_campaign(&PROVED, 1, 200, own(PROVED)));
         let found = right.checks[1].judged.as_ref().expect("it passes");
-        let [.., campaign, limits] = &found.stands_on[..] else {
-            panic!("{:?}", found.stands_on)
+        let [.., campaign, limits] = &found.based_on[..] else {
+            panic!("{:?}", found.based_on)
         };
-        let told = "a campaign with seed 1: 200 runs and 800 table images, drawn";
-        assert_eq!(campaign, told);
+        let drawn = "a campaign with seed 1: 200 runs and 800 table images, drawn";
+        assert_eq!(campaign, drawn);
         assert_eq!(limits, BLACK_BOX);
         let wrong = with_campaign(&faulty::WRONG_ANSWER, 1, 200, own(PROVED));
         assert!(wrong.checks[0].judged.is_ok());

@@ -15,7 +15,7 @@ use crate::kernels::lent::Ran;
 use crate::text::explain::counted;
 use crate::text::names::Names;
 
-/// So many domains are told by their names where each may have to be told for each.
+/// So many domains are named where each may have to be named for each.
 const DOMAINS_BY_NAME: usize = 6;
 
 impl Checklist {
@@ -25,8 +25,8 @@ impl Checklist {
         let variants = self.variants()?;
         let list = Basis::of([self.this_list()]);
         Ok(Found {
-            in_order: "every word is the separate machine's",
-            stands_on: vec![
+            in_order: "every word is the reference's",
+            based_on: vec![
                 format!("done in the exercise: {}", self.exercise.done_in_words()),
                 format!("done in this list: {}", list.done_in_words()),
                 format!(
@@ -79,7 +79,7 @@ impl Checklist {
         let of_list = has_calls.then_some(&list[..]);
         Ok(Found {
             in_order: "every domain sees the same without the calls struck for it",
-            stands_on: vec![
+            based_on: vec![
                 struck_in_words(&list, &exercise, &self.names),
                 sources_in_words(self.this_list(), &self.names),
             ],
@@ -91,7 +91,7 @@ impl Checklist {
     /// Check 4.
     pub(super) fn counts(&self, runs: &Runs) -> Judged {
         self.judged(runs, |_, case, ran| count_difference(case, ran))?;
-        let mut stands_on = vec![format!(
+        let mut based_on = vec![format!(
             "call totals: {} for this list, {} for the exercise",
             cut(&self.this_list().list).len(),
             self.exercise.calls
@@ -99,14 +99,14 @@ impl Checklist {
         let table = &self.this_list().table;
         if let Some(Ok(after)) = runs.last() {
             let read = |endpoint| self.read_back(endpoint, after);
-            stands_on.extend((0..endpoints(table)).map(read));
+            based_on.extend((0..endpoints(table)).map(read));
         }
         if self.exercise.at.iter().any(|at| at.queue.at_top != 0) {
-            stands_on.push(self.tops_in_words());
+            based_on.push(self.tops_in_words());
         }
         Ok(Found {
             in_order: "what was sent is received, lost or waiting",
-            stands_on,
+            based_on,
             not_shown: shown::counts(table, &self.exercise, &self.names),
             shown: true,
         })
@@ -151,18 +151,18 @@ impl Checklist {
         let mut progress = self.progress();
         for (number, (list, ran)) in self.listed(runs).enumerate() {
             progress.step();
-            let told = |why: String| format!("{}: {why}", list.what);
+            let of_list = |why: String| format!("{}: {why}", list.what);
             match ran {
                 Ok(ran) => {
                     let judged = same_size(&list.case, ran);
                     let judged = judged.and_then(|()| judge(number, &list.case, ran));
                     if let Err(why) = judged {
                         progress.clear();
-                        return Err(told(why));
+                        return Err(of_list(why));
                     }
                     finished += 1;
                 }
-                Err(why) => unfinished = unfinished.or(Some(told(why.to_string()))),
+                Err(why) => unfinished = unfinished.or(Some(of_list(why.to_string()))),
             }
         }
         progress.clear();
@@ -178,7 +178,7 @@ pub(super) fn endpoint_counts(case: &Case, after: &Ran, endpoint: usize, names: 
     let run = counts::follow(&case.table, &calls, &after.answers).queues[endpoint];
     let lost_count = lost(&after.table, endpoint);
     let top = match lost_count {
-        CONTENT_MAX => ", at its top: it tells no further loss",
+        CONTENT_MAX => ", at its top: it counts no further loss",
         _ => "",
     };
     format!(

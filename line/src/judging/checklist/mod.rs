@@ -1,5 +1,5 @@
 //! The four checks of the checklist, judged on the exercise and on the list that was
-//! handed in. Each says what it stands on, and what of it this table can't show.
+//! handed in. Each says what it is based on, and what of it this table can't show.
 
 pub mod basis;
 pub mod beyond;
@@ -26,7 +26,7 @@ use crate::text::names::Names;
 /// What the list that was handed in is called.
 pub const THIS_LIST: &str = "this list";
 
-/// So many runs that don't return are waited for; what is behind them isn't run.
+/// So many runs that don't return are waited for; what is after them isn't run.
 const LOOPS: usize = 2;
 
 /// So many words are lent in one child process, or those of one run that has more.
@@ -106,7 +106,7 @@ impl Check {
 #[derive(Debug)]
 pub struct Found {
     pub in_order: &'static str,
-    pub stands_on: Vec<String>,
+    pub based_on: Vec<String>,
     pub not_shown: NotShown,
     /// False where all that the check is about holds only because there is nothing to show.
     pub shown: bool,
@@ -195,7 +195,7 @@ impl Checklist {
 }
 
 /// Hands on a kernel's runs of cases, each with its number, as long as `take` goes on;
-/// where one stops, those behind it are run in another child process.
+/// where one stops, those after it are run in another child process.
 fn each_run(
     kernel: &Kernel,
     cases: &[&Case],
@@ -271,41 +271,41 @@ mod tests {
         for check in [1, 2, 3, 4] {
             failed(faulty::WRITES_WORD_0, check);
         }
-        let told = failed(faulty::WRITES_WORD_0, 3);
+        let said = failed(faulty::WRITES_WORD_0, 3);
         assert!(
-            told.ends_with("the kernel alters word 0 of the table"),
-            "{told}"
+            said.ends_with("the kernel alters word 0 of the table"),
+            "{said}"
         );
     }
 
     #[test]
     fn a_wrong_check_of_images_fails_check_1() {
-        let told = failed(faulty::LENIENT_CHECK, 1);
+        let said = failed(faulty::LENIENT_CHECK, 1);
         assert!(
-            told.ends_with("its image is checked with 0, it should be 5"),
-            "{told}"
+            said.ends_with("its image is checked with 0, it should be 5"),
+            "{said}"
         );
     }
 
     #[test]
     fn a_kernel_that_stops_fails_check_1_with_the_call_that_does_it() {
-        let told = failed(faulty::FAULTS_AT_A_GRANT, 1);
-        assert!(told.starts_with("exercise list 0 ("), "{told}");
+        let said = failed(faulty::FAULTS_AT_A_GRANT, 1);
+        assert!(said.starts_with("exercise list 0 ("), "{said}");
         assert!(
-            told.contains("signal 11 (segmentation fault)\nCut down to 1 call:"),
-            "{told}"
+            said.contains("signal 11 (segmentation fault)\nCut down to 1 call:"),
+            "{said}"
         );
-        let list = told.split_once("\nlist\n").expect("a list").1;
-        assert!(list.starts_with('6'), "{told}");
+        let list = said.split_once("\nlist\n").expect("a list").1;
+        assert!(list.starts_with('6'), "{said}");
         let others = failed(faulty::FAULTS_AT_A_GRANT, 4);
         assert!(others.contains("were finished and are right"), "{others}");
     }
 
     #[test]
-    fn what_a_check_stands_on_is_told() {
+    fn what_a_check_is_based_on_is_said() {
         let [refusals, answers, isolation, counts] = checks(PROVED).map(|judged| {
             let found = judged.expect("no check fails");
-            found.stands_on.join("\n")
+            found.based_on.join("\n")
         });
         assert!(refusals.contains(" damaged tables: ") && refusals.contains(" with another name"));
         assert!(answers.contains("done in this list: 2 sends (1 to a full queue), 1 receive, "));
@@ -322,15 +322,15 @@ mod tests {
     }
 
     #[test]
-    fn a_count_at_its_top_is_told() {
+    fn a_count_at_its_top_is_said() {
         let mut input = Input::example();
         input.table[25] = 0x6FFF_FFFF;
         let checks = Checklist::new(PROVED, &input, &Names::none(), 1)
             .verdicts()
             .checks;
         let counts = checks[3].judged.as_ref().expect("it passes");
-        let told = counts.stands_on.join("\n");
-        assert!(told.contains("lost count 268435455, at its top: it tells no further loss; in"));
-        assert!(told.ends_with("on this table and on a copy with all lost counts one below it"));
+        let said = counts.based_on.join("\n");
+        assert!(said.contains("lost count 268435455, at its top: it counts no further loss; in"));
+        assert!(said.ends_with("on this table and on a copy with all lost counts one below it"));
     }
 }

@@ -1,6 +1,6 @@
-//! The four checks judged on words that were read back from a real line: the answers and
+//! The four checks judged on words that were read back from a controller: the answers and
 //! the table that its own run of the list left. One run shows less than a kernel that can
-//! be run at will; what it can't show is told.
+//! be run at will; what it can't show is said.
 
 use reference::calls::cut;
 use reference::entry::ANSWER_WORDS;
@@ -22,7 +22,7 @@ use crate::text::explain::{call_in_words, counted, place_in_words};
 use crate::text::input::Input;
 use crate::text::names::Names;
 
-/// What a run on a real line left, beside the separate machine's run.
+/// What a run on a controller left, beside the reference's run.
 pub struct ReadBack {
     names: Names,
     case: Case,
@@ -94,8 +94,8 @@ impl ReadBack {
         let basis = self.basis();
         let (refused, words) = (basis.refused(), self.case.table.len());
         Ok(Found {
-            in_order: "each by its number, and no word changed but by a call that is done",
-            stands_on: vec![
+            in_order: "each by its code, and no word changed but by a call that is done",
+            based_on: vec![
                 format!(
                     "{refused} of {} refused ({})",
                     counted(basis.calls, "call"),
@@ -108,7 +108,7 @@ impl ReadBack {
         })
     }
 
-    /// That the same calls are refused as by the separate machine, with the same answers.
+    /// That the same calls are refused as by the reference, with the same answers.
     fn refused_alike(&self) -> Result<(), String> {
         let calls = cut(&self.case.list);
         let answered = self.ran.answers.chunks_exact(ANSWER_WORDS);
@@ -154,8 +154,8 @@ impl ReadBack {
         word_difference(&self.case, &self.ran)?;
         let basis = self.basis();
         Ok(Found {
-            in_order: "every word is the separate machine's",
-            stands_on: vec![
+            in_order: "every word is the reference's",
+            based_on: vec![
                 format!(
                     "{} and {}",
                     counted(self.ran.answers.len(), "answer word"),
@@ -175,7 +175,7 @@ impl ReadBack {
         let struck: Vec<Struck> = each.collect::<Result<_, _>>()?;
         Ok(Found {
             in_order: "every domain sees the same without the calls struck for it",
-            stands_on: vec![
+            based_on: vec![
                 struck_by_list(&struck, &self.names),
                 sources_in_words(&self.case, &self.names),
             ],
@@ -194,7 +194,7 @@ impl ReadBack {
             .map(|endpoint| endpoint_counts(&self.case, &self.ran, endpoint, &self.names));
         Ok(Found {
             in_order: "what was sent is received, lost or waiting",
-            stands_on: [answered].into_iter().chain(each).collect(),
+            based_on: [answered].into_iter().chain(each).collect(),
             not_shown: shown::counts_by_one_run(&basis, &self.names),
             shown: basis
                 .at
@@ -240,7 +240,7 @@ mod tests {
     }
 
     #[test]
-    fn right_words_pass_and_what_they_cannot_show_is_told() {
+    fn right_words_pass_and_what_they_cannot_show_is_said() {
         let input = Input::example();
         let (answers, left) = words(&input);
         let [refusals, answers, isolation, counts] =
@@ -249,22 +249,22 @@ mod tests {
             .iter()
             .all(|found| found.shown));
         assert_eq!(
-            refusals.stands_on[0],
+            refusals.based_on[0],
             "3 of 9 calls refused (10: 1, 17: 1, 19: 1)"
         );
         assert!(refusals.not_shown[0].starts_with("damaged tables"));
         assert!(refusals
             .not_shown
             .iter()
-            .any(|told| told.contains("11, 12, 13, 14, 15, 16, 18")));
-        assert_eq!(answers.stands_on[0], "27 answer words and 34 table words");
-        assert!(isolation.stands_on[0].contains("domain 0: 3, domain 1: 3, domain 2: 0"));
+            .any(|unshown| unshown.contains("11, 12, 13, 14, 15, 16, 18")));
+        assert_eq!(answers.based_on[0], "27 answer words and 34 table words");
+        assert!(isolation.based_on[0].contains("domain 0: 3, domain 1: 3, domain 2: 0"));
         assert_eq!(
-            isolation.stands_on[1],
+            isolation.based_on[1],
             "source set of each domain over this list: domain 0: 0 1, domain 1: 0 1, domain 2: 0 1 2"
         );
         assert_eq!(
-            counts.stands_on[2],
+            counts.based_on[2],
             "endpoint 1: sent 2, received 1, lost 1, waiting 0 before and 0 after, lost count 1"
         );
     }
@@ -276,7 +276,7 @@ mod tests {
 
     #[test]
     fn each_check_fails_for_words_of_its_own() {
-        // A refusal by another number, one that is told as done, and a call refused that
+        // A refusal by another number, one that is answered as done, and a call refused that
         // is done.
         assert!(failing(|answers, _| answers[0] ^= 3).contains(&1));
         assert!(failing(|answers, _| answers[0] &= !0xFFFF).contains(&1));
@@ -286,7 +286,7 @@ mod tests {
         // A message that nobody sent, and data with an answer that is done.
         assert_eq!(failing(|answers, _| answers[13] ^= 1), [2, 3]);
         assert_eq!(failing(|answers, _| answers[22] ^= 1 << 31), [2, 3]);
-        // A lost count in the table, and one that a receive tells.
+        // A lost count in the table, and one that a receive returns.
         assert_eq!(failing(|_, left| left[25] += 1), [2, 3, 4]);
         assert_eq!(failing(|answers, _| answers[14] = 0), [2, 3, 4]);
         // A message that still waits in the table: seen by its owner, and by the counts.
@@ -320,12 +320,12 @@ mod tests {
     }
 
     #[test]
-    fn wrong_lengths_are_told() {
+    fn wrong_lengths_are_reported() {
         let input = Input::example();
         let (answers, left) = words(&input);
         let wrong = |answers: &[u32], left: &[u32]| {
             let read = ReadBack::new(&input, &Names::none(), answers.to_vec(), left.to_vec());
-            read.err().expect("it is told")
+            read.err().expect("it is reported")
         };
         assert_eq!(
             wrong(&answers[1..], &left),

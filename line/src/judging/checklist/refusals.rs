@@ -1,5 +1,5 @@
 //! Check 1: any words are taken without fault and finished; what breaks a rule is refused
-//! by its number, and a refusal changes nothing.
+//! by its code, and a refusal changes nothing.
 
 use std::collections::BTreeMap;
 
@@ -47,8 +47,8 @@ impl Ends {
 impl Checklist {
     pub(super) fn refusals(&self, runs: &Runs) -> Judged {
         Ok(Found {
-            in_order: "each by its number with nothing changed, and all else finished",
-            stands_on: self.stands_on(runs)?,
+            in_order: "each by its code with nothing changed, and all else finished",
+            based_on: self.based_on(runs)?,
             not_shown: shown::numbers(&self.this_list().table, &self.all_calls()),
             shown: true,
         })
@@ -60,7 +60,7 @@ impl Checklist {
     }
 
     /// What was refused and what ran; an error where it wasn't as it should.
-    fn stands_on(&self, runs: &Runs) -> Result<Vec<String>, String> {
+    fn based_on(&self, runs: &Runs) -> Result<Vec<String>, String> {
         for (list, ran) in self.listed(runs) {
             if let Err(why) = ran {
                 return Err(unfinished(&self.kernel, &list.what, &list.case, *why));
@@ -233,7 +233,7 @@ fn stretches(list: &Planned) -> Vec<Variant> {
     stretches
 }
 
-/// What a list that the kernel didn't come to the end of tells, with the words of the
+/// What is said of a list that the kernel didn't come to the end of, with the words of the
 /// first of its calls that the kernel stops at by itself, where there is one.
 fn unfinished(kernel: &Kernel, what: &str, case: &Case, failure: Failure) -> String {
     let calls = cut(&case.list);
@@ -252,8 +252,8 @@ fn unfinished(kernel: &Kernel, what: &str, case: &Case, failure: Failure) -> Str
         Some(number) => (format!(", call {number}"), &singles[number]),
         None => (String::new(), case),
     };
-    let told = report::failed(kernel, case, failure, child::LIMIT);
-    format!("{what}{at}: {told}")
+    let failed = report::failed(kernel, case, failure, child::LIMIT);
+    format!("{what}{at}: {failed}")
 }
 
 fn first_that_stops(kernel: &Kernel, cases: &[Case]) -> Option<usize> {

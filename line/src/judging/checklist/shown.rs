@@ -14,7 +14,7 @@ pub type NotShown = Vec<String>;
 /// Of check 1: the numbers that no call is refused by.
 pub fn numbers(table: &[u32], basis: &Basis) -> NotShown {
     let never = CALL_CODES.filter(|&code| basis.refused_by(code) == 0);
-    let told = |code| {
+    let unshown = |code| {
         let why = match code {
             17..=19 if endpoints(table) == 0 => "there is no endpoint",
             _ if domains(table) == 1 => "there is one domain only",
@@ -22,7 +22,7 @@ pub fn numbers(table: &[u32], basis: &Basis) -> NotShown {
         };
         format!("a call refused with {code} ({}): {why}", meaning(code))
     };
-    never.map(told).collect()
+    never.map(unshown).collect()
 }
 
 /// Of check 2: queues that go in turn, who may not send, and rights given and given up.
@@ -41,19 +41,19 @@ pub fn answers_and_table(table: &[u32], basis: &Basis, list: &Basis, names: &Nam
             .collect()
     };
     let one = at(&|e, at| at.queue.in_turn == 0 && capacity(table, e) == 1);
-    all.extend(told(
+    all.extend(things(
         "messages in turn at endpoint",
         one,
-        "there is room for one",
+        "its capacity is 1",
     ));
     let none = at(&|e, at| at.queue.in_turn == 0 && capacity(table, e) > 1);
-    all.extend(told(
+    all.extend(things(
         "messages in turn at endpoint",
         none,
         "nobody may send there",
     ));
     let open = at(&|_, at| at.outsiders == 0);
-    all.extend(told(
+    all.extend(things(
         "a sender that may not, at endpoint",
         open,
         "everyone may, for good",
@@ -75,10 +75,10 @@ fn rights(basis: &Basis, names: &Names) -> NotShown {
     let fixed = on(|on| on.taken_back == 0);
     let grant = "a grant of rights on domain";
     let mut all = [
-        told(grant, never, "nobody can give one"),
-        told(grant, nothing, "whoever can be given one has it"),
-        told("a right given up on domain", kept, "nobody can give one up"),
-        told(
+        things(grant, never, "nobody can give one"),
+        things(grant, nothing, "whoever can be given one has it"),
+        things("a right given up on domain", kept, "nobody can give one up"),
+        things(
             "a right taken back on domain",
             fixed,
             "nobody can take one back",
@@ -104,7 +104,7 @@ pub fn isolation(
         1 => "there is no other domain",
         _ => "every other domain has a right on it for good, so nothing is struck",
     };
-    let mut all = told("isolation of domain", nothing_struck(exercise, names), why);
+    let mut all = things("isolation of domain", nothing_struck(exercise, names), why);
     all.extend(match list {
         Some(list) if domains(table) > 1 => isolation_by_list(list, names),
         _ => NotShown::new(),
@@ -115,7 +115,7 @@ pub fn isolation(
 /// Of check 3, by a list alone.
 pub fn isolation_by_list(list: &[Struck], names: &Names) -> NotShown {
     let everyone = "each call of another domain counts for it, so nothing is struck";
-    told(
+    things(
         "by this list, isolation of domain",
         nothing_struck(list, names),
         everyone,
@@ -135,7 +135,7 @@ pub fn counts(table: &[u32], basis: &Basis, names: &Names) -> NotShown {
     if endpoints(table) == 0 {
         return vec!["counts of a queue: there is no endpoint".to_string()];
     }
-    told(
+    things(
         "counts of endpoint",
         silent(basis, names),
         "nobody may send there",
@@ -164,7 +164,7 @@ pub fn refusals_by_one_run(basis: &Basis) -> NotShown {
     ];
     let never = CALL_CODES.filter(|&code| basis.refused_by(code) == 0);
     let never = never.map(|code| code.to_string()).collect();
-    all.extend(told("a refusal by the number", never, "this list has none"));
+    all.extend(things("a refusal by the code", never, "this list has none"));
     all
 }
 
@@ -172,7 +172,8 @@ pub fn refusals_by_one_run(basis: &Basis) -> NotShown {
 pub fn answers_by_one_run(basis: &Basis) -> NotShown {
     let mut all = vec![
         "the words of the holders: they aren't read back".to_string(),
-        "what this table allows beyond this list: the exercise wasn't run on the line".to_string(),
+        "what this table allows beyond this list: the exercise wasn't run on the controller"
+            .to_string(),
     ];
     let never = basis.never_done();
     if !never.is_empty() {
@@ -187,7 +188,7 @@ pub fn answers_by_one_run(basis: &Basis) -> NotShown {
 /// Of check 4, by the words that one run left.
 pub fn counts_by_one_run(basis: &Basis, names: &Names) -> NotShown {
     let mut all = vec!["the number of calls that the run returned: it isn't read back".to_string()];
-    all.extend(told(
+    all.extend(things(
         "counts of endpoint",
         silent(basis, names),
         "this list sends nothing there",
@@ -204,7 +205,7 @@ fn beside(number: usize, name: Option<&str>) -> String {
 }
 
 /// One thing that isn't shown of some numbers, and why; nothing where there are none.
-fn told(thing: &str, of: Vec<String>, why: &str) -> NotShown {
+fn things(thing: &str, of: Vec<String>, why: &str) -> NotShown {
     let (many, numbers) = match of.as_slice() {
         [] => return NotShown::new(),
         [one] => ("", one.clone()),
@@ -248,13 +249,13 @@ mod tests {
     #[test]
     fn what_the_worked_example_does_not_allow() {
         let missing = missing(&TABLE_T);
-        let told = [
-            "messages in turn at endpoint 1: there is room for one",
+        let unshown = [
+            "messages in turn at endpoint 1: its capacity is 1",
             "a grant of rights on domains 0 and 1: nobody can give one",
             "a right given up on domains 0 and 1: nobody can give one up",
             "a right taken back on domains 0, 1 and 2: nobody can take one back",
         ];
-        assert_eq!(missing, told);
+        assert_eq!(missing, unshown);
     }
 
     #[test]
@@ -280,9 +281,12 @@ mod tests {
         // Domain 0 holds all rights on itself alone: it can give to nobody but itself.
         let missing = missing(&two_domains([7, 0, 0, 0], 2));
         let another = "a grant to another domain: who can give has no right on another";
-        assert!(missing.iter().any(|told| told == another), "{missing:?}");
+        assert!(
+            missing.iter().any(|unshown| unshown == another),
+            "{missing:?}"
+        );
         let has = "a grant of rights on domain 0: whoever can be given one has it";
-        assert!(missing.iter().any(|told| told == has), "{missing:?}");
+        assert!(missing.iter().any(|unshown| unshown == has), "{missing:?}");
     }
 
     #[test]
@@ -297,14 +301,16 @@ mod tests {
         };
         let table = two_domains([1; 4], 1);
         assert!(isolation(&table, &[some, some], Some(&[some, some]), &Names::none()).is_empty());
-        let told = isolation(
+        let unshown = isolation(
             &table,
             &[some, strays],
             Some(&[strays, some]),
             &Names::none(),
         );
-        assert!(told[0].starts_with("isolation of domain 1: every other domain has a right on it"));
-        assert!(told[1].starts_with("by this list, isolation of domain 0: each call of another"));
+        assert!(
+            unshown[0].starts_with("isolation of domain 1: every other domain has a right on it")
+        );
+        assert!(unshown[1].starts_with("by this list, isolation of domain 0: each call of another"));
         assert_eq!(
             isolation(&table, &[some, some], None, &Names::none()),
             NotShown::new()
