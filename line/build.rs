@@ -1,4 +1,4 @@
-//! Links the proved archives that the firmware links, and says for reports the hash of the
+//! Links the proved archives that the firmware links, and says for reports the hashes of the
 //! kernel's, what it says of its own logic, and what the kit at hand says of itself.
 //!
 //! The archives are target/staticlib/libbalkwizu.a and libbalkwizu_turns.a of the
@@ -7,6 +7,8 @@
 //! proved one. An archive of the kit shows its exported functions alone, so several can be
 //! linked into one program.
 
+#[path = "src/reports/archive_text.rs"]
+mod archive_text;
 #[path = "src/reports/sha256.rs"]
 mod sha256;
 
@@ -57,11 +59,12 @@ const TURNS: Archive = Archive {
 /// What an archive for tests has in the names of its functions, and none for the firmware.
 const FOR_TESTS: &str = "balkwizu_test_";
 
-/// What stands before the logic's name in an archive of the kit.
+/// What is before the logic's name in an archive of the kit.
 const LOGIC: &str = "rattle logic=";
 
 fn main() {
     println!("cargo::rerun-if-changed=build.rs");
+    println!("cargo::rerun-if-changed=src/reports/archive_text.rs");
     println!("cargo::rerun-if-changed=src/reports/sha256.rs");
     if let Err(wrong) = build() {
         println!("cargo::error={wrong}");
@@ -78,7 +81,7 @@ fn build() -> Result<(), Box<dyn Error>> {
     Ok(())
 }
 
-/// Hands on what the kernel's archive is called.
+/// Passes on what the kernel's archive is called.
 fn say_title() {
     let title = match env::var_os(KERNEL.variable).map(PathBuf::from) {
         None => "proved archive".to_string(),
@@ -90,12 +93,14 @@ fn say_title() {
     println!("cargo::rustc-env=ARCHIVE_TITLE={title}");
 }
 
-/// Hands on what a report says of the kernel's archive.
+/// Passes on what a report says of the kernel's archive.
 fn say_identity(archive: &[u8]) {
     println!(
         "cargo::rustc-env=ARCHIVE_SHA256={}",
         sha256::sha256(archive)
     );
+    let text = archive_text::text_sha256(archive).unwrap_or_default();
+    println!("cargo::rustc-env=ARCHIVE_TEXT={text}");
     println!("cargo::rustc-env=ARCHIVE_LOGIC={}", logic(archive));
 }
 
@@ -142,12 +147,12 @@ fn kit() -> Option<String> {
 fn logic(archive: &[u8]) -> String {
     let mark = LOGIC.as_bytes();
     let found = archive.windows(mark.len()).position(|part| part == mark);
-    let behind = found.map_or(&[][..], |place| &archive[place + mark.len()..]);
-    let digits = behind.iter().take_while(|byte| byte.is_ascii_hexdigit());
+    let after = found.map_or(&[][..], |place| &archive[place + mark.len()..]);
+    let digits = after.iter().take_while(|byte| byte.is_ascii_hexdigit());
     digits.map(|&byte| byte as char).collect()
 }
 
-/// Whether a name stands in an archive.
+/// Whether a name is in an archive.
 fn has(archive: &[u8], name: &str) -> bool {
     archive
         .windows(name.len())

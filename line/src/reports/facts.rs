@@ -49,7 +49,13 @@ pub const VERSION: &str = env!("CARGO_PKG_VERSION");
 
 /// The logic that the archive says it was checked by, where it does.
 pub fn archive_logic() -> Option<&'static str> {
-    Some(env!("ARCHIVE_LOGIC")).filter(|told| !told.is_empty())
+    Some(env!("ARCHIVE_LOGIC")).filter(|logic| !logic.is_empty())
+}
+
+/// The hash of the archive's machine code, as `firmware/identify` prints it, where it is an
+/// archive for x86-64.
+pub fn archive_text() -> Option<&'static str> {
+    Some(env!("ARCHIVE_TEXT")).filter(|hash| !hash.is_empty())
 }
 
 /// What the kit said of itself when the program was built, where there was one.

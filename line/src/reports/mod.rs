@@ -2,6 +2,9 @@
 //! facts as JSON. With them stands what they are about: the files by their hashes, the
 //! archive, the kit, the date.
 
+// The build script takes it; here it is tested.
+#[cfg(test)]
+mod archive_text;
 pub mod facts;
 pub mod json;
 pub mod json_facts;
