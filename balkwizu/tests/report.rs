@@ -1,4 +1,4 @@
-//! Reports of commissioning as they are made, and what is read back from a line judged:
+//! Reports of commissioning as they are made, and what is read back from a controller judged:
 //! what is written, what is printed, and the exit status.
 
 use std::fs;
@@ -6,7 +6,7 @@ use std::path::Path;
 use std::process::Command;
 
 use line::trial::{worked_example, Trial};
-use reference::example::{LIST_L, TABLE_T};
+use reference::example::{LIST_L, PRINTED, TABLE_T};
 use reference::words::{hex, to_bytes};
 
 const TOOL: Trial = Trial {
@@ -14,7 +14,7 @@ const TOOL: Trial = Trial {
     folder: env!("CARGO_TARGET_TMPDIR"),
 };
 
-/// What the separate machine answers to the worked example, and the table that it leaves.
+/// What the reference answers to the worked example, and the table that it leaves.
 fn right_words() -> (Vec<u32>, Vec<u32>) {
     let (mut table, mut answers) = (TABLE_T.to_vec(), vec![0; 27]);
     assert_eq!(reference::run(&mut table, &LIST_L, &mut answers), (0, 9));
@@ -43,7 +43,7 @@ fn a_report_is_written_as_a_page_and_as_json() {
     assert!(String::from_utf8_lossy(&read.stdout).contains(hash));
 }
 
-/// The names of all fields of a JSON text, as it stands.
+/// The names of all fields of a JSON text, as it is.
 fn fields(json: &str) -> Vec<&str> {
     let named = json.lines().filter_map(|line| line.split_once("\": "));
     let mut fields: Vec<&str> = named
@@ -61,22 +61,16 @@ fn every_field_is_one_that_the_document_names() {
         .expect("the repository");
     let document = fs::read_to_string(repository.join("docs/REPORT.md")).expect("a document");
     let input = TOOL.file("fields.bin", worked_example());
-    let (answers, left) = right_words();
+    let (answers, mut left) = right_words();
     let answers = TOOL.file("fields.answers", &to_bytes(&answers));
-    let left = TOOL.file("fields.left", &to_bytes(&left));
+    let right = TOOL.file("fields.left", &to_bytes(&left));
+    left[25] = 0x6000_0000;
+    let wrong = TOOL.file("fields.wrong", &to_bytes(&left));
     let json = TOOL.path("fields.json");
     let kernel = ["commission", &input, "--json", &json];
-    let words = [
-        "commission",
-        &input,
-        "--json",
-        &json,
-        "--answers",
-        &answers,
-        "--left",
-        &left,
-    ];
-    for (line, count) in [(&kernel[..], 45), (&words[..], 42)] {
+    let read_back = |left| [&kernel[..], &["--answers", &answers, "--left", left]].concat();
+    let (words, failing) = (read_back(&right), read_back(&wrong));
+    for (line, count) in [(&kernel[..], 60), (&words, 58), (&failing, 59)] {
         TOOL.ran(line);
         let json = fs::read_to_string(&json).expect("the JSON is there");
         let fields = fields(&json);
@@ -88,12 +82,65 @@ fn every_field_is_one_that_the_document_names() {
 }
 
 #[test]
-fn a_report_that_cannot_be_written_ends_with_2_and_the_verdicts_are_told() {
+fn the_archive_is_identified_as_in_a_controller_s_program() {
+    let repository = Path::new(env!("CARGO_MANIFEST_DIR"))
+        .parent()
+        .expect("the repository");
+    let identify = Command::new(repository.join("firmware/identify"))
+        .arg(repository.join("target/staticlib/libbalkwizu.a"))
+        .output();
+    let printed = String::from_utf8(identify.expect("it starts").stdout).expect("a text");
+    let hash = printed.split(' ').next().expect("a hash");
+    assert_eq!(hash.len(), 64, "{printed}");
+    let input = TOOL.file("identified.bin", worked_example());
+    let (page, json) = (TOOL.path("identified.html"), TOOL.path("identified.json"));
+    let line = ["commission", &input, "--report", &page, "--json", &json];
+    assert_eq!(TOOL.ran(&[&line[..], &["--campaign", "0"]].concat()).0, 0);
+    for written in [page, json] {
+        let text = fs::read_to_string(&written).expect("it is there");
+        assert!(text.contains(hash), "{written}");
+    }
+}
+
+#[test]
+fn fields_are_filled_as_they_are_given_and_otherwise_left_open() {
+    let input = TOOL.file("filled.bin", worked_example());
+    let (page, json) = (TOOL.path("filled.html"), TOOL.path("filled.json"));
+    let line = ["commission", &input, "--report", &page, "--json", &json];
+    let fields = [
+        "--controller",
+        "C-17 <b>",
+        "--site",
+        "Hall 4",
+        "--campaign",
+        "0",
+    ];
+    assert_eq!(TOOL.ran(&[&line[..], &fields].concat()).0, 0);
+    let page = fs::read_to_string(&page).expect("the page is there");
+    for row in [
+        "<tr><th>Controller</th><td>C-17 &lt;b&gt;</td></tr>",
+        "<tr><th>Site</th><td>Hall 4</td></tr>",
+        "<tr><th>Firmware</th><td><div class=\"blank\"></div></td></tr>",
+    ] {
+        assert!(page.contains(row), "{row}");
+    }
+    let json = fs::read_to_string(&json).expect("the JSON is there");
+    let place = "\"controller\": \"C-17 <b>\",\n  \"site\": \"Hall 4\",\n  \"firmware\": null,";
+    assert!(json.contains(place), "{json}");
+    let (status, _, complaint) = TOOL.ran(&["commission", &input, "--site", "Hall 4"]);
+    assert!(status == 2 && complaint.contains("--site fills a field of a report"));
+}
+
+#[test]
+fn a_report_that_cannot_be_written_ends_with_2_and_the_verdicts_are_printed() {
     let input = TOOL.file("unwritten.bin", worked_example());
     for option in ["--report", "--json"] {
-        let (status, printed, told) = TOOL.ran(&["commission", &input, option, "/dev/full"]);
+        let (status, printed, complaint) = TOOL.ran(&["commission", &input, option, "/dev/full"]);
         assert_eq!(status, 2);
-        assert!(told.contains("cannot write /dev/full: "), "{told}");
+        assert!(
+            complaint.contains("cannot write /dev/full: "),
+            "{complaint}"
+        );
         assert!(printed.ends_with("summary: 4 passed, 0 failed, 5 not shown\n"));
     }
 }
@@ -118,11 +165,11 @@ fn nothing_that_is_read_is_overwritten() {
             "--report",
             out,
         ];
-        let (status, printed, told) = TOOL.ran(&line);
+        let (status, printed, complaint) = TOOL.ran(&line);
         assert!(status == 2 && printed.is_empty(), "{printed}");
         assert!(
-            told.contains("is the input, which it would overwrite"),
-            "{told}"
+            complaint.contains("is the input, which it would overwrite"),
+            "{complaint}"
         );
     }
     assert_eq!(
@@ -141,7 +188,7 @@ fn what_is_refused_gets_no_report() {
 }
 
 #[test]
-fn words_that_were_read_back_are_judged_in_both_forms() {
+fn words_that_were_read_back_are_judged_in_each_form() {
     let input = TOOL.file("back.bin", worked_example());
     let (answers, left) = right_words();
     let bytes = [
@@ -155,11 +202,18 @@ fn words_that_were_read_back_are_judged_in_both_forms() {
         ),
         TOOL.file("back-left.txt", hex(&left).as_bytes()),
     ];
-    for [answers, left] in [&bytes, &text] {
+    let printed = [
+        TOOL.file("back-printed.txt", PRINTED),
+        TOOL.file(
+            "back-table.txt",
+            format!("domain 0 link\ntable\n{}\nlist\n", hex(&left)),
+        ),
+    ];
+    for [answers, left] in [&bytes, &text, &printed] {
         let line = ["commission", &input, "--answers", answers, "--left", left];
         let (status, printed, _) = TOOL.ran(&line);
         assert_eq!(status, 0, "{printed}");
-        assert!(printed.contains(" on what was read back from a line: 3 domains"));
+        assert!(printed.contains(" on what was read back from a controller: 3 domains"));
         assert!(printed.contains("not shown: damaged tables"), "{printed}");
         assert!(!printed.contains("exercise made"), "{printed}");
         assert!(
@@ -209,17 +263,18 @@ fn wrong_words_that_were_read_back_fail_and_are_reported() {
     assert!(printed.contains("check 1 passed, "), "{printed}");
     let lost = "check 4 failed  counts: endpoint 1: the lost count should be 1; the table says 0";
     assert!(printed.contains(lost), "{printed}");
-    let leaves = "lost count, was 60000000: the line leaves 60000000, the separate machine";
+    let leaves = "lost count, was 60000000: the controller leaves 60000000, the ";
     assert!(printed.contains(leaves), "{printed}");
     let page = fs::read_to_string(&page).expect("the page is there");
-    assert!(page.contains("words of a run on a line; no kernel was run here"));
-    // No kernel ran, so that none is told of.
+    assert!(page.contains("a controller, whose words were read back; no kernel was run here"));
+    assert!(page.contains("<br>Not to be put into service<p>") && !page.contains("class=\"box\""));
+    // No kernel ran, so that none is named.
     assert!(!printed.contains("the kernel"), "{printed}");
     assert!(!page.contains("the kernel"), "{page}");
 }
 
 #[test]
-fn other_numbers_of_words_than_there_must_be_are_told() {
+fn other_numbers_of_words_than_there_must_be_are_reported() {
     let input = TOOL.file("long.bin", worked_example());
     let (answers, left) = right_words();
     let right = TOOL.file("long.answers", &to_bytes(&answers));
@@ -228,12 +283,19 @@ fn other_numbers_of_words_than_there_must_be_are_told() {
     let (status, printed, _) =
         TOOL.ran(&["commission", &input, "--answers", &short, "--left", &left]);
     assert_eq!(status, 1);
-    let told = "cannot be judged: the answer to 9 calls takes 27 words, and 24 were read back\n";
-    assert!(printed.ends_with(told), "{printed}");
+    let why = "cannot be judged: the answer to 9 calls takes 27 words, and 24 were read back\n";
+    assert!(printed.ends_with(why), "{printed}");
     let odd = TOOL.file("odd.left", &[0; 7]);
-    let (status, _, told) = TOOL.ran(&["commission", &input, "--answers", &right, "--left", &odd]);
+    let (status, _, complaint) =
+        TOOL.ran(&["commission", &input, "--answers", &right, "--left", &odd]);
     assert_eq!(status, 2);
-    assert!(told.contains("odd.left: 3 bytes left over"), "{told}");
-    let (status, _, told) = TOOL.ran(&["commission", &input, "--answers", &right]);
-    assert!(status == 2 && told.contains("are given together"), "{told}");
+    assert!(
+        complaint.contains("odd.left: 3 bytes left over"),
+        "{complaint}"
+    );
+    let (status, _, complaint) = TOOL.ran(&["commission", &input, "--answers", &right]);
+    assert!(
+        status == 2 && complaint.contains("are given together"),
+        "{complaint}"
+    );
 }

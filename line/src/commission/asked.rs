@@ -8,7 +8,7 @@ use reference::table::domains;
 use crate::args::Options;
 use crate::kernels::boundary::{named, Kernel};
 use crate::output::{may_write, may_write_both, write_file};
-use crate::reports::facts::Report;
+use crate::reports::facts::{Place, Report};
 use crate::reports::json_facts::json;
 use crate::reports::page::page;
 use crate::text::input::read_once;
@@ -19,6 +19,7 @@ pub struct Asked<'a> {
     pub on: On<'a>,
     /// The domain whose struck calls are to be listed, by its number or its name.
     struck: Option<&'a str>,
+    place: [Option<&'a str>; 3],
     report: Option<&'a Path>,
     json: Option<&'a Path>,
 }
@@ -27,15 +28,21 @@ pub struct Asked<'a> {
 pub enum On<'a> {
     /// A kernel, with the seed of the variants and the runs of the campaign.
     Kernel(Kernel, u64, u64),
-    /// The files of the words that were read back from a line.
+    /// The files of the words that were read back from a controller.
     ReadBack { answers: &'a Path, left: &'a Path },
 }
 
 /// The runs of a campaign where nothing else is asked for: some ten seconds of one processor.
 const CAMPAIGN: u64 = 50_000;
 
+/// The options that fill a field of the report.
+const PLACE: [&str; 3] = ["--controller", "--site", "--firmware"];
+
 /// The options that take a value.
-pub const VALUED: [&str; 8] = [
+pub const VALUED: [&str; 11] = [
+    "--controller",
+    "--site",
+    "--firmware",
     "--struck",
     "--seed",
     "--campaign",
@@ -52,11 +59,37 @@ impl Asked<'_> {
             file: options.file()?,
             on: on(options, kernels)?,
             struck: options.text("--struck"),
+            place: PLACE.map(|option| options.text(option)),
             report: options.path("--report"),
             json: options.path("--json"),
         };
         asked.files_differ()?;
+        asked.fields_are_used()?;
         Ok(asked)
+    }
+
+    /// That no field of a report is given where none is written.
+    fn fields_are_used(&self) -> Result<(), String> {
+        let given = PLACE
+            .iter()
+            .zip(self.place)
+            .find(|(_, text)| text.is_some());
+        match (given, self.report.or(self.json)) {
+            (Some((option, _)), None) => Err(format!(
+                "{option} fills a field of a report: --report or --json is wanted too"
+            )),
+            _ => Ok(()),
+        }
+    }
+
+    /// What is commissioned, as far as it is given.
+    pub fn place(&self) -> Place {
+        let [controller, site, firmware] = self.place.map(|text| text.map(str::to_string));
+        Place {
+            controller,
+            site,
+            firmware,
+        }
     }
 
     /// That nothing is written over what is read, and nothing twice.
@@ -80,16 +113,16 @@ impl Asked<'_> {
         found.transpose().map_err(|why| format!("--struck: {why}"))
     }
 
-    /// Writes what is to be filed; tells what was written, or what couldn't be.
+    /// Writes what is to be filed; returns what to say of it, or what couldn't be written.
     pub fn file_away(&self, report: &Report) -> Result<String, String> {
-        let mut told = String::new();
+        let mut written = String::new();
         let page = self.report.map(|out| (out, page(report)));
         let json = self.json.map(|out| (out, json(report)));
         for (out, text) in page.into_iter().chain(json) {
             write_file(out, &text)?;
-            told += &format!("report written to {}\n", out.display());
+            written += &format!("report written to {}\n", out.display());
         }
-        Ok(told)
+        Ok(written)
     }
 }
 
@@ -129,7 +162,7 @@ mod tests {
     }
 
     #[test]
-    fn what_does_not_go_together_is_told() {
+    fn what_does_not_go_together_is_reported() {
         assert_eq!(wrong("line"), "");
         assert_eq!(wrong("line --answers a --left t --report r --json j"), "");
         assert_eq!(
@@ -149,6 +182,12 @@ mod tests {
             campaign.starts_with("--campaign is not for words"),
             "{campaign}"
         );
+        let field = wrong("line --site a");
+        assert!(
+            field.starts_with("--site fills a field of a report: --report or"),
+            "{field}"
+        );
+        assert_eq!(wrong("line --site a --firmware 3 --json j"), "");
         let once = "standard input can be read once only";
         assert_eq!(wrong("- --answers - --left t"), once);
         assert_eq!(wrong("line --answers - --left -"), once);
@@ -160,9 +199,9 @@ mod tests {
         assert_eq!(wrong("line --report r --json r"), twice);
         assert_eq!(wrong("line --report r --json ./r"), twice);
         for read in ["line", "a", "t"] {
-            let told = wrong(&format!("line --answers a --left t --json {read}"));
+            let wrong = wrong(&format!("line --answers a --left t --json {read}"));
             assert_eq!(
-                told,
+                wrong,
                 format!("--json {read} is the input, which it would overwrite")
             );
         }

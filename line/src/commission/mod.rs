@@ -38,8 +38,8 @@ pub fn command(options: &[OsString], kernels: &[Kernel]) -> Result<bool, String>
     let input = match given.accepted() {
         Ok(input) => input,
         Err(refusal) => {
-            let (file, told) = (shown(asked.file), refused::in_words(&refusal));
-            say!("{file} cannot be commissioned: {told}");
+            let (file, why) = (shown(asked.file), refused::in_words(&refusal));
+            say!("{file} cannot be commissioned: {why}");
             refused::tell_mending(asked.file, &refusal);
             return Ok(false);
         }
@@ -59,23 +59,25 @@ pub fn command(options: &[OsString], kernels: &[Kernel]) -> Result<bool, String>
     };
     let written = asked.file_away(&Report {
         made: in_utc(SystemTime::now()),
+        place: asked.place(),
         input: source(asked.file, &given.bytes),
         line: &input,
         names: &given.names,
         judged,
         verdicts: &verdicts,
     });
-    let well = tell(&verdicts);
+    let well = say_checks(&verdicts);
     output::write(written?.as_bytes());
-    let Summary { passed, failed, .. } = verdicts.summary();
-    if (passed, failed) == (0, 0) {
-        exit(NOTHING_SHOWN);
-    }
+    end_where_nothing_is_shown(verdicts.summary());
     Ok(well)
 }
 
-/// The status where no check failed and none was shown.
-const NOTHING_SHOWN: i32 = 3;
+/// Ends the program with a status of its own where no check failed and none was shown.
+fn end_where_nothing_is_shown(Summary { passed, failed, .. }: Summary) {
+    if (passed, failed) == (0, 0) {
+        exit(3);
+    }
+}
 
 /// An input that is commissioned: an accepted table, its list and its names.
 struct Commissioned<'a> {
@@ -103,7 +105,7 @@ impl Commissioned<'_> {
     /// A kernel's verdicts: on this table and list, by the drills, and by a campaign of so
     /// many runs.
     fn by_kernel(&self, kernel: Kernel, seed: u64, campaign: u64) -> (Judged, Verdicts) {
-        self.tell_head(kernel.title);
+        self.say_head(kernel.title);
         let list = Checklist::new(kernel, self.input, self.names, seed);
         say!("exercise made from this table: {}", list.size());
         let judged = Judged::Kernel {
@@ -125,33 +127,33 @@ impl Commissioned<'_> {
             left: source(files[1], &left.bytes),
         };
         let read = ReadBack::new(self.input, self.names, answers.words, left.words)?;
-        self.tell_head("what was read back from a line");
-        Ok((judged, of_a_line(read.verdicts())))
+        self.say_head("what was read back from a controller");
+        Ok((judged, of_a_controller(read.verdicts())))
     }
 
     /// Says what is commissioned, and what can be said of its table and list before.
-    fn tell_head(&self, on: &str) {
+    fn say_head(&self, on: &str) {
         let (file, size) = (shown(self.file), self.input.size());
         say!("commissioning {file} on {on}: {size}");
         if let Some(domain) = self.struck {
-            let told = struck_calls(&case_of(self.input), domain, self.names);
-            output::write(told.as_bytes());
+            let struck = struck_calls(&case_of(self.input), domain, self.names);
+            output::write(struck.as_bytes());
         }
         output::write(potential_in_words(&self.input.table, self.names).as_bytes());
     }
 }
 
-/// Verdicts on words that were read back. The judges tell them as a kernel's, as which they
-/// compare them; no kernel was run, and they are the line's.
-fn of_a_line(verdicts: Verdicts) -> Verdicts {
-    let told = |check: Check| Check {
+/// Verdicts on words that were read back. The judges say that they are a kernel's, as which
+/// they compare them; no kernel was run, and they are the controller's.
+fn of_a_controller(verdicts: Verdicts) -> Verdicts {
+    let reworded = |check: Check| Check {
         judged: check
             .judged
-            .map_err(|why| why.replace("the kernel ", "the line ")),
+            .map_err(|why| why.replace("the kernel ", "the controller ")),
         ..check
     };
     Verdicts {
-        checks: verdicts.checks.map(told),
+        checks: verdicts.checks.map(reworded),
         ..verdicts
     }
 }
@@ -172,8 +174,8 @@ fn struck_calls(case: &Case, domain: usize, names: &Names) -> String {
         .enumerate()
         .filter(|(_, (_, kept))| !kept)
         .map(|(number, (call, _))| {
-            let told = call_on_table(call, &case.table, names);
-            format!("  call {number}: {told}\n")
+            let asked = call_on_table(call, &case.table, names);
+            format!("  call {number}: {asked}\n")
         })
         .collect();
     format!(
@@ -186,7 +188,7 @@ fn struck_calls(case: &Case, domain: usize, names: &Names) -> String {
 }
 
 /// Prints the four checks and the summary; whether none failed.
-fn tell(verdicts: &Verdicts) -> bool {
+fn say_checks(verdicts: &Verdicts) -> bool {
     for (number, check) in verdicts.checks.iter().enumerate() {
         output::write(in_words(number + 1, check).as_bytes());
     }
@@ -240,25 +242,26 @@ mod tests {
     fn every_kernel_is_commissioned_on_the_worked_example() {
         for kernel in PROVED_RUNS {
             let list = Checklist::new(*kernel, &Input::example(), &Names::none(), 1);
-            assert!(tell(&list.verdicts()), "{}", kernel.name);
+            assert!(say_checks(&list.verdicts()), "{}", kernel.name);
         }
     }
 
     #[test]
-    fn struck_calls_are_told_in_words() {
-        let told = struck_calls(&case_of(&Input::example()), 1, &Names::none());
-        assert!(told.starts_with("struck for domain 1: 4 of 9 calls\n  call 4: domain 2 receives"));
-        assert!(told.ends_with("call 8: domain 2 asks for its endpoints\n"));
+    fn struck_calls_are_printed_in_words() {
+        let struck = struck_calls(&case_of(&Input::example()), 1, &Names::none());
+        let start = "struck for domain 1: 4 of 9 calls\n  call 4: domain 2 receives";
+        assert!(struck.starts_with(start));
+        assert!(struck.ends_with("call 8: domain 2 asks for its endpoints\n"));
     }
 
     #[test]
-    fn a_struck_caller_that_the_table_has_not_is_told_as_such() {
+    fn a_struck_caller_that_the_table_has_not_is_printed_as_such() {
         let input = Input {
             list: vec![0x5B40_0000],
             ..Input::example()
         };
-        let told = struck_calls(&case_of(&input), 1, &Names::none());
-        assert!(told.ends_with("domain 45, which the table hasn't, asks for its rights\n"));
+        let struck = struck_calls(&case_of(&input), 1, &Names::none());
+        assert!(struck.ends_with("domain 45, which the table hasn't, asks for its rights\n"));
     }
 
     fn checks(kernel: Kernel, table: &[u32]) -> [String; 4] {

@@ -51,7 +51,7 @@ impl Display for Json {
     }
 }
 
-/// Things between brackets, one a line, as deep as they stand.
+/// Things between brackets, one a line, as deep as they are.
 fn enclosed<T>(
     to: &mut fmt::Formatter,
     open: char,

@@ -3,60 +3,95 @@
 
 use reference::calls::cut;
 use reference::table::{domains, endpoints};
+use reference::words::hex;
 
 use crate::judging::checklist::Check;
 use crate::reports::facts::{
-    archive_logic, kit, EndpointRow, Judged, Report, RightsCell, Source, ARCHIVE, ARCHIVE_SHA256,
-    VERSION,
+    archive_logic, archive_text, kit, CallRow, EndpointRow, Influenced, Judged, Report, RightsCell,
+    Source, Verdict, ARCHIVE, ARCHIVE_SHA256, VERSION,
 };
 use crate::reports::json::Json;
 
 /// The number of this form.
 const FORMAT: u64 = 2;
 
-/// The JSON of a report, with a line's end behind it.
+/// The JSON of a report, with a line's end after it.
 pub fn json(report: &Report) -> String {
-    let summary = report.verdicts.summary();
-    let verdict = match summary.failed {
-        0 => "no check failed",
-        _ => "failed",
-    };
-    let number = |number: usize| Json::Number(number as u64);
-    let all = vec![
-        ("format", Json::Number(FORMAT)),
-        ("verdict", Json::text(verdict)),
-        ("passed", number(summary.passed)),
-        ("failed", number(summary.failed)),
-        ("not_shown", number(summary.not_shown)),
-        ("made", Json::text(&report.made)),
-        ("program", Json::text(VERSION)),
-        ("kit", Json::text_or_null(kit())),
+    let verdicts = report.verdicts;
+    let mut all = head(report);
+    all.extend([
         ("archive", archive()),
         ("input", input(report)),
         ("judged", judged(&report.judged)),
-        ("checks", Json::List(checks(&report.verdicts.checks))),
+        ("checks", Json::List(checks(&verdicts.checks))),
         ("domains", Json::List(named_domains(report))),
+        ("calls", list(report.call_rows().iter().enumerate(), call)),
         (
             "endpoints",
             rows(report.endpoint_rows(), |row| endpoint(report, row)),
         ),
         ("rights", rows(report.rights(), rights)),
+        ("influence", list(&report.influenced(), influence)),
         ("left", Json::text_or_null(report.left().err().as_deref())),
-    ];
+    ]);
     format!("{}\n", Json::Object(all))
+}
+
+/// What came of it, when, where and by what.
+fn head(report: &Report) -> Vec<(&'static str, Json)> {
+    let summary = report.verdicts.summary();
+    let verdict = match report.verdict() {
+        Verdict::Failed => "failed",
+        _ => "no check failed",
+    };
+    let service = match report.verdict().allows_service() {
+        true => "for those who sign to decide",
+        false => "not to be put into service",
+    };
+    let run_on = match report.judged {
+        Judged::Kernel { .. } => "this computer",
+        Judged::ReadBack { .. } => "a controller",
+    };
+    let place = &report.place;
+    vec![
+        ("format", Json::Number(FORMAT)),
+        ("verdict", Json::text(verdict)),
+        ("service", Json::text(service)),
+        ("passed", number(summary.passed)),
+        ("failed", number(summary.failed)),
+        ("not_shown", number(summary.not_shown)),
+        ("made", Json::text(&report.made)),
+        ("run_on", Json::text(run_on)),
+        (
+            "controller",
+            Json::text_or_null(place.controller.as_deref()),
+        ),
+        ("site", Json::text_or_null(place.site.as_deref())),
+        ("firmware", Json::text_or_null(place.firmware.as_deref())),
+        ("program", Json::text(VERSION)),
+        ("kit", Json::text_or_null(kit())),
+    ]
+}
+
+fn number(number: usize) -> Json {
+    Json::Number(number as u64)
+}
+
+fn list<T>(all: impl IntoIterator<Item = T>, each: impl Fn(T) -> Json) -> Json {
+    Json::List(all.into_iter().map(each).collect())
 }
 
 fn archive() -> Json {
     Json::Object(vec![
         ("title", Json::text(ARCHIVE)),
         ("sha256", Json::text(ARCHIVE_SHA256)),
+        ("text_sha256", Json::text_or_null(archive_text())),
         ("logic", Json::text_or_null(archive_logic())),
     ])
 }
 
 fn input(report: &Report) -> Json {
     let line = report.line;
-    let number = |number: usize| Json::Number(number as u64);
     Json::Object(vec![
         ("file", Json::text(&report.input.file)),
         ("sha256", Json::text(&report.input.sha256)),
@@ -117,7 +152,7 @@ fn checks(checks: &[Check; 4]) -> Vec<Json> {
 fn named_domains(report: &Report) -> Vec<Json> {
     let domain = |domain: usize| {
         Json::Object(vec![
-            ("domain", Json::Number(domain as u64)),
+            ("domain", number(domain)),
             ("name", Json::text_or_null(report.names.domain_name(domain))),
         ])
     };
@@ -126,14 +161,43 @@ fn named_domains(report: &Report) -> Vec<Json> {
 
 /// A list of rows, or null where there are none to be read.
 fn rows<T>(rows: Result<Vec<T>, String>, each: impl Fn(&T) -> Json) -> Json {
-    rows.map_or(Json::Null, |rows| {
-        Json::List(rows.iter().map(each).collect())
-    })
+    rows.map_or(Json::Null, |rows| list(&rows, each))
+}
+
+/// A call of this list by its index, and its answer.
+fn call((index, row): (usize, &CallRow)) -> Json {
+    let answer = row.answer.as_ref();
+    let code = answer.map(|answer| Json::Number(answer.code().into()));
+    let words = answer.map(|answer| hex(&answer.words));
+    let in_words = answer.map(|answer| answer.in_words.as_str());
+    let right = answer.and_then(|answer| answer.right.as_deref());
+    Json::Object(vec![
+        ("call", number(index)),
+        ("words", Json::text(hex(&row.words))),
+        ("asked", Json::text(&row.asked)),
+        ("code", code.unwrap_or(Json::Null)),
+        ("answer", Json::text_or_null(words.as_deref())),
+        ("answered", Json::text_or_null(in_words)),
+        ("should_be", Json::text_or_null(right)),
+    ])
+}
+
+fn influence(influenced: &Influenced) -> Json {
+    Json::Object(vec![
+        ("domain", number(influenced.domain)),
+        (
+            "could_be_influenced_by",
+            list(influenced.could.iter().copied(), number),
+        ),
+        (
+            "source_set",
+            list(influenced.sources.iter().copied(), number),
+        ),
+    ])
 }
 
 fn endpoint(report: &Report, row: &EndpointRow) -> Json {
     let name = report.names.endpoint_name(row.endpoint);
-    let number = |number: usize| Json::Number(number as u64);
     Json::Object(vec![
         ("endpoint", number(row.endpoint)),
         ("name", Json::text_or_null(name)),
@@ -155,12 +219,12 @@ fn endpoint(report: &Report, row: &EndpointRow) -> Json {
     ])
 }
 
-/// The words as they stand, since a fault may leave one that is no set of rights.
+/// The words as they are, since a fault may leave one that is no set of rights.
 fn rights(cell: &RightsCell) -> Json {
     let word = |word: u32| Json::text(format!("{word:08X}"));
     Json::Object(vec![
-        ("holder", Json::Number(cell.holder as u64)),
-        ("target", Json::Number(cell.target as u64)),
+        ("holder", number(cell.holder)),
+        ("target", number(cell.target)),
         ("before", word(cell.before)),
         ("after", word(cell.after)),
     ])
@@ -181,7 +245,12 @@ mod tests {
         for part in [
             "\"format\": 2,",
             "\"verdict\": \"no check failed\",",
+            "\"service\": \"for those who sign to decide\",",
             "\"passed\": 4,",
+            "\"run_on\": \"this computer\",\n  \"controller\": null,\n  \"site\": \"<Hall> 4\",",
+            "\"asked\": \"domain 0 (link) sends 5 to endpoint 1 (drives)\",\n      \"code\": 17,",
+            "\"answered\": \"refused with 17: domain 0 (link) has no SEND on domain 2, the owner of",
+            "\"source_set\": [\n        0,\n        1\n      ]",
             "\"made\": \"2026-11-16T11:24:43Z\",",
             "\"file\": \"<script>\\\"&'\",",
             "\"calls\": 9,",
@@ -197,9 +266,11 @@ mod tests {
     }
 
     #[test]
-    fn a_failure_is_told_in_its_check() {
+    fn a_failure_is_reported_in_its_check() {
         let text = with_report(&verdicts(faulty::WRONG_ANSWER), &Names::none(), json);
-        assert!(text.contains("\"verdict\": \"failed\",\n  \"passed\": 1,\n  \"failed\": 3,"));
+        assert!(text
+            .contains("\"verdict\": \"failed\",\n  \"service\": \"not to be put into service\","));
+        assert!(text.contains("\"passed\": 1,\n  \"failed\": 3,"));
         assert!(text.contains("\"failure\": \"exercise list "), "{text}");
     }
 }

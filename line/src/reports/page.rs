@@ -4,11 +4,12 @@
 use reference::check_table;
 
 use crate::pictures::picture;
+use crate::reports::calls::calls;
 use crate::reports::facts::Report;
 use crate::reports::parts::parts;
-use crate::reports::sections;
+use crate::reports::{grids, sections};
 
-/// How many calls the picture shows: the list itself is named by its hash.
+/// How many calls the picture shows: the page has all of them in words.
 const CALLS_IN_PICTURE: usize = 12;
 
 /// The width of a printed page to the height of what fits it, beside the heading.
@@ -21,8 +22,10 @@ pub fn page(report: &Report) -> String {
         sections::about(report),
         sections::checks(report.verdicts),
         sections::counts(report),
-        sections::rights(report),
-        sections::signatures(),
+        grids::rights(report),
+        grids::influence(report),
+        sections::signatures(report),
+        calls(report),
         picture(report),
     ];
     format!(
@@ -64,13 +67,12 @@ fn picture(report: &Report) -> String {
     )
 }
 
-/// The width and the height of a picture, by its view box; nothing high where it says
-/// none.
+/// The width and the height of a picture, by its view box; 0 where it has none.
 fn size(svg: &str) -> (u32, u32) {
-    let told = svg.split_once("viewBox=\"0 0 ");
-    let told = told.and_then(|(_, rest)| rest.split_once('"')?.0.split_once(' '));
+    let view_box = svg.split_once("viewBox=\"0 0 ");
+    let size = view_box.and_then(|(_, rest)| rest.split_once('"')?.0.split_once(' '));
     let numbers =
-        told.and_then(|(width, height)| Some((width.parse().ok()?, height.parse().ok()?)));
+        size.and_then(|(width, height)| Some((width.parse().ok()?, height.parse().ok()?)));
     numbers.unwrap_or_default()
 }
 
@@ -102,6 +104,7 @@ h2 { font-size: 12pt; margin: 7mm 0 2mm; border-bottom: .3mm solid #999; break-a
 h3 { font-size: 10pt; margin: 3mm 0 1mm; break-after: avoid }
 p, ul { margin: 1mm 0; font-size: 9pt }
 ul { padding-left: 5mm }
+ul.long { font-size: 7pt; columns: 2; column-gap: 8mm }
 li { overflow-wrap: anywhere; break-inside: avoid }
 .result { border: .6mm solid #2e7d4f; border-left-width: 3mm; padding: 2mm 4mm; font-size: 12pt; font-weight: 600 }
 .result p { font-size: 9pt; font-weight: 400 }
@@ -125,6 +128,8 @@ tr.all td { font-weight: 600; border-top-width: .5mm }
 td.row { white-space: normal; overflow-wrap: break-word }
 .about th { width: 34mm; vertical-align: top }
 .about td { text-align: left; white-space: normal; overflow-wrap: anywhere }
+.blank { height: 7mm }
+code { font: 8pt 'DejaVu Sans Mono', Consolas, monospace }
 .hash { font: 7.5pt 'DejaVu Sans Mono', Consolas, monospace }
 .grids { display: grid; grid-template-columns: 1fr 1fr; gap: 5mm }
 .grids.wide { grid-template-columns: 1fr }
@@ -133,15 +138,26 @@ td.row { white-space: normal; overflow-wrap: break-word }
 .grid td, .grid th { text-align: center; padding: .5mm .3mm; white-space: nowrap; overflow: hidden }
 .grid th.row { width: 22%; text-align: left; white-space: normal }
 .wide .grid th.row { width: 16% }
+td.own { color: #777 }
 td.changed { outline: .6mm solid #111; outline-offset: -.6mm; font-weight: 700; background: #fff3bf }
-.sign { display: grid; grid-template-columns: 1fr 1fr; gap: 10mm; break-inside: avoid }
+.sign { display: grid; grid-template-columns: 50mm 1fr 1fr; gap: 7mm; break-inside: avoid }
+.sign .result { font-size: 10pt; align-self: start; margin-top: 3mm }
 .sign div { break-inside: avoid }
-.sign p { border-bottom: .3mm solid #111; height: 11mm; margin: 0; padding-top: 6.5mm; color: #555; font-size: 8pt }
+.sign div:not(.result) p { border-bottom: .3mm solid #111; height: 11mm; margin: 0; padding-top: 6.5mm; color: #555;
+  font-size: 8pt }
 .signatures { break-inside: avoid }
+.signatures > p { margin-top: 4mm; font-size: 10pt }
 .box { display: inline-block; width: 3.5mm; height: 3.5mm; border: .3mm solid #111; margin: 0 1.5mm 0 5mm; vertical-align: -.5mm }
+.calls { margin: 1mm 0; padding-left: 10mm; font-size: 8.5pt }
+.calls li { padding: .2mm 1mm }
+.calls.long { font-size: 6pt; line-height: 1.2; columns: 2; column-gap: 5mm; padding-left: 0 }
+.calls.long li { margin-left: 9mm }
+.refused { background: #e8e8e8; border-left: 1mm solid #555 }
+.wrong { border: .4mm solid #b00020; border-left-width: 1.5mm }
 .picture { break-before: page }
 .picture > svg { display: block; width: 100%; height: auto }
-@media screen { .part { display: none } }
+@media screen { .part { display: none }
+  .calls.long { font-size: 8.5pt; columns: 1; padding-left: 3mm; max-height: 70vh; overflow: auto; border: .2mm solid #999 } }
 @media print { body { margin: 0; padding: 0; max-width: none }
   .whole { break-before: auto; position: absolute; left: 0; top: 0; width: 0; height: 0; overflow: hidden } }
 ";

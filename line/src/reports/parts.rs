@@ -38,8 +38,8 @@ fn panels(svg: &str) -> Vec<(u32, u32)> {
     let boxes = svg.lines().filter(|line| line.starts_with("<rect "));
     let panels = boxes.filter(|line| line.contains(" rx=\"10\" "));
     let number = |line: &str, name: &str| {
-        let told = line.split_once(&format!(" {name}=\""))?.1;
-        told.split_once('"')?.0.parse::<f64>().ok()
+        let value = line.split_once(&format!(" {name}=\""))?.1;
+        value.split_once('"')?.0.parse::<f64>().ok()
     };
     let panel = |line| {
         let (y, height) = (number(line, "y")?, number(line, "height")?);

@@ -1,43 +1,73 @@
-//! The parts of a report's page.
+//! The parts of a report's page: what it is about, what came of it, and where it is signed.
 
-use reference::table::{domains, right, rights_place, RIGHTS};
-use reference::words::{content, kind};
+use std::env::consts::{ARCH, OS};
 
 use crate::judging::checklist::{Check, Verdicts};
 use crate::reports::facts::{
-    archive_logic, kit, EndpointRow, Judged, Report, RightsCell, Source, ARCHIVE, ARCHIVE_SHA256,
-    VERSION,
+    archive_logic, archive_text, kit, EndpointRow, Judged, Report, Source, Verdict, ARCHIVE,
+    ARCHIVE_SHA256, VERSION,
 };
 use crate::reports::page::escaped;
-use crate::text::explain::{letters, rights_in_words};
 
-/// The two grids of rights stand side by side up to so many domains.
-const SIDE_BY_SIDE: usize = 6;
+/// A row of a table: what it is about, and what is said of it, as HTML.
+type Row = (&'static str, String);
 
 /// The heading, with what came of it all.
 pub fn head(report: &Report) -> String {
+    let (run_on, made) = (run_on(&report.judged), made(report));
+    let verdict = verdict(report, &format!("{run_on} {} {made}", counts_of(report)));
+    format!("<h1>Commissioning report</h1>\n{verdict}")
+}
+
+/// How many checks passed and failed, and how much isn't shown.
+fn counts_of(report: &Report) -> String {
     let summary = report.verdicts.summary();
-    let failed: Vec<String> = (1..)
-        .zip(&report.verdicts.checks)
-        .filter(|(_, check)| check.judged.is_err())
-        .map(|(number, check)| format!("check {number} ({})", check.name))
-        .collect();
-    let (class, result) = match (summary.failed, summary.passed) {
-        (0, 4) => ("result", "No check failed".to_string()),
-        (0, passed) => (
+    format!(
+        "{} of 4 checks passed, {} failed; {} reported as not shown.",
+        summary.passed,
+        summary.failed,
+        counted_things(summary.not_shown)
+    )
+}
+
+/// The verdict in a box, with more of it below.
+fn verdict(report: &Report, more: &str) -> String {
+    let checks = (1..).zip(&report.verdicts.checks);
+    let failed = checks.filter(|(_, check)| check.judged.is_err());
+    let failed = failed.map(|(number, check)| format!("check {number} ({})", check.name));
+    let (class, result) = match report.verdict() {
+        Verdict::Passed(4) => ("result", "No check failed".to_string()),
+        Verdict::Passed(passed) => (
             "result open",
             format!("No check failed, and {passed} of 4 passed"),
         ),
-        _ => ("result failed", format!("FAILED: {}", failed.join(", "))),
+        Verdict::NothingShown => (
+            "result open",
+            "No check failed, and none was shown".to_string(),
+        ),
+        Verdict::Failed => {
+            let failed: Vec<String> = failed.collect();
+            ("result failed", format!("FAILED: {}", failed.join(", ")))
+        }
     };
-    format!(
-        "<h1>Commissioning report</h1>\n<div class=\"{class}\">{result}\
-         <p>{} of 4 checks passed, {} failed; {} told as not shown. {}</p></div>\n",
-        summary.passed,
-        summary.failed,
-        counted_things(summary.not_shown),
-        made(report)
-    )
+    let service = match report.verdict().allows_service() {
+        true => "",
+        false => "<br>Not to be put into service",
+    };
+    format!("<div class=\"{class}\">{result}{service}<p>{more}</p></div>\n")
+}
+
+/// Says what was run, and where.
+fn run_on(judged: &Judged) -> String {
+    match judged {
+        Judged::Kernel { title, .. } => {
+            let title = escaped(title);
+            format!("Run on this computer: {title}. Nothing was run on a controller.")
+        }
+        Judged::ReadBack { .. } => {
+            "Run on a controller, whose words were read back; no kernel was run here.".to_string()
+        }
+    }
 }
 
 fn counted_things(number: usize) -> String {
@@ -49,13 +79,18 @@ fn counted_things(number: usize) -> String {
 
 /// The date and the time as a reader writes them.
 fn made(report: &Report) -> String {
-    let told = report.made.trim_end_matches('Z').replacen('T', ", ", 1);
-    format!("Made {} UTC.", escaped(&told))
+    let made = report.made.trim_end_matches('Z').replacen('T', ", ", 1);
+    format!("Made {} UTC.", escaped(&made))
 }
 
 /// What the report is about.
 pub fn about(report: &Report) -> String {
-    let mut rows = vec![
+    let place = [
+        ("Controller", blank_or(&report.place.controller)),
+        ("Site", blank_or(&report.place.site)),
+        ("Firmware", blank_or(&report.place.firmware)),
+    ];
+    let input = [
         ("Input", escaped(&report.input.file)),
         ("Size", escaped(&report.line.size())),
         (
@@ -63,19 +98,25 @@ pub fn about(report: &Report) -> String {
             hash(&report.input.sha256) + "<br>of the words as linerun reads them",
         ),
     ];
-    rows.extend(judged(&report.judged));
-    rows.extend(built());
-    let rows = rows
-        .iter()
-        .map(|(what, told)| format!("<tr><th>{what}</th><td>{told}</td></tr>\n"));
+    let all = place.into_iter().chain(judged(&report.judged)).chain(input);
+    let rows = all.chain(built(&report.judged));
+    let rows = rows.map(|(what, said)| format!("<tr><th>{what}</th><td>{said}</td></tr>\n"));
     format!(
         "<h2>What was commissioned</h2>\n<table class=\"about\">\n{}</table>\n",
         rows.collect::<String>()
     )
 }
 
+/// A field as it was given, or a place to write it by hand.
+fn blank_or(field: &Option<String>) -> String {
+    match field {
+        Some(text) => escaped(text),
+        None => "<div class=\"blank\"></div>".to_string(),
+    }
+}
+
 /// What the verdicts are about.
-fn judged(judged: &Judged) -> [(&'static str, String); 3] {
+fn judged(judged: &Judged) -> Vec<Row> {
     let read = |source: &Source| escaped(&source.file) + "<br>" + &hash(&source.sha256);
     match judged {
         Judged::Kernel {
@@ -83,7 +124,11 @@ fn judged(judged: &Judged) -> [(&'static str, String); 3] {
             title,
             seed,
             exercise,
-        } => [
+        } => vec![
+            (
+                "Run on",
+                format!("this computer ({ARCH}, {OS}); nothing was run on a controller"),
+            ),
             ("Kernel", escaped(&format!("{name}: {title}"))),
             ("Seed", seed.to_string()),
             (
@@ -91,10 +136,10 @@ fn judged(judged: &Judged) -> [(&'static str, String); 3] {
                 format!("{}, made from this table", escaped(exercise)),
             ),
         ],
-        Judged::ReadBack { answers, left } => [
+        Judged::ReadBack { answers, left } => vec![
             (
-                "Read back",
-                "words of a run on a line; no kernel was run here".to_string(),
+                "Run on",
+                "a controller, whose words were read back; no kernel was run here".to_string(),
             ),
             ("Answers", read(answers)),
             ("Table left", read(left)),
@@ -103,24 +148,37 @@ fn judged(judged: &Judged) -> [(&'static str, String); 3] {
 }
 
 /// What this program is built of.
-fn built() -> [(&'static str, String); 4] {
-    let unknown = "not known: no kit was at hand when this program was built";
+fn built(judged: &Judged) -> [Row; 5] {
+    let use_of_it = match judged {
+        Judged::Kernel { name, .. } if name.starts_with("balkwizu") => "",
+        _ => ", asked only who could influence whom",
+    };
     let logic = match archive_logic() {
         Some(logic) => format!("<br>it names the logic<br>{}", hash(logic)),
         None => "<br>it names no logic".to_string(),
     };
-    let told = format!("{}, linked into this program{logic}", escaped(ARCHIVE));
+    let archive = escaped(ARCHIVE);
+    let code = match archive_text() {
+        Some(text) => {
+            hash(text)
+                + "<br>as <code>firmware/identify</code> prints it; with <code>--in PROGRAM</code> \
+                   it finds the archive in a controller's program"
+        }
+        None => "not known: it is no archive for x86-64".to_string(),
+    };
+    let kit = match kit() {
+        Some(kit) => format!("{}, at hand when this program was built", escaped(kit)),
+        None => "not known: no kit was at hand when this program was built".to_string(),
+    };
     [
-        ("Archive", told),
-        ("SHA-256 of the archive", hash(ARCHIVE_SHA256)),
         (
-            "Kit",
-            match kit() {
-                Some(kit) => format!("{}, at hand when this program was built", escaped(kit)),
-                None => unknown.to_string(),
-            },
+            "Archive",
+            format!("{archive}, linked into this program{use_of_it}{logic}"),
         ),
-        ("Bench", VERSION.to_string()),
+        ("SHA-256 of the archive", hash(ARCHIVE_SHA256)),
+        ("SHA-256 of its machine code", code),
+        ("Kit", kit),
+        ("Program", format!("version {VERSION}")),
     ]
 }
 
@@ -146,10 +204,10 @@ fn check(number: usize, check: &Check) -> String {
         Err(why) => format!("<pre>{}</pre>", escaped(why)),
         Ok(found) => {
             let based_on = found.based_on.iter();
-            let based_on = based_on.map(|told| format!("<li>{}</li>\n", escaped(told)));
-            let not_shown = found.not_shown.iter().map(|told| {
-                let told = escaped(told);
-                format!("<li class=\"unshown\"><b>not shown:</b> {told}</li>\n")
+            let based_on = based_on.map(|each| format!("<li>{}</li>\n", escaped(each)));
+            let not_shown = found.not_shown.iter().map(|each| {
+                let each = escaped(each);
+                format!("<li class=\"unshown\"><b>not shown:</b> {each}</li>\n")
             });
             let all: String = based_on.chain(not_shown).collect();
             format!("<p>{}</p>\n<ul>\n{all}</ul>", escaped(found.in_order))
@@ -205,142 +263,27 @@ fn endpoint(report: &Report, row: &EndpointRow) -> String {
     )
 }
 
-/// The rights before this list and after it, as two grids, and what was altered in words.
-pub fn rights(report: &Report) -> String {
-    let wide = match domains(&report.line.table) > SIDE_BY_SIDE {
-        true => " wide",
-        false => "",
-    };
-    let (altered, before, after) = match report.rights() {
-        Ok(cells) => (
-            altered(report, &cells),
-            grid(report, &cells, "Before", |cell| (cell.before, false)),
-            grid(report, &cells, "After", |cell| {
-                (cell.after, cell.after != cell.before)
-            }),
-        ),
-        Err(why) => (
-            format!("<p>After it, none: {}.</p>\n", escaped(&why)),
-            grid(report, &cells_before(report), "Before", |cell| {
-                (cell.before, false)
-            }),
-            String::new(),
-        ),
-    };
-    format!(
-        "<h2>Rights before and after this list</h2>\n<p>A row is a holder, a column whom the \
-         rights are on: S for SEND, G for GRANT, R for REMOVE, V for REVOKE.</p>\n{altered}\
-         <div class=\"grids{wide}\">\n{before}{after}</div>\n"
-    )
-}
-
-/// The rights before this list, where there are none after it to be read.
-fn cells_before(report: &Report) -> Vec<RightsCell> {
-    let n = domains(&report.line.table);
-    let words = report.line.table[1..=n * n].iter().enumerate();
-    let cell = |(place, &word): (usize, &u32)| RightsCell {
-        holder: place / n,
-        target: place % n,
-        before: word,
-        after: word,
-    };
-    words.map(cell).collect()
-}
-
-/// The rights that this list altered, in words, those too that are after it as before.
-fn altered(report: &Report, cells: &[RightsCell]) -> String {
-    let tables = report.tables();
-    let each = cells.iter().filter_map(|cell| {
-        let change = match cell.before == cell.after {
-            true => altered_between(&tables, cell)?,
-            false => format!(
-                "{} before, {} after",
-                held_in_words(cell.before),
-                held_in_words(cell.after)
-            ),
-        };
-        let holder = escaped(&report.names.domain(cell.holder));
-        let target = escaped(&report.names.domain(cell.target));
-        Some(format!("<li>{holder} on {target}: {change}</li>\n"))
-    });
-    match each.collect::<String>() {
-        none if none.is_empty() => "<p>This list altered none.</p>\n".to_string(),
-        each => format!("<ul>\n{each}</ul>\n"),
-    }
-}
-
-/// What a holder has on a target before and after this list and what in between, where
-/// some call altered it, by the tables before each call.
-fn altered_between(tables: &[Vec<u32>], cell: &RightsCell) -> Option<String> {
-    let place = |table: &[u32]| rights_place(table, cell.holder, cell.target);
-    let words = tables.iter().map(|table| table[place(table)]);
-    let mut words: Vec<u32> = words.filter(|&word| word != cell.before).collect();
-    words.dedup();
-    let between: Vec<String> = words.into_iter().map(held_in_words).collect();
-    let before = held_in_words(cell.before);
-    let altered = !between.is_empty();
-    altered.then(|| {
-        let between = between.join(", then ");
-        format!("{before} before and after, {between} in between")
-    })
-}
-
-/// Whether a word is a set of rights, which a fault may leave otherwise.
-fn is_set(word: u32) -> bool {
-    kind(word) == RIGHTS && content(word) <= right::ALL
-}
-
-fn held_in_words(word: u32) -> String {
-    match content(word) {
-        _ if !is_set(word) => format!("the word {word:08X}"),
-        0 => "none".to_string(),
-        set => rights_in_words(set),
-    }
-}
-
-fn grid(
-    report: &Report,
-    cells: &[RightsCell],
-    heading: &str,
-    of: fn(&RightsCell) -> (u32, bool),
-) -> String {
-    let n = domains(&report.line.table);
-    let head: String = (0..n).map(|d| format!("<th>{d}</th>")).collect();
-    let row = |(holder, cells): (usize, &[RightsCell])| {
-        let name = escaped(&report.names.domain_label(holder));
-        let cells: String = cells.iter().map(|cell| grid_cell(of(cell))).collect();
-        format!("<tr><th class=\"row\">{name}</th>{cells}</tr>\n")
-    };
-    let rows: String = cells.chunks(n).enumerate().map(row).collect();
-    format!(
-        "<div class=\"grid\">\n<h3>{heading}</h3>\n<table>\n<thead><tr><th class=\"row\">Holder</th>\
-         {head}</tr></thead>\n<tbody>\n{rows}</tbody>\n</table>\n</div>\n"
-    )
-}
-
-fn grid_cell((word, changed): (u32, bool)) -> String {
-    let class = match changed {
-        true => " class=\"changed\"",
-        false => "",
-    };
-    let told = match content(word) {
-        _ if !is_set(word) => format!("{word:08X}"),
-        0 if changed => "none".to_string(),
-        set => letters(set),
-    };
-    format!("<td{class}>{told}</td>")
-}
-
-/// Places for two people to sign.
-pub fn signatures() -> String {
+/// The verdict beside places for two people to sign. Only a verdict that allows it has a
+/// choice to put the line into service.
+pub fn signatures(report: &Report) -> String {
     let place = |who: &str| {
         format!("<div>\n<h3>{who}</h3>\n<p>Name</p><p>Date</p><p>Signature</p>\n</div>\n")
     };
+    let decided = match report.verdict().allows_service() {
+        true => {
+            "The line is <span class=\"box\"></span>put into service \
+             <span class=\"box\"></span>not put into service"
+        }
+        false => "The line is not to be put into service. Who signs here has seen this verdict.",
+    };
+    let run_on = match report.judged {
+        Judged::Kernel { .. } => "Run on this computer, not on a controller.",
+        Judged::ReadBack { .. } => "Read back from a controller.",
+    };
     format!(
-        "<section class=\"signatures\">\n<h2>Signatures</h2>\n<p>The line is \
-         <span class=\"box\"></span>put into service \
-         <span class=\"box\"></span>not put into service</p>\n\
-         <div class=\"sign\">\n{}{}</div>\n</section>\n",
+        "<section class=\"signatures\">\n<h2>Verdict and signatures</h2>\n<div class=\"sign\">\n{}\
+         {}{}</div>\n<p>{decided}</p>\n</section>\n",
+        verdict(report, &format!("{} {run_on}", counts_of(report))),
         place("Field engineer"),
         place("Second person")
     )
@@ -350,6 +293,8 @@ pub fn signatures() -> String {
 mod tests {
     use super::*;
     use crate::judging::checklist::Checklist;
+    use crate::judging::compare::separate_run;
+    use crate::judging::variants::case_of;
     use crate::kernels::boundary::PROVED;
     use crate::kernels::faulty;
     use crate::reports::facts::tests::{verdicts, with_report, with_report_on};
@@ -364,23 +309,32 @@ mod tests {
     }
 
     #[test]
-    fn the_page_tells_every_fact() {
+    fn the_page_has_every_fact() {
         let names = Names::given("domain 0 link\ndomain 2 drives\nendpoint 1 commands\n");
         let page = with_report(&verdicts(PROVED), &names, page);
         has(
             &page,
             &[
-                "<div class=\"result\">No check failed<p>4 of 4 checks passed, 0 failed; 5 things are",
-                "Made 2026-11-16, 11:24:43 UTC.",
+                "<div class=\"result\">No check failed<p>Run on this computer: proved archive. Nothing \
+                 was run on a controller. 4 of 4 checks passed, 0 failed; 5 things are reported as \
+                 not shown. Made 2026-11-16, 11:24:43 UTC.</p>",
+                "<tr><th>Controller</th><td><div class=\"blank\"></div></td></tr>",
+                "<tr><th>Site</th><td>&lt;Hall&gt; 4</td></tr>",
                 "<tr><th>Seed</th><td>7</td></tr>",
                 ARCHIVE_SHA256,
+                archive_text().unwrap_or("no archive for x86-64"),
                 "Check 4, counts: <span class=\"verdict\">passed</span>",
                 "<li class=\"unshown\"><b>not shown:</b> messages in turn at endpoint 1",
                 "<td class=\"row\">1 commands</td><td class=\"row\">2 drives</td><td>1</td>\
                  <td>0</td><td>2</td><td>1</td><td>1</td><td>0</td><td>0</td><td>1</td></tr>",
                 "<li>domain 0 (link) on domain 2 (drives): none before, SEND after</li>",
                 "<td class=\"changed\">S</td>",
+                "<li class=\"refused\">domain 0 (link) sends 5 to endpoint 1 (commands) &rarr; \
+                 <b>refused with 17</b>: domain 0 (link) has no SEND on domain 2 (drives), the owner",
+                "<p>9 calls: 6 done, 3 refused. ",
+                "<li>domain 1 grants domain 0 (link) SEND on domain 2 (drives) &rarr; done</li>",
                 "<h3>Second person</h3>\n<p>Name</p><p>Date</p><p>Signature</p>",
+                "<p>The line is <span class=\"box\"></span>put into service ",
                 "<svg ",
             ],
         );
@@ -435,11 +389,75 @@ mod tests {
     }
 
     #[test]
-    fn a_failure_based_on_top() {
+    fn a_failure_is_on_top_and_beside_the_signatures_and_allows_no_service() {
         let page = with_report(&verdicts(faulty::WRONG_ANSWER), &Names::none(), page);
-        let top = "<div class=\"result failed\">FAILED: check 1 (refusals), check 2 (answers and";
-        let (top, check) = (page.find(top), page.find("<pre>exercise list "));
+        let verdict = "<div class=\"result failed\">FAILED: check 1 (refusals), check 2 (answers \
+                       and table), check 3 (isolation)<br>Not to be put into service<p>";
+        let beside = format!("<div class=\"sign\">\n{verdict}");
+        let (top, check) = (page.find(verdict), page.find("<pre>exercise list "));
         assert!(top.is_some() && top < check, "{page}");
+        has(
+            &page,
+            &[
+                &beside,
+                "<p>The line is not to be put into service. Who signs here has seen this verdict.",
+                "<b>WRONG</b>: it should be ",
+            ],
+        );
+        assert!(!page.contains("class=\"box\""), "{page}");
+    }
+
+    #[test]
+    fn where_nothing_is_shown_nothing_is_put_into_service() {
+        let mut verdicts = verdicts(PROVED);
+        for check in &mut verdicts.checks {
+            check.judged.as_mut().unwrap().shown = false;
+        }
+        let page = with_report(&verdicts, &Names::none(), page);
+        let verdict = "No check failed, and none was shown<br>Not to be put into service<p>";
+        assert_eq!(page.matches(verdict).count(), 2, "{page}");
+        assert!(!page.contains("class=\"box\""), "{page}");
+    }
+
+    /// Domain 0 has a right on domain 1, and that on domain 0; nobody has one on domain 2 but
+    /// both, and it none on them.
+    #[test]
+    fn who_could_influence_whom_is_a_grid_beside_that_of_this_list() {
+        let page = with_report(&verdicts(PROVED), &Names::none(), page);
+        let own = "<td class=\"own\">own</td>";
+        let could = "<td>&#9679;</td>";
+        let rows = format!(
+            "<tr><th class=\"row\">0</th>{own}{could}{could}</tr>\n\
+             <tr><th class=\"row\">1</th>{could}{own}{could}</tr>\n\
+             <tr><th class=\"row\">2</th><td></td><td></td>{own}</tr>\n"
+        );
+        assert_eq!(page.matches(&rows).count(), 2, "{page}");
+        has(
+            &page,
+            &["<h3>By any list of calls</h3>", "<h3>By this list</h3>"],
+        );
+    }
+
+    #[test]
+    fn a_long_list_is_whole_and_in_small_type() {
+        let line = Input {
+            list: vec![0x5000_0000; 4096],
+            ..Input::example()
+        };
+        let verdicts = Verdicts {
+            left: Ok(separate_run(&case_of(&line)).unwrap()),
+            ..verdicts(PROVED)
+        };
+        let page = with_report_on(&line, &verdicts, &Names::none(), page);
+        let call = "<li>domain 0 asks for its rights &rarr; ";
+        assert_eq!(page.matches(call).count(), 4096);
+        has(
+            &page,
+            &[
+                "<ol class=\"calls long\" start=\"0\">",
+                "<p>4096 calls: 4096 done, 0",
+            ],
+        );
     }
 
     #[test]
@@ -450,14 +468,15 @@ mod tests {
         has(
             &page,
             &[
-                "<div class=\"result open\">No check failed, and 3 of 4 passed<p>3 of 4 checks",
+                "<div class=\"result open\">No check failed, and 3 of 4 passed<p>Run on this",
+                "controller. 3 of 4 checks passed, 0 failed; ",
                 "Check 3, isolation: <span class=\"verdict unshown\">not shown</span>",
             ],
         );
     }
 
     #[test]
-    fn words_that_are_no_rights_are_told_as_they_are() {
+    fn words_that_are_no_rights_are_shown_as_they_are() {
         let mut verdicts = verdicts(PROVED);
         let left = verdicts.left.as_mut().unwrap();
         (left.table[1], left.table[2]) = (0x5000_0001, 0x2000_0000);
@@ -476,6 +495,8 @@ mod tests {
             &[
                 "<p>None: it never came back.</p>",
                 "<p>After it, none: it never",
+                "<p>9 calls, and no answers: it never came back.</p>",
+                "<li>domain 0 sends 5 to endpoint 1</li>",
             ],
         );
     }
