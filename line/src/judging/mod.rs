@@ -18,7 +18,6 @@ pub mod panics;
 pub mod report;
 pub mod runs;
 pub mod shrink;
-pub mod smaller;
 pub mod tally;
 pub mod trying;
 pub mod turning;

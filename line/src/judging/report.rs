@@ -1,10 +1,11 @@
-//! What is wrong with a run, told so that it can be seen again: cut down to fewer calls,
+//! What is wrong with a run, reported so that it can be seen again: cut down to fewer calls,
 //! on a smaller table where it was drawn, with its words as `balkwizu words` takes them.
 
 use std::time::Duration;
 
 use crate::cases::Case;
-use crate::judging::shrink::{shrink, shrink_with_table};
+use crate::judging::shrink::shrink;
+pub use crate::judging::shrink::Cut;
 use crate::kernels::boundary::Kernel;
 use crate::kernels::child;
 use crate::kernels::lent::Failure;
@@ -32,13 +33,6 @@ pub fn failed(kernel: &Kernel, case: &Case, failure: Failure, limit: Duration) -
     }
 }
 
-/// What a run is cut down in: its calls, or its table too.
-#[derive(Debug, Clone, Copy, PartialEq, Eq)]
-pub enum Cut {
-    Calls,
-    TableToo,
-}
-
 /// A run with as few calls as are still wrong, what is wrong with it, and its words;
 /// nothing where nothing is wrong with the run. `wrong` tries a run within a time.
 pub fn cut_down(
@@ -49,20 +43,14 @@ pub fn cut_down(
 ) -> Option<String> {
     let short = SHORT.min(limit / 3);
     let is_wrong = |case: &Case| wrong(case, short).is_some();
-    let shorter = match cut {
-        Cut::Calls => shrink(case, is_wrong),
-        Cut::TableToo => shrink_with_table(case, is_wrong),
-    };
-    let (shorter, told) = match wrong(&shorter, limit) {
-        Some(told) => (&shorter, told),
+    let shorter = shrink(case, cut, is_wrong);
+    let (shorter, why) = match wrong(&shorter, limit) {
+        Some(why) => (&shorter, why),
         // What took longer than the short time may be right all the same.
         None => (case, wrong(case, limit)?),
     };
     let calls = counted(reference::cut(&shorter.list).len(), "call");
-    Some(format!(
-        "Cut down to {calls}:\n  {told}\n{}",
-        words(shorter)
-    ))
+    Some(format!("Cut down to {calls}:\n  {why}\n{}", words(shorter)))
 }
 
 /// The words of a run, and how much answer space it has.
@@ -88,34 +76,34 @@ mod tests {
 
     const SOON: Duration = Duration::from_millis(300);
 
-    fn told(kernel: Kernel, how: Stopped) -> String {
+    fn reported(kernel: Kernel, how: Stopped) -> String {
         let failure = Failure::Stopped(how);
         failed(&kernel, &case_of(&Input::example()), failure, SOON)
     }
 
     #[test]
     fn a_stop_is_cut_down_to_the_call_that_does_it() {
-        let fault = told(faulty::FAULTS_AT_A_GRANT, Stopped::Fault(11));
+        let fault = reported(faulty::FAULTS_AT_A_GRANT, Stopped::Fault(11));
         let both = "the kernel was ended by signal 11 (segmentation fault)";
         assert!(fault.starts_with(&format!(
             "{both}\nCut down to 1 call:\n  {both}\nIts words,"
         )));
         assert!(fault.contains("list\n60420001\n# answer space"), "{fault}");
-        let endless = told(faulty::LOOPS_AT_A_GRANT, Stopped::Loop(SOON));
+        let endless = reported(faulty::LOOPS_AT_A_GRANT, Stopped::Loop(SOON));
         assert!(endless.contains("list\n60420001\n# answer space"));
     }
 
     #[test]
-    fn a_stop_that_does_not_come_again_is_told_as_it_stands() {
-        let told = told(PROVED, Stopped::Fault(11));
-        assert!(told.contains("(segmentation fault); tried again, it returned\nIts words,"));
-        assert!(told.contains("list\n20000100 F0000005\n60420001\n"));
+    fn a_stop_that_does_not_come_again_is_reported_as_it_is() {
+        let report = reported(PROVED, Stopped::Fault(11));
+        assert!(report.contains("(segmentation fault); tried again, it returned\nIts words,"));
+        assert!(report.contains("list\n20000100 F0000005\n60420001\n"));
     }
 
     #[test]
-    fn what_was_written_is_told_by_itself() {
+    fn what_was_written_is_reported_alone() {
         let case = case_of(&Input::example());
-        let told = failed(&PROVED, &case, Failure::Wrote(Forbidden::List), SOON);
-        assert_eq!(told, "the kernel wrote the list");
+        let report = failed(&PROVED, &case, Failure::Wrote(Forbidden::List), SOON);
+        assert_eq!(report, "the kernel wrote the list");
     }
 }
