@@ -14,11 +14,11 @@ use crate::judging::one_after_another::first_wrong;
 use crate::judging::rows::{median_row, read, side_by_side, Row, Run, Table};
 use crate::judging::timing::{rotating, subjects, Measured, Subject};
 use crate::judging::turn_times;
-use crate::pictures::{merged, plot, speeds};
+use crate::pictures::{merged, plot};
 use line::args::Options;
 use line::clock;
+use line::kernels::boundary::WORKING;
 use line::output::{self, say};
-use line::text::explain::counted;
 
 pub const HELP: &str = "\
 bench speed [--by-kind] [--lengths] [--growth] [--turns] [--all] [--rounds N]
@@ -29,7 +29,7 @@ Measures the proved kernel, by each of its runs, beside the plain C kernel of
 bench/c as gcc -O3 and, where there is one, clang -O3 make it, and prints a
 Markdown table: table checks over bytes and over words, and calls on lists of
 4,096 words of four mixes, sixty different lists of each in rotation and one
-list repeated, which the processor learns by heart.
+list repeated, whose branches the predictor learns.
 
   --by-kind     lists in rotation with one kind of call each, or two that undo
                 each other, on a small table and on the largest
@@ -45,21 +45,24 @@ list repeated, which the processor learns by heart.
   --rounds N    1 to 100,000 (default 301)
   --seed S      the seed that the lists are drawn from (default 1)
   --record OUT  keeps the medians in a file, with the time; not those of turns
-  --svg OUT     draws --growth, which it stands for too
-  --merge       prints the medians over runs that were kept, with the spread,
-                and which goals were met each time, missed each time, or met in
-                some; with --svg draws --growth by these medians
+  --svg OUT     draws --growth, which it implies
+  --merge       prints the medians over runs that were kept, with the least and
+                the most, and which goals were met each time, missed each time,
+                or met in some; with --svg draws --growth by these medians
 
 All kernels take turns in each of N rounds. A figure is the median of the
-rounds. A ratio is the median of the rounds' ratios, the proved kernel's time
-over that of the faster plain C kernel of the row: above 1 the proved kernel is
-slower. In brackets stand the ratios that a tenth of the rounds stay below and
-exceed. A goal is for the check, or for the run that is meant for long lists,
-and is told of each proved run.
-Every kernel's runs are first compared with the separate machine's. The plain C
-checks words as the bytes that they are in memory; the proved check of words is
-in an archive of its own (`rt staticlib test_check_export`), which the program
-is built with where it is there, and its rows are left out where it isn't.
+rounds, in nanoseconds: of a call, a check, an entry (a run of the empty list)
+or, by length and growth, of a whole run. A ratio is the median of the rounds'
+ratios, the proved kernel's time over that of the faster plain C kernel of the
+row: above 1 the proved kernel is slower. A goal is for the check, or for the
+run that is meant for long lists, and is shown for each proved run.
+The table and the answers are reset before each run of a list, outside the timed
+part; by length and growth the table is passed on from list to list and reset
+before each turn of a kernel. Every kernel's runs are first compared with the
+reference. The plain C checks words as the bytes that they are in memory; the
+proved check of words is in an archive of its own (`rt staticlib
+test_check_export`), which the program is built with where it is there, and its
+rows are left out where it isn't.
 
 Runs that are merged must be of one program, processor, seed and number of
 rounds, and made at different times.
@@ -82,30 +85,33 @@ const TABLES: [&str; 4] = ["--by-kind", "--lengths", "--growth", "--turns"];
 /// The command: whether every kernel's runs are right, so that its speed counts.
 pub fn command(line: &[OsString]) -> Result<bool, String> {
     let flags = [&TABLES[..], &["--all", "--merge"]].concat();
-    let valued = ["--rounds", "--seed", "--record", "--svg"];
-    let options = Options::parse(line, &valued, &flags)?;
+    let options = Options::parse(line, &["--rounds", "--seed", "--record", "--svg"], &flags)?;
+    may_write(&options)?; // known before all is measured
     if options.has("--merge") {
         return merge(&options);
     }
     options.no_file()?;
-    let outs = ["--record", "--svg"].map(|name| options.path(name));
-    may_write(&options)?; // known before all is measured
+    let svg = options.path("--svg").is_some();
     let mut session = Session {
         rounds: options.within("--rounds", ROUNDS, ROUNDS_MAX)?,
         seed: options.number("--seed")?.unwrap_or(1),
         rows: Vec::new(),
+        notes: String::new(),
     };
     let time = clock::in_utc(SystemTime::now());
-    let right = session.tell_all(|flag| {
-        options.has("--all") || options.has(flag) || flag == "--growth" && outs[1].is_some()
-    });
-    if let (true, Some(out)) = (right, outs[1]) {
-        output::write_file(out, &plot_of(&session.rows.iter().collect::<Vec<_>>())?)?;
+    let asked = |flag: &str| options.has("--all") || options.has(flag) || flag == "--growth" && svg;
+    if let Err(why) = session.measure(asked) {
+        say!("{why}");
+        return Ok(false);
     }
-    if let (true, Some(out)) = (right, outs[0]) {
-        output::write_file(out, &session.run(time)?.to_string())?;
+    let notes = std::mem::take(&mut session.notes);
+    let run = session.run(time)?;
+    if let Some(out) = options.path("--record") {
+        output::write_file(out, &run.to_string())?;
     }
-    Ok(right)
+    print(&[run], &options)?;
+    output::write(notes.as_bytes());
+    Ok(true)
 }
 
 /// That what is measured can be written where it is to go.
@@ -124,34 +130,32 @@ fn may_write(options: &Options) -> Result<(), String> {
     }
 }
 
-/// The picture of the rows that it is made of.
-fn plot_of(rows: &[&Row]) -> Result<String, String> {
-    let own = rows.iter().filter(|row| row.table == Table::Growth);
-    let own: Vec<&Row> = own.copied().collect();
-    match own.is_empty() {
+/// Prints the tables of runs, and draws what grows where that is asked for.
+fn print(runs: &[Run], options: &Options) -> Result<(), String> {
+    let rows = side_by_side(runs)?;
+    output::write(merged::tables(runs, &rows).as_bytes());
+    let Some(out) = options.path("--svg") else {
+        return Ok(());
+    };
+    let grows = rows.iter().filter(|like| like[0].table == Table::Growth);
+    let medians: Vec<Row> = grows.map(|like| median_row(like)).collect();
+    match medians.is_empty() {
         true => Err("no run with --growth is given, so there is nothing to draw".to_string()),
-        false => Ok(plot::plot(&own)),
+        false => output::write_file(out, &plot::plot(&medians.iter().collect::<Vec<_>>())),
     }
 }
 
 /// Prints the medians over runs that were kept.
 fn merge(options: &Options) -> Result<bool, String> {
-    let others = [&TABLES[..], &["--all"]].concat();
+    let flags = [&TABLES[..], &["--all"]].concat();
     let valued = ["--rounds", "--seed", "--record"];
-    if others.iter().any(|flag| options.has(flag))
+    if flags.iter().any(|flag| options.has(flag))
         || valued.iter().any(|it| options.text(it).is_some())
     {
         return Err("--merge takes the files of runs and --svg, nothing else".to_string());
     }
-    may_write(options)?;
     let runs = options.files.iter().map(|file| read_run(file));
-    let runs = runs.collect::<Result<Vec<Run>, String>>()?;
-    let rows = side_by_side(&runs)?;
-    output::write(merged::tables(&runs, &rows).as_bytes());
-    if let Some(out) = options.path("--svg") {
-        let medians: Vec<Row> = rows.iter().map(|like| median_row(like)).collect();
-        output::write_file(out, &plot_of(&medians.iter().collect::<Vec<_>>())?)?;
-    }
+    print(&runs.collect::<Result<Vec<Run>, String>>()?, options)?;
     Ok(true)
 }
 
@@ -173,37 +177,69 @@ fn mark() -> Result<String, String> {
     ))
 }
 
-/// What is wrong with the first lists of a length.
-fn first_wrong_of(mix: &Mix, words: usize) -> Option<String> {
-    let lists = mix.lists(words);
-    let few = lists.len().min(COMPARED);
-    first_wrong(&mix.name, &mix.table, &lists[..few])
+/// The processor's name, where the system has it.
+fn processor() -> String {
+    let info = fs::read_to_string("/proc/cpuinfo").unwrap_or_default();
+    let line = info.lines().find(|line| line.starts_with("model name"));
+    let name = line.and_then(|line| line.split_once(": "));
+    name.map_or("unknown".to_string(), |(_, name)| name.to_string())
 }
 
-/// What is measured with, and the rows so far.
+/// That every kernel's runs of the lists of workloads are right.
+fn right(workloads: &[Workload]) -> Result<(), String> {
+    let wrong = |one: &Workload| first_wrong(&one.name, &one.table, &one.lists);
+    workloads.iter().find_map(wrong).map_or(Ok(()), Err)
+}
+
+/// The same of the first lists of a length.
+fn right_at(mix: &Mix, words: usize) -> Result<(), String> {
+    let lists = mix.lists(words);
+    let few = lists.len().min(COMPARED);
+    first_wrong(&mix.name, &mix.table, &lists[..few]).map_or(Ok(()), Err)
+}
+
+/// What is measured with, the rows so far, and what is printed after them.
 struct Session {
     seed: u64,
     rounds: usize,
     rows: Vec<Row>,
+    notes: String,
 }
 
 impl Session {
-    /// Prints the tables that are asked for, or the first where none is; whether every
-    /// kernel's runs are right.
-    fn tell_all(&mut self, asked: impl Fn(&str) -> bool) -> bool {
+    /// Measures the tables that are asked for, or the first where none is; an error where
+    /// something isn't right, so that its speed doesn't count.
+    fn measure(&mut self, asked: impl Fn(&str) -> bool) -> Result<(), String> {
         let [kinds, lengths, growth, turns] = TABLES.map(&asked);
-        let main = asked("--all") || !(kinds || lengths || growth || turns);
-        (!main || self.tell_workloads())
-            && (!kinds || self.tell_kinds())
-            && (!lengths || self.tell_lengths())
-            && (!growth || self.tell_growth())
-            && (!turns || self.tell_turns())
+        if asked("--all") || !(kinds || lengths || growth || turns) {
+            let all = workloads(self.seed);
+            right(&all)?;
+            subjects(&all)
+                .iter()
+                .for_each(|one| self.subject(Table::Workloads, one));
+        }
+        if kinds {
+            let all = by_kind(self.seed);
+            right(&all)?;
+            all.iter()
+                .for_each(|one| self.subject(Table::Kinds, &rotating(one)));
+        }
+        if lengths {
+            self.lengths()?;
+        }
+        if growth {
+            self.growth()?;
+        }
+        if turns {
+            self.turns()?;
+        }
+        Ok(())
     }
 
     /// The rows as a run to be kept.
     fn run(self, time: String) -> Result<Run, String> {
         let made = [
-            ("processor", speeds::processor()),
+            ("processor", processor()),
             ("plain C by", env!("PLAIN_COMPILERS").to_string()),
             ("kernel", line::reports::facts::ARCHIVE.to_string()),
             ("program", mark()?),
@@ -211,117 +247,61 @@ impl Session {
             ("seed", self.seed.to_string()),
         ];
         let made = made.map(|(name, what)| (name.to_string(), what)).to_vec();
-        Ok(Run {
-            time,
-            made,
-            rows: self.rows,
-        })
+        let rows = self.rows;
+        Ok(Run { time, made, rows })
     }
 
-    /// The table of checks and of the four mixes.
-    fn tell_workloads(&mut self) -> bool {
-        let workloads = workloads(self.seed);
-        let foot = speeds::foot_of_workloads(&workloads);
-        self.tell(Table::Workloads, &workloads, subjects(&workloads), &foot)
-    }
-
-    /// The table of single kinds.
-    fn tell_kinds(&mut self) -> bool {
-        let workloads = by_kind(self.seed);
-        let subjects = workloads.iter().map(rotating).collect();
-        self.tell(Table::Kinds, &workloads, subjects, &speeds::foot_of_kinds())
-    }
-
-    /// Prints a table with a row for each subject, where every kernel's runs are right.
-    fn tell(
-        &mut self,
-        table: Table,
-        workloads: &[Workload],
-        subjects: Vec<Subject>,
-        foot: &str,
-    ) -> bool {
-        let wrong = |one: &Workload| first_wrong(&one.name, &one.table, &one.lists);
-        if let Some(told) = workloads.iter().find_map(wrong) {
-            say!("{told}");
-            return false;
-        }
-        output::write(speeds::head(self.seed, self.rounds).as_bytes());
-        for subject in subjects {
-            let measured = Measured::of(&subject, self.rounds);
-            say!("{}", speeds::row(&subject, &measured));
-            let row = Row::of(table, &subject.name, None, &measured);
-            self.rows.push(row.with_goal(subject.goal));
-        }
-        say!("\n{foot}\n");
-        true
+    fn subject(&mut self, table: Table, subject: &Subject) {
+        let measured = Measured::of(subject, self.rounds);
+        let row = Row::of(table, &subject.name, None, &measured);
+        self.rows.push(row.with_goal(subject.goal));
     }
 
     /// The table of lengths, and where the two proved runs cross.
-    fn tell_lengths(&mut self) -> bool {
-        let mixes = SIZES.iter().flat_map(|&(n, m)| mixes(self.seed, n, m));
-        let mixes: Vec<Mix> = mixes.collect();
-        let wrong = |mix: &Mix| LENGTHS.iter().find_map(|&words| first_wrong_of(mix, words));
-        if let Some(told) = mixes.iter().find_map(wrong) {
-            say!("{told}");
-            return false;
+    fn lengths(&mut self) -> Result<(), String> {
+        for mix in SIZES.iter().flat_map(|&(n, m)| mixes(self.seed, n, m)) {
+            LENGTHS
+                .iter()
+                .try_for_each(|&words| right_at(&mix, words))?;
+            let slower = LENGTHS.map(|words| {
+                let measured = at(&mix, words, self.rounds);
+                let row = Row::of(Table::Lengths, &mix.name, Some(words), &measured);
+                self.rows.push(row);
+                working_is_slower(&measured)
+            });
+            let crossing = measured_crossing(&mix, slower, self.rounds);
+            let (name, working) = (&mix.name, WORKING.name);
+            self.notes += &format!("- {name}: {working} is the faster of the two {crossing}\n");
         }
-        output::write(speeds::head_of_lengths(self.seed, self.rounds).as_bytes());
-        let crossings: Vec<String> = mixes.iter().map(|mix| self.tell_mix(mix)).collect();
-        say!("\n{}\n", speeds::foot_of_lengths(&crossings));
-        true
-    }
-
-    /// Prints the rows of a mix; gives where the two runs cross, in words.
-    fn tell_mix(&mut self, mix: &Mix) -> String {
-        let slower = LENGTHS.map(|words| {
-            let measured = at(mix, words, self.rounds);
-            say!("{}", speeds::row_of_lengths(&mix.name, words, &measured));
-            let row = Row::of(Table::Lengths, &mix.name, Some(words), &measured);
-            self.rows.push(row);
-            working_is_slower(&measured)
-        });
-        speeds::crossing_in_words(mix, measured_crossing(mix, slower, self.rounds))
+        Ok(())
     }
 
     /// The table of what grows.
-    fn tell_growth(&mut self) -> bool {
-        let all = growth::series(self.seed);
-        let mut runs = all.iter().flat_map(growth::Series::runs);
-        if let Some(told) = runs.find_map(|(mix, words)| first_wrong_of(mix, words)) {
-            say!("{told}");
-            return false;
-        }
-        output::write(speeds::head_of_growth(self.seed, self.rounds).as_bytes());
-        for series in &all {
+    fn growth(&mut self) -> Result<(), String> {
+        for series in growth::series(self.seed) {
+            series
+                .runs()
+                .try_for_each(|(mix, words)| right_at(mix, words))?;
             for (place, measured) in series.measured(self.rounds) {
-                say!("{}", speeds::row_of_lengths(&series.name, place, &measured));
                 let row = Row::of(Table::Growth, &series.name, Some(place), &measured);
                 self.rows.push(row);
             }
         }
-        say!("\n{}\n", speeds::FOOT_OF_GROWTH);
-        true
+        Ok(())
     }
 
-    /// Measures turns; whether they are right, so that their speed counts.
-    fn tell_turns(&self) -> bool {
+    fn turns(&mut self) -> Result<(), String> {
         let sizes = turn_times::sizes();
-        if let Some(told) = sizes.iter().find_map(turn_times::first_wrong) {
-            say!("{told}");
-            return false;
-        }
-        say!(
-            "Processor: {}. {}. Medians of {}.\n\n{}",
-            speeds::processor(),
-            line::reports::facts::ARCHIVE,
-            counted(self.rounds, "interleaved round"),
-            turn_times::HEAD
-        );
-        for size in &sizes {
-            say!("{}", turn_times::row(size, self.rounds));
-        }
-        say!("\n{}", turn_times::FOOT);
-        true
+        sizes
+            .iter()
+            .find_map(turn_times::first_wrong)
+            .map_or(Ok(()), Err)?;
+        let rows = sizes
+            .iter()
+            .map(|size| turn_times::row(size, self.rounds) + "\n");
+        let rows: String = rows.collect();
+        self.notes += &format!("\n{}\n{rows}\n{}\n", turn_times::HEAD, turn_times::FOOT);
+        Ok(())
     }
 }
 
@@ -335,16 +315,16 @@ mod tests {
         let folder = line::scratch::Folder::make("speed").unwrap();
         let file = folder.path().join("run");
         fs::write(&file, "kept").unwrap();
-        let told = |line: &[&str]| {
+        let refused = |line: &[&str]| {
             let line: Vec<OsString> = line.iter().map(OsString::from).collect();
             command(&line).unwrap_err()
         };
         let run = file.to_str().unwrap();
-        assert!(told(&["--record", run, "--rounds", "0"]).ends_with("not 0"));
-        assert!(told(&["--rounds", "100001"]).contains("1 to 100000"));
-        assert!(told(&["--record", run, "--svg", run]).contains("a file each"));
-        assert!(told(&["--turns", "--record", run]).contains("turns alone"));
-        assert!(told(&["--merge", run, "--svg", run]).contains("overwrite"));
+        assert!(refused(&["--record", run, "--rounds", "0"]).ends_with("not 0"));
+        assert!(refused(&["--rounds", "100001"]).contains("1 to 100000"));
+        assert!(refused(&["--record", run, "--svg", run]).contains("a file each"));
+        assert!(refused(&["--turns", "--record", run]).contains("turns alone"));
+        assert!(refused(&["--merge", run, "--svg", run]).contains("overwrite"));
         assert_eq!(fs::read_to_string(&file).unwrap(), "kept");
     }
 
@@ -354,6 +334,7 @@ mod tests {
             seed: 7,
             rounds: 3,
             rows,
+            notes: String::new(),
         };
         let row = crate::judging::rows::tests::row("a", None, [2.0, 1.0]);
         let run = session(vec![row]).run("now".to_string()).unwrap();
@@ -364,15 +345,13 @@ mod tests {
 
     #[test]
     fn every_kernel_is_right_on_every_workload_and_mix() {
-        let mut all = workloads(1).into_iter().chain(by_kind(1));
-        let wrong = all.find_map(|one| first_wrong(&one.name, &one.table, &one.lists));
-        assert_eq!(wrong, None);
-        let mut mixes = SIZES.iter().flat_map(|&(n, m)| mixes(2, n, m));
-        let wrong = |mix: Mix| {
-            LENGTHS
-                .iter()
-                .find_map(|&words| first_wrong_of(&mix, words))
-        };
-        assert_eq!(mixes.find_map(wrong), None);
+        assert_eq!(right(&workloads(1)), Ok(()));
+        assert_eq!(right(&by_kind(1)), Ok(()));
+        for mix in SIZES.iter().flat_map(|&(n, m)| mixes(2, n, m)) {
+            assert_eq!(
+                LENGTHS.iter().try_for_each(|&words| right_at(&mix, words)),
+                Ok(())
+            );
+        }
     }
 }

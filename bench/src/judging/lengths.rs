@@ -1,6 +1,7 @@
 //! How long one run takes by the length of its list, and from which length on the run in
 //! the working layout is the faster of the two proved ones.
 
+use std::fmt;
 use std::time::Instant;
 
 use reference::table::domains;
@@ -10,7 +11,7 @@ use crate::judging::timing::{Measured, Subject};
 use crate::kernels::plain::KERNELS;
 use line::kernels::boundary::{Kernel, PROVED, WORKING};
 
-/// The lengths that are told, in words.
+/// The lengths that are measured, in words.
 pub const LENGTHS: [usize; 5] = [1, 8, 64, 512, 4096];
 
 /// Between which two lengths the working run becomes the faster one.
@@ -23,13 +24,22 @@ pub enum Crossing {
     Beyond(usize),
 }
 
+impl fmt::Display for Crossing {
+    fn fmt(&self, out: &mut fmt::Formatter) -> fmt::Result {
+        match self {
+            Crossing::Before(words) => write!(out, "at every length, from {words} word on"),
+            Crossing::Between(low, high) => write!(out, "from between {low} and {high} words on"),
+            Crossing::Beyond(words) => write!(out, "at no length up to {words} words"),
+        }
+    }
+}
+
 /// Runs of lists of so many words, the table handed on from list to list: nothing is
 /// reset but before a turn, so that a run of a hundred nanoseconds can be timed.
 fn subject<'a>(mix: &'a Mix, lists: &'a [Vec<u32>], kernels: &[Kernel]) -> Subject<'a> {
     Subject {
         name: mix.name.clone(),
         goal: None,
-        unit: "runs",
         units: vec![1; lists.len()],
         kernels: kernels.to_vec(),
         act: Box::new(move |kernel, part| {
@@ -55,7 +65,7 @@ pub fn at(mix: &Mix, words: usize, rounds: usize) -> Measured {
 /// Whether the working run is the slower of the two proved ones.
 pub fn working_is_slower(measured: &Measured) -> bool {
     let ratio = measured.ratio(WORKING.name, PROVED.name);
-    ratio.is_some_and(|ratio| ratio.median >= 1.0)
+    ratio.is_some_and(|ratio| ratio >= 1.0)
 }
 
 /// Where the two cross, given at which of the lengths the working run is slower: between

@@ -1,6 +1,6 @@
 //! How long programs take, in processor seconds: of those that were run and have ended,
 //! user and system together, since of a program that ends within a tick the system can't
-//! tell the one from the other.
+//! separate the two.
 
 use std::ffi::{c_int, c_long};
 use std::fs::File;
@@ -8,6 +8,7 @@ use std::io;
 use std::path::{Path, PathBuf};
 use std::process::{Command, Stdio};
 
+use crate::judging::timing::median;
 use line::output;
 
 /// How the plain C is compiled, here as by the build: each word an option.
@@ -73,7 +74,7 @@ pub fn timed(program: &Path, file: &Path, kept: bool) -> Result<(f64, Vec<u8>), 
     Ok((children_seconds() - before, ran.stdout))
 }
 
-/// What the system tells of the use of a processor: seconds and microseconds, user's and
+/// What the system says of the use of a processor: seconds and microseconds, user's and
 /// the system's, and fourteen numbers more.
 #[repr(C)]
 #[derive(Default)]
@@ -84,7 +85,7 @@ struct Usage {
 }
 
 /// The processor seconds of all programs that were run and have ended.
-pub fn children_seconds() -> f64 {
+fn children_seconds() -> f64 {
     extern "C" {
         fn getrusage(who: c_int, usage: *mut Usage) -> c_int;
     }
@@ -96,9 +97,32 @@ pub fn children_seconds() -> f64 {
     seconds(usage.user) + seconds(usage.system)
 }
 
-pub fn median(mut values: Vec<f64>) -> f64 {
-    values.sort_by(f64::total_cmp);
-    values[values.len() / 2]
+/// The seconds of one run of each program on a file, round by round, in each of which they
+/// take turns of so many runs.
+pub fn times<const N: usize>(
+    programs: [&Path; N],
+    file: &Path,
+    (rounds, runs): (usize, usize),
+) -> Result<[Vec<f64>; N], String> {
+    let mut times = [const { Vec::new() }; N];
+    for _ in 0..rounds {
+        for (seconds, program) in times.iter_mut().zip(programs) {
+            let all: Result<f64, String> =
+                (0..runs).map(|_| Ok(timed(program, file, false)?.0)).sum();
+            seconds.push(all? / runs as f64);
+        }
+    }
+    Ok(times)
+}
+
+/// One program's time over another's: the median of the rounds' ratios.
+pub fn over(one: &[f64], other: &[f64]) -> f64 {
+    median(
+        one.iter()
+            .zip(other)
+            .map(|(one, other)| one / other)
+            .collect(),
+    )
 }
 
 #[cfg(test)]

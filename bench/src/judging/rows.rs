@@ -3,7 +3,7 @@
 
 use std::fmt;
 
-use crate::judging::timing::Measured;
+use crate::judging::timing::{median, Measured};
 
 /// The tables that rows belong to.
 #[derive(Debug, Clone, Copy, PartialEq, Eq)]
@@ -58,10 +58,10 @@ impl Row {
         let faster = measured.faster_plain();
         let took = measured.kernels().map(|kernel| Took {
             kernel: kernel.name.to_string(),
-            nanoseconds: 1e9 * measured.seconds(kernel.name).map_or(0.0, |it| it.median),
+            nanoseconds: 1e9 * measured.seconds(kernel.name).unwrap_or_default(),
             ratio: match kernel.is_plain() {
                 true => None,
-                false => measured.ratio(kernel.name, faster).map(|it| it.median),
+                false => measured.ratio(kernel.name, faster),
             },
         });
         Row {
@@ -183,33 +183,12 @@ fn or_none<T: std::str::FromStr>(text: &str) -> Option<Option<T>> {
     }
 }
 
-/// A figure over several runs: the median of the runs' medians, the least and the most.
-#[derive(Debug, Clone, Copy, PartialEq)]
-pub struct OverRuns {
-    pub median: f64,
-    pub least: f64,
-    pub most: f64,
-}
-
-pub fn over_runs(mut figures: Vec<f64>) -> OverRuns {
-    figures.sort_by(f64::total_cmp);
-    let (low, high) = ((figures.len() - 1) / 2, figures.len() / 2);
-    OverRuns {
-        median: (figures[low] + figures[high]) / 2.0,
-        least: figures[0],
-        most: figures[figures.len() - 1],
-    }
-}
-
 /// The rows of several runs side by side: those that are like each other, in the order of
 /// the first run.
 pub fn side_by_side(runs: &[Run]) -> Result<Vec<Vec<&Row>>, String> {
     let [first, others @ ..] = runs else {
         return Err("no run is given".to_string());
     };
-    if others.is_empty() {
-        return Err("one run has no spread: two are needed at least".to_string());
-    }
     for (number, other) in others.iter().enumerate() {
         let before = &runs[..=number];
         if before.iter().any(|run| run.time == other.time) {
@@ -229,11 +208,11 @@ pub fn side_by_side(runs: &[Run]) -> Result<Vec<Vec<&Row>>, String> {
 
 /// A row of the medians over the runs of its like.
 pub fn median_row(like: &[&Row]) -> Row {
-    let median = |of: &dyn Fn(&Row) -> f64| over_runs(like.iter().map(|&row| of(row)).collect());
+    let median = |of: &dyn Fn(&Row) -> f64| median(like.iter().map(|&row| of(row)).collect());
     let took = |place: usize| {
         let first = &like[0].took[place];
-        let nanoseconds = median(&|row| row.took[place].nanoseconds).median;
-        let ratio = median(&|row| row.took[place].ratio.unwrap_or_default()).median;
+        let nanoseconds = median(&|row| row.took[place].nanoseconds);
+        let ratio = median(&|row| row.took[place].ratio.unwrap_or_default());
         Took {
             kernel: first.kernel.clone(),
             nanoseconds,
@@ -248,7 +227,7 @@ pub fn median_row(like: &[&Row]) -> Row {
 
 /// What two runs don't have in common of how they were made.
 fn differently_made(one: &Run, other: &Run) -> Option<String> {
-    let nothing = ("nothing told".to_string(), "nothing told".to_string());
+    let nothing = ("nothing".to_string(), "nothing".to_string());
     let of = |run: &Run, place: usize| run.made.get(place).unwrap_or(&nothing).clone();
     let mut places = 0..one.made.len().max(other.made.len());
     let place = places.find(|&place| of(one, place) != of(other, place))?;
@@ -310,25 +289,14 @@ pub mod tests {
     }
 
     #[test]
-    fn the_median_over_runs_is_the_one_in_the_middle() {
-        let of = |figures: &[f64]| {
-            let it = over_runs(figures.to_vec());
-            (it.median, it.least, it.most)
-        };
-        assert_eq!(of(&[3.0, 1.0, 2.0]), (2.0, 1.0, 3.0));
-        assert_eq!(of(&[4.0, 2.0]), (3.0, 2.0, 4.0));
-        assert_eq!(of(&[5.0]), (5.0, 5.0, 5.0));
-    }
-
-    #[test]
-    fn a_row_of_medians_takes_each_figure_by_itself() {
+    fn a_row_of_medians_takes_each_figure_alone() {
         let rows = [[3.0, 1.0], [1.0, 3.0], [2.0, 2.0]].map(|ratios| row("a", None, ratios));
         let median = median_row(&rows.iter().collect::<Vec<_>>());
         assert_eq!(median, row("a", None, [2.0, 2.0]));
     }
 
     #[test]
-    fn only_like_runs_of_different_times_stand_side_by_side() {
+    fn only_like_runs_of_different_times_are_merged() {
         let rows = || vec![row("a", Some(1.0), [2.0, 1.0]), row("b", None, [2.0, 1.0])];
         let (one, other) = (run("1", rows()), run("2", rows()));
         let both = [one.clone(), other.clone()];
@@ -337,11 +305,11 @@ pub mod tests {
         assert_eq!(wrong(one.clone()), "the run of 1 is given twice");
         let mut changed = other.clone();
         changed.made[0].1 = "Xeon".to_string();
-        let told = "runs of different processor: EPYC (1) and Xeon (2)";
-        assert_eq!(wrong(changed), told);
+        let differ = "runs of different processor: EPYC (1) and Xeon (2)";
+        assert_eq!(wrong(changed), differ);
         let mut less = other.clone();
         less.made.clear();
-        assert!(wrong(less).starts_with("runs of different processor: EPYC (1) and nothing told"));
+        assert!(wrong(less).starts_with("runs of different processor: EPYC (1) and nothing"));
         for alter in [
             |run: &mut Run| drop(run.rows.pop()),
             |run: &mut Run| run.rows[0].name = "c".to_string(),
@@ -353,6 +321,5 @@ pub mod tests {
             assert_eq!(wrong(changed), "the run of 2 has other rows");
         }
         assert!(side_by_side(&[]).is_err());
-        assert!(side_by_side(&[one]).is_err());
     }
 }

@@ -1,5 +1,5 @@
 //! How long kernels take for the same thing: each in its turn, in many rounds, and of
-//! these the median and the spread.
+//! these the median.
 
 use std::hint::black_box;
 use std::time::{Duration, Instant};
@@ -21,7 +21,7 @@ pub const TURN: Duration = Duration::from_micros(300);
 /// Does things with a kernel, those of a part; gives how long that took.
 type Act<'a> = dyn Fn(&Kernel, Part) -> Duration + 'a;
 
-/// Things that are gone through in turn, from the first again behind the last: so many of
+/// Things that are gone through in turn, from the first again after the last: so many of
 /// them, from one on.
 #[derive(Debug, Clone, Copy)]
 pub struct Part {
@@ -40,7 +40,6 @@ impl Part {
 pub struct Subject<'a> {
     pub name: String,
     pub goal: Option<f64>,
-    pub unit: &'static str,
     pub units: Vec<usize>,
     pub kernels: Vec<Kernel>,
     pub act: Box<Act<'a>>,
@@ -101,7 +100,6 @@ fn checks(name: String, code: impl Fn(&Kernel) -> u32 + 'static) -> Subject<'sta
     Subject {
         name,
         goal: None,
-        unit: "checks",
         units: vec![1],
         kernels: KERNELS.iter().filter(own).copied().collect(),
         act: Box::new(move |kernel, part| {
@@ -131,7 +129,6 @@ fn runs<'a>(workload: &'a Workload, lists: &'a [Vec<u32>], how: &str) -> Subject
     Subject {
         name: format!("{}, {how}", workload.name),
         goal: None,
-        unit: "calls",
         units: lists
             .iter()
             .map(|list| reference::cut(list).len())
@@ -161,7 +158,6 @@ fn entries(workload: &Workload) -> Subject<'_> {
     Subject {
         name: format!("its entry alone ({} table words)", workload.table.len()),
         goal: None,
-        unit: "entries",
         units: vec![1],
         kernels: KERNELS.to_vec(),
         act: Box::new(move |kernel, part| {
@@ -198,18 +194,9 @@ fn count_for(subject: &Subject) -> usize {
 /// Seconds for one unit of a subject, in each round, by each kernel.
 pub struct Measured(Vec<(Kernel, Vec<f64>)>);
 
-/// A figure in the middle of the rounds, and those that a tenth of the rounds stay below
-/// and exceed.
-#[derive(Debug, Clone, Copy, PartialEq)]
-pub struct Spread {
-    pub median: f64,
-    pub low: f64,
-    pub high: f64,
-}
-
 impl Measured {
     /// All kernels take turns in each of so many rounds, on the same things. The next
-    /// round goes on with the things behind these.
+    /// round goes on with the things after these.
     pub fn of(subject: &Subject, rounds: usize) -> Measured {
         let kernels = &subject.kernels;
         let count = count_for(subject);
@@ -239,33 +226,30 @@ impl Measured {
     }
 
     /// The seconds that a kernel takes, where it was measured.
-    pub fn seconds(&self, name: &str) -> Option<Spread> {
-        Some(spread(self.rounds(name)?.to_vec()))
+    pub fn seconds(&self, name: &str) -> Option<f64> {
+        Some(median(self.rounds(name)?.to_vec()))
     }
 
     /// The time of one kernel over another's, round by round.
-    pub fn ratio(&self, name: &str, other: &str) -> Option<Spread> {
+    pub fn ratio(&self, name: &str, other: &str) -> Option<f64> {
         let pairs = self.rounds(name)?.iter().zip(self.rounds(other)?);
-        Some(spread(pairs.map(|(own, other)| own / other).collect()))
+        Some(median(pairs.map(|(own, other)| own / other).collect()))
     }
 
     /// The name of the plain C kernel that was faster.
     pub fn faster_plain(&self) -> &'static str {
         let plain = self.0.iter().filter(|(kernel, _)| kernel.is_plain());
-        let medians = plain.map(|(kernel, seconds)| (kernel, spread(seconds.clone()).median));
+        let medians = plain.map(|(kernel, seconds)| (kernel, median(seconds.clone())));
         let faster = medians.min_by(|(_, one), (_, other)| one.total_cmp(other));
         faster.expect("there is a plain C kernel").0.name
     }
 }
 
-pub fn spread(mut figures: Vec<f64>) -> Spread {
+/// The figure in the middle, or between the two that are.
+pub fn median(mut figures: Vec<f64>) -> f64 {
     figures.sort_by(f64::total_cmp);
-    let last = figures.len() - 1;
-    Spread {
-        median: figures[figures.len() / 2],
-        low: figures[last / 10],
-        high: figures[last - last / 10],
-    }
+    let (low, high) = ((figures.len() - 1) / 2, figures.len() / 2);
+    (figures[low] + figures[high]) / 2.0
 }
 
 #[cfg(test)]
@@ -276,13 +260,10 @@ mod tests {
     use crate::kernels::plain::PLAIN_GCC;
 
     #[test]
-    fn the_median_is_the_one_in_the_middle_and_a_tenth_is_left_out_on_either_side() {
-        let one = spread(vec![2.0]);
-        assert_eq!((one.median, one.low, one.high), (2.0, 2.0, 2.0));
-        let few = spread(vec![5.0, 1.0, 3.0]);
-        assert_eq!((few.median, few.low, few.high), (3.0, 1.0, 5.0));
-        let many = spread((0..=20).rev().map(f64::from).collect());
-        assert_eq!((many.median, many.low, many.high), (10.0, 2.0, 18.0));
+    fn the_median_is_in_the_middle() {
+        assert_eq!(median(vec![3.0, 1.0, 2.0]), 2.0);
+        assert_eq!(median(vec![4.0, 2.0]), 3.0);
+        assert_eq!(median(vec![5.0]), 5.0);
     }
 
     #[test]
@@ -293,11 +274,10 @@ mod tests {
             (PLAIN_GCC, vec![1.0, 10.0, 100.0]),
             (slow, vec![2.0, 20.0, 99.0]),
         ]);
-        let ratio = measured.ratio("balkwizu", "plain-gcc").unwrap();
-        assert_eq!((ratio.median, ratio.low, ratio.high), (3.0, 3.0, 3.0));
+        assert_eq!(measured.ratio("balkwizu", "plain-gcc"), Some(3.0));
         assert_eq!(measured.faster_plain(), "plain-gcc");
         assert_eq!(measured.ratio("balkwizu", "plain-clang"), None);
-        assert_eq!(measured.seconds("plain-slow").unwrap().median, 20.0);
+        assert_eq!(measured.seconds("plain-slow"), Some(20.0));
     }
 
     #[test]
@@ -305,7 +285,6 @@ mod tests {
         let subject = Subject {
             name: "a wait".to_string(),
             goal: None,
-            unit: "waits",
             units: vec![2; 7],
             kernels: vec![PROVED, PLAIN_GCC],
             act: Box::new(|kernel, part| {
@@ -315,8 +294,8 @@ mod tests {
         };
         assert_eq!(count_for(&subject), 15);
         let measured = Measured::of(&subject, 3);
-        assert!((measured.seconds("balkwizu").unwrap().median - 10e-6).abs() < 1e-9);
-        assert!((measured.ratio("balkwizu", "plain-gcc").unwrap().high - 2.0).abs() < 1e-9);
+        assert!((measured.seconds("balkwizu").unwrap() - 10e-6).abs() < 1e-9);
+        assert!((measured.ratio("balkwizu", "plain-gcc").unwrap() - 2.0).abs() < 1e-9);
     }
 
     #[test]
@@ -325,7 +304,6 @@ mod tests {
         let subject = Subject {
             name: "an interrupted turn".to_string(),
             goal: None,
-            unit: "units",
             units: vec![1],
             kernels: vec![PROVED],
             act: Box::new(|_, part| {
@@ -344,7 +322,6 @@ mod tests {
         let subject = Subject {
             name: "things".to_string(),
             goal: None,
-            unit: "units",
             units: all.to_vec(),
             kernels: vec![PROVED, PLAIN_GCC],
             act: Box::new(|kernel, part| {

@@ -14,7 +14,7 @@ use reference::table::{domains, endpoints};
 use reference::turn_words::length;
 use reference::words::{to_bytes, word};
 
-use crate::judging::timing::{spread, TURN};
+use crate::judging::timing::{median, TURN};
 use line::cases::tables::open_table;
 use line::judging::turning::{difference, separate_event};
 use line::kernels::boundary::PROVED;
@@ -24,7 +24,7 @@ use line::kernels::layer::{event_here, Event, Lent, PROVED_LAYER};
 const DOMAINS: [usize; 3] = [1, 4, 16];
 const ENDPOINTS: [usize; 3] = [0, 4, 32];
 
-/// The head of the table that is printed, and what stands below it.
+/// The head of the table that is printed, and what is below it.
 pub const HEAD: &str = "\
 | n | m | table words | idle turn | turn serving my rights | turn serving a send | check alone | check \
 over idle | check over my rights | check over bytes | run of my rights |
@@ -32,7 +32,7 @@ over idle | check over my rights | check over bytes | run of my rights |
 pub const FOOT: &str = "\
 Nanoseconds, and ratios of times. Every domain has every right on every domain; turns serve as many calls as can be pending, \
 each domain's in its turn, and the state and the table are reset outside the timed part. The check alone is handing in for a \
-domain that isn't there, which is refused with 35 behind the check of the table's words; the check over bytes is \
+domain that isn't there, which is refused with 35 after the check of the table's words; the check over bytes is \
 balkwizu_table_check of the same table; the run is balkwizu_run of the list of that one call.";
 
 /// A table to measure on.
@@ -60,7 +60,7 @@ fn send(domain: usize, m: usize) -> Vec<u32> {
 type CallOf = fn(domain: usize, m: usize) -> Vec<u32>;
 
 impl Size {
-    /// The table and a state with nothing pending, and room for the rest.
+    /// The table and a state with nothing pending, and space for the rest.
     fn lent(&self) -> Lent {
         let n = domains(&self.table);
         Lent {
@@ -87,7 +87,7 @@ impl Size {
     }
 }
 
-/// What differs from the separate layer where all that is pending is served, and one turn
+/// What differs from the reference where all that is pending is served, and one turn
 /// more.
 pub fn first_wrong(size: &Size) -> Option<String> {
     let kinds: &[CallOf] = match endpoints(&size.table) {
@@ -107,7 +107,7 @@ pub fn first_wrong(size: &Size) -> Option<String> {
                     lent = words;
                     None
                 }
-                Err(told) => Some(format!("a turn on {}: {told}", titled(size))),
+                Err(why) => Some(format!("a turn on {}: {why}", titled(size))),
             }
         })
     })
@@ -197,7 +197,7 @@ fn run(size: &Size) -> Act<'_> {
     })
 }
 
-/// The order in which the acts stand.
+/// The order of the acts.
 const IDLE: usize = 0;
 const SERVING: usize = 1;
 const CHECK: usize = 2;
@@ -220,14 +220,14 @@ pub fn row(size: &Size, rounds: usize) -> String {
     }
     let figures = measured(&mut acts, rounds);
     let nanoseconds = |act: usize| match figures.get(act) {
-        Some(figures) => format!("{:.1}", 1e9 * spread(figures.to_vec()).median),
+        Some(figures) => format!("{:.1}", 1e9 * median(figures.to_vec())),
         None => "—".to_string(),
     };
     let over = |act: usize| {
         let ratios = figures[CHECK].iter().zip(&figures[act]);
         format!(
             "{:.2}",
-            spread(ratios.map(|(check, turn)| check / turn).collect()).median
+            median(ratios.map(|(check, turn)| check / turn).collect())
         )
     };
     let cells = [

@@ -1,10 +1,11 @@
 //! The medians over several runs of `bench speed` as Markdown tables, with the spread,
 //! and which goals were met.
 
-use crate::judging::rows::{over_runs, OverRuns, Row, Run, TABLES};
+use crate::judging::rows::{Row, Run, TABLES};
+use crate::judging::timing::median;
 use line::text::explain::counted;
 
-/// All tables of runs whose rows stand side by side, and what became of the goals.
+/// All tables of runs whose rows are side by side, and what became of the goals.
 pub fn tables(runs: &[Run], rows: &[Vec<&Row>]) -> String {
     let mut text = head(runs);
     for table in TABLES {
@@ -12,10 +13,10 @@ pub fn tables(runs: &[Run], rows: &[Vec<&Row>]) -> String {
         text += &section(&own);
     }
     let kernels = rows.iter().flat_map(|like| proved(like[0]));
-    let mut told: Vec<&str> = Vec::new();
+    let mut named: Vec<&str> = Vec::new();
     for kernel in kernels {
-        if !told.contains(&kernel) {
-            told.push(kernel);
+        if !named.contains(&kernel) {
+            named.push(kernel);
             text += &goals_in_words(kernel, rows);
         }
     }
@@ -79,15 +80,13 @@ fn cells_of(like: &[&Row], most: &Row, goals: bool) -> Vec<String> {
     let times = most.took.iter().map(|column| {
         let own = |row: &&Row| took(row, &column.kernel).map(|took| took.0);
         let figures: Vec<f64> = like.iter().filter_map(own).collect();
-        shown(figures, |figures| {
-            format!("{:.1}", over_runs(figures).median)
-        })
+        shown(figures, |figures| format!("{:.1}", median(figures)))
     });
     let ratios = proved(most).map(|kernel| {
         shown(ratios(like, kernel), |ratios| {
             let verdict = row.goal.map(|goal| verdict(&ratios, goal).cell());
             let range = range(&ratios);
-            let median = over_runs(ratios).median;
+            let median = median(ratios);
             format!("{median:.2} ({range}){}", verdict.unwrap_or_default())
         })
     });
@@ -125,7 +124,8 @@ fn ratios(like: &[&Row], kernel: &str) -> Vec<f64> {
 
 /// The least and the most, as one figure where they look the same.
 fn range(ratios: &[f64]) -> String {
-    let OverRuns { least, most, .. } = over_runs(ratios.to_vec());
+    let least = ratios.iter().copied().fold(f64::INFINITY, f64::min);
+    let most = ratios.iter().copied().fold(0.0, f64::max);
     let [least, most] = [least, most].map(|it| format!("{it:.2}"));
     match least == most {
         true => least,
@@ -174,11 +174,11 @@ fn goals_in_words(kernel: &str, rows: &[Vec<&Row>]) -> String {
         if ratios.is_empty() {
             continue;
         }
-        let told = format!("{} ({}, goal {goal:.2})", like[0].name, range(&ratios));
+        let row = format!("{} ({}, goal {goal:.2})", like[0].name, range(&ratios));
         match verdict(&ratios, goal) {
-            Verdict::Met => met.push(told),
-            Verdict::Missed => missed.push(told),
-            Verdict::Some(..) => some.push(told),
+            Verdict::Met => met.push(row),
+            Verdict::Missed => missed.push(row),
+            Verdict::Some(..) => some.push(row),
         }
     }
     let all = met.len() + missed.len() + some.len();
@@ -255,15 +255,16 @@ mod tests {
     }
 
     #[test]
-    fn goals_are_told_for_each_kernel_that_has_some() {
+    fn goals_are_shown_for_each_kernel_that_has_some() {
         let runs = three();
         let text = tables(&runs, &side_by_side(&runs).unwrap());
-        let told = "balkwizu: 1 of 2 goals met each time. Met each time: check (1.00, goal 1.05). \
+        let goals =
+            "balkwizu: 1 of 2 goals met each time. Met each time: check (1.00, goal 1.05). \
                     Missed each time: sends (2.00, goal 0.95).";
-        assert!(text.contains(told), "{text}");
-        let told = "balkwizu-working: 0 of 1 goals met each time. Met in some runs: \
+        assert!(text.contains(goals), "{text}");
+        let goals = "balkwizu-working: 0 of 1 goals met each time. Met in some runs: \
                     sends (0.90 to 0.96, goal 0.95).";
-        assert!(text.contains(told), "{text}");
+        assert!(text.contains(goals), "{text}");
     }
 
     #[test]

@@ -2,4 +2,3 @@
 
 pub mod merged;
 pub mod plot;
-pub mod speeds;

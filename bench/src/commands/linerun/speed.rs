@@ -8,7 +8,8 @@ use reference::cut;
 use reference::words::to_bytes;
 
 use crate::cases::workloads::{by_kind, workloads};
-use crate::judging::program_times::{compiled, level, median, timed, Plain};
+use crate::judging::program_times::{compiled, level, over, timed, times, Plain};
+use crate::judging::timing::median;
 use line::output::{self, say};
 use line::scratch::Folder;
 use line::text::explain::counted;
@@ -68,7 +69,7 @@ pub fn measure(program: &Path, rounds: usize) -> Result<bool, String> {
             say!("DIFFERENCE on {name}: {program} prints other lines");
             return Ok(false);
         }
-        let times = times(programs, &file, rounds)?;
+        let times = times(programs, &file, (rounds, RUNS))?;
         say!("{}", row(input, &times, (number > 0).then_some(none)));
         if number == 0 {
             none = times.map(median);
@@ -77,7 +78,7 @@ pub fn measure(program: &Path, rounds: usize) -> Result<bool, String> {
     Ok(true)
 }
 
-/// The first of the programs that prints other lines for an input than the separate one.
+/// The first of the programs that prints other lines for an input than the reference.
 fn first_wrong<'a>(
     programs: [&'a Path; 2],
     file: &Path,
@@ -92,31 +93,11 @@ fn first_wrong<'a>(
     Ok(None)
 }
 
-/// The seconds of one run of the plain C and of the program, round by round.
-fn times(programs: [&Path; 2], file: &Path, rounds: usize) -> Result<[Vec<f64>; 2], String> {
-    let mut times = [Vec::new(), Vec::new()];
-    for _ in 0..rounds {
-        for (seconds, program) in times.iter_mut().zip(programs) {
-            seconds.push(seconds_of_one(program, file)?);
-        }
-    }
-    Ok(times)
-}
-
-/// The seconds of one run of a program, out of those that are timed in its turn.
-fn seconds_of_one(program: &Path, file: &Path) -> Result<f64, String> {
-    let mut all = 0.0;
-    for _ in 0..RUNS {
-        all += timed(program, file, false)?.0;
-    }
-    Ok(all / RUNS as f64)
-}
-
 /// A row of the table. The last cell is the ratio of what is left where the time of no call
 /// is taken away from both.
 fn row(input: &Timed, times: &[Vec<f64>; 2], none: Option<[f64; 2]>) -> String {
     let [plain, program] = times;
-    let over = median(program.iter().zip(plain).map(|(a, b)| a / b).collect());
+    let over = over(program, plain);
     let all = times.clone().map(median);
     let beyond = none.map_or(String::new(), |none| {
         format!("{:.2}", (all[1] - none[1]) / (all[0] - none[0]))
@@ -145,7 +126,7 @@ mod tests {
     }
 
     #[test]
-    fn the_plain_c_prints_what_the_separate_one_prints() {
+    fn the_plain_c_prints_what_the_reference_prints() {
         let folder = Folder::make("plain-linerun").unwrap();
         let plain = compiled(folder.path(), PLAIN).unwrap();
         let file = folder.path().join("input");
@@ -159,7 +140,7 @@ mod tests {
     }
 
     #[test]
-    fn a_program_that_prints_other_lines_is_told() {
+    fn a_program_that_prints_other_lines_is_reported() {
         assert_eq!(measure(Path::new("cat"), 1), Ok(false));
     }
 
@@ -171,8 +152,8 @@ mod tests {
             bytes: Vec::new(),
             calls: 9,
         };
-        let told = row(&input, &times, Some([100e-6, 300e-6]));
-        assert_eq!(told, "| x | 9 | 200 | 500 | 2.00 | 2.00 |");
+        let cells = row(&input, &times, Some([100e-6, 300e-6]));
+        assert_eq!(cells, "| x | 9 | 200 | 500 | 2.00 | 2.00 |");
         assert!(row(&input, &times, None).ends_with("| 2.00 |  |"));
     }
 }

@@ -11,7 +11,8 @@ use reference::words::to_bytes;
 
 use crate::cases::sheets::long_inputs;
 use crate::cases::workloads::Workload;
-use crate::judging::program_times::{compiled, level, median, timed, Plain};
+use crate::judging::program_times::{compiled, level, over, timed, times, Plain};
+use crate::judging::timing::median;
 use line::output::{self, say};
 use line::scratch::Folder;
 use line::text::explain::counted;
@@ -37,48 +38,26 @@ pub fn measure(program: &Path, lists: usize, rounds: usize) -> Result<bool, Stri
     for input in long_inputs() {
         let file = folder.path().join("input");
         written(&input, lists, &file)?;
-        let Some(times) = times(program, &plain, &file, rounds)? else {
-            say!(
-                "DIFFERENCE on {}: linetotals and the plain C don't print the same",
-                input.name
-            );
+        if !same(&plain, program, &file)? {
+            let name = input.name;
+            say!("DIFFERENCE on {name}: linetotals and the plain C don't print the same");
             return Ok(false);
-        };
+        }
+        let times = times([Path::new("cat"), &plain, program], &file, (rounds, 1))?;
         say!("{}", row(&input.name, bytes, &times));
     }
     Ok(true)
 }
 
-/// The seconds of `cat`, the plain C and the program, round by round.
-type Times = [Vec<f64>; 3];
-
-/// Nothing where the two programs don't print the same.
-fn times(
-    program: &Path,
-    plain: &Path,
-    file: &Path,
-    rounds: usize,
-) -> Result<Option<Times>, String> {
-    let mut times = Times::default();
-    let programs = [Path::new("cat"), plain, program];
-    for _ in 0..rounds {
-        let mut printed = Vec::new();
-        for (seconds, program) in times.iter_mut().zip(programs) {
-            let kept = program != programs[0];
-            let (time, told) = timed(program, file, kept)?;
-            seconds.push(time);
-            printed.push(told);
-        }
-        if printed[1] != printed[2] || printed[2].is_empty() {
-            return Ok(None);
-        }
-    }
-    Ok(Some(times))
+/// Whether two programs print the same for a file, and something.
+fn same(one: &Path, other: &Path, file: &Path) -> Result<bool, String> {
+    let printed = timed(one, file, true)?.1;
+    Ok(!printed.is_empty() && printed == timed(other, file, true)?.1)
 }
 
-fn row(name: &str, bytes: usize, times: &Times) -> String {
+/// A row of the seconds of `cat`, the plain C and the program, round by round.
+fn row(name: &str, bytes: usize, times: &[Vec<f64>; 3]) -> String {
     let [cat, plain, program] = times;
-    let over = |other: &[f64]| median(program.iter().zip(other).map(|(a, b)| a / b).collect());
     let all = [cat, plain, program].map(|seconds| median(seconds.clone()));
     format!(
         "| {name} | {:.2} | {:.2} | {:.2} | {:.2} | {:.1} | {:.2} |",
@@ -86,8 +65,8 @@ fn row(name: &str, bytes: usize, times: &Times) -> String {
         all[1],
         all[2],
         bytes as f64 / 1e9 / all[2],
-        over(cat),
-        over(plain)
+        over(program, cat),
+        over(program, plain)
     )
 }
 
@@ -116,7 +95,7 @@ mod tests {
     use std::io::Read;
 
     #[test]
-    fn the_plain_c_prints_what_the_separate_one_prints() {
+    fn the_plain_c_prints_what_the_reference_prints() {
         let folder = Folder::make("totals").unwrap();
         let plain = compiled(folder.path(), PLAIN).unwrap();
         let file = folder.path().join("input");
@@ -131,9 +110,8 @@ mod tests {
             let (_, printed) = timed(&plain, &file, true).unwrap();
             assert_eq!(printed, reference::totals(&bytes), "{}", input.name);
             assert!(printed.ends_with(b"lists 70 code 0\n"));
-            let same = times(&plain, &plain, &file, 1).unwrap();
-            assert!(same.is_some_and(|times| times.iter().all(|of| of.len() == 1)));
-            assert_eq!(times(Path::new("cat"), &plain, &file, 1), Ok(None));
+            assert_eq!(same(&plain, &plain, &file), Ok(true));
+            assert_eq!(same(Path::new("cat"), &plain, &file), Ok(false));
         }
     }
 
@@ -144,7 +122,7 @@ mod tests {
             vec![2.0, 4.0, 9.0],
             vec![4.0, 6.0, 8.0],
         ];
-        let told = row("x", 12_000_000_000, &times);
-        assert_eq!(told, "| x | 2.00 | 4.00 | 6.00 | 2.00 | 4.0 | 1.50 |");
+        let cells = row("x", 12_000_000_000, &times);
+        assert_eq!(cells, "| x | 2.00 | 4.00 | 6.00 | 2.00 | 4.0 | 1.50 |");
     }
 }
