@@ -13,7 +13,7 @@ of potential rights or of who could influence a domain by the same seeded tables
 turns by the same seeded histories, one of the writer by the fuzz's lists alone, and one
 of a source set that leaves every view equal by `balkwizu influence` on an example. With none
 switched on all must pass. A panic, a run that doesn't end and a code never met are no
-reported difference, and none may be told as one that is right when it is tried by itself.
+reported difference, and none may be told as one that is right when it is tried alone.
 
     python3 bench/planted_faults.py            all faults
     python3 bench/planted_faults.py NAME...    some of them
@@ -48,10 +48,10 @@ INFLUENCE = ["influence", str(ROOT / "balkwizu" / "examples" / "influence.txt")]
 LEAST = 20
 AGAIN = "To see it again: bench "
 
-# What a report of a fault may not say: that it comes only behind what was tried before,
-# since neither side keeps anything, or that the separate machine panics.
-BEHIND = "Only behind the "
-PANICS = "the separate machine panics"
+# What a report of a fault may not say: that it comes only after what was tried before,
+# since neither side keeps anything, or that the reference panics.
+BEHIND = "Only after those before it"
+PANICS = "the reference panics"
 
 # Faults that no comparison with the kernel can show, by name, each with why. They
 # are caught by the tests of the separate implementation itself.
@@ -71,7 +71,7 @@ UNSEEN = {
 # A reader that tests the caller shows in no run, since a caller above the largest table's
 # is refused with 12 there. What a step does to the holders' words isn't what a run does.
 # A set that is another one but leaves every view equal shows where influence is shown, which
-# is found without the separate machine: of a call that is refused or that gives up its
+# is found without the reference: of a call that is refused or that gives up its
 # caller's own right, and where everything is kept.
 BY_ANOTHER = {
     "columns_*": LISTS,
@@ -151,7 +151,7 @@ def reports(bench, command, fault):
         status = f"exit status {ran.returncode}"
         raise Wrong(f"{' '.join(command)} reports no difference ({status})")
     if any(line.startswith(BEHIND) for line in lines):
-        raise Wrong(f"{' '.join(command)} says that it is right by itself")
+        raise Wrong(f"{' '.join(command)} says that it is right alone")
     if PANICS in lines[found[0] + 1]:
         raise Wrong(f"{' '.join(command)} reports a panic, and no difference")
     return lines[found[0] :]

@@ -157,20 +157,6 @@ fn one_run_can_be_tried_again_by_itself() {
 }
 
 #[test]
-fn fuzz_goes_on_for_seconds_and_says_how_many_it_tried() {
-    let text = TOOL.printed(&["fuzz", "--seconds", "1", "--seed", "3"]);
-    let tried = text.lines().find(|line| line.starts_with("tried: "));
-    let tried = tried.unwrap_or_else(|| panic!("{text}"));
-    let runs = tried["tried: ".len()..].split(' ').next().unwrap();
-    let runs: u64 = runs.replace(',', "").parse().unwrap();
-    assert!(runs >= 512 && runs.is_multiple_of(512), "{tried}");
-    assert!(text.contains("fuzz of balkwizu with seed 3: "), "{text}");
-    let both = ["fuzz", "--seconds", "1", "--cases", "5"];
-    assert!(TOOL.complaint(&both).contains("no number is given"));
-    assert_eq!(TOOL.status(&both), 2);
-}
-
-#[test]
 fn a_difference_is_cut_down_to_a_small_table() {
     let ran = TOOL.run(&["fuzz", "--kernel", "wrong-code-11-kind-9", "--cases", "100"]);
     let report = String::from_utf8(ran.stdout).expect("text");

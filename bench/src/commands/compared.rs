@@ -1,134 +1,116 @@
-//! What `bench linerun` and `bench totals` have in common: a program is run on random
-//! inputs by their numbers, and what it prints is compared with what the separate one does.
+//! What `bench linerun` and `bench totals` have in common: a program is run on fixed inputs
+//! and on random ones, and what it prints is compared with what the reference prints.
 
-use line::judging::trying::Draws;
-use line::output::{self, say};
+use std::path::Path;
+use std::time::Duration;
+
+use crate::cases::inputs::Given;
+use crate::commands::drawn::all_is_met;
+use crate::judging::printed::difference;
+use crate::kernels::program::{run, Feed, Ran};
+use line::judging::trying::{Draws, Met};
+use line::output;
 use line::progress::Progress;
+use line::text::explain::counted;
+use line::text::input::shown;
 
-/// The codes that must be met: all that the program prints for what it reads.
-pub const CODES: [u32; 7] = [0, 1, 2, 3, 4, 5, 7];
-
-/// Tries each input; whether none differs. `one` gives what is told of one that does.
-pub fn none_differs(
-    draws: &Draws,
-    mut one: impl FnMut(u64) -> Result<Option<String>, String>,
-) -> Result<bool, String> {
-    let mut progress = Progress::new("inputs", &draws.numbers);
-    for number in draws.numbers.clone() {
-        if let Some(told) = one(number)? {
-            progress.clear();
-            output::write(told.as_bytes());
-            return Ok(false);
-        }
-        progress.step();
-    }
-    progress.clear();
-    Ok(true)
-}
-
-/// What must be met from so many inputs on: every code, and each of the ways to give an
-/// input.
-pub struct Wanted<const WAYS: usize> {
-    pub ways: [&'static str; WAYS],
+/// A program of the repository.
+pub struct Program {
+    /// The command that compares it.
+    pub name: &'static str,
+    /// The inputs that come first, and that of a seed and a number.
+    pub fixed: fn(Duration) -> Vec<Given>,
+    pub given: fn(u64, u64, Duration) -> Given,
+    /// What the reference prints.
+    pub right: fn(&[u8]) -> Vec<u8>,
+    /// The code in that.
+    pub code: fn(&str) -> Option<u32>,
+    /// The ways in which an input is given, and which of them it was given in.
+    pub ways: &'static [&'static str],
+    pub used: fn(&[u8], Feed) -> Vec<bool>,
+    /// From so many inputs on every code and way must be met.
     pub enough: u64,
+    /// More of an input that differs.
+    pub more: fn(&Path, &Given, &Ran) -> String,
 }
 
-/// How often each code and each way to give an input was met.
-#[derive(Debug)]
-pub struct Met<const WAYS: usize> {
-    pub codes: [u64; 8],
-    pub ways: [u64; WAYS],
-}
-
-impl<const WAYS: usize> Met<WAYS> {
-    pub fn nothing() -> Met<WAYS> {
-        Met {
-            codes: [0; 8],
-            ways: [0; WAYS],
-        }
+impl Program {
+    /// Every code and way.
+    pub fn met(&self) -> Met {
+        Met::codes("code", [0, 1, 2, 3, 4, 5, 7]).and(Met::of(self.ways))
     }
 
-    /// An input of a code, given in some of the ways.
-    pub fn add(&mut self, code: usize, used: [bool; WAYS]) {
-        // What is no code counts as 6, which no input has: an answer space is never too small
-        // here.
-        self.codes[if code < 8 { code } else { 6 }] += 1;
-        for (count, used) in self.ways.iter_mut().zip(used) {
-            *count += u64::from(used);
-        }
-    }
-
-    fn all(&self) -> bool {
-        let codes = CODES.iter().all(|&code| self.codes[code as usize] > 0);
-        codes && self.ways.iter().all(|&count| count > 0)
-    }
-}
-
-impl<const WAYS: usize> Wanted<WAYS> {
-    /// Prints what was met by so many inputs, which are told as `what`; whether that is all
-    /// that is asked.
-    pub fn is_met(&self, met: &Met<WAYS>, cases: u64, what: &str) -> bool {
-        let codes = CODES.map(|code| format!("  code {code} {:>8}\n", met.codes[code as usize]));
-        let ways = self.ways.iter().zip(met.ways);
-        let ways: String = ways
-            .map(|(way, count)| format!("  {count:>15}  {way}\n"))
-            .collect();
-        output::write((codes.concat() + &ways).as_bytes());
-        let few = cases < self.enough;
-        let verdict = match met.all() {
-            _ if few => "nothing differs; too few to ask that every code and way is met",
-            true => "passed",
-            false => "FAILED: a code or a way was never met",
+    /// Holds a program to the reference, on the fixed inputs where the numbers start at 0 and
+    /// on random ones; whether nothing differs and all is met.
+    pub fn compare(&self, program: &Path, draws: &Draws) -> Result<bool, String> {
+        let mut met = self.met();
+        let fixed = match draws.numbers.start {
+            0 => (self.fixed)(draws.limit),
+            _ => Vec::new(),
         };
-        say!("{what}: {verdict}");
-        few || met.all()
+        for (number, given) in fixed.iter().enumerate() {
+            if let Some(why) = self.differs(program, given, &mut met)? {
+                output::write(format!("DIFFERENCE in fixed input {number}{why}").as_bytes());
+                return Ok(false);
+            }
+        }
+        let (name, seed, path) = (self.name, draws.seed, shown(program));
+        let mut progress = Progress::new("inputs", &draws.numbers);
+        for number in draws.numbers.clone() {
+            let given = (self.given)(seed, number, draws.limit);
+            if let Some(why) = self.differs(program, &given, &mut met)? {
+                progress.clear();
+                let head = format!("DIFFERENCE in input {number} of seed {seed}");
+                let again = format!("bench {name} {path} --seed {seed} --from {number} --cases 1");
+                output::write(format!("{head}{why}To see it again: {again}\n").as_bytes());
+                return Ok(false);
+            }
+            progress.step();
+        }
+        progress.clear();
+        let what = format!("{} of {path}", counted(draws.count(), "input"));
+        Ok(all_is_met(&met, draws.count() >= self.enough, &what))
+    }
+
+    /// What a program prints otherwise than the reference, if anything.
+    fn differs(
+        &self,
+        program: &Path,
+        given: &Given,
+        met: &mut Met,
+    ) -> Result<Option<String>, String> {
+        let right = (self.right)(&given.input);
+        let ran = run(program, &given.input, given.feed)?;
+        self.count(given, &right, met);
+        let bytes = counted(given.input.len(), "byte");
+        let more = |why| format!(", {bytes}:\n  {why}\n{}", (self.more)(program, given, &ran));
+        Ok(difference(&ran, &right).map(more))
+    }
+
+    /// Counts an input, with how it was given and the code of what is right.
+    pub fn count(&self, given: &Given, right: &[u8], met: &mut Met) {
+        let code = (self.code)(&String::from_utf8_lossy(right));
+        met.add_code("code", code.unwrap_or(u32::MAX), 1);
+        let used = (self.used)(&given.input, given.feed);
+        for (way, used) in self.ways.iter().zip(used) {
+            met.add(way, used);
+        }
     }
 }
 
 #[cfg(test)]
-mod tests {
+pub mod tests {
     use super::*;
-    use line::trial::draws;
 
-    const WANTED: Wanted<2> = Wanted {
-        ways: ["at once", "in parts"],
-        enough: 10,
-    };
-
-    #[test]
-    fn what_was_never_met_is_a_failure_only_where_enough_was_tried() {
-        let met = || Met {
-            codes: [1, 1, 1, 1, 1, 1, 0, 1],
-            ways: [1; 2],
-        };
-        assert!(WANTED.is_met(&met(), 10, "everything"));
-        let mut way = met();
-        way.ways[1] = 0;
-        assert!(!WANTED.is_met(&way, 10, "a way is missing"));
-        let mut code = met();
-        code.codes[7] = 0;
-        assert!(!WANTED.is_met(&code, 10, "a code is missing"));
-        assert!(WANTED.is_met(&code, 9, "few inputs"));
-    }
-
-    #[test]
-    fn codes_and_ways_are_counted_and_what_is_no_code_is_none() {
-        let mut met = Met::<2>::nothing();
-        met.add(7, [true, false]);
-        met.add(99, [true, true]);
-        assert_eq!(met.codes, [0, 0, 0, 0, 0, 0, 1, 1]);
-        assert_eq!(met.ways, [2, 1]);
-    }
-
-    #[test]
-    fn the_first_input_that_differs_ends_it() {
-        let mut tried = Vec::new();
-        let found = none_differs(&draws(3..9), |number| {
-            tried.push(number);
-            Ok((number == 5).then(|| "told\n".to_string()))
-        });
-        assert_eq!((found, tried), (Ok(false), vec![3, 4, 5]));
-        assert_eq!(none_differs(&draws(3..9), |_| Ok(None)), Ok(true));
-        assert!(none_differs(&draws(3..9), |_| Err(String::new())).is_err());
+    /// As many inputs as must meet everything do, and the help says so.
+    pub fn inputs_meet_every_code_and_way(program: &Program, help: &str, enough: &str) {
+        assert!(help.contains(&format!("From {enough} inputs on")));
+        assert_eq!(enough.replace(',', ""), program.enough.to_string());
+        let mut met = program.met();
+        for number in 0..program.enough {
+            let given = (program.given)(1, number, Duration::from_secs(10));
+            program.count(&given, &(program.right)(&given.input), &mut met);
+        }
+        assert_eq!(met.missing(), [""; 0]);
     }
 }

@@ -5,8 +5,8 @@
 use std::ffi::OsString;
 
 use line::args::Options;
-use line::judging::trying::{Draws, Summary};
-use line::output::say;
+use line::judging::trying::{Draws, Met};
+use line::output::{self, say};
 use line::text::explain::counted;
 
 /// The options that say what is tried.
@@ -24,21 +24,22 @@ pub struct Drawn {
     /// everything must be met.
     pub cases: u64,
     pub enough: u64,
+    pub met: fn() -> Met,
 }
 
 impl Drawn {
     /// Tries what the line asks for; whether nothing differs and all is met that must be.
-    pub fn command<M: Summary + Default>(
+    pub fn command(
         &self,
         line: &[OsString],
-        tried: impl FnOnce(&Draws, &mut M) -> Result<(), String>,
+        tried: impl FnOnce(&Draws, &mut Met) -> Result<(), String>,
     ) -> Result<bool, String> {
         let draws = self.draws(line)?;
-        let mut met = M::default();
+        let mut met = (self.met)();
         match tried(&draws, &mut met) {
             Ok(()) => Ok(self.ended(&draws, &met)),
-            Err(told) => {
-                say!("{told}");
+            Err(report) => {
+                say!("{report}");
                 Ok(false)
             }
         }
@@ -50,24 +51,24 @@ impl Drawn {
         draws_of(&options, self.cases)
     }
 
-    /// Prints what was met; whether that is all that is asked.
-    fn ended(&self, draws: &Draws, met: &impl Summary) -> bool {
-        let missing = met.missing();
-        let few = draws.count() < self.enough;
-        say!("{}", met.in_words());
-        let verdict = match missing.is_empty() {
-            _ if few => "nothing differs; too few to ask that everything is met".to_string(),
-            true => "passed".to_string(),
-            false => format!("FAILED: never met: {}", missing.join(", ")),
-        };
+    fn ended(&self, draws: &Draws, met: &Met) -> bool {
         let tried = counted(draws.count(), self.one);
-        say!(
-            "{} of balkwizu, {tried} with seed {}: {verdict}",
-            self.all,
-            draws.seed
-        );
-        few || missing.is_empty()
+        let what = format!("{} of balkwizu, {tried} with seed {}", self.all, draws.seed);
+        all_is_met(met, draws.count() >= self.enough, &what)
     }
+}
+
+/// Prints what was met; whether that is all that must be, where enough was tried.
+pub fn all_is_met(met: &Met, enough: bool, what: &str) -> bool {
+    output::write(met.in_words().as_bytes());
+    let missing = met.missing();
+    let verdict = match missing.is_empty() {
+        _ if !enough => "nothing differs; too few to ask that everything is met".to_string(),
+        true => "passed".to_string(),
+        false => format!("FAILED: never met: {}", missing.join(", ")),
+    };
+    say!("{what}: {verdict}");
+    !enough || missing.is_empty()
 }
 
 /// What a line asks for, with so many where no number is given.
@@ -86,31 +87,35 @@ pub fn draws_of(options: &Options, usual: u64) -> Result<Draws, String> {
 #[cfg(test)]
 mod tests {
     use super::*;
+    use crate::commands::{histories, queue, step, tables};
     use line::trial::draws;
-
-    struct Nothing;
-
-    impl Summary for Nothing {
-        fn in_words(&self) -> String {
-            "nothing".to_string()
-        }
-
-        fn missing(&self) -> Vec<String> {
-            vec!["something".to_string()]
-        }
-    }
 
     const DRAWN: Drawn = Drawn {
         all: "things",
         one: "thing",
         cases: 7,
         enough: 5,
+        met: || Met::of(&["something"]),
     };
 
     #[test]
     fn what_was_never_met_is_a_failure_only_where_enough_was_tried() {
-        assert!(!DRAWN.ended(&draws(0..5), &Nothing));
-        assert!(DRAWN.ended(&draws(0..4), &Nothing));
+        assert!(!DRAWN.ended(&draws(0..5), &(DRAWN.met)()));
+        assert!(DRAWN.ended(&draws(0..4), &(DRAWN.met)()));
+    }
+
+    #[test]
+    fn the_help_says_from_where_on_everything_must_be_met() {
+        let all = [
+            (histories::HELP, histories::HISTORIES),
+            (queue::HELP, queue::QUEUES),
+            (step::HELP, step::STEPS),
+            (tables::HELP, tables::TABLES),
+        ];
+        for (help, drawn) in all {
+            let from = format!("From {},000 ", drawn.enough / 1000);
+            assert!(help.contains(&from), "{from}");
+        }
     }
 
     #[test]

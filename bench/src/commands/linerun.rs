@@ -1,25 +1,21 @@
-//! `bench linerun`: the program `linerun` beside the separate one, on random
-//! inputs, and its speed.
+//! `bench linerun`: the program `linerun` beside the reference, on random inputs, and its
+//! speed.
 
 mod speed;
 
 use std::ffi::OsString;
-use std::path::Path;
 
 use reference::calls::LIST_WORDS_MAX;
 use reference::check_table;
 use reference::words::from_bytes;
 
 use crate::cases::inputs::{apart, due, fixed, given, Given};
-use crate::commands::compared::{none_differs, Met, Wanted};
+use crate::commands::compared::Program;
 use crate::commands::drawn::{draws_of, TRIED};
-use crate::judging::printed::{difference, shorter};
-use crate::kernels::program::{run, Feed};
+use crate::judging::printed::shorter;
+use crate::kernels::program::Feed;
 use line::args::Options;
-use line::judging::trying::Draws;
-use line::output::say;
 use line::text::explain::counted;
-use line::text::input::shown;
 
 pub const HELP: &str = "\
 bench linerun PROGRAM [--cases N] [--seed S] [--from K] [--time T]
@@ -57,17 +53,25 @@ the speed was measured; 1 otherwise; 2 bad usage, or a program that can't be
 started.
 ";
 
-/// What must be met.
-const WANTED: Wanted<6> = Wanted {
-    ways: [
+const LINERUN: Program = Program {
+    name: "linerun",
+    fixed,
+    given,
+    right: reference::linerun,
+    code: |printed| printed.lines().next()?.rsplit(' ').next()?.parse().ok(),
+    ways: &[
         "byte by byte",
         "in odd parts",
         "held open at a length word above 641",
         "held open at list word 4,097",
         "held open at list word 4,097 with bytes left over",
-        "held open at list word 4,097 behind a bad table",
+        "held open at list word 4,097 after a bad table",
     ],
+    used,
     enough: 1000,
+    more: |program, Given { input, feed }, ran| {
+        way_in_words(input, *feed) + &shorter(program, input, *feed, ran)
+    },
 };
 
 /// The command: whether nothing differs.
@@ -80,63 +84,21 @@ pub fn command(line: &[OsString]) -> Result<bool, String> {
         return speed::measure(program, options.within("--rounds", 31, 1000)?);
     }
     options.only("a comparison", &TRIED)?;
-    compare(program, &draws_of(&options, 2000)?)
+    LINERUN.compare(program, &draws_of(&options, 2000)?)
 }
 
-/// Holds a program to the separate one: on random inputs, and first on the fixed ones where
-/// the numbers start at 0.
-fn compare(program: &Path, draws: &Draws) -> Result<bool, String> {
-    let mut met = Met::nothing();
-    let first = fixed(draws.limit).into_iter().enumerate();
-    for (number, Given { input, feed }) in first.filter(|_| draws.numbers.start == 0) {
-        let expected = reference::linerun(&input);
-        let ran = run(program, &input, feed)?;
-        add(&mut met, &input, feed, &expected);
-        if let Some(told) = difference(&ran, &expected) {
-            let words = shorter(program, &input, feed, &ran);
-            say!(
-                "DIFFERENCE in fixed input {number}:\n  {told}\n{}",
-                words.trim_end()
-            );
-            return Ok(false);
-        }
-    }
-    let one = |number| {
-        let Given { input, feed } = given(draws.seed, number, draws.limit);
-        let expected = reference::linerun(&input);
-        let ran = run(program, &input, feed)?;
-        add(&mut met, &input, feed, &expected);
-        let told = difference(&ran, &expected).map(|told| {
-            let (seed, again) = (draws.seed, shown(program));
-            format!(
-                "DIFFERENCE in input {number} of seed {seed}:\n  {told}\n{}To see it again: bench \
-                 linerun {again} --seed {seed} --from {number} --cases 1\n{}",
-                way_in_words(&input, feed),
-                shorter(program, &input, feed, &ran)
-            )
-        });
-        Ok(told)
-    };
-    if !none_differs(draws, one)? {
-        return Ok(false);
-    }
-    let what = format!("{} of {}", counted(draws.count(), "input"), shown(program));
-    Ok(WANTED.is_met(&met, draws.count(), &what))
-}
-
-/// Counts an input, with how it was given and what is expected.
-fn add(met: &mut Met<6>, input: &[u8], feed: Feed, expected: &[u8]) {
+/// The ways in which an input was given.
+fn used(input: &[u8], feed: Feed) -> Vec<bool> {
     let (head, list, left_over) = apart(input);
     let at_the_list = feed.held && list.len() > LIST_WORDS_MAX;
-    let used = [
+    vec![
         feed.parts == Some(1),
         feed.parts > Some(1),
         feed.held && !at_the_list,
         at_the_list && left_over.is_empty(),
         at_the_list && !left_over.is_empty(),
         at_the_list && check_table(&from_bytes(&head[4..])) != 0,
-    ];
-    met.add(code_of(expected), used);
+    ]
 }
 
 /// How an input was given, where it wasn't at once and with its end.
@@ -154,35 +116,16 @@ fn way_in_words(input: &[u8], feed: Feed) -> String {
         _ => "list word 4,097 was there, so that",
     };
     let bytes = counted(input.len(), "byte");
-    format!("{parts}The pipe was held open behind {bytes}: {what} the answer was due.\n")
-}
-
-/// The code of the first line, or one that there isn't.
-fn code_of(printed: &[u8]) -> usize {
-    let text = String::from_utf8_lossy(printed);
-    let first = text.lines().next().unwrap_or("");
-    let code = first.rsplit(' ').next().and_then(|code| code.parse().ok());
-    code.unwrap_or(usize::MAX)
+    format!("{parts}The pipe was held open after {bytes}: {what} the answer was due.\n")
 }
 
 #[cfg(test)]
 mod tests {
     use super::*;
-    use std::time::Duration;
+    use crate::commands::compared::tests::inputs_meet_every_code_and_way;
 
     #[test]
     fn inputs_meet_every_code_and_every_way() {
-        assert!(HELP.contains("From 1,000 inputs on") && WANTED.enough == 1000);
-        let mut met = Met::nothing();
-        for number in 0..WANTED.enough {
-            let Given { input, feed } = given(1, number, Duration::from_secs(10));
-            add(&mut met, &input, feed, &reference::linerun(&input));
-        }
-        assert!(
-            WANTED.is_met(&met, WANTED.enough, "the separate one"),
-            "{met:?}"
-        );
-        assert_eq!(code_of(b"calls 0 code 7\n"), 7);
-        assert_eq!(code_of(b"nothing"), usize::MAX);
+        inputs_meet_every_code_and_way(&LINERUN, HELP, "1,000");
     }
 }

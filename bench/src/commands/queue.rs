@@ -4,7 +4,7 @@
 use std::ffi::OsString;
 
 use crate::commands::drawn::Drawn;
-use crate::judging::queues::try_queues;
+use crate::judging::queues::{met, try_queues};
 use crate::kernels::for_tests::PROVED_QUEUE;
 
 pub const HELP: &str = "\
@@ -36,11 +36,12 @@ Exit status: 0 nothing differs, and everything was met where that is asked; 1
 otherwise; 2 bad usage, or a program built without the queue's functions.
 ";
 
-const QUEUES: Drawn = Drawn {
+pub const QUEUES: Drawn = Drawn {
     all: "queues",
     one: "case",
     cases: 100_000,
     enough: 10_000,
+    met,
 };
 
 /// The command: whether nothing differs.
@@ -50,17 +51,4 @@ pub fn command(line: &[OsString]) -> Result<bool, String> {
          then build it again",
     )?;
     QUEUES.command(line, |draws, met| try_queues(&queue, draws, met))
-}
-
-#[cfg(test)]
-mod tests {
-    use super::*;
-    use crate::judging::queues::Met;
-    use line::judging::trying::Summary;
-
-    #[test]
-    fn everything_must_be_met_from_where_the_help_says() {
-        assert!(HELP.contains("From 10,000 words on") && QUEUES.enough == 10_000);
-        assert_eq!(Met::default().missing().len(), 13);
-    }
 }

@@ -4,7 +4,7 @@
 use std::ffi::OsString;
 
 use crate::commands::drawn::Drawn;
-use crate::judging::steps::try_steps;
+use crate::judging::steps::{met, try_steps};
 use crate::kernels::for_tests::PROVED_STEP;
 
 pub const HELP: &str = "\
@@ -37,11 +37,12 @@ Exit status: 0 nothing differs, and everything was met where that is asked; 1
 otherwise; 2 bad usage, or a program built without the step.
 ";
 
-const STEPS: Drawn = Drawn {
+pub const STEPS: Drawn = Drawn {
     all: "steps",
     one: "list",
     cases: 20_000,
     enough: 5_000,
+    met,
 };
 
 /// The command: whether nothing differs.
@@ -50,21 +51,4 @@ pub fn command(line: &[OsString]) -> Result<bool, String> {
         "this program was built without the step: `rt staticlib test_export`, then build it again",
     )?;
     STEPS.command(line, |draws, met| try_steps(step, draws, met))
-}
-
-#[cfg(test)]
-mod tests {
-    use super::*;
-    use crate::judging::steps::Met;
-    use line::judging::trying::Summary;
-
-    #[test]
-    fn everything_must_be_met_from_where_the_help_says() {
-        assert!(HELP.contains("From 5,000 lists on") && STEPS.enough == 5_000);
-        let missing = Met::default().missing().join(", ");
-        assert!(
-            missing.starts_with("code 0, code 2, code 3, code 4, code 5, code 6, code 99, answer"),
-            "{missing}"
-        );
-    }
 }

@@ -6,7 +6,6 @@ use crate::commands::drawn::Drawn;
 use crate::judging::influences::{self, try_influences};
 use crate::judging::potentials::{self, try_potentials};
 use crate::judging::repairs::{self, try_repairs};
-use line::judging::trying::Summary;
 use line::kernels::boundary::{could_influence, potential, repair};
 
 pub const HELP: &str = "\
@@ -32,48 +31,19 @@ Exit status: 0 nothing differs; 1 something differs, stops or was never met; 2
 bad usage.
 ";
 
-/// What was met of each.
-#[derive(Default)]
-struct Met {
-    repairs: repairs::Met,
-    potentials: potentials::Met,
-    influences: influences::Met,
-}
-
-impl Summary for Met {
-    fn in_words(&self) -> String {
-        let (repairs, potentials) = (self.repairs.in_words(), self.potentials.in_words());
-        format!("{repairs}\n{potentials}\n{}", self.influences.in_words())
-    }
-
-    fn missing(&self) -> Vec<String> {
-        let (repairs, potentials) = (self.repairs.missing(), self.potentials.missing());
-        [repairs, potentials, self.influences.missing()].concat()
-    }
-}
-
-const TABLES: Drawn = Drawn {
+pub const TABLES: Drawn = Drawn {
     all: "tables",
     one: "table",
     cases: 20_000,
     enough: 10_000,
+    met: || repairs::met().and(potentials::met()).and(influences::met()),
 };
 
 /// The command: whether nothing differs.
 pub fn command(line: &[OsString]) -> Result<bool, String> {
-    TABLES.command(line, |draws, met: &mut Met| {
-        try_repairs(repair, draws, &mut met.repairs)?;
-        try_potentials(potential, draws, &mut met.potentials)?;
-        try_influences(could_influence, draws, &mut met.influences)
+    TABLES.command(line, |draws, met| {
+        try_repairs(repair, draws, met)?;
+        try_potentials(potential, draws, met)?;
+        try_influences(could_influence, draws, met)
     })
-}
-
-#[cfg(test)]
-mod tests {
-    use super::*;
-
-    #[test]
-    fn everything_must_be_met_from_where_the_help_says() {
-        assert!(HELP.contains("From 10,000 on") && TABLES.enough == 10_000);
-    }
 }

@@ -1,5 +1,5 @@
 //! Random histories of turns (document 02, request (m)): the proved layer beside the
-//! separate one, event by event, every word that is lent compared.
+//! reference, event by event, every word that is lent compared.
 //!
 //! While the state is one that handing in and turns make, no oldest call of a domain may
 //! wait longer than as many turns as there are domains, and none that is handed in after k
@@ -16,7 +16,7 @@ use reference::words::{hex, kind};
 use reference::{holders, Call};
 
 use crate::cases::histories::{history, Next};
-use line::judging::trying::{try_all, Counted, Draws, Found, Summary};
+use line::judging::trying::{try_all, Draws, Met};
 use line::judging::turning::{
     difference, pending_words, separate_event, served, word_behind, Served, Waits,
 };
@@ -27,133 +27,95 @@ use line::text::explain::counted;
 const HAND_IN_CODES: [u32; 8] = [2, 3, 4, 5, 35, 36, 99, 37];
 const TURN_CODES: [u32; 6] = [2, 3, 4, 5, 6, 99];
 
-/// What the histories came to.
-#[derive(Default)]
-pub struct Met {
-    histories: u64,
-    events: u64,
-    begun: u64,
-    handed_in: u64,
-    served: u64,
-    idle: u64,
-    /// Idle turns with too few words for an answer.
-    idle_with_few: u64,
-    /// Events after which the holders that are handed on were what the table says.
-    kept: u64,
-    /// In the order of [`HAND_IN_CODES`] and of [`TURN_CODES`], those of beginnings too.
-    hand_in_codes: [u64; HAND_IN_CODES.len()],
-    turn_codes: [u64; TURN_CODES.len()],
-    begin_codes: [u64; TURN_CODES.len()],
-    /// Turns refused with 6 for the answer's words, by how many there were, and for the
-    /// holders.
-    few_words: [u64; ANSWER_WORDS],
-    wrong_holders: u64,
-    /// A domain's sixteen words just filled.
-    filled: u64,
-    /// Turns on counts above 16, from places that no turn leaves, and strays served.
-    counts: u64,
-    places: u64,
-    strays: u64,
-    /// A look up or a send of one word served with an old second word behind it.
-    old_second: u64,
-    /// Parts of histories whose calls were run as one list, the calls in them, and those
-    /// with more words than a list can have.
-    lists: u64,
-    listed: u64,
-    long: u64,
-    /// By the number of domains, the most turns that an oldest call waited, and any call
-    /// since it was handed in.
-    waits: [u64; DOMAINS_MAX + 1],
-    all_waits: [u64; DOMAINS_MAX + 1],
+/// What must be met. A wait is the most turns that a call waited.
+pub fn met() -> Met {
+    let n = DOMAINS_MAX as u32;
+    Met::codes("handing in refused with", HAND_IN_CODES)
+        .and(Met::codes("a turn refused with", TURN_CODES))
+        .and(Met::codes("a beginning refused with", TURN_CODES))
+        .and(Met::sizes(
+            "a turn refused with 6, words for an answer",
+            0..=2,
+            |_| 1,
+        ))
+        .and(Met::of(&[
+            "a turn refused with 6 for the holders",
+            "an event",
+            "a beginning",
+            "a call handed in",
+            "a call served",
+            "an idle turn",
+            "an idle turn with few words for an answer",
+            "an event after which the holders are what the table says",
+            "a domain's words just filled",
+            "a count above 16",
+            "a place above n",
+            "a stray served",
+            "an old second word left alone",
+            "a part of a history run as one list",
+            "a call in such a list",
+            "more calls served than a list can have",
+        ]))
+        .and(Met::sizes(OLDEST, 1..=n, u64::from))
+        .and(Met::sizes(ANY, 1..=n, |_| 1))
 }
 
-impl Counted for Met {
-    fn numbers(&mut self) -> impl Iterator<Item = &mut u64> {
-        let single = [
-            &mut self.histories,
-            &mut self.events,
-            &mut self.begun,
-            &mut self.handed_in,
-            &mut self.served,
-            &mut self.idle,
-            &mut self.idle_with_few,
-            &mut self.kept,
-            &mut self.wrong_holders,
-            &mut self.filled,
-            &mut self.counts,
-            &mut self.places,
-            &mut self.strays,
-            &mut self.old_second,
-            &mut self.lists,
-            &mut self.listed,
-            &mut self.long,
-        ];
-        let by_code = self.hand_in_codes.iter_mut().chain(&mut self.turn_codes);
-        let by_code = by_code.chain(&mut self.begin_codes);
-        let waits = self.waits.iter_mut().chain(&mut self.all_waits);
-        let others = by_code.chain(&mut self.few_words).chain(waits);
-        single.into_iter().chain(others)
+/// The longest waits: of the oldest call of a domain, at most n turns with n domains, and of
+/// any since it was handed in, at most 16 n.
+const OLDEST: &str = "turns that an oldest call waited, number of domains";
+const ANY: &str = "turns that a call waited, number of domains";
+
+fn count(met: &mut Met, next: &Next, left: &Left) {
+    let done = left.code == 0;
+    met.add("an event", true);
+    match &next.event {
+        Event::Begin => {
+            met.add_code("a beginning refused with", left.code, 1);
+            met.add("a beginning", done);
+        }
+        Event::HandIn { domain, .. } => {
+            met.add_code("handing in refused with", left.code, 1);
+            met.add("a call handed in", done);
+            let pending = pending_words(&left.words.state, *domain as usize).len();
+            met.add(
+                "a domain's words just filled",
+                done && pending == PENDING_WORDS,
+            );
+        }
+        Event::Turn => count_turn(met, &next.lent, left),
     }
 }
 
-impl Met {
-    fn add(&mut self, next: &Next, left: &Left) {
-        self.events += 1;
-        match &next.event {
-            Event::Begin => {
-                count(&TURN_CODES, &mut self.begin_codes, left.code);
-                self.begun += u64::from(left.code == 0);
-            }
-            Event::HandIn { domain, .. } => {
-                count(&HAND_IN_CODES, &mut self.hand_in_codes, left.code);
-                self.handed_in += u64::from(left.code == 0);
-                let pending = pending_words(&left.words.state, *domain as usize).len();
-                self.filled += u64::from(left.code == 0 && pending == PENDING_WORDS);
-            }
-            Event::Turn => self.add_turn(&next.lent, left),
-        }
+fn count_turn(met: &mut Met, lent: &Lent, left: &Left) {
+    met.add_code("a turn refused with", left.code, 1);
+    let words = lent.answer.len();
+    if left.code == 6 {
+        let enough = lent.holders.len() == domains(&lent.table);
+        met.add("a turn refused with 6 for the holders", !enough);
+        let name = "a turn refused with 6, words for an answer";
+        met.add_code(name, words as u32, u64::from(enough));
     }
-
-    fn add_turn(&mut self, lent: &Lent, left: &Left) {
-        count(&TURN_CODES, &mut self.turn_codes, left.code);
-        if left.code == 6 {
-            match lent.holders.len() == domains(&lent.table) {
-                true => self.few_words[lent.answer.len()] += 1,
-                false => self.wrong_holders += 1,
-            }
-        }
-        let Some((domain, call)) = served(lent, left) else {
-            let few = lent.answer.len() < ANSWER_WORDS;
-            self.idle += u64::from(left.code == 0);
-            self.idle_with_few += u64::from(left.code == 0 && few);
-            return;
-        };
-        self.served += 1;
-        let n = domains(&lent.table);
-        let above = |d: usize| lent.state[1 + (1 + PENDING_WORDS) * d] > PENDING_WORDS as u32;
-        self.counts += u64::from(above(domain));
-        self.places += u64::from(lent.state[0] as usize > n);
-        self.strays += u64::from(call.is_stray());
-        self.old_second += u64::from(has_old_second(lent, domain, &call));
-    }
-
-    fn waited(&mut self, waits: &Waits) {
-        let n = waits.longest.len();
-        for (seen, longest) in [
-            (&mut self.waits[n], &waits.longest),
-            (&mut self.all_waits[n], &waits.longest_of_all),
-        ] {
-            let longest = longest.iter().max().copied().unwrap_or(0);
-            *seen = (*seen).max(longest as u64);
-        }
-    }
-}
-
-/// Adds to the count of a code that is known.
-fn count(codes: &[u32], counts: &mut [u64], code: u32) {
-    for (known, count) in codes.iter().zip(counts) {
-        *count += u64::from(*known == code);
-    }
+    let Some((domain, call)) = served(lent, left) else {
+        let idle = left.code == 0;
+        met.add("an idle turn", idle);
+        met.add(
+            "an idle turn with few words for an answer",
+            idle && words < ANSWER_WORDS,
+        );
+        return;
+    };
+    met.add("a call served", true);
+    let pending = lent.state[1 + (1 + PENDING_WORDS) * domain];
+    met.add("a count above 16", pending > PENDING_WORDS as u32);
+    met.add(
+        "a place above n",
+        lent.state[0] as usize > domains(&lent.table),
+    );
+    met.add("a stray served", call.is_stray());
+    met.add(
+        "an old second word left alone",
+        has_old_second(lent, domain, &call),
+    );
 }
 
 /// Whether a call of one word that could have two is the only one pending, with a word
@@ -165,100 +127,12 @@ fn has_old_second(lent: &Lent, domain: usize, call: &Call) -> bool {
         && word_behind(&lent.state, domain).map(kind) == Some(STRAY)
 }
 
-impl Summary for Met {
-    fn missing(&self) -> Vec<String> {
-        let hand_in = HAND_IN_CODES.map(|code| format!("handing in refused with {code}"));
-        let hand_in = hand_in.into_iter().zip(self.hand_in_codes);
-        let turn = TURN_CODES.map(|code| format!("a turn refused with {code}"));
-        let turn = turn.into_iter().zip(self.turn_codes);
-        let begin = TURN_CODES.map(|code| format!("a beginning refused with {code}"));
-        let turn = turn.chain(begin.into_iter().zip(self.begin_codes));
-        let few = self.few_words.iter().copied().enumerate();
-        let few = few.map(|(words, count)| (counted(words, "word") + " for an answer", count));
-        let others = [
-            ("a call handed in", self.handed_in),
-            ("a call served", self.served),
-            ("an idle turn", self.idle),
-            (
-                "an idle turn with few words for an answer",
-                self.idle_with_few,
-            ),
-            ("a beginning", self.begun),
-            ("holders handed on", self.kept),
-            ("other than n words for the holders", self.wrong_holders),
-            ("a domain's words just filled", self.filled),
-            ("a count above 16", self.counts),
-            ("a place above n", self.places),
-            ("a stray served", self.strays),
-            ("an old second word", self.old_second),
-            ("calls run as one list", self.lists),
-            ("more calls served than a list can have", self.long),
-        ];
-        let others = others.map(|(name, count)| (name.to_string(), count));
-        let met = hand_in.chain(turn).chain(few).chain(others);
-        let unmet = met.filter(|(_, count)| *count == 0).map(|(name, _)| name);
-        let waits = (1..=DOMAINS_MAX).filter(|&n| self.waits[n] < n as u64);
-        let waits = waits.map(|n| format!("a wait of {n} turns with {n} domains"));
-        unmet.chain(waits).collect()
-    }
-
-    fn in_words(&self) -> String {
-        let refused = |codes: &[u32], counts: &[u64]| {
-            let told = codes.iter().zip(counts);
-            let told: Vec<String> = told
-                .map(|(code, count)| format!("{code}: {count}"))
-                .collect();
-            told.join(", ")
-        };
-        let row = |name: &str, figure: fn(&Met, usize) -> u64| {
-            let figures = (1..=DOMAINS_MAX).map(|n| format!("{:>4}", figure(self, n)));
-            format!("{name:<25}{}", figures.collect::<String>())
-        };
-        format!(
-            "{} histories of {} with {} handed in and {} served, {} idle, {} of them with few words \
-             for an answer\n\
-             begun {}; refused with {}\n\
-             handing in refused with {}; domains filled: {}\n\
-             turns refused with {}; 6 by 0, 1 and 2 answer words {:?}, by the holders {}\n\
-             holders handed on were what the table says after {}\n\
-             damaged states: {} served with a count above 16, {} from a place above n, {} stray; \
-             old second words left alone: {}\n\
-             as one list: {} of {}, {} of more than 4,096 words\n{}\n{}\n{}\n{}",
-            self.histories,
-            counted(self.events, "event"),
-            counted(self.handed_in, "call"),
-            self.served,
-            counted(self.idle, "turn"),
-            self.idle_with_few,
-            counted(self.begun, "time"),
-            refused(&TURN_CODES, &self.begin_codes),
-            refused(&HAND_IN_CODES, &self.hand_in_codes),
-            self.filled,
-            refused(&TURN_CODES, &self.turn_codes),
-            self.few_words,
-            self.wrong_holders,
-            counted(self.kept, "event"),
-            self.counts,
-            self.places,
-            self.strays,
-            self.old_second,
-            counted(self.lists, "part"),
-            counted(self.listed, "call"),
-            self.long,
-            row("domains, bound of oldest", |_, n| n as u64),
-            row("longest wait of oldest", |met, n| met.waits[n]),
-            row("bound of every call", |_, n| (PENDING_WORDS * n) as u64),
-            row("longest wait of any", |met, n| met.all_waits[n])
-        )
-    }
-}
-
 /// Tries histories; the first that is wrong, with its words.
 pub fn try_histories(layer: &Layer, draws: &Draws, met: &mut Met) -> Result<(), String> {
     let found = try_all("histories", draws, met, |number, met| {
         try_history(layer, draws.seed, number, met)
     });
-    found.map_err(|found| report(draws, &found))
+    found.map_err(|found| found.report("history", "histories", draws))
 }
 
 fn try_history(layer: &Layer, seed: u64, number: u64, met: &mut Met) -> Result<(), String> {
@@ -266,19 +140,19 @@ fn try_history(layer: &Layer, seed: u64, number: u64, met: &mut Met) -> Result<(
     let mut log = Log::begin(&history.table);
     let mut happened = 0;
     while let Some(next) = history.next() {
-        let told = |told: String| with_words(happened, &next, &told);
+        let wrong = |why: String| with_words(happened, &next, &why);
         let left = event_here(layer, &next.lent, &next.event);
-        let left = left.map_err(|failure| told(failure.to_string()))?;
-        let wanted = separate_event(&next.lent, &next.event).map_err(told)?;
-        if let Some(unequal) = difference(&next.lent, &left, &wanted) {
-            return Err(told(unequal));
+        let left = left.map_err(|failure| wrong(failure.to_string()))?;
+        let wanted = separate_event(&next.lent, &next.event).map_err(wrong)?;
+        if let Some(why) = difference(&next.lent, &left, &wanted) {
+            return Err(wrong(why));
         }
-        met.add(&next, &left);
+        count(met, &next, &left);
         if next.own {
             let begun = next.event == Event::Begin && left.code == 0;
             history.proper |= begun;
             if history.proper {
-                log.note(&next, &left, met).map_err(told)?;
+                log.note(&next, &left, met).map_err(wrong)?;
             }
             (history.table, history.state) = (left.words.table, left.words.state);
             if next.kept {
@@ -286,13 +160,15 @@ fn try_history(layer: &Layer, seed: u64, number: u64, met: &mut Met) -> Result<(
                 history.holders = left.words.holders;
             }
             if history.shown {
-                holders_are_shown(&history.table, &history.holders).map_err(told)?;
-                met.kept += 1;
+                holders_are_shown(&history.table, &history.holders).map_err(wrong)?;
+                met.add(
+                    "an event after which the holders are what the table says",
+                    true,
+                );
             }
         }
         happened += 1;
     }
-    met.histories += 1;
     log.ended(met)
 }
 
@@ -340,16 +216,28 @@ impl Log {
     }
 
     fn ended(&self, met: &mut Met) -> Result<(), String> {
-        met.waited(&self.waits);
-        met.lists += u64::from(self.served.calls() > 0);
-        met.listed += self.served.calls() as u64;
-        met.long += u64::from(self.served.pass_a_list());
+        let Waits {
+            longest,
+            longest_of_all,
+            ..
+        } = &self.waits;
+        for (name, waits) in [(OLDEST, longest), (ANY, longest_of_all)] {
+            let most = waits.iter().max().copied().unwrap_or(0);
+            met.most(name, waits.len() as u32, most as u64);
+        }
+        let calls = self.served.calls() as u64;
+        met.add("a part of a history run as one list", calls > 0);
+        met.add("a call in such a list", calls);
+        met.add(
+            "more calls served than a list can have",
+            self.served.pass_a_list(),
+        );
         self.served.as_one_list()
     }
 }
 
 /// What is wrong, with the event and all that it was lent.
-fn with_words(happened: usize, next: &Next, told: &str) -> String {
+fn with_words(happened: usize, next: &Next, why: &str) -> String {
     let event = match &next.event {
         Event::Begin => "a beginning".to_string(),
         Event::HandIn { domain, words } => format!("domain {domain} hands in {}", hex(words)),
@@ -362,22 +250,12 @@ fn with_words(happened: usize, next: &Next, told: &str) -> String {
         answer,
     } = &next.lent;
     format!(
-        "{told}\nEvent {happened}, {event}, on the table\n{}\nthe state\n{}\nwith {} for the \
+        "{why}\nEvent {happened}, {event}, on the table\n{}\nthe state\n{}\nwith {} for the \
          holders and {} for the answer",
         hex(table),
         hex(state),
         counted(holders.len(), "word"),
         counted(answer.len(), "word")
-    )
-}
-
-fn report(draws: &Draws, found: &Found) -> String {
-    let (seed, number) = (draws.seed, found.number);
-    format!(
-        "{} in history {number} of seed {seed}:\n  {}\nTo see it again: bench histories --seed \
-         {seed} --from {number} --cases 1",
-        found.headline(),
-        found.told
     )
 }
 
@@ -387,44 +265,27 @@ mod tests {
     use line::kernels::layer::PROVED_LAYER;
     use line::trial::draws;
 
-    fn told(wrong: Layer) -> String {
-        let found = try_histories(&wrong, &draws(0..2000), &mut Met::default());
+    fn reported(wrong: Layer) -> String {
+        let found = try_histories(&wrong, &draws(0..2000), &mut met());
         found.expect_err("it is found")
     }
 
     #[test]
     fn the_proved_layer_does_not_differ_and_everything_is_met() {
-        let mut met = Met::default();
+        let mut met = met();
         assert_eq!(
             try_histories(&PROVED_LAYER, &draws(0..1000), &mut met),
             Ok(())
         );
-        assert_eq!(met.missing(), Vec::<String>::new(), "{}", met.in_words());
-    }
-
-    #[test]
-    fn what_was_never_met_is_told() {
-        let missing = Met::default().missing();
-        for name in [
-            "handing in refused with 37",
-            "a turn refused with 99",
-            "a beginning refused with 6",
-            "2 words for an answer",
-            "an idle turn",
-            "holders handed on",
-            "an old second word",
-            "a wait of 16 turns with 16 domains",
-        ] {
-            assert!(missing.iter().any(|told| told == name), "{missing:?}");
-        }
+        assert_eq!(met.missing(), [""; 0], "{}", met.in_words());
     }
 
     /// A layer that does one more thing once the proved turn is over.
     macro_rules! turns {
-        (|$table:ident, $state:ident, $holders:ident, $answer:ident, $told:ident| $fault:expr) => {
-            told(Layer {
+        (|$table:ident, $state:ident, $holders:ident, $answer:ident, $answered:ident| $fault:expr) => {
+            reported(Layer {
                 turn: |$table, $state, $holders, $answer| {
-                    let $told = (PROVED_LAYER.turn)($table, $state, $holders, $answer);
+                    let $answered = (PROVED_LAYER.turn)($table, $state, $holders, $answer);
                     $fault
                 },
                 ..PROVED_LAYER
@@ -434,27 +295,27 @@ mod tests {
 
     #[test]
     fn a_wrong_turn_is_found() {
-        let code = turns!(|_t, _s, _h, _a, told| if told == 99 { 0 } else { told });
+        let code = turns!(|_t, _s, _h, _a, answered| if answered == 99 { 0 } else { answered });
         assert!(code.contains("answers 0 (none served), the separate one 99 ("));
-        let idle = turns!(|_t, state, _h, _a, told| {
-            if let (0, Some(place)) = (told, state.first_mut()) {
+        let idle = turns!(|_t, state, _h, _a, answered| {
+            if let (0, Some(place)) = (answered, state.first_mut()) {
                 *place = 0;
             }
-            told
+            answered
         });
         assert!(idle.contains("word 0 of the state, was "), "{idle}");
-        let answer = turns!(|_t, _s, _h, answer, told| {
-            if told == 0x10000 {
+        let answer = turns!(|_t, _s, _h, answer, answered| {
+            if answered == 0x10000 {
                 answer[1] ^= 1;
             }
-            told
+            answered
         });
         assert!(answer.contains("answers the call with "), "{answer}");
-        let holders = turns!(|_t, _s, holders, _a, told| {
-            if told == 0x10000 {
+        let holders = turns!(|_t, _s, holders, _a, answered| {
+            if answered == 0x10000 {
                 holders[0] ^= 1;
             }
-            told
+            answered
         });
         assert!(holders.contains("word 0 of the holders"), "{holders}");
         assert!(holders.contains("To see it again: bench histories --seed 1 --from "));
@@ -462,17 +323,17 @@ mod tests {
 
     #[test]
     fn a_turn_that_writes_outside_or_stops_is_found() {
-        let outside = turns!(|_t, state, _h, _a, told| {
+        let outside = turns!(|_t, state, _h, _a, answered| {
             // SAFETY: the words are lent from the middle of a larger space.
             unsafe { *state.as_mut_ptr().add(state.len()) = 0 };
-            told
+            answered
         });
         assert!(outside.contains("outside the state of the turns"));
-        let stops = turns!(|_t, _s, _h, _a, told| {
-            if told == 6 {
+        let stops = turns!(|_t, _s, _h, _a, answered| {
+            if answered == 6 {
                 std::process::abort();
             }
-            told
+            answered
         });
         assert!(stops.starts_with("STOPPED in history "), "{stops}");
     }
@@ -480,7 +341,7 @@ mod tests {
     /// A layer that does one more thing once words are handed in.
     macro_rules! hands_in {
         (|$table:ident, $words:ident, $code:ident| $fault:expr) => {
-            told(Layer {
+            reported(Layer {
                 hand_in: |$table, state, domain, $words| unsafe {
                     let $code = (PROVED_LAYER.hand_in)($table, state, domain, $words);
                     $fault
@@ -520,7 +381,7 @@ mod tests {
     /// A layer that does one more thing once it has begun.
     macro_rules! begins {
         (|$table:ident, $state:ident, $holders:ident, $code:ident| $fault:expr) => {
-            told(Layer {
+            reported(Layer {
                 begin: |$table, $state, $holders| unsafe {
                     let $code = (PROVED_LAYER.begin)($table, $state, $holders);
                     $fault

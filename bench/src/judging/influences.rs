@@ -12,11 +12,10 @@ use reference::{could_influence, influence_list, members};
 use line::cases::random::rng_for;
 use line::judging::compare::influence_isolation;
 use line::judging::panics::or_panic;
-use line::judging::trying::{try_all, Counted, Draws, Found, Summary};
+use line::judging::trying::{try_all, Draws, Met};
 use line::judging::variants::case_of;
 use line::kernels::boundary::{CouldInfluence, PROVED};
 use line::kernels::lent::{all_done, run_here};
-use line::text::explain::counted;
 use line::text::input::Input;
 
 /// The codes of the function.
@@ -28,68 +27,16 @@ const SIZES: [(usize, usize); 4] = [(16, 2), (4, 2), (3, 1), (8, 2)];
 /// The longest list that is run, in words.
 const WORDS_MAX: usize = 40;
 
-/// What was tried.
-#[derive(Default)]
-pub struct Met {
-    /// In the order of [`CODES`].
-    by_code: [u64; CODES.len()],
-    /// Sets with another member than the domain, with one that has no right on a member in
-    /// the table, and without a domain that would be a member if all acted.
-    with_others: u64,
-    by_calls: u64,
-    only_with_others: u64,
-    /// Sources of random lists, calls of others that were purged, and calls of the lists
-    /// that were built.
-    sources: u64,
-    purged: u64,
-    built: u64,
-}
-
-impl Counted for Met {
-    fn numbers(&mut self) -> impl Iterator<Item = &mut u64> {
-        let single = [
-            &mut self.with_others,
-            &mut self.by_calls,
-            &mut self.only_with_others,
-            &mut self.sources,
-            &mut self.purged,
-            &mut self.built,
-        ];
-        single.into_iter().chain(&mut self.by_code)
-    }
-}
-
-impl Summary for Met {
-    fn missing(&self) -> Vec<String> {
-        let codes = CODES.map(|code| format!("who could influence, with code {code}"));
-        let codes = codes.into_iter().zip(self.by_code);
-        let others = [
-            ("another domain that could influence one", self.with_others),
-            ("one that could by calls alone", self.by_calls),
-            ("one that could if others acted", self.only_with_others),
-            ("a source in a list of actors", self.sources),
-            ("a call that could be purged", self.purged),
-        ];
-        let others = others.map(|(name, count)| (name.to_string(), count));
-        let unmet = codes.chain(others).filter(|(_, count)| *count == 0);
-        unmet.map(|(name, _)| name).collect()
-    }
-
-    fn in_words(&self) -> String {
-        format!(
-            "{} asked who could influence a domain, {} refused; {} with others, {} by calls alone, \
-             {} where it needs others to act; {} built that have all sources; {} and {} in random \
-             lists",
-            counted(self.by_code[0], "table"),
-            self.by_code[1..].iter().sum::<u64>(),
-            self.with_others,
-            self.by_calls,
-            self.only_with_others,
-            counted(self.built, "call"),
-            counted(self.sources, "source"),
-            counted(self.purged, "purged call")
-        )
-    }
+/// What must be met.
+pub fn met() -> Met {
+    Met::codes("who could influence, with code", CODES).and(Met::of(&[
+        "a set with another domain",
+        "a set with another domain by calls alone",
+        "a domain that could if others acted",
+        "a source in a random list of the actors",
+        "a call purged from such a list",
+        "a word of a list that is built with all sources",
+    ]))
 }
 
 /// Tries tables; the first with which something is wrong.
@@ -101,7 +48,7 @@ pub fn try_influences(could: CouldInfluence, draws: &Draws, met: &mut Met) -> Re
         let judged = judged(could, &case, rng, met);
         judged.map_err(|why| with_words(&case, &why))
     });
-    found.map_err(|found| report(draws, &found))
+    found.map_err(|found| found.report("who could influence a domain of table", "tables", draws))
 }
 
 fn judged(
@@ -114,13 +61,11 @@ fn judged(
     let right = or_panic(|| could_influence(&case.table, case.actors, case.domain))?;
     if answer != right {
         return Err(format!(
-            "the kernel answers {} with the set {:#b}, the reference implementation {} with {:#b}",
+            "the kernel answers {} with the set {:#b}, the reference {} with {:#b}",
             answer.0, answer.1, right.0, right.1
         ));
     }
-    for (known, count) in CODES.iter().zip(&mut met.by_code) {
-        *count += u64::from(*known == answer.0);
-    }
+    met.add_code("who could influence, with code", answer.0, 1);
     match answer {
         (0, set) => {
             count_members(case, set, met);
@@ -136,10 +81,12 @@ fn count_members(case: &InfluenceCase, set: u32, met: &mut Met) {
     let is_member = |u: usize| set >> u & 1 == 1;
     let has_right = |u: usize| (0..n).any(|v| is_member(v) && rights(&case.table, u, v) != 0);
     let mut others = (0..n).filter(|&u| u != domain && is_member(u));
-    met.with_others += u64::from(others.clone().next().is_some());
-    met.by_calls += u64::from(others.any(|u| !has_right(u)));
+    met.add("a set with another domain", others.clone().next().is_some());
+    let by_calls = others.any(|u| !has_right(u));
+    met.add("a set with another domain by calls alone", by_calls);
     let (_, with_all) = could_influence(&case.table, !(!0 << n), case.domain);
-    met.only_with_others += u64::from(with_all & case.actors & !set != 0);
+    let more = with_all & case.actors & !set != 0;
+    met.add("a domain that could if others acted", more);
 }
 
 /// That a list by actors has sources in the set alone and shows the domain nothing of the
@@ -169,9 +116,15 @@ fn bounds_runs(case: &InfluenceCase, set: u32, rng: &mut Rng, met: &mut Met) -> 
             hex(&built)
         ));
     }
-    met.sources += u64::from(sources.count_ones() - 1);
-    met.purged += purged.by_domains as u64;
-    met.built += built.len() as u64;
+    met.add(
+        "a source in a random list of the actors",
+        sources.count_ones() - 1,
+    );
+    met.add("a call purged from such a list", purged.by_domains as u64);
+    met.add(
+        "a word of a list that is built with all sources",
+        built.len() as u64,
+    );
     Ok(())
 }
 
@@ -190,16 +143,6 @@ fn with_words(case: &InfluenceCase, why: &str) -> String {
     )
 }
 
-fn report(draws: &Draws, found: &Found) -> String {
-    let (seed, number) = (draws.seed, found.number);
-    format!(
-        "{} in who could influence a domain of table {number} of seed {seed}:\n  {}\nTo see it \
-         again: bench tables --seed {seed} --from {number} --cases 1",
-        found.headline(),
-        found.told
-    )
-}
-
 #[cfg(test)]
 mod tests {
     use super::*;
@@ -207,16 +150,16 @@ mod tests {
     use line::trial::draws;
 
     fn reported(wrong: CouldInfluence) -> String {
-        let found = try_influences(wrong, &draws(0..3000), &mut Met::default());
+        let found = try_influences(wrong, &draws(0..3000), &mut met());
         found.expect_err("it is found")
     }
 
     #[test]
     fn the_proved_function_does_not_differ_and_everything_is_met() {
-        let mut met = Met::default();
+        let mut met = met();
         let tried = try_influences(boundary::could_influence, &draws(0..3000), &mut met);
         assert_eq!(tried, Ok(()));
-        assert_eq!(met.missing(), Vec::<String>::new());
+        assert_eq!(met.missing(), [""; 0]);
     }
 
     #[test]
@@ -234,7 +177,7 @@ mod tests {
             let (code, set) = boundary::could_influence(table, actors, domain);
             (code % 32, set)
         };
-        assert!(reported(wrong).contains("the reference implementation 32 with 0b0"));
+        assert!(reported(wrong).contains("the reference 32 with 0b0"));
         assert_eq!(right(&reference::example::TABLE_T, 0b111, 2), (0, 0b111));
         assert_eq!(right(&reference::example::TABLE_T, 0b001, 2), (0, 0b100));
         assert_eq!(right(&reference::example::TABLE_T, 0b1000, 2), (32, 0));

@@ -1,5 +1,5 @@
 //! Repairs of worn tables (document 02, request (k)): the proved function beside the
-//! separate one on random damage. What comes of a repair passes the table's check, and
+//! reference on random damage. What comes of a repair passes the table's check, and
 //! the list of what was altered puts the old table back.
 
 use reference::generate::{repair_case, RepairCase};
@@ -9,7 +9,7 @@ use reference::words::{hex, to_bytes};
 use line::cases::random::rng_for;
 use line::judging::compare::first_unequal;
 use line::judging::panics::or_panic;
-use line::judging::trying::{try_all, Counted, Draws, Found, Summary};
+use line::judging::trying::{try_all, Draws, Met};
 use line::kernels::boundary::{Repair, PROVED};
 use line::kernels::lent::{words_here, Failure};
 use line::text::explain::counted;
@@ -20,72 +20,25 @@ const CODES: [u32; 3] = [0, 33, 34];
 /// The sizes that tables are drawn in: the most domains and endpoints.
 const SIZES: [(usize, usize); 4] = [(16, 32), (4, 4), (3, 2), (1, 1)];
 
-/// What the repairs came to.
-#[derive(Default)]
-pub struct Met {
-    repairs: u64,
-    /// In the order of [`CODES`].
-    by_code: [u64; CODES.len()],
-    altered: u64,
-    /// Sound tables, and repairs whose list was just long enough or one word too short.
-    sound: u64,
-    just_enough: u64,
-    one_short: u64,
+/// What must be met.
+pub fn met() -> Met {
+    Met::codes("repair code", CODES).and(Met::of(&[
+        "a word repaired",
+        "a repair of a sound table",
+        "a repair with a list just long enough",
+        "a repair with a list one word too short",
+    ]))
 }
 
-impl Counted for Met {
-    fn numbers(&mut self) -> impl Iterator<Item = &mut u64> {
-        let single = [
-            &mut self.repairs,
-            &mut self.altered,
-            &mut self.sound,
-            &mut self.just_enough,
-            &mut self.one_short,
-        ];
-        single.into_iter().chain(&mut self.by_code)
-    }
-}
-
-impl Met {
-    fn add(&mut self, case: &RepairCase, done: &Repaired) {
-        self.repairs += 1;
-        for (known, count) in CODES.iter().zip(&mut self.by_code) {
-            *count += u64::from(*known == done.code);
-        }
-        self.altered += u64::from(done.altered);
-        let pairs = PAIR_WORDS * done.altered as usize;
-        self.sound += u64::from(done.code == 0 && pairs == 0);
-        self.just_enough += u64::from(done.code == 0 && pairs > 0 && pairs == case.list.len());
-        self.one_short += u64::from(done.code == 34 && case.list.len() + 1 == needed(case));
-    }
-}
-
-impl Summary for Met {
-    fn missing(&self) -> Vec<String> {
-        let codes = CODES.map(|code| format!("code {code}"));
-        let codes = codes.into_iter().zip(self.by_code);
-        let others = [
-            ("a sound table", self.sound),
-            ("a list just long enough", self.just_enough),
-            ("a list one word too short", self.one_short),
-        ];
-        let others = others.map(|(name, count)| (name.to_string(), count));
-        let unmet = codes.chain(others).filter(|(_, count)| *count == 0);
-        unmet.map(|(name, _)| name).collect()
-    }
-
-    fn in_words(&self) -> String {
-        let [done, frame, list] = self.by_code;
-        format!(
-            "{}: {done} done with {} altered, {} of sound tables; {frame} refused with 33, {list} \
-             with 34; {} with a list just long enough, {} one word too short",
-            counted(self.repairs, "repair"),
-            counted(self.altered, "word"),
-            self.sound,
-            self.just_enough,
-            self.one_short
-        )
-    }
+fn count(met: &mut Met, case: &RepairCase, done: &Repaired) {
+    met.add_code("repair code", done.code, 1);
+    met.add("a word repaired", done.altered);
+    let (pairs, length) = (PAIR_WORDS * done.altered as usize, case.list.len());
+    met.add("a repair of a sound table", done.code == 0 && pairs == 0);
+    let just_enough = done.code == 0 && pairs > 0 && pairs == length;
+    met.add("a repair with a list just long enough", just_enough);
+    let one_short = done.code == 34 && length + 1 == needed(case);
+    met.add("a repair with a list one word too short", one_short);
 }
 
 /// The words that a list needs for a table.
@@ -110,11 +63,11 @@ pub fn try_repairs(repair: Repair, draws: &Draws, met: &mut Met) -> Result<(), S
         let case = case_of(draws.seed, number);
         let done = repair_here(repair, &case).map_err(String::from)?;
         let judged = judged(&case, &done);
-        judged.map_err(|told| with_words(&case, &told))?;
-        met.add(&case, &done);
+        judged.map_err(|why| with_words(&case, &why))?;
+        count(met, &case, &done);
         Ok(())
     });
-    found.map_err(|found| report(draws, &found))
+    found.map_err(|found| found.report("repair", "tables", draws))
 }
 
 fn case_of(seed: u64, number: u64) -> RepairCase {
@@ -128,7 +81,7 @@ fn repair_here(repair: Repair, case: &RepairCase) -> Result<Repaired, Failure> {
     let ((inner, list), table) = words_here(&case.table, |table| {
         let inner = words_here(&case.list, |list| repair(table, list));
         match inner {
-            Ok((told, list)) => (Ok(told), list),
+            Ok((answer, list)) => (Ok(answer), list),
             Err(failure) => (Err(failure), Vec::new()),
         }
     })?;
@@ -141,7 +94,7 @@ fn repair_here(repair: Repair, case: &RepairCase) -> Result<Repaired, Failure> {
     })
 }
 
-/// That a repair is the separate one's, that what it leaves is sound, and that its list
+/// That a repair is the reference's, that what it leaves is sound, and that its list
 /// puts the old table back.
 fn judged(case: &RepairCase, done: &Repaired) -> Result<(), String> {
     let wanted = or_panic(|| {
@@ -154,8 +107,8 @@ fn judged(case: &RepairCase, done: &Repaired) -> Result<(), String> {
             list,
         }
     })?;
-    if let Some(told) = difference(done, &wanted) {
-        return Err(told);
+    if let Some(why) = difference(done, &wanted) {
+        return Err(why);
     }
     if done.code != 0 {
         return Ok(());
@@ -175,14 +128,14 @@ fn judged(case: &RepairCase, done: &Repaired) -> Result<(), String> {
 fn difference(done: &Repaired, wanted: &Repaired) -> Option<String> {
     if (done.code, done.altered) != (wanted.code, wanted.altered) {
         return Some(format!(
-            "the kernel answers code {} with {} altered, the separate repair code {} with {}",
+            "the kernel answers code {} with {} altered, the reference code {} with {}",
             done.code, done.altered, wanted.code, wanted.altered
         ));
     }
     let unequal = |what, done: &[u32], wanted: &[u32]| {
         let place = first_unequal(done, wanted)?;
         Some(format!(
-            "word {place} of the {what}: the kernel leaves {:08X}, the separate repair {:08X}",
+            "word {place} of the {what}: the kernel leaves {:08X}, the reference {:08X}",
             done[place], wanted[place]
         ))
     };
@@ -190,21 +143,11 @@ fn difference(done: &Repaired, wanted: &Repaired) -> Option<String> {
         .or_else(|| unequal("list", &done.list, &wanted.list))
 }
 
-fn with_words(case: &RepairCase, told: &str) -> String {
+fn with_words(case: &RepairCase, why: &str) -> String {
     format!(
-        "{told}\nThe table before the repair, and a list of {}:\n{}",
+        "{why}\nThe table before the repair, and a list of {}:\n{}",
         counted(case.list.len(), "word"),
         hex(&case.table)
-    )
-}
-
-fn report(draws: &Draws, found: &Found) -> String {
-    let (seed, number) = (draws.seed, found.number);
-    format!(
-        "{} in repair {number} of seed {seed}:\n  {}\nTo see it again: bench tables --seed {seed} \
-         --from {number} --cases 1",
-        found.headline(),
-        found.told
     )
 }
 
@@ -214,21 +157,21 @@ mod tests {
     use line::kernels::boundary::repair;
     use line::trial::draws;
 
-    fn told(wrong: Repair) -> String {
-        let found = try_repairs(wrong, &draws(0..2000), &mut Met::default());
+    fn reported(wrong: Repair) -> String {
+        let found = try_repairs(wrong, &draws(0..2000), &mut met());
         found.expect_err("it is found")
     }
 
     #[test]
     fn the_proved_repair_does_not_differ_and_everything_is_met() {
-        let mut met = Met::default();
+        let mut met = met();
         assert_eq!(try_repairs(repair, &draws(0..5000), &mut met), Ok(()));
-        assert_eq!(met.missing(), Vec::<String>::new());
+        assert_eq!(met.missing(), [""; 0]);
     }
 
     #[test]
     fn a_wrong_repair_is_found() {
-        let count = told(|table, list| {
+        let count = reported(|table, list| {
             let (code, altered) = repair(table, list);
             (code, altered + u32::from(altered > 3))
         });
@@ -236,21 +179,21 @@ mod tests {
             count.contains("\n  the kernel answers code 0 with"),
             "{count}"
         );
-        let adds = told(|table, list| {
+        let adds = reported(|table, list| {
             let before = table.to_vec();
-            let told = repair(table, list);
+            let answer = repair(table, list);
             if table[1] != before[1] {
                 table[1] |= 1;
             }
-            told
+            answer
         });
         assert!(adds.contains("word 1 of the table: the kernel leaves 20000001"));
-        let list = told(|table, list| {
-            let told = repair(table, list);
-            if let (33, Some(word)) = (told.0, list.first_mut()) {
+        let list = reported(|table, list| {
+            let answer = repair(table, list);
+            if let (33, Some(word)) = (answer.0, list.first_mut()) {
                 *word ^= 1;
             }
-            told
+            answer
         });
         assert!(list.contains("word 0 of the list"), "{list}");
     }

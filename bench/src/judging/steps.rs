@@ -1,11 +1,10 @@
-//! Single calls of random lists: the proved kernel's public step beside the separate
-//! machine's.
+//! Single calls of random lists: the proved kernel's public step beside the reference.
 //!
 //! The calls are those of the fuzz's random lists, on its random tables. Some get a
 //! second word that no list would give them: a kind that takes none gets one, or the
 //! second word of a look up or a send is of another kind than 15. The step's contract
 //! is for any first and second word: a kind that takes none ignores it, and of another
-//! kind only bits 27–0 count, which is how the separate machine takes them too.
+//! kind only bits 27–0 count, which is how the reference takes them too.
 
 use reference::calls::{cut, Call, LOOK_UP, SEND, STRAY};
 use reference::entry::ANSWER_WORDS;
@@ -17,7 +16,7 @@ use line::cases::random::{holders_space, rng_for, run_case};
 use line::cases::Case;
 use line::judging::compare::{answer_as_printed, first_unequal, holders_difference};
 use line::judging::panics::or_panic;
-use line::judging::trying::{try_all, Counted, Draws, Found, Summary};
+use line::judging::trying::{try_all, Draws, Found, Met};
 use line::kernels::boundary::Outcome;
 use line::kernels::boundary::{Step, NO_SPACE};
 use line::kernels::child::{self, LIMIT};
@@ -30,80 +29,27 @@ use line::text::names::Names;
 /// No more calls of one list are tried than this.
 const CALLS_MAX: usize = 64;
 
-/// The codes of the step, and those of its answers.
+/// The codes of the step.
 const STEP_CODES: [u32; 7] = [0, 2, 3, 4, 5, 6, NO_SPACE];
-const CALL_CODES: std::ops::RangeInclusive<u32> = 10..=23;
 
-/// What the steps came to.
-#[derive(Default)]
-pub struct Met {
-    steps: u64,
-    /// What the step returned, in the order of [`STEP_CODES`].
-    step: [u64; STEP_CODES.len()],
-    /// By code, what its answers say.
-    call: [u64; 24],
-    /// Second words given to a kind that takes none, and of another kind than 15.
-    not_taken: u64,
-    of_another_kind: u64,
+/// What must be met.
+pub fn met() -> Met {
+    let answers = Met::codes("answer code", [0].into_iter().chain(10..=23));
+    Met::codes("code", STEP_CODES).and(answers).and(Met::of(&[
+        "a second word not taken",
+        "a second word of another kind than 15",
+    ]))
 }
 
-impl Counted for Met {
-    fn numbers(&mut self) -> impl Iterator<Item = &mut u64> {
-        let single = [
-            &mut self.steps,
-            &mut self.not_taken,
-            &mut self.of_another_kind,
-        ];
-        let by_code = self.step.iter_mut().chain(&mut self.call);
-        single.into_iter().chain(by_code)
-    }
-}
-
-impl Met {
-    fn add(&mut self, call: &Call, code: u32, answer: Option<[u32; 3]>) {
-        self.steps += 1;
-        for (known, count) in STEP_CODES.iter().zip(&mut self.step) {
-            *count += u64::from(*known == code);
-        }
-        let Some(answer) = answer else { return };
-        self.call[bits(answer[0], 15, 0) as usize] += 1;
-        let Some(second) = call.second else { return };
-        match call.kind() {
-            LOOK_UP | SEND => self.of_another_kind += u64::from(kind(second) != STRAY),
-            _ => self.not_taken += 1,
-        }
-    }
-}
-
-impl Summary for Met {
-    fn missing(&self) -> Vec<String> {
-        let step = STEP_CODES.map(|code| format!("code {code}"));
-        let step = step.into_iter().zip(self.step);
-        let call = CALL_CODES.map(|code| (format!("answer code {code}"), self.call[code as usize]));
-        let others = [
-            ("a call that is done", self.call[0]),
-            ("a second word not taken", self.not_taken),
-            ("a second word of another kind", self.of_another_kind),
-        ];
-        let others = others.map(|(name, count)| (name.to_string(), count));
-        let all = step.chain(call).chain(others);
-        all.filter(|(_, count)| *count == 0)
-            .map(|(name, _)| name)
-            .collect()
-    }
-
-    fn in_words(&self) -> String {
-        let [answered, refused @ .., no_space] = self.step;
-        format!(
-            "{}: {answered} answered, {} done; {} with the table refused, {no_space} with too \
-             little space; {} not taken, {} of another kind than 15",
-            counted(self.steps, "step"),
-            self.call[0],
-            refused.iter().sum::<u64>(),
-            counted(self.not_taken, "second word"),
-            self.of_another_kind
-        )
-    }
+fn count(met: &mut Met, call: &Call, code: u32, answer: Option<[u32; 3]>) {
+    met.add_code("code", code, 1);
+    let Some(answer) = answer else { return };
+    met.add_code("answer code", bits(answer[0], 15, 0), 1);
+    let Some(second) = call.second else { return };
+    let takes = matches!(call.kind(), LOOK_UP | SEND);
+    met.add("a second word not taken", !takes);
+    let another = takes && kind(second) != STRAY;
+    met.add("a second word of another kind than 15", another);
 }
 
 /// Tries the lists; the first that is wrong, with the call and the table before it.
@@ -119,23 +65,18 @@ pub fn try_steps(step: Step, draws: &Draws, met: &mut Met) -> Result<(), String>
 /// What to show of a list that is wrong: where it came from, what is wrong, and with
 /// which call.
 fn report(step: Step, draws: &Draws, found: &Found) -> String {
-    let (seed, first, number) = (draws.seed, draws.numbers.start, found.number);
-    let head = format!("{} in list {number} of seed {seed}:\n", found.headline());
-    let again = |from, cases| {
-        format!("To see it again: bench step --seed {seed} --from {from} --cases {cases}")
-    };
     let limit = draws.limit.min(LIMIT);
-    let by_itself = try_list(seed, number, &mut Met::default(), |case, call| {
+    let alone = try_list(draws.seed, found.number, &mut met(), |case, call| {
         child::step(step, case, call, limit)
     });
-    match by_itself {
-        Err(told) => format!("{head}  {told}\n{}", again(number, 1)),
-        Ok(()) => format!(
-            "{head}  {}\nOnly behind the lists before it: by itself this list is right.\n{}",
-            found.told,
-            again(first, number - first + 1)
-        ),
+    let again = found.again("step", "--cases", draws, alone.is_err());
+    let why = alone.err().unwrap_or_else(|| found.why.clone());
+    Found {
+        why,
+        ..found.clone()
     }
+    .head("list", draws)
+        + again.trim_end()
 }
 
 /// Feeds the calls of one list to a step, each on the table that the one before it left.
@@ -157,17 +98,17 @@ fn try_list(
             answers: space(rng),
             holders,
         };
-        let wanted = separate_step(&case, call)?;
-        let told = match step(&case, call) {
+        let wanted = reference_step(&case, call)?;
+        let wrong = match step(&case, call) {
             Ok(ran) => difference(&case, &ran, &wanted),
             Err(failure) => Some(failure.to_string()),
         };
-        if let Some(told) = told {
-            return Err(with_words(&case, call, &told));
+        if let Some(why) = wrong {
+            return Err(with_words(&case, call, &why));
         }
         let code = wanted.outcome.code;
         let answer = wanted.answers.first_chunk().copied();
-        met.add(call, code, answer.filter(|_| code == 0));
+        count(met, call, code, answer.filter(|_| code == 0));
         table = wanted.table;
     }
     Ok(())
@@ -197,9 +138,9 @@ fn space(rng: &mut Rng) -> Vec<u32> {
     (0..words).map(|_| rng.word()).collect()
 }
 
-/// The separate machine's step; an error where it panics, which is a difference from
+/// The reference's step; an error where it panics, which is a difference from
 /// a kernel that answers.
-fn separate_step(case: &Case, call: &Call) -> Result<Ran, String> {
+fn reference_step(case: &Case, call: &Call) -> Result<Ran, String> {
     or_panic(|| {
         let (mut table, mut answers) = (case.table.clone(), case.answers.clone());
         let mut holders = case.holders.clone();
@@ -227,7 +168,7 @@ fn difference(case: &Case, ran: &Ran, wanted: &Ran) -> Option<String> {
     let (code, wanted_code) = (ran.outcome.code, wanted.outcome.code);
     if code != wanted_code {
         return Some(format!(
-            "the kernel's step returns {code} ({}), the separate machine {wanted_code} ({})",
+            "the kernel's step returns {code} ({}), the reference {wanted_code} ({})",
             meaning(code),
             meaning(wanted_code)
         ));
@@ -247,7 +188,7 @@ fn answer_difference(case: &Case, ran: &Ran, wanted: &Ran) -> Option<String> {
         ));
     }
     Some(format!(
-        "the kernel answers {}, the separate machine {}",
+        "the kernel answers {}, the reference {}",
         answer_as_printed(&ran.answers),
         answer_as_printed(&wanted.answers)
     ))
@@ -255,24 +196,24 @@ fn answer_difference(case: &Case, ran: &Ran, wanted: &Ran) -> Option<String> {
 
 fn table_difference(case: &Case, ran: &Ran, wanted: &Ran) -> Option<String> {
     let place = first_unequal(&ran.table, &wanted.table)?;
-    let told = match wanted.outcome.code {
+    let word = match wanted.outcome.code {
         0 => place_in_words(&case.table, place, &Names::none()),
         code => format!("word {place} where the step returns {code}"),
     };
     Some(format!(
-        "{told}, was {:08X}: the kernel leaves {:08X}, the separate machine {:08X}",
+        "{word}, was {:08X}: the kernel leaves {:08X}, the reference {:08X}",
         case.table[place], ran.table[place], wanted.table[place]
     ))
 }
 
 /// What is wrong, with the table before the call and the call.
-fn with_words(case: &Case, call: &Call, told: &str) -> String {
+fn with_words(case: &Case, call: &Call, why: &str) -> String {
     let input = Input {
         table: case.table.clone(),
         list: case.list.clone(),
     };
     format!(
-        "{told}\nThe call ({}) and the table before it, as `balkwizu words` takes them:\n{}\
+        "{why}\nThe call ({}) and the table before it, as `balkwizu words` takes them:\n{}\
          # answer space: {}",
         call_in_words(call, &Names::none()),
         hex::write(&input),
@@ -292,11 +233,11 @@ mod tests {
     };
 
     fn first_difference(step: Step) -> Option<String> {
-        try_steps(step, &draws(0..2000), &mut Met::default()).err()
+        try_steps(step, &draws(0..2000), &mut met()).err()
     }
 
-    /// What is told of a step that does one more thing once the proved one is done.
-    macro_rules! told {
+    /// What is reported of a step that does one more thing once the proved one is done.
+    macro_rules! report {
         (|$table:ident, $call:ident, $answer:ident, $code:ident| $fault:expr) => {
             first_difference(|$table, $call, $answer, holders| {
                 let $code = PROVED($table, $call, $answer, holders);
@@ -308,14 +249,14 @@ mod tests {
 
     #[test]
     fn the_proved_step_does_not_differ_and_everything_is_met() {
-        let mut met = Met::default();
+        let mut met = met();
         assert_eq!(try_steps(PROVED, &draws(0..5000), &mut met), Ok(()));
-        assert_eq!(met.missing(), Vec::<String>::new());
+        assert_eq!(met.missing(), [""; 0]);
     }
 
     #[test]
     fn a_step_that_stops_is_found_with_its_call() {
-        let fault = told!(|_t, call, _a, code| {
+        let fault = report!(|_t, call, _a, code| {
             if call.kind() == SEND {
                 std::process::abort();
             }
@@ -324,7 +265,7 @@ mod tests {
         assert!(fault.starts_with("STOPPED in list "), "{fault}");
         assert!(fault.contains("ended by signal 6 (aborted)\nThe call (domain "));
         assert!(fault.contains(" sends "), "{fault}");
-        let endless = told!(|_t, call, _a, code| {
+        let endless = report!(|_t, call, _a, code| {
             while call.kind() == SEND {
                 std::hint::spin_loop();
             }
@@ -337,28 +278,29 @@ mod tests {
     }
 
     #[test]
-    fn a_step_that_is_wrong_only_behind_others_is_told_so() {
+    fn a_step_that_is_wrong_only_after_others_is_reported_as_such() {
         use std::sync::atomic::{AtomicU32, Ordering::Relaxed};
         static STEPS: AtomicU32 = AtomicU32::new(0);
-        let tires = told!(|_t, _c, _a, code| code + u32::from(STEPS.fetch_add(1, Relaxed) == 200));
-        assert!(tires.contains("Only behind the lists before it"), "{tires}");
+        let tires =
+            report!(|_t, _c, _a, code| code + u32::from(STEPS.fetch_add(1, Relaxed) == 200));
+        assert!(tires.contains("Only after those before it"), "{tires}");
         assert!(tires.contains(" --from 0 --cases "), "{tires}");
     }
 
     #[test]
     fn a_faulty_step_is_found() {
-        let code = told!(|_t, _c, _a, code| if code == 5 { 0 } else { code });
-        assert!(code.contains("the separate machine 5 (an endpoint"));
-        let space = told!(|_t, _c, _a, code| code % 99);
-        assert!(space.contains("returns 0 (done), the separate machine 99"));
-        let answer = told!(|_t, _c, answer, code| {
+        let code = report!(|_t, _c, _a, code| if code == 5 { 0 } else { code });
+        assert!(code.contains("the reference 5 (an endpoint"));
+        let space = report!(|_t, _c, _a, code| code % 99);
+        assert!(space.contains("returns 0 (done), the reference 99"));
+        let answer = report!(|_t, _c, answer, code| {
             if code == 0 {
                 answer[2] ^= 1;
             }
             code
         });
         assert!(answer.contains("\n  the kernel answers"), "{answer}");
-        let table = told!(|table, _c, _a, code| {
+        let table = report!(|table, _c, _a, code| {
             if code == 0 {
                 table[1] ^= 1;
             }
@@ -381,14 +323,14 @@ mod tests {
 
     #[test]
     fn a_step_that_writes_what_it_should_leave_is_found() {
-        let beyond = told!(|_t, _c, answer, code| {
+        let beyond = report!(|_t, _c, answer, code| {
             if let Some(word) = answer.get_mut(3) {
                 *word ^= 1;
             }
             code
         });
         assert!(beyond.contains("\n  word 3 of the answer space is no answer's"));
-        let refused = told!(|table, _c, _a, code| {
+        let refused = report!(|table, _c, _a, code| {
             if let (4, Some(word)) = (code, table.last_mut()) {
                 *word ^= 1;
             }
@@ -415,7 +357,7 @@ mod tests {
             answers: vec![7; 4],
             holders: vec![7],
         };
-        let wanted = separate_step(&case, &call).unwrap();
+        let wanted = reference_step(&case, &call).unwrap();
         assert_eq!(wanted.answers, [0x5000_0000, 0, 0, 7]);
         assert_eq!(step_here(PROVED, &case, &call), Ok(wanted));
     }

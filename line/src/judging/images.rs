@@ -1,22 +1,27 @@
-//! Random table images: a kernel's check of each beside the separate one.
+//! Random table images: a kernel's check of each beside the reference's.
 
 use reference::check_bytes;
 
 use crate::cases::random::image;
 use crate::judging::tally::Tally;
-use crate::judging::trying::{try_all, Draws, Found};
+use crate::judging::trying::{try_all, Draws, Found, Met};
 use crate::kernels::boundary::Kernel;
 use crate::kernels::child::{self, LIMIT};
 use crate::text::explain::counted;
 
+/// What images must meet.
+pub fn met() -> Met {
+    Met::codes("image code", [0, 2, 3, 4, 5])
+}
+
 /// Tries the images; the first that is wrong, in words and with its bytes.
 pub fn try_images(kernel: &Kernel, draws: &Draws, tally: &mut Tally) -> Result<(), String> {
     let mut space = Vec::new();
-    let found = try_all("table images", draws, tally, |number, tally| {
+    let found = try_all("table images", draws, &mut tally.images, |number, met| {
         let bytes = image(draws.seed, number);
         let code = kernel.table_check(lent(number, &bytes, &mut space));
         difference(&bytes, code)?;
-        tally.add_image(code);
+        met.add_code("image code", code, 1);
         Ok(())
     });
     found.map_err(|found| report(kernel, draws, &found))
@@ -33,9 +38,9 @@ fn lent<'a>(number: u64, bytes: &[u8], space: &'a mut Vec<u8>) -> &'a [u8] {
 
 fn difference(bytes: &[u8], code: u32) -> Result<(), String> {
     match check_bytes(bytes) {
-        separate if separate == code => Ok(()),
-        separate => Err(format!(
-            "the kernel's check answers {code}, the separate one {separate}"
+        wanted if wanted == code => Ok(()),
+        wanted => Err(format!(
+            "the kernel's check answers {code}, the reference {wanted}"
         )),
     }
 }
@@ -43,26 +48,13 @@ fn difference(bytes: &[u8], code: u32) -> Result<(), String> {
 /// What to show of an image that is wrong: where it came from, what is wrong, and its
 /// bytes.
 fn report(kernel: &Kernel, draws: &Draws, found: &Found) -> String {
-    let Found { number, told, .. } = found;
-    let bytes = image(draws.seed, *number);
-    let (from, count, before) = match wrong_by_itself(kernel, draws, *number, &bytes) {
-        true => (*number, 1, ""),
-        false => (
-            draws.numbers.start,
-            number - draws.numbers.start + 1,
-            "Only behind the images before it: by itself this image is right.\n",
-        ),
-    };
-    format!(
-        "{head} in table image {number} of seed {seed}, {len}:\n  {told}\n{before}\
-         To see it again: bench fuzz --kernel {kernel} --seed {seed} --from {from} --cases 0 \
-         --table-checks {count}\n{rows}",
-        head = found.headline(),
-        seed = draws.seed,
-        kernel = kernel.name,
-        len = counted(bytes.len(), "byte"),
-        rows = rows(&bytes),
-    )
+    let bytes = image(draws.seed, found.number);
+    let line = format!("fuzz --kernel {} --cases 0", kernel.name);
+    let alone = wrong_alone(kernel, draws, found.number, &bytes);
+    let again = found.again(&line, "--table-checks", draws, alone);
+    let length = counted(bytes.len(), "byte");
+    let head = found.head("table image", draws);
+    format!("{head}{again}{length}:\n{}", rows(&bytes))
 }
 
 /// Bytes in rows of sixteen, each with its place.
@@ -75,7 +67,7 @@ pub fn rows(bytes: &[u8]) -> String {
 }
 
 /// Whether an image is wrong with none tried before it.
-fn wrong_by_itself(kernel: &Kernel, draws: &Draws, number: u64, bytes: &[u8]) -> bool {
+fn wrong_alone(kernel: &Kernel, draws: &Draws, number: u64, bytes: &[u8]) -> bool {
     let mut space = Vec::new();
     let image = lent(number, bytes, &mut space);
     let checked = child::checks(kernel, &[image], draws.limit.min(LIMIT));
@@ -103,43 +95,40 @@ mod tests {
             let mut tally = Tally::default();
             let found = try_images(kernel, &draws(0..2000), &mut tally);
             assert_eq!(found, Ok(()), "{}", kernel.name);
-            assert_eq!(tally.never_met(false, true), Vec::<String>::new());
+            assert_eq!(tally.images.missing(), [""; 0]);
         }
     }
 
     #[test]
     fn a_faulty_check_is_found() {
-        let told = found(faulty::LENIENT_CHECK);
-        assert!(told.starts_with("DIFFERENCE in table image"), "{told}");
-        assert!(told.contains("answers 0, the separate one 5"), "{told}");
-        assert!(
-            told.contains("--cases 0 --table-checks 1\n0000  "),
-            "{told}"
-        );
+        let report = found(faulty::LENIENT_CHECK);
+        assert!(report.starts_with("DIFFERENCE in table image"), "{report}");
+        assert!(report.contains("answers 0, the reference 5"), "{report}");
+        assert!(report.contains(" --table-checks 1\n"), "{report}");
     }
 
     #[test]
     fn a_check_that_stops_is_found_with_its_image() {
-        let told = found(faulty::CHECK_FAULTS);
-        assert!(told.starts_with("STOPPED in table image"), "{told}");
-        assert!(told.contains("signal 11"), "{told}");
-        assert!(
-            told.contains("--cases 0 --table-checks 1\n0000  "),
-            "{told}"
-        );
+        let report = found(faulty::CHECK_FAULTS);
+        assert!(report.starts_with("STOPPED in table image"), "{report}");
+        assert!(report.contains("signal 11"), "{report}");
+        assert!(report.contains(" --table-checks 1\n"), "{report}");
     }
 
     #[test]
-    fn a_check_that_is_wrong_only_behind_others_is_told_so() {
+    fn a_check_that_is_wrong_only_after_others_is_reported_as_such() {
         use std::sync::atomic::{AtomicU32, Ordering::Relaxed};
         static CHECKS: AtomicU32 = AtomicU32::new(0);
         let kernel = PROVED.with_check("tires", |bytes| unsafe {
             let code = PROVED.table_check(&*bytes);
             code + u32::from(CHECKS.fetch_add(1, Relaxed) == 20)
         });
-        let told = found(kernel);
-        assert!(told.starts_with("DIFFERENCE in table image 20 "), "{told}");
-        assert!(told.contains("Only behind the images before it"), "{told}");
-        assert!(told.contains("--from 0 --cases 0 --table-checks 21\n"));
+        let report = found(kernel);
+        assert!(
+            report.starts_with("DIFFERENCE in table image 20 "),
+            "{report}"
+        );
+        assert!(report.contains("Only after those before it"), "{report}");
+        assert!(report.contains("--from 0 --table-checks 21\n"));
     }
 }

@@ -1,5 +1,5 @@
 //! Random lists to be written (document 02, request (c)): the proved writer beside the
-//! separate one, on calls as plain words; and what a run says of calls that the separate
+//! reference's, on calls as plain words; and what a run says of calls that the reference's
 //! reader takes or refuses.
 
 use reference::calls::{LIST_WORDS_MAX, MY_RIGHTS};
@@ -11,127 +11,54 @@ use reference::{read, write, write_columns, Value};
 
 use crate::cases::random::rng_for;
 use crate::judging::compare::first_unequal;
-use crate::judging::trying::{try_all, Counted, Draws};
+use crate::judging::trying::{try_all, Draws, Met};
 use crate::kernels::boundary::{Writer, Written};
 use crate::kernels::lent::words_here;
 use crate::text::calls::width;
-use crate::text::explain::{counted, meaning};
+use crate::text::explain::counted;
 
 /// The codes by which the reader refuses a call whatever the table.
 const READER_CODES: [u32; 4] = [10, 11, 13, 14];
 
-/// A number of 16 bits at its largest: what is above it must be told as it is.
+/// A number of 16 bits at its largest: what is above it must be reported as it is.
 const ABOVE: usize = 65_535;
 
-/// What lists came to.
-#[derive(Default)]
-pub struct Met {
-    written: u64,
-    bad_call: u64,
-    too_long: u64,
-    /// Written: as many words as a list can have; as many as were lent.
-    longest: u64,
-    filled: u64,
-    /// 30: for words left over; past the 4,096th call; with a number above 65,535.
-    left_over: u64,
-    behind_4096: u64,
-    above_65535: u64,
-    /// 31: one word above 4,096 where more are lent; one word above those lent.
-    longest_passed: u64,
-    space_passed: u64,
+/// What lists must meet.
+pub fn met() -> Met {
+    Met::codes("list code", [0, 30, 31]).and(Met::of(&[
+        "a list of 4,096 words",
+        "a list that fills the space",
+        "words left over after the last call",
+        "4,097 calls of which the last is bad",
+        "a bad call above 65,535",
+        "a list of 4,097 words",
+        "a space too short by one word",
+    ]))
 }
 
-impl Counted for Met {
-    fn numbers(&mut self) -> impl Iterator<Item = &mut u64> {
-        let all = [
-            &mut self.written,
-            &mut self.bad_call,
-            &mut self.too_long,
-            &mut self.longest,
-            &mut self.filled,
-            &mut self.left_over,
-            &mut self.behind_4096,
-            &mut self.above_65535,
-            &mut self.longest_passed,
-            &mut self.space_passed,
-        ];
-        all.into_iter()
-    }
-}
-
-impl Met {
-    fn add(&mut self, calls: &[u32], space: usize, (code, number): Written) {
-        match code {
-            0 => {
-                self.written += 1;
-                self.longest += u64::from(number == LIST_WORDS_MAX);
-                self.filled += u64::from(number == space && number > 0);
-            }
-            30 => {
-                self.bad_call += 1;
-                self.left_over += u64::from(number == calls.len() / COLUMNS);
-                self.behind_4096 += u64::from(number == LIST_WORDS_MAX);
-                self.above_65535 += u64::from(number > ABOVE);
-            }
-            _ => {
-                self.too_long += 1;
-                let words: usize = calls.chunks(COLUMNS).map(width).sum();
-                self.longest_passed += u64::from(words == LIST_WORDS_MAX + 1 && words <= space);
-                self.space_passed += u64::from(words == space + 1 && words <= LIST_WORDS_MAX);
-            }
-        }
-    }
-
-    /// What was never met.
-    pub fn missing(&self) -> Vec<String> {
-        let all = [
-            ("a list that is written", self.written),
-            ("a list of 4,096 words", self.longest),
-            ("a list that fills the space", self.filled),
-            ("words left over behind the last call", self.left_over),
-            ("4,097 calls of which the last is bad", self.behind_4096),
-            ("a bad call above 65,535", self.above_65535),
-            ("a list of 4,097 words", self.longest_passed),
-            ("a space too short by one word", self.space_passed),
-        ];
-        let unmet = all.iter().filter(|(_, count)| *count == 0);
-        unmet.map(|(name, _)| name.to_string()).collect()
-    }
-
-    /// What was met, one line for each code.
-    pub fn in_words(&self) -> String {
-        let row = |code: u32, count: u64, more: String| {
-            format!(
-                "  list  code {code:2} {count:>12}  {}; {more}\n",
-                meaning(code)
-            )
-        };
-        let lists = self.written + self.bad_call + self.too_long;
-        format!("{} to be written\n", counted(lists, "list"))
-            + &row(
-                0,
-                self.written,
-                format!(
-                    "{} of 4,096 words, {} filling the space",
-                    self.longest, self.filled
-                ),
-            )
-            + &row(
-                30,
-                self.bad_call,
-                format!(
-                    "{} by words left over, {} by call 4,096, {} by one above 65,535",
-                    self.left_over, self.behind_4096, self.above_65535
-                ),
-            )
-            + &row(
-                31,
-                self.too_long,
-                format!(
-                    "{} by one word above 4,096, {} by one above the space",
-                    self.longest_passed, self.space_passed
-                ),
-            )
+fn count(met: &mut Met, calls: &[u32], space: usize, (code, number): Written) {
+    met.add_code("list code", code, 1);
+    let (written, bad) = (code == 0, code == 30);
+    met.add("a list of 4,096 words", written && number == LIST_WORDS_MAX);
+    met.add(
+        "a list that fills the space",
+        written && number == space && number > 0,
+    );
+    met.add(
+        "words left over after the last call",
+        bad && number == calls.len() / COLUMNS,
+    );
+    met.add(
+        "4,097 calls of which the last is bad",
+        bad && number == LIST_WORDS_MAX,
+    );
+    met.add("a bad call above 65,535", bad && number > ABOVE);
+    if code == 31 {
+        let words: usize = calls.chunks(COLUMNS).map(width).sum();
+        let passed = words == LIST_WORDS_MAX + 1 && words <= space;
+        met.add("a list of 4,097 words", passed);
+        let short = words == space + 1 && words <= LIST_WORDS_MAX;
+        met.add("a space too short by one word", short);
     }
 }
 
@@ -147,25 +74,22 @@ struct Drawn {
 
 /// Tries lists by their numbers; the first with which something is wrong.
 pub fn try_lists(writer: Writer, draws: &Draws, met: &mut Met) -> Result<(), String> {
-    let seed = draws.seed;
     let found = try_all("lists", draws, met, |number, met| {
-        let drawn = list_to_write(seed, number);
+        let drawn = list_to_write(draws.seed, number);
         let answer = compare(writer, &drawn)?;
-        met.add(&drawn.calls, drawn.space.len(), answer);
+        count(met, &drawn.calls, drawn.space.len(), answer);
         Ok(())
     });
     found.map_err(|found| {
-        let Drawn { calls, space, .. } = list_to_write(seed, found.number);
+        let Drawn { calls, space, .. } = list_to_write(draws.seed, found.number);
+        let line = "fuzz --cases 0 --table-checks 0";
         format!(
-            "{} in list {number} of seed {seed}, {} into {}:\n  {}\n\
-             To see it again: bench fuzz --seed {seed} --from {number} --cases 0 \
-             --table-checks 0 --lists 1\n{}",
-            found.headline(),
+            "{}{}{} into {}:\n{}",
+            found.head("list", draws),
+            found.again(line, "--lists", draws, true),
             counted(calls.len().div_ceil(COLUMNS), "call"),
             counted(space.len(), "word"),
-            found.told,
-            in_rows(&calls),
-            number = found.number,
+            in_rows(&calls)
         )
     })
 }
@@ -227,8 +151,8 @@ fn drawn(rng: &mut Rng, values: Vec<Value>, space: Vec<u32>) -> Drawn {
     }
 }
 
-/// Compares what a writer answers and leaves with what the separate one does, of plain
-/// words and of calls as values; and the calls with what the separate reader makes of the
+/// Compares what a writer answers and leaves with what the reference does, of plain
+/// words and of calls as values; and the calls with what the reference's reader makes of the
 /// words. The answer where all are the same.
 fn compare(writer: Writer, drawn: &Drawn) -> Result<Written, String> {
     let (written, calls_left) = words_here(&drawn.calls, |calls| {
@@ -262,7 +186,7 @@ fn same(
 ) -> Result<(), String> {
     if answer != wanted_answer {
         return Err(format!(
-            "the writer answers {} with {}, the separate one {} with {}",
+            "the writer answers {} with {}, the reference {} with {}",
             answer.0, answer.1, wanted_answer.0, wanted_answer.1
         ));
     }
@@ -270,13 +194,13 @@ fn same(
         None => Ok(()),
         Some(place) => Err(format!(
             "word {place} of the list, {:08X} before, is left as {:08X} by the writer and as \
-             {:08X} by the separate one; both answer {} with {}",
+             {:08X} by the reference; both answer {} with {}",
             before[place], left[place], wanted[place], answer.0, answer.1
         )),
     }
 }
 
-/// That a run refused by 10, 11, 13 and 14 just the calls that the separate reader
+/// That a run refused by 10, 11, 13 and 14 just the calls that the reference's reader
 /// refuses, and by the same number: those of an unknown caller apart, which are 12
 /// before 13 and 14. And that what is read without such a call is written as it came.
 /// Whether the list was one of those.
@@ -324,68 +248,67 @@ mod tests {
     use reference::example::LIST_L;
 
     fn first_difference(writer: Writer) -> String {
-        let found = try_lists(writer, &draws(1..500), &mut Met::default());
+        let found = try_lists(writer, &draws(1..500), &mut met());
         found.expect_err("it is found")
     }
 
     #[test]
     fn the_proved_writer_does_not_differ_and_everything_is_met() {
         for start in [0, 777] {
-            let mut met = Met::default();
+            let mut met = met();
             let numbers = draws(start..start + 500);
             assert_eq!(try_lists(PROVED_WRITER, &numbers, &mut met), Ok(()));
-            assert_eq!(met.missing(), Vec::<String>::new());
+            assert_eq!(met.missing(), [""; 0]);
         }
-        assert_eq!(Met::default().missing().len(), 8);
     }
 
     #[test]
     fn a_writer_that_answers_otherwise_is_found() {
-        let told = first_difference(|calls, list| {
+        let why = first_difference(|calls, list| {
             let (code, number) = PROVED_WRITER(calls, list);
             (code, number + usize::from(code == 30))
         });
-        assert!(told.starts_with("DIFFERENCE in list "), "{told}");
-        assert!(told.contains("the writer answers 30 with "), "{told}");
-        assert!(told.contains("--cases 0 --table-checks 0 --lists 1\n0000000"));
+        assert!(why.starts_with("DIFFERENCE in list "), "{why}");
+        assert!(why.contains("the writer answers 30 with "), "{why}");
+        assert!(why.contains(" --lists 1\n"), "{why}");
     }
 
     #[test]
     fn a_writer_that_writes_past_its_words_or_before_a_refusal_is_found() {
-        let told = first_difference(|calls, list| {
+        let why = first_difference(|calls, list| {
             let (code, number) = PROVED_WRITER(calls, list);
             if code == 0 {
                 list[number..].fill(0);
             }
             (code, number)
         });
-        assert!(told.contains("; both answer 0 with "), "{told}");
-        let told = first_difference(|calls, list| {
+        assert!(why.contains("; both answer 0 with "), "{why}");
+        let why = first_difference(|calls, list| {
             let answer = PROVED_WRITER(calls, list);
             if let (31, Some(first)) = (answer.0, list.first_mut()) {
                 *first ^= 1;
             }
             answer
         });
-        assert!(told.contains("word 0 of the list"), "{told}");
-        assert!(told.contains("; both answer 31 with 0"), "{told}");
+        assert!(why.contains("word 0 of the list"), "{why}");
+        assert!(why.contains("; both answer 31 with 0"), "{why}");
     }
 
     #[test]
     fn a_writer_that_writes_what_it_is_not_lent_is_found() {
-        let told = first_difference(|calls, list| {
+        let why = first_difference(|calls, list| {
             let answer = PROVED_WRITER(calls, list);
             // SAFETY: the words are lent from the middle of a larger space.
             unsafe { *list.as_mut_ptr().add(list.len()) = 0 };
             answer
         });
-        assert!(told.contains("outside the words"), "{told}");
+        assert!(why.contains("outside the words"), "{why}");
     }
 
     #[test]
-    fn a_writer_that_stops_is_told() {
-        let told = first_difference(|_, _| std::process::abort());
-        assert!(told.starts_with("STOPPED in list 1 "), "{told}");
+    fn a_writer_that_stops_is_reported() {
+        let why = first_difference(|_, _| std::process::abort());
+        assert!(why.starts_with("STOPPED in list 1 "), "{why}");
     }
 
     #[test]
@@ -396,10 +319,10 @@ mod tests {
         let read = |codes| read_as_answered(PROVED_WRITER, &list, &answers(codes));
         assert_eq!(read([17, 10, 13]), Ok(false));
         assert_eq!(read([12, 10, 12]), Ok(false));
-        let told = read([0, 11, 13]).unwrap_err();
-        assert_eq!(told, "call 1 is answered with 11 and read as Refused(10)");
-        let told = read([14, 10, 13]).unwrap_err();
-        assert!(told.contains("call 0 is answered with 14 and read as Send"));
+        let why = read([0, 11, 13]).unwrap_err();
+        assert_eq!(why, "call 1 is answered with 11 and read as Refused(10)");
+        let why = read([14, 10, 13]).unwrap_err();
+        assert!(why.contains("call 0 is answered with 14 and read as Send"));
     }
 
     #[test]
@@ -411,10 +334,7 @@ mod tests {
         let short = read_as_answered(PROVED_WRITER, &list, &done[1..]);
         assert_eq!(short, Err("8 calls have 23 words of answers".to_string()));
         let cut = |calls: &[u32], list: &mut [u32]| PROVED_WRITER(&calls[5..], list);
-        let told = read_as_answered(cut, &list, &done).unwrap_err();
-        assert!(
-            told.starts_with("the list is read and written as "),
-            "{told}"
-        );
+        let why = read_as_answered(cut, &list, &done).unwrap_err();
+        assert!(why.starts_with("the list is read and written as "), "{why}");
     }
 }

@@ -9,18 +9,19 @@ use reference::{agree, members, view};
 
 use crate::cases::random::rng_for;
 use crate::cases::Case;
+use crate::judging::trying::Met;
 use crate::kernels::lent::{Failure, Ran};
 
 /// Lists with more calls than this are left out: the set takes a run of its own.
 const CALLS_MAX: usize = 80;
 
-/// What a pair of runs shows beside that nothing differs for the domain.
-#[derive(Debug, Clone, Copy, PartialEq, Eq)]
-pub struct Pair {
-    /// Whether another domain than a member has another part.
-    pub parts_differ: bool,
-    /// Whether another domain is answered otherwise.
-    pub answers_differ: bool,
+/// What pairs must meet.
+pub fn met() -> Met {
+    Met::of(&[
+        "a pair of lines compared",
+        "a pair that differs where a domain can't be reached",
+        "a pair of which another domain is answered otherwise",
+    ])
 }
 
 /// Runs a case's list from a second table too, and compares what a domain sees. There is
@@ -29,37 +30,39 @@ pub fn pair(
     case: &Case,
     ran: &Ran,
     (seed, number): (u64, u64),
+    met: &mut Met,
     run: impl FnOnce(&Case) -> Result<Ran, Failure>,
-) -> Result<Option<Pair>, String> {
+) -> Result<(), String> {
     let calls = cut(&case.list);
     if ran.outcome.code != 0 || calls.len() > CALLS_MAX {
-        return Ok(None);
+        return Ok(());
     }
     let rng = &mut rng_for(seed.rotate_left(16), number);
     let Some((domain, other)) = second_line(rng, case, &calls)? else {
-        return Ok(None);
+        return Ok(());
     };
     let second = run(&other)?;
-    let seen = |table: &[u32], answers: &[u32], d| view(table, &calls, answers, d);
     let both = |d| {
-        let first = seen(&ran.table, &ran.answers, d);
-        (first, seen(&second.table, &second.answers, d))
+        let seen = |ran: &Ran| view(&ran.table, &calls, &ran.answers, d);
+        (seen(ran), seen(&second))
     };
-    let (first, other_view) = both(domain);
-    if second.outcome.code != 0 || first != other_view {
+    let (first, again) = both(domain);
+    if second.outcome.code != 0 || first != again {
         return Err(format!(
             "domain {domain} sees another thing of the same list from a table that differs only \
-             where domain {domain} can't be reached: first {first:X?}, then {other_view:X?}"
+             where domain {domain} can't be reached: first {first:X?}, then {again:X?}"
         ));
     }
-    let answers_differ = (0..domains(&case.table)).any(|d| {
-        let (first, second) = both(d);
-        first.answers != second.answers
-    });
-    Ok(Some(Pair {
-        parts_differ: other.table != case.table,
-        answers_differ,
-    }))
+    let otherwise = |d| both(d).0.answers != both(d).1.answers;
+    let otherwise = (0..domains(&case.table)).any(otherwise);
+    let parts = other.table != case.table;
+    met.add("a pair of lines compared", true);
+    met.add("a pair that differs where a domain can't be reached", parts);
+    met.add(
+        "a pair of which another domain is answered otherwise",
+        otherwise,
+    );
+    Ok(())
 }
 
 /// A domain, and the case from a second table that agrees with the first on each member of
@@ -94,10 +97,10 @@ mod tests {
     use crate::kernels::boundary::PROVED;
     use crate::kernels::lent::run_here;
 
-    fn tried(number: u64, alter: impl Fn(&mut Ran)) -> Result<Option<Pair>, String> {
+    fn tried(number: u64, met: &mut Met, alter: impl Fn(&mut Ran)) -> Result<(), String> {
         let case = run_case(1, number);
         let ran = run_here(&PROVED, &case).unwrap();
-        pair(&case, &ran, (1, number), |other| {
+        pair(&case, &ran, (1, number), met, |other| {
             let mut ran = run_here(&PROVED, other)?;
             alter(&mut ran);
             Ok(ran)
@@ -105,23 +108,15 @@ mod tests {
     }
 
     #[test]
-    fn the_proved_kernel_keeps_lines_apart_and_pairs_show_something() {
-        let pairs = (0..1500).filter_map(|number| tried(number, |_| ()).unwrap());
-        let pairs: Vec<Pair> = pairs.collect();
-        assert!(pairs.len() > 100, "{}", pairs.len());
-        assert!(pairs.iter().filter(|pair| pair.parts_differ).count() > 100);
-        assert!(pairs.iter().filter(|pair| pair.answers_differ).count() > 20);
-    }
-
-    #[test]
-    fn a_kernel_that_lets_another_line_show_is_found() {
-        let told = (0..1500).find_map(|number| {
-            let wrong = tried(number, |ran| {
-                ran.answers.iter_mut().for_each(|word| *word ^= 1)
-            });
-            wrong.err()
-        });
-        assert!(told
+    fn a_kernel_that_lets_another_line_show_is_found_and_the_proved_one_does_not() {
+        let mut met = met();
+        for number in 0..1500 {
+            assert_eq!(tried(number, &mut met, |_| ()), Ok(()));
+        }
+        assert!(met.count("a pair of which another domain is answered otherwise") > 20);
+        let alters = |ran: &mut Ran| ran.answers.iter_mut().for_each(|word| *word ^= 1);
+        let wrong = (0..1500).find_map(|number| tried(number, &mut met, alters).err());
+        assert!(wrong
             .unwrap()
             .contains("sees another thing of the same list"));
     }

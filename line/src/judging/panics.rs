@@ -1,4 +1,4 @@
-//! A panic of the separate machine as something to report, not as the end of the
+//! A panic of the reference as something to report, not as the end of the
 //! bench.
 
 use std::cell::Cell;
@@ -28,7 +28,7 @@ pub fn or_panic<T>(act: impl FnOnce() -> T) -> Result<T, String> {
     acted.map_err(|payload| {
         let text = payload.downcast_ref::<String>().map(String::as_str);
         let text = text.or_else(|| payload.downcast_ref::<&str>().copied());
-        format!("the separate machine panics: {}", text.unwrap_or("?"))
+        format!("the reference panics: {}", text.unwrap_or("?"))
     })
 }
 
@@ -37,12 +37,12 @@ mod tests {
     use super::*;
 
     #[test]
-    fn a_panic_is_told() {
+    fn a_panic_is_reported() {
         assert_eq!(or_panic(|| 5), Ok(5));
         let words = [1, 2];
         let place = words.len();
         let told = or_panic(|| words[place]).unwrap_err();
-        assert!(told.starts_with("the separate machine panics: index out of"));
+        assert!(told.starts_with("the reference panics: index out of"));
         assert!(or_panic(|| -> u8 { panic!("plain") })
             .unwrap_err()
             .ends_with("plain"));

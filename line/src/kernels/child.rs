@@ -71,6 +71,13 @@ impl Board {
         let places = &self.0[LEFT + places.start..LEFT + places.end];
         places.iter().map(|at| at.load(Relaxed))
     }
+
+    /// The text that was left in some places, a byte each.
+    pub fn text(&self, places: Range<usize>) -> String {
+        let bytes = self.left(places).map(|byte| byte as u8);
+        let bytes: Vec<u8> = bytes.take_while(|&byte| byte != 0).collect();
+        String::from_utf8_lossy(&bytes).into_owned()
+    }
 }
 
 /// What `act` gives, done in a child process; or how it stopped, where it took longer

@@ -300,16 +300,6 @@ fn failed(failure: Failure) -> Wrong {
     in_both(failure.to_string())
 }
 
-/// The text that was left from a place on.
-fn text_left(board: &Board, place: usize) -> String {
-    let bytes = board.left(place..place + REPORTED_MAX);
-    let bytes: Vec<u8> = bytes
-        .map(|byte| byte as u8)
-        .take_while(|&b| b != 0)
-        .collect();
-    String::from_utf8_lossy(&bytes).into_owned()
-}
-
 /// The drill and what it gives by a number, and which of the drill's it is.
 fn given_of_number(tables: &Tables, wanted: u64) -> (&'static str, u64, Given) {
     let mut number = 0;
@@ -337,10 +327,10 @@ fn differs(kernel: &Kernel, tables: &Tables, board: &Board) -> Wrong {
         Given::Far(far) => far.in_words(),
     };
     let reported = |why: String| format!("{what}, case {number}: {why}\n{shown}");
-    let refusal = Some(text_left(board, REFUSAL)).filter(|text| !text.is_empty());
+    let refusal = Some(board.text(REFUSAL..WORD)).filter(|text| !text.is_empty());
     Wrong {
         refusal: refusal.map(reported),
-        word: reported(text_left(board, WORD)),
+        word: reported(board.text(WORD..WORD + REPORTED_MAX)),
     }
 }
 
@@ -355,7 +345,7 @@ fn shorter(kernel: &Kernel, case: &Case) -> String {
     };
     let shorter = cut_down(case, Cut::Calls, child::LIMIT, wrong);
     shorter.unwrap_or_else(|| {
-        "Only after the runs before it in one process: by itself this run is right.".to_string()
+        "Only after the runs before it in one process: alone this run is right.".to_string()
     })
 }
 
