@@ -1,7 +1,8 @@
 //! The functions that archives for tests have, where the program was built with them: the
-//! kernel's public step, its queue's functions and its check of a table's words. The
-//! caller's duties are what Rust's references say of themselves, so every wrapper is safe.
+//! kernel's public step, its queue's functions and its check of a table's words.
 
+#[cfg(any(test_export, check))]
+use line::c_call;
 use line::kernels::boundary::{Kernel, Step};
 
 /// The public step of the proved kernel, where the program was built with it.
@@ -10,33 +11,9 @@ pub const PROVED_STEP: Option<Step> = None;
 
 #[cfg(test_export)]
 pub const PROVED_STEP: Option<Step> = Some(|table, call, answer, holders| {
-    extern "C" {
-        fn balkwizu_test_step(
-            table: *mut u32,
-            table_len: usize,
-            first: u32,
-            second: u32,
-            has_second: u32,
-            answer: *mut u32,
-            answer_len: usize,
-            holders: *mut u32,
-            holders_len: usize,
-        ) -> u32;
-    }
-    // SAFETY: three slices, each valid for its length, aligned and borrowed alone.
-    unsafe {
-        balkwizu_test_step(
-            table.as_mut_ptr(),
-            table.len(),
-            call.first,
-            call.second.unwrap_or(0),
-            u32::from(call.second.is_some()),
-            answer.as_mut_ptr(),
-            answer.len(),
-            holders.as_mut_ptr(),
-            holders.len(),
-        )
-    }
+    let (first, second) = (call.first, call.second.unwrap_or(0));
+    let has_second = u32::from(call.second.is_some());
+    c_call!(balkwizu_test_step -> u32, mut table, first, second, has_second, mut answer, mut holders,)
 });
 
 /// A send of a message to an endpoint's words, and a receive from them: whether it
@@ -53,22 +30,8 @@ pub const PROVED_QUEUE: Option<Queue> = None;
 
 #[cfg(test_export)]
 pub const PROVED_QUEUE: Option<Queue> = Some(Queue {
-    send: |words, message| {
-        extern "C" {
-            fn balkwizu_test_send(words: *mut u32, words_len: usize, message: u32) -> u32;
-        }
-        // SAFETY: a slice, valid for its length, aligned and borrowed alone.
-        let done = unsafe { balkwizu_test_send(words.as_mut_ptr(), words.len(), message) };
-        done != 0
-    },
-    receive: |words| {
-        extern "C" {
-            fn balkwizu_test_receive(words: *mut u32, words_len: usize) -> u32;
-        }
-        // SAFETY: as above.
-        let done = unsafe { balkwizu_test_receive(words.as_mut_ptr(), words.len()) };
-        done != 0
-    },
+    send: |words, message| c_call!(balkwizu_test_send -> u32, mut words, message,) != 0,
+    receive: |words| c_call!(balkwizu_test_receive -> u32, mut words,) != 0,
 });
 
 /// Whether the proved check of words is in this program.
@@ -80,11 +43,7 @@ pub const HAS_WORDS_CHECK: bool = cfg!(check);
 pub fn words_check(kernel: &Kernel, table: &[u32]) -> u32 {
     #[cfg(check)]
     if kernel.name == line::kernels::boundary::PROVED.name {
-        extern "C" {
-            fn balkwizu_test_check(table: *const u32, table_len: usize) -> u32;
-        }
-        // SAFETY: a slice, valid for its length and aligned.
-        return unsafe { balkwizu_test_check(table.as_ptr(), table.len()) };
+        return c_call!(balkwizu_test_check -> u32, const table,);
     }
     // SAFETY: the bytes of the words, which are valid for as long as they are.
     let bytes = unsafe { std::slice::from_raw_parts(table.as_ptr().cast(), 4 * table.len()) };
@@ -114,6 +73,7 @@ mod tests {
 
 #[cfg(all(test, test_export))]
 mod both_ways {
+    use line::c_call;
     use line::cases::random::run_case;
     use line::cases::Case;
     use line::kernels::boundary::PROVED;
@@ -123,43 +83,12 @@ mod both_ways {
     /// place on a case and on the working layout of its copy: whether it says that they
     /// ended the same.
     fn both_ways(case: &mut Case, copy: &mut Case) -> bool {
-        extern "C" {
-            fn balkwizu_test_both_ways(
-                table: *mut u32,
-                table_len: usize,
-                copy: *mut u32,
-                copy_len: usize,
-                list: *const u32,
-                list_len: usize,
-                answers: *mut u32,
-                answers_len: usize,
-                copied_answers: *mut u32,
-                copied_answers_len: usize,
-                holders: *mut u32,
-                holders_len: usize,
-                copied_holders: *mut u32,
-                copied_holders_len: usize,
-            ) -> u32;
-        }
-        // SAFETY: seven slices, each valid for its length, aligned and borrowed alone.
-        let same = unsafe {
-            balkwizu_test_both_ways(
-                case.table.as_mut_ptr(),
-                case.table.len(),
-                copy.table.as_mut_ptr(),
-                copy.table.len(),
-                case.list.as_ptr(),
-                case.list.len(),
-                case.answers.as_mut_ptr(),
-                case.answers.len(),
-                copy.answers.as_mut_ptr(),
-                copy.answers.len(),
-                case.holders.as_mut_ptr(),
-                case.holders.len(),
-                copy.holders.as_mut_ptr(),
-                copy.holders.len(),
-            )
-        };
+        let (table, copied_table) = (&mut case.table[..], &mut copy.table[..]);
+        let (list, answers, copied_answers) =
+            (&case.list[..], &mut case.answers[..], &mut copy.answers[..]);
+        let (holders, copied_holders) = (&mut case.holders[..], &mut copy.holders[..]);
+        let same = c_call!(balkwizu_test_both_ways -> u32, mut table, mut copied_table,
+            const list, mut answers, mut copied_answers, mut holders, mut copied_holders,);
         same == 1
     }
 

@@ -1,11 +1,9 @@
-//! The C boundary: the kernel's exported functions as include/balkwizu.h
-//! declares them, those of the plain C kernel, the kernel's public step, its queue and its
-//! check of words as crates have them for tests, and safe wrappers over all of them.
+//! The C boundary: the kernel's exported functions as include/balkwizu.h declares them, and
+//! safe wrappers over them.
 //!
-//! The caller's duties of the header are what Rust's references say of
-//! themselves: a slice is valid for its length, aligned and never null, two
-//! lent parts of which one is written never overlap, and nobody else writes
-//! them. So every wrapper is safe.
+//! What the header asks of a caller is what Rust's references have: a slice is valid for its
+//! length, aligned and never null, two lent parts of which one is written never overlap, and
+//! nobody else writes them. So every wrapper is safe.
 
 use reference::calls::LIST_WORDS_MAX;
 use reference::words::bits;
@@ -100,45 +98,49 @@ impl Kernel {
     }
 }
 
-/// A kernel by its two C functions, which the header declares like this:
-///
-/// uint32_t balkwizu_table_check(const uint8_t *bytes, size_t len);
-///
-/// uint32_t balkwizu_run(uint32_t *table, size_t table_len,
-///                       const uint32_t *list, size_t list_len,
-///                       uint32_t *answers, size_t answers_len,
-///                       uint32_t *holders, size_t holders_len);
+/// Calls a C function: a number is given as it is, `const` words and `mut` ones, which it may
+/// write, as a pointer and a length. Whoever writes such a call sees to it that the words are
+/// valid for their length and aligned, and that those which are written overlap no others.
+#[macro_export]
+macro_rules! c_call {
+    ($name:ident -> $returns:ty, $($given:tt)*) => {
+        $crate::c_call!(@ $name, $returns, [], [], $($given)*)
+    };
+    (@ $name:ident, $returns:ty, [$($type:ty,)*], [$($value:expr,)*], const $words:ident, $($rest:tt)*) => {{
+        let words: *const [u32] = $words;
+        $crate::c_call!(@ $name, $returns, [$($type,)* *const u32, usize,],
+            [$($value,)* words.cast(), words.len(),], $($rest)*)
+    }};
+    (@ $name:ident, $returns:ty, [$($type:ty,)*], [$($value:expr,)*], mut $words:ident, $($rest:tt)*) => {{
+        let words: *mut [u32] = $words;
+        $crate::c_call!(@ $name, $returns, [$($type,)* *mut u32, usize,],
+            [$($value,)* words.cast(), words.len(),], $($rest)*)
+    }};
+    (@ $name:ident, $returns:ty, [$($type:ty,)*], [$($value:expr,)*], $number:ident, $($rest:tt)*) => {
+        $crate::c_call!(@ $name, $returns, [$($type,)* u32,], [$($value,)* $number,], $($rest)*)
+    };
+    (@ $name:ident, $returns:ty, [$($type:ty,)*], [$($value:expr,)*],) => {{
+        extern "C" {
+            fn $name($(_: $type),*) -> $returns;
+        }
+        // SAFETY: the words are as the function asks for, by whoever writes the call.
+        unsafe { $name($($value),*) }
+    }};
+}
+
+/// A kernel by the names of its check and of its run, as the header declares them.
 #[macro_export]
 macro_rules! kernel {
     ($name:literal, $title:expr, $table_check:ident, $run:ident) => {{
         extern "C" {
             fn $table_check(bytes: *const u8, len: usize) -> u32;
-            fn $run(
-                table: *mut u32,
-                table_len: usize,
-                list: *const u32,
-                list_len: usize,
-                answers: *mut u32,
-                answers_len: usize,
-                holders: *mut u32,
-                holders_len: usize,
-            ) -> u32;
         }
         $crate::kernels::boundary::Kernel::of(
             [$name, $title],
-            // SAFETY: in both, the caller's duties are those of the C function.
+            // SAFETY: what the caller must see to is what the C function asks for.
             |bytes| unsafe { $table_check(bytes.cast(), bytes.len()) },
-            |table, list, answers, holders| unsafe {
-                $run(
-                    table.cast(),
-                    table.len(),
-                    list.cast(),
-                    list.len(),
-                    answers.cast(),
-                    answers.len(),
-                    holders.cast(),
-                    holders.len(),
-                )
+            |table, list, answers, holders| {
+                $crate::c_call!($run -> u32, mut table, const list, mut answers, mut holders,)
             },
         )
     }};
@@ -194,23 +196,18 @@ pub const NO_SPACE: u32 = 99;
 /// The component of a domain in a table, by the proved kernel: its code, and the members
 /// as bits.
 pub fn component(table: &[u32], domain: u32) -> (u32, u32) {
-    extern "C" {
-        fn balkwizu_component(table: *const u32, table_len: usize, domain: u32) -> u32;
-    }
-    // SAFETY: a slice, valid for its length and aligned.
-    let told = unsafe { balkwizu_component(table.as_ptr(), table.len(), domain) };
-    (bits(told, 15, 0), bits(told, 31, 16))
+    halves(c_call!(balkwizu_component -> u32, const table, domain,))
+}
+
+/// The lower half of a word, which is a code, and the upper one.
+fn halves(answer: u32) -> (u32, u32) {
+    (bits(answer, 15, 0), bits(answer, 31, 16))
 }
 
 /// Who has a chain of rights to a domain, by the holders' words and the proved kernel: its
 /// code, and those domains as bits.
 pub fn who_reaches(holders: &[u32], domain: u32) -> (u32, u32) {
-    extern "C" {
-        fn balkwizu_who_reaches(holders: *const u32, holders_len: usize, domain: u32) -> u32;
-    }
-    // SAFETY: a slice, valid for its length and aligned.
-    let told = unsafe { balkwizu_who_reaches(holders.as_ptr(), holders.len(), domain) };
-    (bits(told, 15, 0), bits(told, 31, 16))
+    halves(c_call!(balkwizu_who_reaches -> u32, const holders, domain,))
 }
 
 /// The potential rights of a table where the actors alone make calls: its code.
@@ -218,26 +215,7 @@ pub type Potential = fn(table: &[u32], actors: u32, rights: &mut [u32]) -> u32;
 
 /// The potential rights by the proved kernel.
 pub fn potential(table: &[u32], actors: u32, rights: &mut [u32]) -> u32 {
-    extern "C" {
-        fn balkwizu_potential(
-            table: *const u32,
-            table_len: usize,
-            actors: u32,
-            rights: *mut u32,
-            rights_len: usize,
-        ) -> u32;
-    }
-    // SAFETY: two slices, each valid for its length and aligned; the one that is
-    // written is borrowed alone.
-    unsafe {
-        balkwizu_potential(
-            table.as_ptr(),
-            table.len(),
-            actors,
-            rights.as_mut_ptr(),
-            rights.len(),
-        )
-    }
+    c_call!(balkwizu_potential -> u32, const table, actors, mut rights,)
 }
 
 /// Who could influence a domain of a table where the actors alone make calls: the code, and
@@ -246,17 +224,7 @@ pub type CouldInfluence = fn(table: &[u32], actors: u32, domain: u32) -> (u32, u
 
 /// Who could influence a domain by the proved kernel.
 pub fn could_influence(table: &[u32], actors: u32, domain: u32) -> (u32, u32) {
-    extern "C" {
-        fn balkwizu_could_influence(
-            table: *const u32,
-            table_len: usize,
-            actors: u32,
-            domain: u32,
-        ) -> u32;
-    }
-    // SAFETY: a slice, valid for its length and aligned.
-    let answer = unsafe { balkwizu_could_influence(table.as_ptr(), table.len(), actors, domain) };
-    (bits(answer, 15, 0), bits(answer, 31, 16))
+    halves(c_call!(balkwizu_could_influence -> u32, const table, actors, domain,))
 }
 
 /// A repair of a table: its code, and how many words it altered, each of which has two in
@@ -265,24 +233,7 @@ pub type Repair = fn(table: &mut [u32], changes: &mut [u32]) -> (u32, u32);
 
 /// The repair of the proved kernel.
 pub fn repair(table: &mut [u32], changes: &mut [u32]) -> (u32, u32) {
-    extern "C" {
-        fn balkwizu_repair(
-            table: *mut u32,
-            table_len: usize,
-            changes: *mut u32,
-            changes_len: usize,
-        ) -> u32;
-    }
-    // SAFETY: two slices, each valid for its length, aligned and borrowed alone.
-    let told = unsafe {
-        balkwizu_repair(
-            table.as_mut_ptr(),
-            table.len(),
-            changes.as_mut_ptr(),
-            changes.len(),
-        )
-    };
-    (bits(told, 15, 0), bits(told, 31, 16))
+    halves(c_call!(balkwizu_repair -> u32, mut table, mut changes,))
 }
 
 /// What a writer of lists answers: the code, and the number of words that it wrote or
@@ -293,21 +244,8 @@ pub type Written = (u32, usize);
 pub type Writer = fn(calls: &[u32], list: &mut [u32]) -> Written;
 
 /// The writer of the proved kernel.
-pub const PROVED_WRITER: Writer = |calls, list| {
-    extern "C" {
-        fn balkwizu_write(
-            calls: *const u32,
-            calls_len: usize,
-            list: *mut u32,
-            list_len: usize,
-        ) -> u64;
-    }
-    // SAFETY: two slices, each valid for its length and aligned; the one that is written
-    // is borrowed alone.
-    let result =
-        unsafe { balkwizu_write(calls.as_ptr(), calls.len(), list.as_mut_ptr(), list.len()) };
-    written(result)
-};
+pub const PROVED_WRITER: Writer =
+    |calls, list| written(c_call!(balkwizu_write -> u64, const calls, mut list,));
 
 /// The code and the number of what the proved writer returns: up to 4,096 as many words
 /// are written, 4,097 is code 31, and 4,098 + k is code 30 of the call k.
@@ -321,31 +259,7 @@ fn written(result: u64) -> Written {
 
 /// One call by the archive's function for it: its code.
 pub fn single(table: &mut [u32], holders: &mut [u32], words: &[u32], answer: &mut [u32]) -> u32 {
-    extern "C" {
-        fn balkwizu_step(
-            table: *mut u32,
-            table_len: usize,
-            holders: *mut u32,
-            holders_len: usize,
-            words: *const u32,
-            words_len: usize,
-            answer: *mut u32,
-            answer_len: usize,
-        ) -> u32;
-    }
-    // SAFETY: four slices, each valid for its length, aligned and borrowed alone.
-    unsafe {
-        balkwizu_step(
-            table.as_mut_ptr(),
-            table.len(),
-            holders.as_mut_ptr(),
-            holders.len(),
-            words.as_ptr(),
-            words.len(),
-            answer.as_mut_ptr(),
-            answer.len(),
-        )
-    }
+    c_call!(balkwizu_step -> u32, mut table, mut holders, const words, mut answer,)
 }
 
 #[cfg(test)]
@@ -353,38 +267,9 @@ mod tests {
     use super::*;
     use crate::cases::random::run_case;
     use reference::calls::cut;
-    use reference::example::{LIST_L, TABLE_T};
-
-    /// Who has a right on each domain once L has run on T: a bit for each holder.
-    const HOLDERS_AFTER_L: [u32; 3] = [0b010, 0b001, 0b011];
 
     #[test]
-    fn every_kernel_runs_the_worked_example() {
-        for kernel in PROVED_RUNS {
-            let mut table = TABLE_T;
-            let mut answers = [7; 28];
-            let mut holders = [7; 3];
-            let outcome = kernel.run(&mut table, &LIST_L, &mut answers, &mut holders);
-            assert_eq!(outcome, Outcome { code: 0, calls: 9 }, "{}", kernel.name);
-            assert_eq!(holders, HOLDERS_AFTER_L, "{}", kernel.name);
-            assert_eq!(answers[12..15], [0x3080_0000, 6, 1], "{}", kernel.name);
-            assert_eq!(answers[27], 7, "{}", kernel.name);
-        }
-    }
-
-    #[test]
-    fn every_kernel_checks_bytes() {
-        for kernel in PROVED_RUNS {
-            let bytes = reference::words::to_bytes(&TABLE_T);
-            assert_eq!(kernel.table_check(&bytes), 0, "{}", kernel.name);
-            assert_eq!(kernel.table_check(&bytes[1..]), 2, "{}", kernel.name);
-            assert_eq!(kernel.table_check(&bytes[..135]), 3, "{}", kernel.name);
-            assert_eq!(kernel.table_check(&[]), 2, "{}", kernel.name);
-        }
-    }
-
-    #[test]
-    fn calls_by_themselves_are_the_run_of_their_list() {
+    fn single_calls_are_the_run_of_their_list() {
         let mut calls = 0;
         for number in 0..2000 {
             let mut case = run_case(1, number);

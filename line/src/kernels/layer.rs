@@ -3,6 +3,7 @@
 
 use reference::words::bits;
 
+use crate::c_call;
 use crate::kernels::lent::{Failure, Fenced, Forbidden};
 
 /// The beginning, of words that are valid for reads, those of the state and of the holders
@@ -43,84 +44,11 @@ impl Layer {
     }
 }
 
-/// The layer of the proved archive for it. As in [`boundary`](crate::kernels::boundary) the
-/// caller's duties are what references say of themselves.
+/// The layer of the proved archive for it.
 pub const PROVED_LAYER: Layer = Layer {
-    begin: |table, state, holders| {
-        extern "C" {
-            fn balkwizu_turns_begin(
-                table: *const u32,
-                table_len: usize,
-                state: *mut u32,
-                state_len: usize,
-                holders: *mut u32,
-                holders_len: usize,
-            ) -> u32;
-        }
-        // SAFETY: the caller's duties are those of the C function.
-        unsafe {
-            balkwizu_turns_begin(
-                table.cast(),
-                table.len(),
-                state.cast(),
-                state.len(),
-                holders.cast(),
-                holders.len(),
-            )
-        }
-    },
-    hand_in: |table, state, domain, words| {
-        extern "C" {
-            fn balkwizu_hand_in(
-                table: *const u32,
-                table_len: usize,
-                state: *mut u32,
-                state_len: usize,
-                domain: u32,
-                words: *const u32,
-                words_len: usize,
-            ) -> u32;
-        }
-        // SAFETY: the caller's duties are those of the C function.
-        unsafe {
-            balkwizu_hand_in(
-                table.cast(),
-                table.len(),
-                state.cast(),
-                state.len(),
-                domain,
-                words.cast(),
-                words.len(),
-            )
-        }
-    },
-    turn: |table, state, holders, answer| {
-        extern "C" {
-            fn balkwizu_turn(
-                table: *mut u32,
-                table_len: usize,
-                state: *mut u32,
-                state_len: usize,
-                holders: *mut u32,
-                holders_len: usize,
-                answer: *mut u32,
-                answer_len: usize,
-            ) -> u32;
-        }
-        // SAFETY: four slices, each valid for its length, aligned and borrowed alone.
-        unsafe {
-            balkwizu_turn(
-                table.as_mut_ptr(),
-                table.len(),
-                state.as_mut_ptr(),
-                state.len(),
-                holders.as_mut_ptr(),
-                holders.len(),
-                answer.as_mut_ptr(),
-                answer.len(),
-            )
-        }
-    },
+    begin: |table, state, holders| c_call!(balkwizu_turns_begin -> u32, const table, mut state, mut holders,),
+    hand_in: |table, state, domain, words| c_call!(balkwizu_hand_in -> u32, const table, mut state, domain, const words,),
+    turn: |table, state, holders, answer| c_call!(balkwizu_turn -> u32, mut table, mut state, mut holders, mut answer,),
 };
 
 /// Something that happens to a layer.
@@ -199,10 +127,10 @@ fn turn_here(layer: &Layer, lent: &Lent) -> Result<Left, Failure> {
     let mut state = Fenced::new(&lent.state);
     let mut holders = Fenced::new(&lent.holders);
     let mut answer = Fenced::new(&lent.answer);
-    let told = (layer.turn)(table.lent(), state.lent(), holders.lent(), answer.lent());
+    let answered = (layer.turn)(table.lent(), state.lent(), holders.lent(), answer.lent());
     Ok(Left {
-        code: bits(told, 15, 0),
-        served: bits(told, 31, 16),
+        code: bits(answered, 15, 0),
+        served: bits(answered, 31, 16),
         words: Lent {
             table: table.words(Forbidden::AroundTable)?,
             state: state.words(Forbidden::AroundState)?,

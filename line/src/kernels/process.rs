@@ -1,6 +1,7 @@
 //! What the system is asked for beyond Rust's library: a child process that does part
 //! of this program's work, how long processors worked on it, memory that both see, an end
-//! put to a program, and what a pipe holds. This file and the boundary have all of this library's `unsafe` but its tests'.
+//! put to a program, and what a pipe holds. This file and the boundary have all of this
+//! library's `unsafe` but its tests'.
 
 use std::ffi::{c_int, c_long, c_uint, c_ulong, c_void};
 use std::ops::Deref;
@@ -50,97 +51,37 @@ const MAP_SHARED_AND_ANONYMOUS: c_int = 0x21;
 const MAP_RESERVED: c_int = 0x4022; // private, anonymous, and kept by nothing until it is touched
 const PAGE: usize = 4096;
 
-/// Numbers, zero at first, that a child process shares with its parent.
-pub struct Shared {
-    start: *mut AtomicU64,
-    count: usize,
-}
-
-impl Shared {
-    pub fn new(count: usize) -> io::Result<Shared> {
-        let start = memory(count * size_of::<AtomicU64>(), MAP_SHARED_AND_ANONYMOUS)?.cast();
-        Ok(Shared { start, count })
-    }
-}
-
-/// New memory of so many bytes, zero at first.
-fn memory(bytes: usize, flags: c_int) -> io::Result<*mut c_void> {
-    // SAFETY: new memory is asked for, at no place in particular.
-    let start = unsafe { mmap(ptr::null_mut(), bytes, PROT_READ_AND_WRITE, flags, -1, 0) };
-    match start as isize {
-        -1 => Err(io::Error::last_os_error()),
-        _ => Ok(start),
-    }
-}
-
-/// Words at whose end nothing may be read or written: whoever goes past them is ended.
-pub struct Guarded {
+/// Memory that was asked for, zero at first, and given back when it is dropped.
+struct Memory {
     start: *mut c_void,
     bytes: usize,
 }
 
-impl Guarded {
-    /// Space for so many words at least.
-    pub fn new(words: usize) -> io::Result<Guarded> {
-        let bytes = (words * size_of::<u32>()).next_multiple_of(PAGE);
-        let start = memory(bytes + PAGE, MAP_SHARED_AND_ANONYMOUS)?;
-        // SAFETY: the last page of the memory that was just given, which nobody has yet.
-        match unsafe { mprotect(start.cast::<u8>().add(bytes).cast(), PAGE, PROT_NONE) } {
-            0 => Ok(Guarded { start, bytes }),
-            _ => Err(io::Error::last_os_error()),
+impl Memory {
+    fn new(bytes: usize, flags: c_int) -> io::Result<Memory> {
+        // SAFETY: new memory is asked for, at no place in particular.
+        let start = unsafe { mmap(ptr::null_mut(), bytes, PROT_READ_AND_WRITE, flags, -1, 0) };
+        match start as isize {
+            -1 => Err(io::Error::last_os_error()),
+            _ => Ok(Memory { start, bytes }),
         }
     }
-
-    /// The last words, so many; nothing where there aren't as many.
-    pub fn last(&mut self, words: usize) -> Option<&mut [u32]> {
-        let place = self.bytes.checked_sub(words * size_of::<u32>())?;
-        // SAFETY: the words from there to the end are this one's memory, borrowed with it
-        // alone; a page's end is aligned for words.
-        Some(unsafe {
-            let first = self.start.cast::<u8>().add(place).cast();
-            slice::from_raw_parts_mut(first, words)
-        })
-    }
-
-    /// The last bytes, so many; nothing where there aren't as many.
-    pub fn last_bytes(&mut self, bytes: usize) -> Option<&mut [u8]> {
-        let place = self.bytes.checked_sub(bytes)?;
-        // SAFETY: the bytes from there to the end are this one's memory, borrowed with it
-        // alone.
-        Some(unsafe { slice::from_raw_parts_mut(self.start.cast::<u8>().add(place), bytes) })
-    }
 }
 
-impl Drop for Guarded {
+impl Drop for Memory {
     fn drop(&mut self) {
         // SAFETY: it is the memory that was given, and nobody has it any more.
-        unsafe { munmap(self.start, self.bytes + PAGE) };
+        unsafe { munmap(self.start, self.bytes) };
     }
 }
 
-/// Words, zero at first, of which only those that are touched take memory.
-pub struct Reserved {
-    start: *mut u32,
-    count: usize,
-}
+/// Numbers, zero at first, that a child process shares with its parent.
+pub struct Shared(Memory, usize);
 
-impl Reserved {
-    pub fn new(count: usize) -> io::Result<Reserved> {
-        let start = memory(count * size_of::<u32>(), MAP_RESERVED)?.cast();
-        Ok(Reserved { start, count })
-    }
-
-    pub fn words(&mut self) -> &mut [u32] {
-        // SAFETY: the memory is there until this is dropped, borrowed with it alone, aligned
-        // to a page and zero at first.
-        unsafe { slice::from_raw_parts_mut(self.start, self.count) }
-    }
-}
-
-impl Drop for Reserved {
-    fn drop(&mut self) {
-        // SAFETY: it is the memory that was given, and nobody has it any more.
-        unsafe { munmap(self.start.cast(), self.count * size_of::<u32>()) };
+impl Shared {
+    pub fn new(count: usize) -> io::Result<Shared> {
+        let bytes = count * size_of::<AtomicU64>();
+        Ok(Shared(Memory::new(bytes, MAP_SHARED_AND_ANONYMOUS)?, count))
     }
 }
 
@@ -150,14 +91,54 @@ impl Deref for Shared {
     fn deref(&self) -> &[AtomicU64] {
         // SAFETY: the memory is there until this is dropped, it is aligned to a page and
         // zero at first, and whoever writes it does so by one whole number at a time.
-        unsafe { slice::from_raw_parts(self.start, self.count) }
+        unsafe { slice::from_raw_parts(self.0.start.cast(), self.1) }
     }
 }
 
-impl Drop for Shared {
-    fn drop(&mut self) {
-        // SAFETY: it is the memory that was given, and nobody has it any more.
-        unsafe { munmap(self.start.cast(), self.count * size_of::<AtomicU64>()) };
+/// Words at whose end nothing may be read or written: whoever goes past them is ended.
+pub struct Guarded(Memory);
+
+impl Guarded {
+    /// Space for so many words at least.
+    pub fn new(words: usize) -> io::Result<Guarded> {
+        let bytes = (words * size_of::<u32>()).next_multiple_of(PAGE);
+        let memory = Memory::new(bytes + PAGE, MAP_SHARED_AND_ANONYMOUS)?;
+        // SAFETY: the last page of the memory that was just given, which nobody has yet.
+        match unsafe { mprotect(memory.start.cast::<u8>().add(bytes).cast(), PAGE, PROT_NONE) } {
+            0 => Ok(Guarded(memory)),
+            _ => Err(io::Error::last_os_error()),
+        }
+    }
+
+    /// The last words, so many; nothing where there aren't as many.
+    pub fn last(&mut self, words: usize) -> Option<&mut [u32]> {
+        let bytes = self.last_bytes(words * size_of::<u32>())?;
+        // SAFETY: as many words as these bytes; a page's end is aligned for words.
+        Some(unsafe { slice::from_raw_parts_mut(bytes.as_mut_ptr().cast(), words) })
+    }
+
+    /// The last bytes, so many; nothing where there aren't as many.
+    pub fn last_bytes(&mut self, bytes: usize) -> Option<&mut [u8]> {
+        let place = (self.0.bytes - PAGE).checked_sub(bytes)?;
+        // SAFETY: the bytes from there to the end are this one's memory, borrowed with it
+        // alone.
+        Some(unsafe { slice::from_raw_parts_mut(self.0.start.cast::<u8>().add(place), bytes) })
+    }
+}
+
+/// Words, zero at first, of which only those that are touched take memory.
+pub struct Reserved(Memory, usize);
+
+impl Reserved {
+    pub fn new(count: usize) -> io::Result<Reserved> {
+        let bytes = count * size_of::<u32>();
+        Ok(Reserved(Memory::new(bytes, MAP_RESERVED)?, count))
+    }
+
+    pub fn words(&mut self) -> &mut [u32] {
+        // SAFETY: the memory is there until this is dropped, borrowed with it alone, aligned
+        // to a page and zero at first.
+        unsafe { slice::from_raw_parts_mut(self.0.start.cast(), self.1) }
     }
 }
 
@@ -170,10 +151,10 @@ pub struct Child {
 impl Child {
     /// Starts a child process that acts on a copy of all that this one has, and ends
     /// with status 0, or with 101 where it panics. It has no files open but the first
-    /// three, leaves no memory image behind and ends at the latest with this thread.
+    /// three, leaves no memory image and ends at the latest with this thread.
     pub fn start(act: impl FnOnce()) -> io::Result<Child> {
         // SAFETY: it takes two numbers. Whoever started this program may have asked that
-        // ended children are forgotten; then nobody could tell how one ended.
+        // ended children are forgotten; then nobody could know how one ended.
         unsafe { signal(SIGCHLD, SIG_DFL) };
         // SAFETY: the child has this thread alone. It takes no lock that another one may
         // have held, but those of the allocator, which the C library keeps usable.
@@ -202,21 +183,21 @@ impl Child {
     pub fn ended(&mut self) -> Option<ExitStatus> {
         let mut status = 0;
         // SAFETY: the child is this program's and wasn't waited for yet; its status is
-        // written where it is told to.
+        // written where it is asked to be.
         if self.ended.is_none() && unsafe { waitpid(self.id, &mut status, WNOHANG) } == self.id {
             self.ended = Some(ExitStatus::from_raw(status));
         }
         self.ended
     }
 
-    /// How long processors have worked on it; none where the system doesn't tell.
+    /// How long processors have worked on it; none where the system doesn't say.
     pub fn processor_time(&self) -> Duration {
         let (mut clock, mut time) = (0, [0; 2]);
-        // SAFETY: the number of a clock and a time are written where they are told to be.
-        let told = unsafe {
+        // SAFETY: the number of a clock and a time are written where they are asked to be.
+        let known = unsafe {
             clock_getcpuclockid(self.id, &mut clock) == 0 && clock_gettime(clock, &mut time) == 0
         };
-        match told {
+        match known {
             true => Duration::new(time[0] as u64, time[1] as u32),
             false => Duration::ZERO,
         }
@@ -247,7 +228,7 @@ pub fn end_group(program: &std::process::Child) {
 /// How many bytes of a pipe nobody has read yet.
 pub fn unread(pipe: &impl AsRawFd) -> i32 {
     let mut count: c_int = 0;
-    // SAFETY: the file is open, and the request writes one number where it is told to.
+    // SAFETY: the file is open, and the request writes one number where it is asked to.
     unsafe { ioctl(pipe.as_raw_fd(), FIONREAD, &mut count as *mut c_int) };
     count
 }
