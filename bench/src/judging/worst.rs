@@ -240,7 +240,9 @@ mod tests {
     fn every_job_can_be_done_and_every_function_has_one() {
         let jobs = worst_jobs();
         do_all(&jobs);
-        let exported = include_str!("../../../line/build.rs").lines().map(str::trim);
+        let exported = include_str!("../../../line/build.rs")
+            .lines()
+            .map(str::trim);
         let exported = exported.filter(|line| line.starts_with("\"balkwizu_"));
         let exported = exported.map(|line| line.trim_matches(|sign| "\",".contains(sign)));
         let counted = |name: &&str| !name.contains("test_") && !name.ends_with("version");

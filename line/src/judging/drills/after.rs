@@ -43,7 +43,7 @@ pub fn after(tables: &Tables, take: &mut Take) {
     }
 }
 
-/// A run that the entry refuses for each reason: each damage of the table by itself, a list
+/// A run that the entry refuses for each reason: each damage of the table alone, a list
 /// that is too long, too little answer space, and too few and too many words for the holders.
 fn refused(table: &[u32]) -> Vec<Case> {
     let run = |words: usize| {

@@ -27,6 +27,12 @@ pub fn run_of(table: &[u32], list: Vec<u32>, take: &mut Take) {
     take(Given::Run(case_of(&Input { table, list })));
 }
 
+/// A run of some calls on a table.
+pub fn calls_of(table: &[u32], calls: impl IntoIterator<Item = Call>, take: &mut Take) {
+    let words = calls.into_iter().flat_map(|call| call.words());
+    run_of(table, words.collect(), take);
+}
+
 /// The drill of calls: each bit of each word of calls that are done turned, each caller in
 /// its place, and each name with each of its bits turned.
 pub fn calls(tables: &Tables, take: &mut Take) {

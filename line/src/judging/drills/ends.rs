@@ -4,10 +4,10 @@
 
 use reference::calls::cut;
 use reference::entry::ANSWER_WORDS;
+use reference::table::domains;
 
+use super::sizes::lent;
 use super::{Given, Tables, Take};
-use crate::cases::Case;
-use crate::judging::variants::holders_for;
 
 /// The kinds of words, and the most words of the lists that have every kind at each place.
 const KINDS: u32 = 16;
@@ -51,11 +51,6 @@ fn of_kinds(kinds: impl Iterator<Item = u32>) -> Vec<u32> {
 fn spaces(table: &[u32], list: &[u32], take: &mut Take) {
     let enough = ANSWER_WORDS * cut(list).len();
     for space in enough.saturating_sub(SHORT)..=enough {
-        take(Given::Run(Case {
-            table: table.to_vec(),
-            list: list.to_vec(),
-            answers: (0..space as u32).map(|place| 0xC0DE_0000 | place).collect(),
-            holders: holders_for(table),
-        }));
+        take(Given::Run(lent(table, list, space, domains(table))));
     }
 }

@@ -6,13 +6,13 @@ use reference::calls::{cut, LIST_WORDS_MAX, MY_RIGHTS};
 use reference::entry::ANSWER_WORDS;
 use reference::generate::call_word;
 use reference::table::{
-    endpoint_place, endpoints, DOMAINS_MAX, ENDPOINTS_MAX, INFO_PLACE, LOST_PLACE, NAME_PLACE,
-    WAITING_PLACE,
+    domains, endpoint_place, endpoints, DOMAINS_MAX, ENDPOINTS_MAX, INFO_PLACE, LOST_PLACE,
+    NAME_PLACE, WAITING_PLACE,
 };
 
+use super::sizes::lent;
 use super::{Given, Tables, Take};
 use crate::cases::Case;
-use crate::judging::variants::holders_for;
 
 /// What is done to a table, where anything is.
 pub type Damage = fn(&mut Vec<u32>);
@@ -71,7 +71,7 @@ fn at_last_endpoint(table: &mut [u32], at: usize, with: fn(u32) -> u32) {
     }
 }
 
-/// Each damage that is one, to be done by itself.
+/// Each damage that is one, to be done alone.
 pub fn single_damages() -> impl Iterator<Item = &'static Damage> {
     let all = [&HEADERS[..], &LENGTHS, &RIGHTS, &ENDPOINTS];
     all.into_iter().flat_map(|damages| &damages[1..])
@@ -115,16 +115,12 @@ fn damaged(table: &[u32]) -> Vec<Vec<u32>> {
 fn spaces(table: &[u32], sound: &[u32], words: usize, take: &mut Take) {
     let list = vec![call_word(MY_RIGHTS, 0, 0, 0, 0); words];
     let enough = ANSWER_WORDS * cut(&list).len();
-    let holders = holders_for(sound);
+    let n = domains(sound);
     for space in [enough, enough.saturating_sub(1), 0] {
-        for count in [holders.len(), holders.len() - 1, holders.len() + 1, 0] {
-            let mut holders = holders.clone();
-            holders.resize(count, 0xC0DE_0099);
+        for holders in [n, n - 1, n + 1, 0] {
             take(Given::Run(Case {
                 table: table.to_vec(),
-                list: list.clone(),
-                answers: (0..space as u32).map(|place| 0xC0DE_0000 | place).collect(),
-                holders,
+                ..lent(sound, &list, space, holders)
             }));
         }
     }

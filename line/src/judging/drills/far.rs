@@ -51,7 +51,7 @@ pub fn lengths(table: &[u32], take: &mut Take) {
 }
 
 impl Far {
-    /// What differs from the separate machine's run with a part that is a little too long:
+    /// What differs from the reference's run with a part that is a little too long:
     /// one that is far longer must come to the same. Nothing where the system has no such
     /// memory.
     pub fn difference(&self, kernel: &Kernel) -> Option<String> {
@@ -80,14 +80,14 @@ impl Far {
         part_of(&mut left, self.part).copy_from_slice(&start);
         if outcome != right.outcome {
             return Some(format!(
-                "the kernel ends with code {}, the separate machine with {}",
+                "the kernel ends with code {}, the reference with {}",
                 outcome.code, right.outcome.code
             ));
         }
         let same = right.table.starts_with(&left.table)
             && right.answers.starts_with(&left.answers)
             && right.holders.starts_with(&left.holders);
-        (!same).then(|| "a word is left that the separate machine leaves otherwise".to_string())
+        (!same).then(|| "a word is left that the reference leaves otherwise".to_string())
     }
 
     /// The same run with the part a little too long.
@@ -147,8 +147,8 @@ mod tests {
     #[test]
     fn a_length_that_is_cut_off_is_found_and_no_other() {
         assert_eq!(found(&PROVED), [""; 0]);
-        let list = "the kernel ends with code 0, the separate machine with 1";
-        let space = "the kernel ends with code 6, the separate machine with 0";
+        let list = "the kernel ends with code 0, the reference with 1";
+        let space = "the kernel ends with code 6, the reference with 0";
         let cut_off = found(&THREE_BYTES);
         assert!(cut_off.iter().any(|why| why == list), "{cut_off:?}");
         assert!(cut_off.iter().any(|why| why == space), "{cut_off:?}");

@@ -6,8 +6,8 @@
 //! table allows.
 //!
 //! Each case is one run; three of four have what is lent at the edge of memory, so that a
-//! read past it shows, the fourth amid words that must stay. After it the code, the number of calls and every word of the
-//! table, the answers and the holders are compared with the separate machine's. All cases
+//! read past it shows, the fourth amid words that must stay. After it the code, the number of
+//! calls and every word of the table, the answers and the holders are compared with the reference's. All cases
 //! run in one child process, so that what a kernel keeps between runs shows too.
 
 mod after;
@@ -59,6 +59,10 @@ pub struct Drill {
     cases: fn(&Tables, &mut Take),
 }
 
+const fn drill(what: &'static str, cases: fn(&Tables, &mut Take)) -> Drill {
+    Drill { what, cases }
+}
+
 /// The line's table, and those of the checklist's own.
 pub struct Tables {
     pub line: Vec<u32>,
@@ -89,74 +93,59 @@ impl Tables {
 
 /// All drills, in the order in which they are gone through.
 pub const DRILLS: [Drill; 17] = [
-    Drill {
-        what: "the fields of calls at their edges in every combination",
-        cases: orders::calls,
-    },
-    Drill {
-        what: "refusals of the entry in every combination",
-        cases: entries::entries,
-    },
-    Drill {
-        what: "every bit of calls that are done",
-        cases: bits::calls,
-    },
-    Drill {
-        what: "every bit of every table word",
-        cases: bits::tables,
-    },
-    Drill {
-        what: "headers, owners, capacities and waiting counts of every number",
-        cases: bits::numbers,
-    },
-    Drill {
-        what: "table words damaged alike, two or more at once",
-        cases: alike::alike,
-    },
-    Drill {
-        what: "images of every length",
-        cases: images::images,
-    },
-    Drill {
-        what: "names at every endpoint, near each other and repeated",
-        cases: names::names,
-    },
-    Drill {
-        what: "queues in every state",
-        cases: queues::queues,
-    },
-    Drill {
-        what: "rights in every state, held in part, on oneself and on others",
-        cases: rights::rights,
-    },
-    Drill {
-        what: "sizes around each limit",
-        cases: sizes::sizes,
-    },
-    Drill {
-        what: "answer spaces that are short, for lists of every kind of word",
-        cases: ends::ends,
-    },
-    Drill {
-        what: "unused fields of every two numbers, and every two bits of calls that are done",
-        cases: unused::unused,
-    },
-    Drill {
-        what: "calls of small numbers, each after each",
-        cases: neighbours::neighbours,
-    },
-    Drill {
-        what: "a list of each kind after each refusal of the entry and after each other",
-        cases: after::after,
-    },
-    Drill {
-        what: "lists of calls that are done, after every call",
-        cases: walks::walks,
-    },
-    Drill {
-        what: "short lists over tables of different sizes",
-        cases: runs::one_after_another,
-    },
+    drill(
+        "the fields of calls at their edges in every combination",
+        orders::calls,
+    ),
+    drill(
+        "refusals of the entry in every combination",
+        entries::entries,
+    ),
+    drill("every bit of calls that are done", bits::calls),
+    drill("every bit of every table word", bits::tables),
+    drill(
+        "headers, owners, capacities and waiting counts of every number",
+        bits::numbers,
+    ),
+    drill(
+        "table words damaged alike, two or more at once",
+        alike::alike,
+    ),
+    drill("images of every length", images::images),
+    drill(
+        "names at every endpoint, near each other and repeated",
+        names::names,
+    ),
+    drill("queues in every state", queues::queues),
+    drill(
+        "rights in every state, held in part, on oneself and on others",
+        rights::rights,
+    ),
+    drill("sizes around each limit", sizes::sizes),
+    drill(
+        "answer spaces that are short, for lists of every kind of word",
+        ends::ends,
+    ),
+    drill(
+        "unused fields of every two numbers, and every two bits of calls that are done",
+        unused::unused,
+    ),
+    drill(
+        "calls of small numbers, each after each",
+        neighbours::neighbours,
+    ),
+    drill(
+        "a list of each kind after each refusal of the entry and after each other",
+        after::after,
+    ),
+    drill(
+        "lists of calls that are done, after every call",
+        walks::walks,
+    ),
+    drill(
+        "short lists over tables of different sizes",
+        runs::one_after_another,
+    ),
 ];
 
 /// What the drills came to.
@@ -300,27 +289,31 @@ fn failed(failure: Failure) -> Wrong {
     in_both(failure.to_string())
 }
 
-/// The drill and what it gives by a number, and which of the drill's it is.
-fn given_of_number(tables: &Tables, wanted: u64) -> (&'static str, u64, Given) {
-    let mut number = 0;
-    for drill in &DRILLS {
-        let (first, mut found) = (number, None);
+/// The drill that the last case announced is of, which of its cases that is, and what it
+/// gives. The drills before it have left how many they have, so that none is gone through
+/// again but this one.
+fn last_given(tables: &Tables, board: &Board) -> (&'static str, u64, Given) {
+    let mut number = board.announced();
+    for (drill, count) in DRILLS.iter().zip(board.left(0..DRILLS.len())) {
+        if count > 0 && number >= count {
+            number -= count;
+            continue;
+        }
+        let (mut place, mut found) = (0, None);
         (drill.cases)(tables, &mut |given| {
-            if number == wanted {
+            if place == number {
                 found = Some(given);
             }
-            number += 1;
+            place += 1;
         });
-        if let Some(given) = found {
-            return (drill.what, wanted - first, given);
-        }
+        return (drill.what, number, found.expect("it was announced"));
     }
     unreachable!("a drill announced the number")
 }
 
 /// What is reported of the case that differs, with its words cut down.
 fn differs(kernel: &Kernel, tables: &Tables, board: &Board) -> Wrong {
-    let (what, number, given) = given_of_number(tables, board.announced());
+    let (what, number, given) = last_given(tables, board);
     let shown = match given {
         Given::Run(case) | Given::Next(case) => shorter(kernel, &case),
         Given::Image(image) => image.in_words(),
@@ -351,7 +344,7 @@ fn shorter(kernel: &Kernel, case: &Case) -> String {
 
 /// The same of a case that the kernel stops at.
 fn stops(kernel: &Kernel, tables: &Tables, board: &Board, stopped: Stopped) -> Wrong {
-    let (what, number, given) = given_of_number(tables, board.announced());
+    let (what, number, given) = last_given(tables, board);
     let why = match given {
         Given::Run(case) | Given::Next(case) => {
             report::failed(kernel, &case, Failure::Stopped(stopped), child::LIMIT)

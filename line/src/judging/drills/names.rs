@@ -5,7 +5,7 @@ use reference::generate::Rng;
 use reference::table::ENDPOINTS_MAX;
 use reference::words::CONTENT_MAX;
 
-use super::bits::run_of;
+use super::bits::calls_of;
 use super::tables::{patterns, Shape};
 use super::{Tables, Take};
 use crate::judging::exercise::planner::look_up;
@@ -62,14 +62,14 @@ fn each_repeated(name: impl Fn(usize) -> u32, take: &mut Take) {
     looked_up(&shape, take);
     for e in 0..ENDPOINTS_MAX - 1 {
         shape.queues[ENDPOINTS_MAX - 1].name = name(e);
-        run_of(&shape.words(), Vec::new(), take);
+        calls_of(&shape.words(), [], take);
     }
 }
 
 /// Each name that is one byte again and again, where it is absent and where it is there.
 fn filled(m: usize, take: &mut Take) {
-    let absent = patterns().flat_map(|name| look_up(0, name).words());
-    run_of(&Shape::new(2, m).words(), absent.collect(), take);
+    let absent = patterns().map(|name| look_up(0, name));
+    calls_of(&Shape::new(2, m).words(), absent, take);
     for name in patterns() {
         let mut shape = Shape::new(2, m);
         shape.queues[m - 1].name = name;
@@ -80,8 +80,7 @@ fn filled(m: usize, take: &mut Take) {
 /// Each name looked up.
 fn looked_up(shape: &Shape, take: &mut Take) {
     let names = shape.queues.iter().map(|queue| queue.name);
-    let list = names.flat_map(|name| look_up(0, name).words()).collect();
-    run_of(&shape.words(), list, take);
+    calls_of(&shape.words(), names.map(|name| look_up(0, name)), take);
 }
 
 /// Every name by so many endpoints further on.

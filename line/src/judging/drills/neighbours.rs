@@ -6,7 +6,7 @@ use reference::generate::call_word;
 use reference::table::right;
 use reference::words::{word, CONTENT_MAX};
 
-use super::bits::run_of;
+use super::bits::calls_of;
 use super::tables::{spread, Shape};
 use super::{Tables, Take};
 use crate::judging::exercise::planner::{
@@ -26,7 +26,7 @@ pub fn neighbours(_: &Tables, take: &mut Take) {
     let calls = small_calls();
     for table in &tables {
         for (first, second) in calls.iter().flat_map(|f| calls.iter().map(move |s| (f, s))) {
-            run_of(table, [first.words(), second.words()].concat(), take);
+            calls_of(table, [*first, *second], take);
         }
     }
 }
@@ -47,8 +47,7 @@ fn two_names(take: &mut Take) {
     for m in [2, 6, 12] {
         let table = of_small_names(m, 0);
         for (one, other) in (0..NAMES).flat_map(|one| (0..NAMES).map(move |other| (one, other))) {
-            let list = [look_up(0, one).words(), look_up(1, other).words()].concat();
-            run_of(&table, list, take);
+            calls_of(&table, [look_up(0, one), look_up(1, other)], take);
         }
     }
 }

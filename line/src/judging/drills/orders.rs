@@ -49,13 +49,9 @@ fn sets(n: usize) -> Vec<usize> {
     let some = [
         0, 1, 2, 4, 5, 8, 11, 15, 16, 17, 31, 32, 64, 128, 136, 240, 255,
     ];
-    let all = BTreeSet::from(some);
     let more = (0..=17).filter(|_| n < 8);
-    all.into_iter()
-        .chain(more)
-        .collect::<BTreeSet<_>>()
-        .into_iter()
-        .collect()
+    let all: BTreeSet<usize> = some.into_iter().chain(more).collect();
+    all.into_iter().collect()
 }
 
 /// The combinations of a kind of call on a table, each as a call.
@@ -95,7 +91,7 @@ fn seconds(table: &[u32], kind: u32) -> Vec<Option<u32>> {
 }
 
 /// The drill: every combination on every table. Calls that are refused go into lists
-/// together; one that is done is a list by itself.
+/// together; one that is done is a list alone.
 pub fn calls(tables: &Tables, take: &mut Take) {
     for table in tables.all() {
         for kind in 0..=STRAY {
@@ -175,7 +171,7 @@ mod tests {
     use reference::example::TABLE_T;
     use reference::table::{owner, right, rights, waiting};
 
-    /// Whether a call fails at a place, looked at by itself.
+    /// Whether a call fails at a place, looked at alone.
     fn fails(table: &[u32], call: &Call, place: u32) -> bool {
         let (n, m) = (domains(table), endpoints(table));
         let caller = call.caller().unwrap_or(0) as usize;

@@ -6,7 +6,7 @@
 use reference::table::{right, DOMAINS_MAX, ENDPOINTS_MAX, SLOTS};
 use reference::words::CONTENT_MAX;
 
-use super::bits::run_of;
+use super::bits::calls_of;
 use super::tables::{patterns, spread, Shape};
 use super::{Tables, Take};
 use crate::judging::exercise::planner::{look_up, my_endpoints, receive, send};
@@ -51,14 +51,8 @@ fn both_orders(table: &[u32], capacity: usize, take: &mut Take) {
         for receives in [0, 1, 2, capacity, 2 * capacity] {
             let put = (0..sends).map(|number| send(number % 2, 1, spread(50 + number)));
             let taken = (0..receives).map(|_| receive(1, 1));
-            let one_way = put.clone().chain(taken.clone());
-            run_of(table, one_way.flat_map(|call| call.words()).collect(), take);
-            let other_way = taken.chain(put);
-            run_of(
-                table,
-                other_way.flat_map(|call| call.words()).collect(),
-                take,
-            );
+            calls_of(table, put.clone().chain(taken.clone()), take);
+            calls_of(table, taken.chain(put), take);
         }
     }
 }
@@ -67,8 +61,7 @@ fn both_orders(table: &[u32], capacity: usize, take: &mut Take) {
 fn sent_again(capacity: usize, waits: usize, take: &mut Take) {
     let table = one_queue(capacity, waits).words();
     for message in (0..waits).map(spread) {
-        let list = [send(0, 1, message).words(), receive(1, 1).words()].concat();
-        run_of(&table, list, take);
+        calls_of(&table, [send(0, 1, message), receive(1, 1)], take);
     }
 }
 
@@ -84,8 +77,7 @@ fn lost_counts(capacity: usize, take: &mut Take) {
         for losses in [0, 1, 3] {
             let sends = (0..losses).map(|number| send(0, 1, spread(number)));
             let calls = sends.chain([receive(1, 1), receive(1, 1)]);
-            let list = calls.flat_map(|call| call.words()).collect();
-            run_of(&shape.words(), list, take);
+            calls_of(&shape.words(), calls, take);
         }
     }
 }
@@ -100,15 +92,12 @@ fn messages(take: &mut Take) {
         for capacity in [1, 2, 8] {
             let mut shape = one_queue(capacity, 0);
             shape.queues[1].name = message.max(1);
-            let table = shape.words();
             let sends = [message, message, message ^ 1, message];
-            let calls = sends.map(|message| send(0, 1, message)).into_iter();
-            let calls = calls.chain((0..4).map(|_| receive(1, 1)));
-            run_of(&table, calls.flat_map(|call| call.words()).collect(), take);
+            let sends = sends.map(|message| send(0, 1, message)).into_iter();
+            calls_of(&shape.words(), sends.chain([receive(1, 1); 4]), take);
             let mut waits = one_queue(capacity, 0);
             waits.queues[1].messages = vec![message; capacity];
-            let list = [send(1, 1, message).words(), receive(1, 1).words()].concat();
-            run_of(&waits.words(), list, take);
+            calls_of(&waits.words(), [send(1, 1, message), receive(1, 1)], take);
         }
     }
 }
@@ -120,8 +109,7 @@ fn lost_at(e: usize, take: &mut Take) {
         let mut shape = Shape::new(1, ENDPOINTS_MAX).give(0, 0, right::SEND);
         let queue = &mut shape.queues[e];
         (queue.capacity, queue.messages, queue.lost) = (1, vec![7], CONTENT_MAX.min(lost));
-        let list = [send(0, e, 8).words(), receive(0, e).words()].concat();
-        run_of(&shape.words(), list, take);
+        calls_of(&shape.words(), [send(0, e, 8), receive(0, e)], take);
     }
 }
 
@@ -130,8 +118,7 @@ fn waiting_at(e: usize, waits: usize, take: &mut Take) {
     let mut shape = Shape::new(1, ENDPOINTS_MAX).give(0, 0, right::SEND);
     shape.queues[e].messages = (0..waits).map(spread).collect();
     let calls = [receive(0, e), send(0, e, spread(waits)), receive(0, e)];
-    let list = calls.iter().flat_map(|call| call.words()).collect();
-    run_of(&shape.words(), list, take);
+    calls_of(&shape.words(), calls, take);
 }
 
 /// An endpoint to which all domains send, and one of them alone may.
@@ -142,8 +129,7 @@ fn only_sender(e: usize, sender: usize, take: &mut Take) {
         .give(sender, owner, right::SEND);
     shape.queues[e].owner = owner;
     let sends = (0..DOMAINS_MAX).map(|caller| send(caller, e, spread(caller)));
-    let list = sends.flat_map(|call| call.words()).collect();
-    run_of(&shape.words(), list, take);
+    calls_of(&shape.words(), sends, take);
 }
 
 /// An endpoint among as many as there can be, owned by each domain in turn, which has no
@@ -172,7 +158,6 @@ fn endpoint(e: usize, take: &mut Take) {
             receive(owner, e),
             receive(owner, e),
         ];
-        let list = calls.iter().flat_map(|call| call.words()).collect();
-        run_of(&shape.words(), list, take);
+        calls_of(&shape.words(), calls, take);
     }
 }

@@ -7,7 +7,7 @@
 use reference::calls::Call;
 use reference::table::{right, DOMAINS_MAX};
 
-use super::bits::run_of;
+use super::bits::calls_of;
 use super::tables::Shape;
 use super::{Tables, Take};
 use crate::judging::exercise::planner::{grant, my_rights, remove, revoke, send};
@@ -60,7 +60,7 @@ fn toward(has: u32, holds: u32) -> Vec<u32> {
     }
 }
 
-/// Each set granted, removed and revoked, each by itself, and used afterwards.
+/// Each set granted, removed and revoked, each alone, and used afterwards.
 fn each_set(shape: &Shape, caller: usize, target: usize, other: usize, take: &mut Take) {
     let table = shape.words();
     for set in 1..=right::ALL {
@@ -70,17 +70,17 @@ fn each_set(shape: &Shape, caller: usize, target: usize, other: usize, take: &mu
             revoke(caller, target, other, set),
         ];
         for call in calls {
-            run_of(&table, call.words(), take);
-            run_of(&table, used(call, caller, other, set), take);
+            calls_of(&table, [call], take);
+            calls_of(&table, used(call, caller, other, set), take);
         }
     }
 }
 
 /// A call, made again, with all that shows what it left: rights asked for, a send, and the
 /// same set given on, given up and taken back.
-fn used(call: Call, caller: usize, other: usize, set: u32) -> Vec<u32> {
+fn used(call: Call, caller: usize, other: usize, set: u32) -> [Call; 9] {
     let target = call.a() as usize;
-    let calls = [
+    [
         call,
         my_rights(other),
         my_rights(caller),
@@ -90,8 +90,7 @@ fn used(call: Call, caller: usize, other: usize, set: u32) -> Vec<u32> {
         revoke(caller, target, caller, set),
         call,
         my_rights(other),
-    ];
-    calls.iter().flat_map(Call::words).collect()
+    ]
 }
 
 /// A caller with all rights on a target and on another domain, and nobody else with any:
@@ -110,9 +109,9 @@ fn three(caller: usize, target: usize, other: usize, take: &mut Take) {
         my_rights(caller),
         revoke(caller, target, other, right::ALL),
     ];
-    let words = |calls: &[Call]| calls.iter().flat_map(Call::words).collect();
-    run_of(&shape.words(), words(&calls[..calls.len() - 1]), take);
-    run_of(&shape.words(), words(&calls), take);
+    let (table, last) = (shape.words(), calls.len() - 1);
+    calls_of(&table, calls[..last].iter().copied(), take);
+    calls_of(&table, calls, take);
 }
 
 /// One holder with rights on one target of the largest table, and nobody else with any:
@@ -131,7 +130,7 @@ fn alone(holder: usize, target: usize, take: &mut Take) {
             my_rights(holder),
             my_rights(target),
         ];
-        run_of(&table, calls.iter().flat_map(Call::words).collect(), take);
-        run_of(&table, Vec::new(), take);
+        calls_of(&table, calls, take);
+        calls_of(&table, [], take);
     }
 }

@@ -2,6 +2,7 @@
 //! process and more than a hundred thousand in all, so that what a kernel keeps between runs
 //! shows, and what it counts in a byte or in two.
 
+use reference::calls::Call;
 use reference::table::{domains, endpoints, right};
 
 use super::bits::run_of;
@@ -78,8 +79,5 @@ fn short(table: &[u32], turn: usize) -> Vec<u32> {
         my_rights(caller),
     ];
     let count = 1 + (turn + 3) % calls.len();
-    calls[..count]
-        .iter()
-        .flat_map(|call| call.words())
-        .collect()
+    calls[..count].iter().flat_map(Call::words).collect()
 }
