@@ -29,82 +29,66 @@ fn longest_line(text: &str) -> usize {
 }
 
 #[test]
-fn help_is_given_for_every_command() {
-    assert_eq!(TOOL.status(&["--help"]), 0);
-    assert!(TOOL.printed(&["--help"]).contains("or a closed pipe"));
+fn help_is_given_for_every_command_and_fits_80_columns() {
+    let (status, all, _) = TOOL.ran(&["--help"]);
+    assert!(status == 0 && longest_line(&all) <= 80, "{all}");
     let commands = "fuzz step queue tables histories linerun totals commission speed instructions";
     for command in commands.split(' ') {
+        assert!(all.contains(&format!("  bench {command}")), "{all}");
         let help = TOOL.printed(&[command, "--help"]);
         assert!(help.starts_with(&format!("bench {command}")), "{help}");
         assert!(help.contains("Exit status:"), "{help}");
-        assert!(TOOL
-            .printed(&["--help"])
-            .contains(&format!("bench {command}")));
-    }
-}
-
-#[test]
-fn help_fits_80_columns() {
-    let all = TOOL.printed(&["--help"]);
-    assert!(longest_line(&all) <= 80, "{all}");
-    let listed = all.lines().filter_map(|line| line.strip_prefix("  bench "));
-    let named = listed.filter_map(|line| line.split(' ').next());
-    let commands: Vec<&str> = named
-        .filter(|name| !["help", "--version"].contains(name))
-        .collect();
-    assert!(commands.len() == 10, "{all}");
-    for command in commands {
-        let help = TOOL.printed(&["help", command]);
         assert!(longest_line(&help) <= 80, "{help}");
     }
-}
-
-#[test]
-fn help_and_the_version_are_asked_for_in_any_way() {
-    assert_eq!(
-        TOOL.printed(&["help", "fuzz"]),
-        TOOL.printed(&["fuzz", "--help"])
-    );
-    for again in [&["help"][..], &["help", "help"], &["--help", "--help"]] {
-        assert_eq!(TOOL.printed(again), TOOL.printed(&["--help"]));
-    }
-    assert_eq!(TOOL.status(&["help", "frobnicate"]), 2);
-    assert!(TOOL
-        .complaint(&["help", "frobnicate"])
-        .contains("no such command as `frobnicate`"));
+    assert_eq!(all.matches("\n  bench ").count(), 12, "{all}");
     let version = concat!("bench ", env!("CARGO_PKG_VERSION"), "\n");
     assert_eq!(TOOL.printed(&["--version"]), version);
-    assert_eq!(TOOL.status(&["--version"]), 0);
 }
 
 #[test]
 fn bad_usage_ends_with_2_and_says_why() {
-    assert_eq!(TOOL.status(&[]), 2);
-    assert_eq!(TOOL.status(&["frobnicate"]), 2);
-    assert!(TOOL
-        .complaint(&["frobnicate"])
-        .contains("there is no such command"));
-    assert_eq!(TOOL.status(&["fuzz", "--case", "3"]), 2);
-    assert!(TOOL
-        .complaint(&["fuzz", "--case", "3"])
-        .contains("there is no option --case"));
-    assert_eq!(TOOL.status(&["fuzz", "--kernel", "other"]), 2);
-    assert_eq!(TOOL.status(&["commission"]), 2);
-    assert!(TOOL
-        .complaint(&["commission", "/no/such/file"])
-        .contains("cannot read /no/such/file"));
-    assert_eq!(TOOL.status(&["speed", "more"]), 2);
-    assert_eq!(TOOL.status(&["speed", "--rounds", "0"]), 2);
-    assert_eq!(TOOL.status(&["fuzz", "--cases", "0"]), 2);
-    assert!(TOOL
-        .complaint(&["fuzz", "--cases", "0"])
-        .contains("leave nothing to compare"));
     let beyond = ["fuzz", "--from", "18446744073709551615", "--cases", "2"];
-    assert!(TOOL.complaint(&beyond).contains("go beyond 2^64 - 1"));
-    assert_eq!(TOOL.status(&["linerun", "/no/such/program"]), 2);
-    assert!(TOOL
-        .complaint(&["linerun", "Cargo.toml"])
-        .contains("write ./Cargo.toml"));
+    let long = ["linerun", "/bin/true", "--time", "18446744073709551615"];
+    for (line, why) in [
+        (&["frobnicate"][..], "there is no such command"),
+        (&["fuzz", "--case", "3"], "there is no option --case"),
+        (&["fuzz", "--kernel", "other"], "no kernel `other`"),
+        (&["fuzz", "--cases", "0"], "leave nothing to compare"),
+        (&beyond, "go beyond 2^64 - 1"),
+        (
+            &["commission", "/no/such/file"],
+            "cannot read /no/such/file",
+        ),
+        (&["speed", "--rounds", "0"], "not 0"),
+        (&["speed", "--record", "/no/such/folder/run"], "no folder"),
+        (&["linerun", "/no/such/program"], "cannot start"),
+        (&["linerun", "Cargo.toml"], "write ./Cargo.toml"),
+        (&long, "is too long"),
+        (
+            &["totals", "/bin/true", "--rounds", "3"],
+            "--rounds is not for a comparison",
+        ),
+        (
+            &["totals", "/bin/true", "--speed", "--cases", "3"],
+            "--cases is not for --speed",
+        ),
+        (
+            &["linerun", "/bin/true", "--rounds", "3"],
+            "--rounds is not for a comparison",
+        ),
+        (
+            &["linerun", "/bin/true", "--speed", "--seed", "3"],
+            "--seed is not for --speed",
+        ),
+        (
+            &["instructions", "--write", "--file", "/no/such/x.txt"],
+            "there is no folder /no/such",
+        ),
+    ] {
+        let (status, printed, complaint) = TOOL.ran(line);
+        assert_eq!((status, printed.as_str()), (2, ""), "{line:?}");
+        assert!(complaint.contains(why), "{complaint}");
+    }
 }
 
 #[test]
@@ -143,17 +127,12 @@ fn fuzz_meets_every_code_and_shows_no_progress_in_a_pipe() {
 }
 
 #[test]
-fn one_run_can_be_tried_again_by_itself() {
+fn one_run_can_be_tried_again_alone() {
     let again = "fuzz --seed 3 --from 4 --cases 1 --table-checks 0";
     let again: Vec<&str> = again.split(' ').collect();
-    assert_eq!(TOOL.status(&again), 0);
-    assert!(TOOL
-        .printed(&again)
-        .ends_with("too few runs to ask that every code is met\n"));
-    assert_eq!(
-        TOOL.status(&["fuzz", "--cases", "0", "--table-checks", "1"]),
-        0
-    );
+    let (status, printed, _) = TOOL.ran(&again);
+    assert_eq!(status, 0);
+    assert!(printed.ends_with("too few runs to ask that every code is met\n"));
 }
 
 #[test]
@@ -170,14 +149,14 @@ fn a_difference_is_cut_down_to_a_small_table() {
     );
 }
 
-/// What the fuzz tells of a kernel that stops, and the input that it gives with it.
+/// What the fuzz says of a kernel that stops, and the input that it gives with it.
 fn stopped_fuzz(kernel: &str) -> (String, Vec<u8>) {
     let line = ["fuzz", "--cases", "100", "--kernel", kernel, "--time", "1"];
     let ran = TOOL.run(&line);
     let report = String::from_utf8(ran.stdout).expect("text");
     assert_eq!(ran.status.code(), Some(1), "{report}");
     assert!(report.ends_with(&format!("fuzz of {kernel} with seed 1: FAILED\n")));
-    // Nothing stands before what is wrong.
+    // Nothing comes before what is wrong.
     assert!(report.starts_with("STOPPED in run "), "{report}");
     let (_, words) = report
         .split_once("as `balkwizu words` takes them:\n")
@@ -188,18 +167,16 @@ fn stopped_fuzz(kernel: &str) -> (String, Vec<u8>) {
 }
 
 #[test]
-fn a_kernel_that_faults_is_told_by_the_fuzz_with_its_input() {
+fn a_kernel_that_faults_is_reported_by_the_fuzz_with_its_input() {
     let (report, input) = stopped_fuzz("wrong-faults");
-    assert!(report.contains("STOPPED in run "), "{report}");
     assert!(report.contains("ended by signal 11 (segmentation fault)\nTo see it again"));
     assert!(report.contains("Cut down to 1 call:"), "{report}");
     assert_eq!(input.last().expect("a call") >> 4, 7);
 }
 
 #[test]
-fn a_kernel_that_loops_is_told_by_the_fuzz_with_its_input() {
+fn a_kernel_that_loops_is_reported_by_the_fuzz_with_its_input() {
     let (report, _) = stopped_fuzz("wrong-loops");
-    assert!(report.contains("STOPPED in run "), "{report}");
     assert!(report.contains("the kernel had not returned after 1 s\nTo see it again"));
     assert!(report.contains("Cut down to 1 call:"), "{report}");
     assert!(report.contains("\nlist\n1"), "{report}");
@@ -208,8 +185,8 @@ fn a_kernel_that_loops_is_told_by_the_fuzz_with_its_input() {
 #[test]
 fn a_kernel_that_stops_fails_a_check_of_the_checklist_and_the_others_go_on() {
     let input = TOOL.file("stops.bin", worked_example());
-    let line = ["commission", &input, "--kernel", "wrong-faults"];
-    let list = TOOL.printed(&line);
+    let (status, list, _) = TOOL.ran(&["commission", &input, "--kernel", "wrong-faults"]);
+    assert_eq!(status, 1);
     for number in 1..=4 {
         assert!(
             list.contains(&format!("\ncheck {number} failed ")),
@@ -223,29 +200,16 @@ fn a_kernel_that_stops_fails_a_check_of_the_checklist_and_the_others_go_on() {
         "{list}"
     );
     assert!(list.ends_with("summary: 0 passed, 4 failed\n"), "{list}");
-    assert_eq!(TOOL.status(&line), 1);
-}
-
-#[test]
-fn a_wrong_kernel_is_named_with_its_fault() {
-    let input = TOOL.file("wrong.bin", worked_example());
-    let line = ["commission", &input, "--kernel", "wrong-newest-first"];
-    let list = TOOL.printed(&line);
-    let title = "kernel wrong-newest-first (the newest message is received first)";
-    assert!(
-        list.contains(title) && list.contains("\ncheck 2 failed "),
-        "{list}"
-    );
-    assert_eq!(TOOL.status(&line), 1);
 }
 
 #[test]
 fn a_program_that_is_no_linerun_differs() {
-    let line = ["linerun", "/bin/cat", "--cases", "3"];
-    assert_eq!(TOOL.status(&line), 1);
-    assert!(TOOL
-        .printed(&line)
-        .starts_with("DIFFERENCE in fixed input 0:"));
+    let (status, echoed, _) = TOOL.ran(&["linerun", "/bin/cat", "--cases", "3"]);
+    assert_eq!(status, 1);
+    assert!(
+        echoed.starts_with("DIFFERENCE in fixed input 0, "),
+        "{echoed}"
+    );
     let silent = TOOL.printed(&["linerun", "/bin/true", "--cases", "3"]);
     assert!(silent.contains("it prints nothing"), "{silent}");
     let failing = TOOL.printed(&["linerun", "/bin/false", "--cases", "3"]);
@@ -265,17 +229,18 @@ fn stand_in(how: &str) -> String {
     path
 }
 
-/// What is told of a stand-in on the first of some inputs that it differs on.
-fn told_of(how: &str, inputs: impl Iterator<Item = u64>) -> String {
+/// What is reported of a stand-in on the first of some inputs that it differs on.
+fn report_of(how: &str, inputs: impl Iterator<Item = u64>) -> String {
     let program = stand_in(how);
-    let told = inputs.map(|number| {
+    let reports = inputs.map(|number| {
         let from = number.to_string();
-        TOOL.printed(&[
+        let line = [
             "linerun", &program, "--from", &from, "--cases", "1", "--time", "2",
-        ])
+        ];
+        TOOL.printed(&line)
     });
-    let mut told = told.filter(|told| told.starts_with("DIFFERENCE"));
-    told.next().expect("a difference")
+    let mut reports = reports.filter(|report| report.starts_with("DIFFERENCE"));
+    reports.next().expect("a difference")
 }
 
 #[test]
@@ -285,20 +250,20 @@ fn a_linerun_that_stops_reading_in_time_passes() {
 }
 
 #[test]
-fn a_linerun_that_reads_all_of_its_input_first_is_told() {
-    let list = told_of("late", (0..).step_by(16));
+fn a_linerun_that_reads_all_of_its_input_first_is_reported() {
+    let list = report_of("late", (0..).step_by(16));
     assert!(list.contains("it had not ended after 2 s"), "{list}");
     assert!(list.contains("list word 4,097 was there, so that the answer was due"));
-    let length = told_of("late", (1..).filter(|number| number % 16 > 1));
+    let length = report_of("late", (1..).filter(|number| number % 16 > 1));
     assert!(length.contains("it had not ended after 2 s"), "{length}");
     assert!(length.contains("the length word is above 641, so that the answer was due"));
 }
 
 #[test]
-fn a_linerun_that_takes_a_short_read_for_the_end_is_told() {
-    let bytes = told_of("once", (9..).step_by(64));
+fn a_linerun_that_takes_a_short_read_for_the_end_is_reported() {
+    let bytes = report_of("once", (9..).step_by(64));
     assert!(bytes.contains("It was given byte by byte."), "{bytes}");
-    let parts = told_of("once", (5..).step_by(64));
+    let parts = report_of("once", (5..).step_by(64));
     assert!(parts.contains("It was given in parts of 1 to 257 bytes."));
 }
 
@@ -315,23 +280,21 @@ fn an_input_that_differs_comes_back_through_words() {
 }
 
 #[test]
-fn speed_prints_a_table() {
-    for (flag, wanted) in [(None, 15), (Some("--by-kind"), 19), (Some("--all"), 146)] {
-        let line = ["speed", "--rounds", "1"].into_iter().chain(flag);
-        let table = TOOL.printed(&line.collect::<Vec<_>>());
-        // The check of words is there where the program was built with it.
-        let of_words =
-            |line: &&str| line.starts_with("| table check, ") && line.contains(" words)");
-        let rows = table.lines().filter(|line| line.starts_with("| "));
-        assert_eq!(
-            rows.filter(|line| !of_words(line)).count(),
-            wanted,
-            "{table}"
-        );
-        assert!([0, 2].contains(&table.lines().filter(of_words).count()));
-        assert!(table.contains("reset outside the timed part"), "{table}");
-        assert!(table.contains(&format!("| What | {} |", archive_title())));
-    }
+fn speed_prints_every_table() {
+    let text = TOOL.printed(&["speed", "--all", "--rounds", "1", "--seed", "2"]);
+    // The check of words is there where the program was built with it.
+    let of_words = |line: &&str| line.starts_with("| table check, ") && line.contains(" words)");
+    let rows = text.lines().filter(|line| line.starts_with("| "));
+    assert_eq!(rows.filter(|line| !of_words(line)).count(), 146, "{text}");
+    assert!([0, 2].contains(&text.lines().filter(of_words).count()));
+    assert!(
+        text.contains(&format!("; kernel {}; ", archive_title())),
+        "{text}"
+    );
+    assert!(text.contains("; seed 2."), "{text}");
+    let crossings = text.matches("balkwizu-working is the faster of the two");
+    assert_eq!(crossings.count(), 8, "{text}");
+    assert!(text.contains("\n| 16 | 32 | 641 | "), "{text}");
 }
 
 #[test]
@@ -341,7 +304,7 @@ fn runs_that_are_kept_are_merged_and_drawn() {
     for file in &files {
         let line = ["speed", "--growth", "--rounds", "1", "--record", file];
         assert_eq!(TOOL.status(&line), 0);
-        // Runs are told apart by the second that they began in.
+        // Runs are known by the second that they began in.
         thread::sleep(std::time::Duration::from_millis(1100));
     }
     let text = TOOL.printed(&["speed", "--merge", &files[0], &files[1], "--svg", &picture]);
@@ -358,78 +321,16 @@ fn runs_that_are_kept_are_merged_and_drawn() {
     assert!(TOOL
         .complaint(&["speed", "--merge", "--all", &files[0]])
         .contains("nothing else"));
-    assert_eq!(
-        TOOL.status(&["speed", "--record", "/no/such/folder/run"]),
-        2
-    );
 }
 
 #[test]
-fn speed_of_turns_has_a_row_for_each_size() {
-    let table = TOOL.printed(&["speed", "--turns", "--rounds", "1"]);
-    let rows = table.lines().filter(|line| line.starts_with("| ")).count();
-    assert_eq!(rows, 10, "{table}");
-    assert!(table.contains("| 16 | 32 | 641 | "), "{table}");
-}
-
-#[test]
-fn speed_tells_by_the_length_of_a_list_where_the_runs_cross() {
-    let table = TOOL.printed(&["speed", "--lengths", "--rounds", "1", "--seed", "2"]);
-    let rows = table.lines().filter(|line| line.starts_with("| ")).count();
-    assert_eq!(rows, 41, "{table}");
-    let crossings = table.matches("balkwizu-working is the faster of the two");
-    assert_eq!(crossings.count(), 8, "{table}");
-    assert!(table.contains("Lists drawn from seed 2."), "{table}");
-}
-
-#[test]
-fn an_option_that_is_for_something_else_is_not_passed_over() {
-    for (line, why) in [
-        (
-            &["totals", "/bin/true", "--rounds", "3"][..],
-            "--rounds is not for a comparison",
-        ),
-        (
-            &["totals", "/bin/true", "--speed", "--cases", "3"],
-            "--cases is not for --speed",
-        ),
-        (
-            &["linerun", "/bin/true", "--rounds", "3"],
-            "--rounds is not for a comparison",
-        ),
-        (
-            &["linerun", "/bin/true", "--speed", "--seed", "3"],
-            "--seed is not for --speed",
-        ),
-    ] {
-        assert_eq!(TOOL.status(line), 2, "{line:?}");
-        assert!(
-            TOOL.complaint(line).contains(why),
-            "{}",
-            TOOL.complaint(line)
-        );
+fn histories_show_the_longest_waits() {
+    let text = TOOL.printed(&["histories", "--cases", "1,000"]);
+    for n in 1..=16 {
+        let row = format!("{n:>12}  turns that an oldest call waited, number of domains {n}\n");
+        assert!(text.contains(&row), "{text}");
     }
-    let long = ["linerun", "/bin/true", "--time", "18446744073709551615"];
-    assert_eq!(TOOL.status(&long), 2);
-    assert!(TOOL.complaint(&long).contains("is too long"));
-}
-
-#[test]
-fn histories_show_the_longest_waits_beside_the_bound() {
-    let told = TOOL.printed(&["histories", "--cases", "1,000"]);
-    let lines: Vec<Vec<&str>> = told
-        .lines()
-        .map(|line| line.split_whitespace().collect())
-        .collect();
-    let [.., bound, waits, bound_of_all, _, _] = &lines[..] else {
-        panic!("{told}");
-    };
-    let numbers = |times: u32| (1..=16).map(|n| (times * n).to_string()).collect();
-    let (once, of_all): (Vec<String>, Vec<String>) = (numbers(1), numbers(16));
-    assert_eq!(bound[4..], once, "{told}");
-    assert_eq!(waits[4..], once, "{told}");
-    assert_eq!(bound_of_all[4..], of_all, "{told}");
-    assert!(told.ends_with("1000 cases with seed 1: passed\n"), "{told}");
+    assert!(text.ends_with("1000 cases with seed 1: passed\n"), "{text}");
 }
 
 #[test]
@@ -447,6 +348,8 @@ fn a_report_is_written_where_a_check_failed() {
     let (status, printed, _) = TOOL.ran(&line);
     assert_eq!(status, 1);
     assert!(printed.contains("\ncheck 2 failed "), "{printed}");
+    let title = "kernel wrong-newest-first (the newest message is received first)";
+    assert!(printed.contains(title), "{printed}");
     let page = fs::read_to_string(&page).expect("the page is there");
     assert!(page.contains("FAILED: check 2 (answers and table), check 3 (isolation)"));
     assert!(
@@ -458,20 +361,11 @@ fn a_report_is_written_where_a_check_failed() {
 #[test]
 fn a_kernel_that_only_the_drills_show_fails_by_them() {
     let input = TOOL.file("drills.bin", worked_example());
-    let passes = ["commission", &input, "--kernel", "wrong-size-domain-15"];
-    let list = TOOL.printed(&passes);
+    let (status, list, _) = TOOL.ran(&["commission", &input, "--kernel", "wrong-size-domain-15"]);
+    assert_eq!(status, 1);
     assert!(list.contains("\ncheck 1 passed"), "{list}");
     assert!(
         list.contains("\ncheck 2 failed  answers and table: the fields of calls at "),
         "{list}"
     );
-    assert_eq!(TOOL.status(&passes), 1);
-}
-
-#[test]
-fn a_folder_that_there_is_not_is_told_before_anything_is_done() {
-    let line = ["instructions", "--write", "--file", "/no/such/x.txt"];
-    let (status, printed, complaint) = TOOL.ran(&line);
-    assert_eq!((status, printed.as_str()), (2, ""));
-    assert!(complaint.ends_with(": there is no folder /no/such\n"));
 }

@@ -49,7 +49,7 @@ impl Program {
             _ => Vec::new(),
         };
         for (number, given) in fixed.iter().enumerate() {
-            if let Some(why) = self.differs(program, given, &mut met)? {
+            if let Some(why) = self.differs(program, given, "", &mut met)? {
                 output::write(format!("DIFFERENCE in fixed input {number}{why}").as_bytes());
                 return Ok(false);
             }
@@ -58,11 +58,12 @@ impl Program {
         let mut progress = Progress::new("inputs", &draws.numbers);
         for number in draws.numbers.clone() {
             let given = (self.given)(seed, number, draws.limit);
-            if let Some(why) = self.differs(program, &given, &mut met)? {
+            let line = format!("bench {name} {path} --seed {seed} --from {number} --cases 1");
+            let again = format!("To see it again: {line}\n");
+            if let Some(why) = self.differs(program, &given, &again, &mut met)? {
                 progress.clear();
                 let head = format!("DIFFERENCE in input {number} of seed {seed}");
-                let again = format!("bench {name} {path} --seed {seed} --from {number} --cases 1");
-                output::write(format!("{head}{why}To see it again: {again}\n").as_bytes());
+                output::write((head + &why).as_bytes());
                 return Ok(false);
             }
             progress.step();
@@ -77,14 +78,16 @@ impl Program {
         &self,
         program: &Path,
         given: &Given,
+        again: &str,
         met: &mut Met,
     ) -> Result<Option<String>, String> {
         let right = (self.right)(&given.input);
         let ran = run(program, &given.input, given.feed)?;
         self.count(given, &right, met);
         let bytes = counted(given.input.len(), "byte");
-        let more = |why| format!(", {bytes}:\n  {why}\n{}", (self.more)(program, given, &ran));
-        Ok(difference(&ran, &right).map(more))
+        let more = || (self.more)(program, given, &ran);
+        let report = |why| format!(", {bytes}:\n  {why}\n{again}{}", more());
+        Ok(difference(&ran, &right).map(report))
     }
 
     /// Counts an input, with how it was given and the code of what is right.
