@@ -28,14 +28,14 @@ const PROGRAM: Program = Program {
         Command {
             name: "fuzz",
             given: "",
-            purpose: "random runs beside the separate machine",
+            purpose: "random runs beside the reference",
             help: fuzz::HELP,
             act: fuzz::command,
         },
         Command {
             name: "step",
             given: "",
-            purpose: "single calls beside the separate machine",
+            purpose: "single calls beside the reference",
             help: step::HELP,
             act: step::command,
         },
@@ -56,14 +56,14 @@ const PROGRAM: Program = Program {
         Command {
             name: "histories",
             given: "",
-            purpose: "random turns beside the separate ones",
+            purpose: "random turns beside the reference",
             help: histories::HELP,
             act: histories::command,
         },
         Command {
             name: "linerun",
             given: "PROGRAM",
-            purpose: "the program linerun beside the separate one",
+            purpose: "the program linerun beside the reference",
             help: linerun::HELP,
             act: linerun::command,
         },

@@ -105,7 +105,7 @@ pub fn due(input: &[u8]) -> Option<usize> {
     (input.len() >= 4 * words).then_some(4 * words)
 }
 
-/// A list of 4,095 to 4,097 words, with or without bytes left over, behind a table
+/// A list of 4,095 to 4,097 words, with or without bytes left over, after a table
 /// that is sound or not.
 fn at_the_limit(rng: &mut Rng) -> Vec<u8> {
     let mut table = reference::generate::table(rng, 2, 1);

@@ -134,7 +134,7 @@ fn of_lists(lists: &[Vec<u32>]) -> Vec<u8> {
 }
 
 /// As many lists as there can be, each with a send and a receive: to the end of the input,
-/// and with the first byte of one length word more, behind which the pipe is held open.
+/// and with the first byte of one length word more, after which the pipe is held open.
 pub fn most_lists(time: Duration) -> [Given; 2] {
     let input = &long_inputs()[0];
     let list = &input.lists[0][..SEND_AND_RECEIVE];
@@ -156,7 +156,7 @@ pub fn most_lists(time: Duration) -> [Given; 2] {
 }
 
 /// How many bytes of an input decide what is printed, where that is before the end is
-/// seen: as many as the separate program asks for.
+/// seen: as many as the reference asks for.
 pub fn due(input: &[u8]) -> Option<usize> {
     let mut counted = Counted {
         rest: input,
@@ -226,7 +226,7 @@ mod tests {
     }
 
     #[test]
-    fn the_most_lists_are_told_and_one_more_is_refused() {
+    fn the_most_lists_are_counted_and_one_more_is_refused() {
         let printed = most_lists(Duration::from_secs(1)).map(|given| {
             assert_eq!(due(&given.input).is_some(), given.feed.held);
             String::from_utf8(reference::totals(&given.input)).unwrap()

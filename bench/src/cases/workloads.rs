@@ -1,11 +1,11 @@
 //! What the speed is measured on: tables, and sixty different lists of 4,096 words for
 //! each, to be gone through in turn.
 //!
-//! One list that is run again and again is learnt by heart by the processor: it
-//! foretells each jump by what came of it the last time. Sixty are too many for that.
+//! One list that is run again and again is learnt by the
+//! branch predictor. Sixty are too many for that.
 //!
 //! Every list is drawn from a seed, and leaves every queue and every right as it was
-//! after each few calls, so that its calls come to the same wherever they stand in it
+//! after each few calls, so that its calls come to the same wherever they are in it
 //! and whichever list ran before it.
 
 use line::cases::tables::{open_table, second, table_with};
@@ -46,7 +46,7 @@ pub fn workloads(seed: u64) -> Vec<Workload> {
 }
 
 /// A small table and the largest, each with lists of one kind of call, or of two that
-/// undo each other, done or refused: what a call costs by itself. Then receives from
+/// undo each other, done or refused: what a call costs alone. Then receives from
 /// a queue with one message, and with eight.
 pub fn by_kind(seed: u64) -> Vec<Workload> {
     let sizes = [(4, 4), (16, 32)];
@@ -249,7 +249,7 @@ pub fn closed_table(n: usize, m: usize) -> Vec<u32> {
 }
 
 /// Calls that are refused on that table, one for each code from 10 to 23; only the call
-/// that stands before the stray is done.
+/// before the stray is done.
 pub fn refused(n: usize, m: usize) -> [Vec<u32>; 14] {
     let grant =
         |caller, target, recipient, set| vec![call_word(GRANT, caller, target, recipient, set)];

@@ -17,7 +17,7 @@ use line::cases::tables::{second, table_with};
 pub const SIZES: [(usize, usize); 2] = [(15, 32), (16, 32)];
 
 /// Names that share a hint of the working layout, and so a flag of the check: looked for
-/// and compared one by one, since neither tells them apart.
+/// and compared one by one, since neither distinguishes them.
 fn names() -> impl Iterator<Item = u32> {
     (1..1 << 28).filter(|&name| hint(name) == 0)
 }
@@ -126,7 +126,7 @@ fn matrix(held: impl Fn(usize, usize) -> u32) -> Vec<u32> {
 }
 
 /// Rights among sixteen domains: the first so many have all on each other, and from the
-/// last of them a chain goes on to the end. The more stand in the chain, the more rounds a
+/// last of them a chain goes on to the end. The more are in the chain, the more rounds a
 /// question takes; the fewer, the more each costs.
 fn chains() -> Vec<Vec<u32>> {
     let linked = |first: usize, u: usize, v: usize| u.max(v) < first || u.abs_diff(v) == 1;

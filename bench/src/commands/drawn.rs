@@ -1,5 +1,5 @@
 //! What the commands have in common that try random things by their numbers, beside the
-//! separate machine: `bench step`, `bench queue`, `bench tables` and `bench histories`; and
+//! reference: `bench step`, `bench queue`, `bench tables` and `bench histories`; and
 //! how a line asks for it, which is the same for programs that are tried.
 
 use std::ffi::OsString;

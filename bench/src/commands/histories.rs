@@ -1,4 +1,4 @@
-//! `bench histories`: random histories of turns, the proved layer beside the separate one.
+//! `bench histories`: random histories of turns, the proved layer beside the reference.
 
 use std::ffi::OsString;
 
@@ -10,9 +10,9 @@ pub const HELP: &str = "\
 bench histories [--cases N] [--seed S] [--from K] [--time T]
 
 Plays random histories of turns: domains hand in calls and turns serve them, on
-the proved layer and on the separate one, and compares the code and every word
-that is lent, of the table, the state, the holders and the answer, after each
-event. Some tables are damaged, some states are such as no history makes or have
+the proved layer and on the reference, and compares the code and every word that
+is lent, of the table, the state, the holders and the answer, after each event.
+Some tables are damaged, some states are such as no history makes or have
 another length, some calls are none or another's, and answers and holders now
 and then get too few or too many words. `balkwizu turns` plays a history that is
 written by hand.

@@ -10,7 +10,7 @@ use std::process::{Command, Stdio};
 use crate::judging::instructions::{
     at_most, compared, figures, near, parts, read_written, written, Figure, HEAD, PERCENT,
 };
-use crate::judging::jobs::{do_all, jobs, Job, BEHIND_A_JOB};
+use crate::judging::jobs::{do_all, jobs, Job, AFTER_A_JOB};
 use crate::judging::worst::{beyond, largest_of, worst_jobs};
 use line::args::Options;
 use line::output::{self, say};
@@ -33,7 +33,7 @@ says so.
                of call to bench/worst.txt: one that rose at all fails, and so
                does one written down that passes what include/balkwizu.h below
                this folder allows (BALKWIZU_.._INSTRUCTIONS). What memory
-               functions took is told beside it and not held
+               functions took is shown beside it and not held
   --write      writes the figures down anew, to bench/instructions.txt below
                this folder, or to bench/worst.txt: where a change of the archive
                is meant, with it
@@ -67,7 +67,7 @@ const WORST: Counting = Counting {
     file: "bench/worst.txt",
     head: "\
 # The most instructions that were found for each function and kind of call, counted by callgrind:
-# the archive's own alone. The number behind a function's name is that of the list's words, or of
+# the archive's own alone. The number after a function's name is that of the list's words, or of
 # the calls to be written. `bench instructions --worst` holds the archive to these figures.
 ",
     written: include_str!("../../worst.txt"),
@@ -128,8 +128,8 @@ fn write_anew(counting: &Counting, file: &Path, worst: bool) -> Result<bool, Str
 
 /// Tells what became of each figure; whether all hold.
 fn tell(figures: &[Figure], written: &[Figure]) -> bool {
-    let (told, failed) = compared(figures, written, near);
-    told.iter().for_each(|line| say!("{line}"));
+    let (report, failed) = compared(figures, written, near);
+    report.iter().for_each(|line| say!("{line}"));
     if failed > 0 {
         say!(
             "{} not within {PERCENT} % of what is written down. Where that is meant: \
@@ -143,8 +143,8 @@ fn tell(figures: &[Figure], written: &[Figure]) -> bool {
 /// Tells what became of the largest figures, and which of those written down are beyond what
 /// the header allows; whether all hold.
 fn tell_worst(figures: &[Figure], written: &[Figure], beyond: &[String]) -> bool {
-    let (told, failed) = compared(figures, written, at_most);
-    told.iter().for_each(|line| say!("{line}"));
+    let (report, failed) = compared(figures, written, at_most);
+    report.iter().for_each(|line| say!("{line}"));
     beyond.iter().for_each(|line| say!("FAILED  {line}"));
     failed == 0 && beyond.is_empty()
 }
@@ -157,7 +157,7 @@ fn counted_now(counting: &Counting, worst: bool) -> Result<Vec<Figure>, String> 
     let ran = Command::new("valgrind")
         .args(["--tool=callgrind", "--command-line-only=yes", "--quiet"])
         .args(["--demangle=no", "--combine-dumps=yes"])
-        .arg(format!("--dump-before={BEHIND_A_JOB}"))
+        .arg(format!("--dump-before={AFTER_A_JOB}"))
         .arg(format!("--callgrind-out-file={}", left.display()))
         .arg(program)
         .args(["instructions", JOBS])
@@ -180,7 +180,7 @@ mod tests {
     use super::*;
 
     #[test]
-    fn the_help_tells_how_much_a_figure_may_rise() {
+    fn the_help_says_how_much_a_figure_may_rise() {
         assert!(HELP.contains(&format!("by more than {PERCENT} % fails")));
     }
 

@@ -22,16 +22,16 @@ bench linerun PROGRAM [--cases N] [--seed S] [--from K] [--time T]
 bench linerun PROGRAM --speed [--rounds N]
 
 Runs PROGRAM, as target/bin/linerun, on random inputs and compares every byte
-that it prints with what the separate implementation prints: lists that run,
-tables that are refused, inputs that are cut short, that have bytes left over,
-and that are too long. Before these come fixed ones: the worked example cut
-after each byte, bytes of every value left over after lists of many lengths, and
-length words with each bit turned. Some are given byte by byte or in odd parts.
-Where the answer is due before the end, at a length word above 641 and at list
-word 4,097, the pipe is held open after that, with up to three bytes more: the
-answer must come all the same. PROGRAM must end by itself with status 0 each
-time; it is stopped after T seconds on one input, or when it prints more than
-any list of calls is answered with; and it must write nothing to standard error.
+that it prints with what the reference prints: lists that run, tables that are
+refused, inputs that are cut short, that have bytes left over, and that are too
+long. Before these come fixed ones: the worked example cut after each byte,
+bytes of every value left over after lists of many lengths, and length words
+with each bit turned. Some are given byte by byte or in odd parts. Where the
+answer is due before the end, at a length word above 641 and at list word 4,097,
+the pipe is held open after that, with up to three bytes more: the answer must
+come all the same. PROGRAM must end with status 0 each time; it is stopped after
+T seconds on one input, or when it prints more than any list of calls is
+answered with; and it must write nothing to standard error.
 
   --cases N  inputs to try (default 2,000)
   --seed S   the seed that they are drawn from (default 1)

@@ -1,4 +1,4 @@
-//! `bench queue`: the proved queue's send and receive beside the separate ones, on
+//! `bench queue`: the proved queue's send and receive beside the reference, on
 //! any words in the place of an endpoint's twelve.
 
 use std::ffi::OsString;
@@ -11,9 +11,9 @@ pub const HELP: &str = "\
 bench queue [--cases N] [--seed S] [--from K] [--time T]
 
 Lends random words to the proved queue's send and to its receive, and compares
-every word with what the separate ones leave. The words are mostly twelve, with
-a capacity and a waiting count near what an endpoint can have, and anything in
-the slots, also behind the waiting count.
+every word with what the reference leaves. The words are mostly twelve, with a
+capacity and a waiting count near what an endpoint can have, and anything in the
+slots, also after the waiting count.
 
   --cases N  words to try (default 100,000)
   --seed S   the seed that everything is drawn from (default 1)
@@ -22,10 +22,10 @@ the slots, also behind the waiting count.
              10)
 
 The first difference ends it. The functions run in a child process: one that
-faults, that takes longer or that ends the program is told as STOPPED.
+faults, that takes longer or that ends the program is reported as STOPPED.
 
 From 10,000 words on, a case that was never met is a failure too: each waiting
-count with other slots than empty ones behind it, a send with space, to a full
+count with other slots than empty ones after it, a send with space, to a full
 queue and with the lost count at its top, and words that each of the two leaves
 as they are.
 

@@ -55,14 +55,14 @@ rounds, in nanoseconds: of a call, a check, an entry (a run of the empty list)
 or, by length and growth, of a whole run. A ratio is the median of the rounds'
 ratios, the proved kernel's time over that of the faster plain C kernel of the
 row: above 1 the proved kernel is slower. A goal is for the check, or for the
-run that is meant for long lists, and is shown for each proved run.
-The table and the answers are reset before each run of a list, outside the timed
-part; by length and growth the table is passed on from list to list and reset
-before each turn of a kernel. Every kernel's runs are first compared with the
-reference. The plain C checks words as the bytes that they are in memory; the
-proved check of words is in an archive of its own (`rt staticlib
-test_check_export`), which the program is built with where it is there, and its
-rows are left out where it isn't.
+run that is meant for long lists, and is shown for each proved run. The table
+and the answers are reset before each run of a list, outside the timed part; by
+length and growth the table is passed on from list to list and reset before each
+turn of a kernel. Every kernel's runs are first compared with the reference. The
+plain C checks words as the bytes that they are in memory; the proved check of
+words is in an archive of its own (`rt staticlib test_check_export`), which the
+program is built with where it is there, and its rows are left out where it
+isn't.
 
 Runs that are merged must be of one program, processor, seed and number of
 rounds, and made at different times.

@@ -1,4 +1,4 @@
-//! `bench step`: the proved kernel's public step beside the separate machine's, one
+//! `bench step`: the proved kernel's public step beside the reference's, one
 //! call at a time.
 
 use std::ffi::OsString;
@@ -11,11 +11,11 @@ pub const HELP: &str = "\
 bench step [--cases N] [--seed S] [--from K] [--time T]
 
 Feeds the calls of random lists one by one to the proved kernel's public step,
-and to the separate machine, and compares the code, the answer words, every
-table word, the holders' words and the words around them after each call. Tables
-are sound or damaged, answer spaces large enough or not, the holders' words as
-many as domains or not; some calls get a second word that no list gives them: a
-kind that takes none gets one, or it is of another kind than 15.
+and to the reference, and compares the code, the answer words, every table word,
+the holders' words and the words around them after each call. Tables are sound
+or damaged, answer spaces large enough or not, the holders' words as many as
+domains or not; some calls get a second word that no list gives them: a kind
+that takes none gets one, or it is of another kind than 15.
 
   --cases N  tables and lists to try (default 20,000)
   --seed S   the seed that everything is drawn from (default 1)
@@ -24,8 +24,8 @@ kind that takes none gets one, or it is of another kind than 15.
 
 The first difference ends it, with the table before the call and the call's
 words as `balkwizu words` takes them. The step runs in a child process: one that
-faults, that takes longer or that ends the program is told in the same way, as
-STOPPED.
+faults, that takes longer or that ends the program is reported in the same way,
+as STOPPED.
 
 From 5,000 lists on, a code that no call met is a failure too, and so is a
 second word of either sort that was never given.

@@ -1,4 +1,4 @@
-//! `bench tables`: functions of a table alone, on random words, beside the separate ones.
+//! `bench tables`: functions of a table alone, on random words, beside the reference.
 
 use std::ffi::OsString;
 
@@ -12,9 +12,9 @@ pub const HELP: &str = "\
 bench tables [--cases N] [--seed S] [--from K] [--time T]
 
 Tries the proved kernel's functions of a table alone on random tables, beside
-the separate ones: repairs of worn tables, damaged by one bit, by runs of words
-as a worn card gives them, or in many words. What is repaired must pass the
-table's check, and the list of what was altered must put the old table back. And
+the reference: repairs of worn tables, damaged by one bit, by runs of words as a
+worn card gives them, or in many words. What is repaired must pass the table's
+check, and the list of what was altered must put the old table back. And
 potential rights: lists by the actors must give nobody more, and a list is built
 for each table that gives them all. And who could influence a domain: lists by
 the actors must have no other source, the domain must see the same without the

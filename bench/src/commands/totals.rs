@@ -16,16 +16,16 @@ bench totals PROGRAM [--cases N] [--seed S] [--from K] [--time T]
 bench totals PROGRAM --speed [--lists N] [--rounds N]
 
 With PROGRAM, runs it, as target/bin/linetotals, on random inputs and compares
-every byte that it prints with what the separate implementation prints: lists
-that run one after another, tables and lists that are refused, inputs that are
-cut short. Some are given byte by byte or in odd parts. Where what is printed is
-due before the end (a refused table, a length word above 4,096, a byte behind
-the 65,536th list) the pipe is held open there: the sheet must come all the
-same. The first two inputs have 65,536 lists with a send and a receive each, one
-of them a length word more. Then come fixed ones: more than 65,536 sends,
-receives and losses at one endpoint, more than 100 lists, some of exactly 4,096
-words, an input cut after each byte, and length words with each bit turned.
-PROGRAM must write nothing to standard error.
+every byte that it prints with what the reference prints: lists that run one
+after another, tables and lists that are refused, inputs that are cut short.
+Some are given byte by byte or in odd parts. Where what is printed is due before
+the end (a refused table, a length word above 4,096, a byte after the 65,536th
+list) the pipe is held open there: the sheet must come all the same. The first
+two inputs have 65,536 lists with a send and a receive each, one of them a
+length word more. Then come fixed ones: more than 65,536 sends, receives and
+losses at one endpoint, more than 100 lists, some of exactly 4,096 words, an
+input cut after each byte, and length words with each bit turned. PROGRAM must
+write nothing to standard error.
 
   --cases N  inputs to try (default 1,000)
   --seed S   the seed that they are drawn from (default 1)

@@ -109,7 +109,7 @@ mod tests {
     #[test]
     fn every_point_is_measured() {
         for series in series(1).iter().skip(2) {
-            // One check stands for all proved kernels.
+            // One check is for all proved kernels.
             let spared = match series.runs().count() {
                 0 => proved().count() - 1,
                 _ => 0,

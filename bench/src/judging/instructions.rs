@@ -38,8 +38,8 @@ fn is_own(function: &str) -> bool {
 ///
 /// Its text has `fn=(7) name` where the costs of a function begin, `cfn=` where it calls
 /// one; a name is given once, and then by its number alone. A line of a cost is a place
-/// and the cost; the one behind `calls=` is that of the function called with all that it
-/// calls. Where that is of the archive too, it counts where it stands itself.
+/// and the cost; the one after `calls=` is that of the function called with all that it
+/// calls. Where that is of the archive too, it counts by its own lines.
 pub fn parts(left: &str) -> Result<Vec<Part>, String> {
     let mut names: HashMap<&str, bool> = HashMap::new();
     let mut parts: Vec<Part> = Vec::new();
@@ -81,11 +81,11 @@ fn cost(line: &str) -> Result<u64, String> {
     cost.ok_or_else(|| format!("no cost in the line `{line}`"))
 }
 
-/// The figures of jobs, given the parts that end behind each of them and the one behind
+/// The figures of jobs, given the parts that end after each of them and the one after
 /// the last.
 pub fn figures(names: Vec<String>, parts: &[Part]) -> Result<Vec<Figure>, String> {
     let Some((&Part { own: 0, .. }, parts)) = parts.split_last() else {
-        return Err("proved functions are called behind the last job".to_string());
+        return Err("proved functions are called after the last job".to_string());
     };
     if parts.len() != names.len() || parts.iter().any(|part| part.own == 0) {
         return Err(format!(
@@ -110,7 +110,7 @@ pub const HEAD: &str = "\
 # `bench instructions` holds the archive to these figures; with --write it writes them anew.
 ";
 
-/// Figures as a file has them behind its head: a line each, the number and the name.
+/// Figures as a file has them after its head: a line each, the number and the name.
 pub fn written(head: &str, figures: &[Figure]) -> String {
     let line = |one: &Figure| format!("{:>9}  {}\n", one.instructions, one.name);
     head.to_string() + &figures.iter().map(line).collect::<String>()
@@ -135,17 +135,17 @@ pub fn read_written(text: &str) -> Result<Vec<Figure>, String> {
         .collect()
 }
 
-/// How a figure stands beside the number that is written down for it, well or not.
+/// How a figure compares with the number that is written down for it, well or not.
 type Beside = fn(&Figure, u64) -> Result<String, String>;
 
-/// What is told of figures that were counted beside those that are written down, and how
-/// many fail: what doesn't stand well, what isn't written down, what is written alone.
+/// What is said of figures that were counted beside those that are written down, and how
+/// many fail: what doesn't hold, what isn't written down, what is written alone.
 pub fn compared(counted: &[Figure], written: &[Figure], beside: Beside) -> (Vec<String>, usize) {
     let among = |figures: &[Figure], name: &str| {
         let found = figures.iter().find(|one| one.name == name);
         found.map(|one| one.instructions)
     };
-    let told = counted.iter().map(|one| {
+    let report = counted.iter().map(|one| {
         let Figure {
             name, instructions, ..
         } = one;
@@ -156,13 +156,13 @@ pub fn compared(counted: &[Figure], written: &[Figure], beside: Beside) -> (Vec<
         .iter()
         .filter(|one| among(counted, &one.name).is_none());
     let gone = gone.map(|one| Err(format!("{}: written down, but not counted", one.name)));
-    let told: Vec<Result<String, String>> = told.chain(gone).collect();
-    let failed = told.iter().filter(|told| told.is_err()).count();
-    let line = |told| match told {
+    let report: Vec<Result<String, String>> = report.chain(gone).collect();
+    let failed = report.iter().filter(|report| report.is_err()).count();
+    let line = |report| match report {
         Ok(well) => format!("ok      {well}"),
         Err(wrong) => format!("FAILED  {wrong}"),
     };
-    (told.into_iter().map(line).collect(), failed)
+    (report.into_iter().map(line).collect(), failed)
 }
 
 /// A figure that may neither rise nor fall by more than 3 %.
@@ -258,7 +258,7 @@ fn=(1)
     }
 
     #[test]
-    fn what_callgrind_does_not_leave_is_told() {
+    fn what_callgrind_does_not_leave_is_reported() {
         let wrong = |text: &str| parts(text).unwrap_err();
         assert!(wrong("part: 1\nfn=(3)\n0 5\n").contains("(3)"));
         assert!(wrong("part: 1\nfn=(3) a::b\n0 many\n").contains("0 many"));
@@ -300,12 +300,12 @@ fn=(1)
     #[test]
     fn three_percent_more_or_less_are_let_pass_and_no_more() {
         let failed = |counted, written| {
-            let (told, failed) = compared(&[figure("x", counted)], &[figure("x", written)], near);
-            assert_eq!(told[0].starts_with("FAILED  x: "), failed == 1);
+            let (report, failed) = compared(&[figure("x", counted)], &[figure("x", written)], near);
+            assert_eq!(report[0].starts_with("FAILED  x: "), failed == 1);
             (
                 failed,
-                told[0].contains("rose by"),
-                told[0].contains("fell by"),
+                report[0].contains("rose by"),
+                report[0].contains("fell by"),
             )
         };
         assert_eq!(failed(1000, 1000), (0, false, false));
@@ -322,10 +322,10 @@ fn=(1)
     }
 
     #[test]
-    fn a_figure_that_stands_on_one_side_alone_fails() {
-        let (told, failed) = compared(&[figure("new", 5)], &[figure("old", 5)], near);
+    fn a_figure_that_is_on_one_side_alone_fails() {
+        let (report, failed) = compared(&[figure("new", 5)], &[figure("old", 5)], near);
         assert_eq!(failed, 2);
-        assert_eq!(told[0], "FAILED  new: 5 instructions, none written down");
-        assert_eq!(told[1], "FAILED  old: written down, but not counted");
+        assert_eq!(report[0], "FAILED  new: 5 instructions, none written down");
+        assert_eq!(report[1], "FAILED  old: written down, but not counted");
     }
 }

@@ -48,9 +48,9 @@ impl Job {
     }
 }
 
-/// The function that is called behind each job: callgrind ends a part of what it counts
+/// The function that is called after each job: callgrind ends a part of what it counts
 /// where this one begins, and knows it by its name.
-pub const BEHIND_A_JOB: &str = "bench_job_is_done";
+pub const AFTER_A_JOB: &str = "bench_job_is_done";
 
 #[no_mangle]
 #[inline(never)]
@@ -169,8 +169,8 @@ fn turns(n: usize, m: usize) -> Job {
                 assert_eq!(code, 0);
             }
             for _ in 0..n {
-                let told = (PROVED_LAYER.turn)(&mut table, &mut state, &mut holders, &mut answer);
-                assert_eq!(told, 1 << 16);
+                let said = (PROVED_LAYER.turn)(&mut table, &mut state, &mut holders, &mut answer);
+                assert_eq!(said, 1 << 16);
             }
         },
     )
@@ -192,6 +192,6 @@ mod tests {
 
     #[test]
     fn the_marker_is_called_as_it_is_looked_for() {
-        assert!(BEHIND_A_JOB == stringify!(bench_job_is_done));
+        assert!(AFTER_A_JOB == stringify!(bench_job_is_done));
     }
 }

@@ -87,19 +87,20 @@ pub fn shorter(program: &Path, input: &[u8], feed: Feed, ran: &Ran) -> String {
         End::TooLong(_) => input.to_vec(),
         _ => with_fewer_words(input, |input| differs(input).is_some()),
     };
-    let mut told = String::new();
+    let mut report = String::new();
     if smaller != input {
         let size = counted(smaller.len(), "byte");
         let why = differs(&smaller).unwrap_or_default();
-        told += &format!("Cut down to {size}:\n  {why}\n");
+        report += &format!("Cut down to {size}:\n  {why}\n");
     }
-    told + &match smaller.as_slice() {
-        [] => "The input is empty.\n".to_string(),
-        _ => format!(
-            "Its words, as `balkwizu words` takes them:\n{}",
-            hex::write_bytes(&smaller)
-        ),
-    }
+    report
+        + &match smaller.as_slice() {
+            [] => "The input is empty.\n".to_string(),
+            _ => format!(
+                "Its words, as `balkwizu words` takes them:\n{}",
+                hex::write_bytes(&smaller)
+            ),
+        }
 }
 
 /// An input with the plainest and shortest list that still differs.
@@ -117,7 +118,7 @@ mod tests {
     use line::text::input::Input;
     use reference::words::from_bytes;
 
-    fn told(printed: &[u8], end: End, expected: &[u8]) -> Option<String> {
+    fn report(printed: &[u8], end: End, expected: &[u8]) -> Option<String> {
         difference(&ran(printed, b"\x1B[31mbad\nmore", end), expected)
     }
 
@@ -133,13 +134,13 @@ mod tests {
     fn how_a_program_ends_is_compared_too() {
         let right = b"calls 0 code 7\n";
         assert_eq!(difference(&ran(right, b"", End::Status(0)), right), None);
-        let said = told(right, End::Status(0), right).unwrap();
+        let said = report(right, End::Status(0), right).unwrap();
         assert!(said.starts_with("on standard error, where nothing should be"));
-        let status = told(right, End::Status(3), right).unwrap();
+        let status = report(right, End::Status(3), right).unwrap();
         assert!(status.starts_with("it ended with status 3"), "{status}");
         let said = "on standard error, where nothing should be, it says: \\x1b[31mbad";
         assert!(status.ends_with(said), "{status}");
-        let signal = told(b"", End::Signal(6), right).unwrap();
+        let signal = report(b"", End::Signal(6), right).unwrap();
         assert!(signal.starts_with("it was ended by signal 6 (aborted)"));
         assert!(signal.contains("it prints nothing; line 1 should be: calls 0 code 7"));
     }
@@ -147,7 +148,7 @@ mod tests {
     #[test]
     fn the_first_line_that_differs_is_shown() {
         let differs = |printed: &[u8], expected: &[u8]| {
-            told(printed, End::Status(0), expected).expect("a difference")
+            report(printed, End::Status(0), expected).expect("a difference")
         };
         let other = differs(b"a\nb\x07\n", b"a\nc\n");
         assert!(other.starts_with("line 2 is:        b\\x07\n  line 2 should be: c\n"));

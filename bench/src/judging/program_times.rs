@@ -134,8 +134,8 @@ mod tests {
     fn a_program_that_fails_has_no_time() {
         let run = |program| timed(Path::new(program), Path::new("/dev/null"), true);
         assert_eq!(run("/bin/true").unwrap().1, b"");
-        let told = run("/bin/false").unwrap_err();
-        assert!(told.starts_with("/bin/false ended with"), "{told}");
+        let said = run("/bin/false").unwrap_err();
+        assert!(said.starts_with("/bin/false ended with"), "{said}");
     }
 
     #[test]

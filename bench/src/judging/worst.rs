@@ -159,7 +159,7 @@ fn write(calls: &Calls) -> Option<Job> {
     (calls.kind != "refused").then(|| Job::new(name, act))
 }
 
-/// The first call of a kind by itself.
+/// The first call of a kind alone.
 fn step(calls: &Calls) -> Job {
     let (first, call) = (calls.table.clone(), cut(&calls.words)[0].words().to_vec());
     Job::new(format!("balkwizu_step: {}", calls.kind), move || {
@@ -169,7 +169,7 @@ fn step(calls: &Calls) -> Job {
 }
 
 /// A turn at which sixteen words of the kind are pending: of every domain, or of the last
-/// alone, which is found behind all others.
+/// alone, which is found after all others.
 fn turn(calls: &Calls, others: usize) -> Job {
     let (first, words) = (calls.table.clone(), calls.list(16));
     Job::new(format!("balkwizu_turn: {}", calls.kind), move || {
@@ -179,8 +179,8 @@ fn turn(calls: &Calls, others: usize) -> Job {
             state[length(domain)] = 16;
             state[length(domain) + 1..][..16].copy_from_slice(&words);
         }
-        let told = (PROVED_LAYER.turn)(&mut table, &mut state, &mut vec![0; n], &mut [0; 3]);
-        assert_eq!(told, 1 << 16);
+        let said = (PROVED_LAYER.turn)(&mut table, &mut state, &mut vec![0; n], &mut [0; 3]);
+        assert_eq!(said, 1 << 16);
     })
 }
 
@@ -214,10 +214,10 @@ fn allowed(header: &str) -> HashMap<String, (u64, u64)> {
     macros.collect()
 }
 
-/// The figures that pass what a header allows, or for which it allows nothing, each told.
+/// The figures that pass what a header allows, or for which it allows nothing, each in words.
 pub fn beyond(header: &str, figures: &[Figure]) -> Vec<String> {
     let allowed = allowed(header);
-    let told = |one: &Figure| {
+    let said = |one: &Figure| {
         let given = one.name.split(':').next().unwrap_or_default();
         let (function, count) = given.split_once(' ').unwrap_or((given, "0"));
         let most = allowed.get(function).zip(count.parse::<u64>().ok());
@@ -228,7 +228,7 @@ pub fn beyond(header: &str, figures: &[Figure]) -> Vec<String> {
         (*instructions > most)
             .then(|| format!("{name}: {instructions} instructions, {most} allowed"))
     };
-    figures.iter().filter_map(told).collect()
+    figures.iter().filter_map(said).collect()
 }
 
 #[cfg(test)]
@@ -265,10 +265,10 @@ mod tests {
     fn what_a_header_allows_is_a_number_or_grows_by_the_word() {
         let header =
             "\n#define A_RUN_INSTRUCTIONS(words) (90u + 7u * (words))\n#define B_INSTRUCTIONS 5u\n";
-        let told = |name: &str, instructions| beyond(header, &[figure(name, instructions)]).len();
-        assert_eq!([told("a_run 10: x", 160), told("a_run 10: x", 161)], [0, 1]);
+        let said = |name: &str, instructions| beyond(header, &[figure(name, instructions)]).len();
+        assert_eq!([said("a_run 10: x", 160), said("a_run 10: x", 161)], [0, 1]);
         assert_eq!(
-            [told("b: x", 5), told("b: x", 6), told("c: x", 1)],
+            [said("b: x", 5), said("b: x", 6), said("c: x", 1)],
             [0, 1, 1]
         );
     }

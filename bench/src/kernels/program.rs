@@ -1,6 +1,6 @@
 //! Another program run on an input, whatever it does: within a time, and with no
 //! more kept of what it prints than `linerun` can print. It is given its input at once
-//! or part by part, and the pipe may stay open behind the last byte. It runs in a group
+//! or part by part, and the pipe may stay open after the last byte. It runs in a group
 //! of processes of its own, so that what it started ends with it.
 
 use std::io::{self, ErrorKind, Read, Write};
@@ -41,7 +41,7 @@ pub struct Feed {
     /// changing sizes up to that, each written once all before it was read, so that a
     /// read gets no more than one.
     pub parts: Option<usize>,
-    /// The pipe stays open behind the last byte until the program has ended.
+    /// The pipe stays open after the last byte until the program has ended.
     pub held: bool,
     /// How long the program may take.
     pub time: Duration,
@@ -57,9 +57,9 @@ impl Feed {
         let mut rest = input;
         while !rest.is_empty() {
             let size = 1 + parts.len() * 7919 % most;
-            let (part, behind) = rest.split_at(size.min(rest.len()));
+            let (part, after) = rest.split_at(size.min(rest.len()));
             parts.push(part);
-            rest = behind;
+            rest = after;
         }
         parts
     }
@@ -67,7 +67,7 @@ impl Feed {
 
 #[derive(Debug, Clone, Copy, PartialEq, Eq)]
 pub enum End {
-    /// By itself, with a status.
+    /// Of its own accord, with a status.
     Status(i32),
     Signal(i32),
     /// Stopped from here, for printing too much or for taking too long.
@@ -127,12 +127,12 @@ fn start(program: &Path) -> Result<Child, String> {
     command.stdout(Stdio::piped()).stderr(Stdio::piped());
     command.process_group(0);
     command.spawn().map_err(|why| {
-        let told = output::shown(program);
+        let name = output::shown(program);
         let bare = why.kind() == ErrorKind::NotFound && program.components().count() == 1;
         if bare && program.exists() {
-            return format!("no program {told} is installed: for the one here write ./{told}");
+            return format!("no program {name} is installed: for the one here write ./{name}");
         }
-        format!("cannot start {told}: {why}")
+        format!("cannot start {name}: {why}")
     })
 }
 
@@ -241,7 +241,7 @@ mod tests {
     const SOON: Duration = Duration::from_secs(6);
     const LATE: Duration = Duration::from_secs(120);
 
-    /// The input at once, and the pipe closed behind it.
+    /// The input at once, and the pipe closed after it.
     fn at_once_for(time: Duration) -> Feed {
         Feed {
             parts: None,
@@ -259,7 +259,7 @@ mod tests {
         at_once("/bin/sh", script.as_bytes()).unwrap()
     }
 
-    /// The same with a script that never ends by itself.
+    /// The same with a script that never ends.
     fn endless(script: &str) -> Ran {
         run("/bin/sh", script.as_bytes(), at_once_for(SOON)).unwrap()
     }
@@ -297,7 +297,7 @@ mod tests {
     }
 
     #[test]
-    fn a_pipe_is_held_open_behind_the_last_byte() {
+    fn a_pipe_is_held_open_after_the_last_byte() {
         let held = |time| Feed {
             held: true,
             ..at_once_for(time)
@@ -315,17 +315,17 @@ mod tests {
         assert_eq!(ran.printed, b"abc\n");
         assert_eq!(ran.said, b"wrong\n");
         assert_eq!(ran.end, End::Status(3));
-        let told = ran.end.fault().unwrap();
-        assert_eq!(told, "it ended with status 3, it should be 0");
+        let report = ran.end.fault().unwrap();
+        assert_eq!(report, "it ended with status 3, it should be 0");
         assert_eq!(shell("echo abc").end.fault(), None);
     }
 
     #[test]
-    fn a_signal_is_told() {
+    fn a_signal_is_reported() {
         let ran = shell("echo abc; kill -SEGV $$");
         assert_eq!(ran.printed, b"abc\n");
-        let told = ran.end.fault().unwrap();
-        assert_eq!(told, "it was ended by signal 11 (segmentation fault)");
+        let report = ran.end.fault().unwrap();
+        assert_eq!(report, "it was ended by signal 11 (segmentation fault)");
     }
 
     #[test]
@@ -344,15 +344,15 @@ mod tests {
         assert_eq!(waits.end, End::TooLong(SOON));
         assert_eq!(waits.printed, b"abc\n");
         let closes = endless("echo abc; exec sleep 600 >&- 2>&-");
-        let told = closes.end.fault().unwrap();
-        assert_eq!(told, "it was stopped: it had not ended after 6 s");
+        let report = closes.end.fault().unwrap();
+        assert_eq!(report, "it was stopped: it had not ended after 6 s");
     }
 
     #[test]
     fn what_a_program_started_ends_with_it() {
         let began = Instant::now();
         assert_eq!(endless("sleep 600; echo late").end, End::TooLong(SOON));
-        // It ends by itself, and leaves another that holds its output open.
+        // It ends, and leaves another that holds its output open.
         let ran = endless("echo abc; sleep 600 &");
         assert_eq!(ran.end, End::Status(0));
         assert_eq!(ran.printed, b"abc\n");
@@ -360,7 +360,7 @@ mod tests {
     }
 
     #[test]
-    fn a_program_that_cannot_be_started_is_told() {
+    fn a_program_that_cannot_be_started_is_reported() {
         assert!(at_once("/no/such/program", b"").is_err());
         // Tests run in the folder of the package.
         let here = at_once("Cargo.toml", b"").unwrap_err();

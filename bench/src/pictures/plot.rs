@@ -6,13 +6,13 @@ use crate::judging::rows::Row;
 use line::pictures::sheet::grouped;
 use line::pictures::svg::{Drawing, Style, INK, LINE, QUIET};
 
-/// Panels stand in columns of so many.
+/// Panels are in columns of so many.
 const COLUMNS: usize = 2;
 const PANEL: (f64, f64) = (450.0, 280.0);
 /// What is left of a panel around its axes: left, right, above and below.
 const AROUND: (f64, f64, f64, f64) = (66.0, 24.0, 44.0, 56.0);
 const LEGEND: f64 = 56.0;
-/// What a letter of a name in the legend takes, and what stands around the name.
+/// What a letter of a name in the legend takes, and what is around the name.
 const LETTER: f64 = 7.8;
 const ENTRY: f64 = 64.0;
 
@@ -210,12 +210,12 @@ fn step(high: f64) -> f64 {
     fits.unwrap_or(10.0 * power)
 }
 
-fn ticks(axis: &Axis, base: f64, told: impl Fn(f64) -> String) -> Vec<(f64, String)> {
+fn ticks(axis: &Axis, base: f64, said: impl Fn(f64) -> String) -> Vec<(f64, String)> {
     let (low, high) = axis.ends;
     let mut ticks = Vec::new();
     let mut value = low;
     while value <= high * (1.0 + 1e-9) {
-        ticks.push((value, told(value.round())));
+        ticks.push((value, said(value.round())));
         value = if axis.log {
             value * base
         } else {

@@ -1,7 +1,7 @@
 //! What the fuzz draws: runs, and table images for the check over bytes.
 //!
 //! Each is made from the seed and its own number alone, so that any of them can
-//! be made again by itself. What is aimed at goes round with the number, so that
+//! be made again alone. What is aimed at goes round with the number, so that
 //! every code is met on every run of some hundreds.
 
 use reference::calls::{cut, LIST_WORDS_MAX, STRAY};
@@ -229,7 +229,7 @@ fn of_odd_length(rng: &mut Rng, n: usize, m: usize) -> Vec<u8> {
     bytes
 }
 
-/// Any bytes, now and then behind a word 0 that keeps its layout.
+/// Any bytes, now and then after a word 0 that keeps its layout.
 fn any_bytes(rng: &mut Rng) -> Vec<u8> {
     let count = rng.size(0, 2600);
     let mut bytes: Vec<u8> = (0..count).map(|_| rng.word() as u8).collect();

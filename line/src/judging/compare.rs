@@ -1,4 +1,4 @@
-//! A kernel's run beside that of the separate machine, and the first difference
+//! A kernel's run beside the reference's, and the first difference
 //! between them in words.
 
 use reference::calls::{cut, Call};
@@ -15,7 +15,7 @@ use crate::kernels::lent::Ran;
 use crate::text::explain::{call_in_words, counted, meaning, place_in_words};
 use crate::text::names::Names;
 
-/// The separate machine's run of a case; an error where it panics, which is a
+/// The reference's run of a case; an error where it panics, which is a
 /// difference from a kernel that answers.
 pub fn separate_run(case: &Case) -> Result<Ran, String> {
     or_panic(|| {
@@ -31,18 +31,18 @@ pub fn separate_run(case: &Case) -> Result<Ran, String> {
     })
 }
 
-/// The first difference between the kernel's run and the separate machine's.
-pub fn difference(case: &Case, kernel: &Ran, separate: &Ran) -> Option<String> {
-    outcome_difference(kernel.outcome, separate.outcome)
-        .or_else(|| answers_difference(case, kernel, separate))
-        .or_else(|| table_difference(case, kernel, separate))
-        .or_else(|| holders_difference(case, kernel, separate))
+/// The first difference between the kernel's run and the reference's.
+pub fn difference(case: &Case, kernel: &Ran, right: &Ran) -> Option<String> {
+    outcome_difference(kernel.outcome, right.outcome)
+        .or_else(|| answers_difference(case, kernel, right))
+        .or_else(|| table_difference(case, kernel, right))
+        .or_else(|| holders_difference(case, kernel, right))
 }
 
 /// The first difference in what is refused: the entry's number, a word that a refused run
 /// changed, or the answer to a call that one of the two refuses.
-pub fn refusal_difference(case: &Case, kernel: &Ran, separate: &Ran) -> Option<String> {
-    let (code, should) = (kernel.outcome.code, separate.outcome.code);
+pub fn refusal_difference(case: &Case, kernel: &Ran, right: &Ran) -> Option<String> {
+    let (code, should) = (kernel.outcome.code, right.outcome.code);
     if code != should {
         return Some(format!(
             "the kernel ends with code {code} ({}), it should be {should} ({})",
@@ -60,44 +60,44 @@ pub fn refusal_difference(case: &Case, kernel: &Ran, separate: &Ran) -> Option<S
             )
         });
     }
-    refused_calls_difference(case, kernel, separate)
+    refused_calls_difference(case, kernel, right)
 }
 
 /// The first call that one of two runs refuses and that they answer otherwise.
-fn refused_calls_difference(case: &Case, kernel: &Ran, separate: &Ran) -> Option<String> {
-    let calls = separate.outcome.calls as usize;
+fn refused_calls_difference(case: &Case, kernel: &Ran, right: &Ran) -> Option<String> {
+    let calls = right.outcome.calls as usize;
     let of = |ran: &Ran, number: usize| {
         let answer = &ran.answers[number * ANSWER_WORDS..][..ANSWER_WORDS];
         (bits(answer[0], 15, 0), [answer[0], answer[1], answer[2]])
     };
     let differs = |&number: &usize| {
-        let ((code, answer), (should, right)) = (of(kernel, number), of(separate, number));
-        (code != 0 || should != 0) && answer != right
+        let ((code, answer), (should, wanted)) = (of(kernel, number), of(right, number));
+        (code != 0 || should != 0) && answer != wanted
     };
     let number = (0..calls).find(differs)?;
     Some(format!(
-        "call {number} ({}): the kernel answers {}, the separate machine {}",
+        "call {number} ({}): the kernel answers {}, the reference {}",
         call_in_words(&cut(&case.list)[number], &Names::none()),
         answer_as_printed(&of(kernel, number).1),
-        answer_as_printed(&of(separate, number).1)
+        answer_as_printed(&of(right, number).1)
     ))
 }
 
-fn outcome_difference(kernel: Outcome, separate: Outcome) -> Option<String> {
-    if kernel.code != separate.code {
+fn outcome_difference(kernel: Outcome, right: Outcome) -> Option<String> {
+    if kernel.code != right.code {
         return Some(format!(
-            "the kernel ends with code {} ({}), the separate machine with {} ({})",
+            "the kernel ends with code {} ({}), the reference with {} ({})",
             kernel.code,
             meaning(kernel.code),
-            separate.code,
-            meaning(separate.code)
+            right.code,
+            meaning(right.code)
         ));
     }
-    (kernel.calls != separate.calls).then(|| {
+    (kernel.calls != right.calls).then(|| {
         format!(
-            "the kernel counts {}, the separate machine {}",
+            "the kernel counts {}, the reference {}",
             counted(kernel.calls, "call"),
-            separate.calls
+            right.calls
         )
     })
 }
@@ -106,20 +106,20 @@ pub fn first_unequal(a: &[u32], b: &[u32]) -> Option<usize> {
     (0..a.len().max(b.len())).find(|&place| a.get(place) != b.get(place))
 }
 
-fn answers_difference(case: &Case, kernel: &Ran, separate: &Ran) -> Option<String> {
-    let place = first_unequal(&kernel.answers, &separate.answers)?;
+fn answers_difference(case: &Case, kernel: &Ran, right: &Ran) -> Option<String> {
+    let place = first_unequal(&kernel.answers, &right.answers)?;
     let number = place / ANSWER_WORDS;
-    if number >= separate.outcome.calls as usize {
+    if number >= right.outcome.calls as usize {
         return Some(format!(
             "answer word {place} belongs to no call and was {:08X}: the kernel leaves {:08X}",
             case.answers[place], kernel.answers[place]
         ));
     }
     Some(format!(
-        "call {number} ({}): the kernel answers {}, the separate machine {}",
+        "call {number} ({}): the kernel answers {}, the reference {}",
         call_in_words(&cut(&case.list)[number], &Names::none()),
         answer_as_printed(&kernel.answers[number * ANSWER_WORDS..]),
-        answer_as_printed(&separate.answers[number * ANSWER_WORDS..])
+        answer_as_printed(&right.answers[number * ANSWER_WORDS..])
     ))
 }
 
@@ -135,24 +135,24 @@ pub fn answer_as_printed(answer: &[u32]) -> String {
     format!("caller {caller} kind {kind} code {code} data {x} {y}{rest}")
 }
 
-fn table_difference(case: &Case, kernel: &Ran, separate: &Ran) -> Option<String> {
-    let place = first_unequal(&kernel.table, &separate.table)?;
-    let told = match separate.outcome.code {
+fn table_difference(case: &Case, kernel: &Ran, right: &Ran) -> Option<String> {
+    let place = first_unequal(&kernel.table, &right.table)?;
+    let said = match right.outcome.code {
         0 => place_in_words(&case.table, place, &Names::none()),
         code => format!("word {place} of a table refused with {code}"),
     };
     Some(format!(
-        "{told}, was {:08X}: the kernel leaves {:08X}, the separate machine {:08X}",
-        case.table[place], kernel.table[place], separate.table[place]
+        "{said}, was {:08X}: the kernel leaves {:08X}, the reference {:08X}",
+        case.table[place], kernel.table[place], right.table[place]
     ))
 }
 
-pub fn holders_difference(case: &Case, kernel: &Ran, separate: &Ran) -> Option<String> {
-    let place = first_unequal(&kernel.holders, &separate.holders)?;
+pub fn holders_difference(case: &Case, kernel: &Ran, right: &Ran) -> Option<String> {
+    let place = first_unequal(&kernel.holders, &right.holders)?;
     Some(format!(
-        "the holders of domain {place}, lent as {:08X}: the kernel leaves {:08X}, the separate \
-         machine {:08X}",
-        case.holders[place], kernel.holders[place], separate.holders[place]
+        "the holders of domain {place}, lent as {:08X}: the kernel leaves {:08X}, the \
+         reference {:08X}",
+        case.holders[place], kernel.holders[place], right.holders[place]
     ))
 }
 
@@ -180,7 +180,7 @@ impl Struck {
 }
 
 /// Compares what a domain sees of the kernel's run of the whole list and of the
-/// separate machine's run of the calls kept for it: the number of calls struck,
+/// reference's run of the calls kept for it: the number of calls struck,
 /// or the first difference.
 pub fn isolation(case: &Case, kernel: &Ran, domain: usize) -> Result<Struck, String> {
     without_struck(case, kernel, domain, &kept_calls(case, domain))
@@ -209,8 +209,7 @@ pub fn influence_isolation(
     without_struck(case, kernel, domain, &calls)
 }
 
-/// Compares what a domain sees of the kernel's run of all calls and of the separate
-/// machine's run of those that are kept.
+/// Compares what a domain sees of the kernel's run of all calls and of the reference's run of those that are kept.
 fn without_struck(
     case: &Case,
     kernel: &Ran,
@@ -229,8 +228,8 @@ fn without_struck(
     let struck = struck(calls, domains(&case.table));
     match view_difference(case, &all, &whole, &again, domain) {
         None => Ok(struck),
-        Some(told) => Err(format!(
-            "domain {domain}, with {} of {} struck: {told}",
+        Some(said) => Err(format!(
+            "domain {domain}, with {} of {} struck: {said}",
             struck.calls,
             counted(all.len(), "call")
         )),
@@ -330,7 +329,7 @@ mod tests {
         case_of(&Input::example())
     }
 
-    fn told(kernel: &Kernel) -> Option<String> {
+    fn said(kernel: &Kernel) -> Option<String> {
         let case = example();
         match run_here(kernel, &case) {
             Err(wrong) => Some(wrong.to_string()),
@@ -340,7 +339,7 @@ mod tests {
 
     #[test]
     fn the_proved_kernel_does_not_differ() {
-        assert_eq!(told(&PROVED), None);
+        assert_eq!(said(&PROVED), None);
         let case = example();
         let ran = run_here(&PROVED, &case).unwrap();
         let struck = [0, 1, 2].map(|domain| isolation(&case, &ran, domain).unwrap());
@@ -356,67 +355,67 @@ mod tests {
     }
 
     #[test]
-    fn a_wrong_answer_is_told() {
-        let told = told(&faulty::WRONG_ANSWER).unwrap();
-        assert!(told.starts_with("call 8 (domain 2 asks for its endpoints)"));
-        assert!(told.contains("the kernel answers caller 2 kind 4 code 0 data 3 0"));
+    fn a_wrong_answer_is_reported() {
+        let said = said(&faulty::WRONG_ANSWER).unwrap();
+        assert!(said.starts_with("call 8 (domain 2 asks for its endpoints)"));
+        assert!(said.contains("the kernel answers caller 2 kind 4 code 0 data 3 0"));
     }
 
     #[test]
-    fn a_wrong_table_is_told() {
-        let told = told(&faulty::WRONG_TABLE).unwrap();
-        assert!(told.starts_with("word 33, endpoint 1's message slot 7, was F0000000"));
+    fn a_wrong_table_is_reported() {
+        let said = said(&faulty::WRONG_TABLE).unwrap();
+        assert!(said.starts_with("word 33, endpoint 1's message slot 7, was F0000000"));
     }
 
     #[test]
-    fn wrong_holders_are_told() {
-        let wrong = told(&faulty::WRONG_HOLDERS).unwrap();
+    fn wrong_holders_are_reported() {
+        let wrong = said(&faulty::WRONG_HOLDERS).unwrap();
         assert!(wrong.starts_with("the holders of domain 2"), "{wrong}");
-        let behind = told(&faulty::WRITES_BEHIND_HOLDERS).unwrap();
-        assert!(behind.contains("outside the holders' words"), "{behind}");
+        let after = said(&faulty::WRITES_AFTER_HOLDERS).unwrap();
+        assert!(after.contains("outside the holders' words"), "{after}");
     }
 
     #[test]
-    fn a_wrong_code_and_a_wrong_count_are_told() {
-        let code = told(&faulty::WRONG_CODE).unwrap();
+    fn a_wrong_code_and_a_wrong_count_are_reported() {
+        let code = said(&faulty::WRONG_CODE).unwrap();
         assert!(code.starts_with("the kernel ends with code 6"), "{code}");
-        let count = told(&faulty::WRONG_COUNT).unwrap();
-        assert_eq!(count, "the kernel counts 10 calls, the separate machine 9");
+        let count = said(&faulty::WRONG_COUNT).unwrap();
+        assert_eq!(count, "the kernel counts 10 calls, the reference 9");
     }
 
     #[test]
     fn words_beyond_the_answers_and_beyond_the_space_are_watched() {
-        let beyond = told(&faulty::WRITES_BEYOND_ANSWERS).unwrap();
+        let beyond = said(&faulty::WRITES_BEYOND_ANSWERS).unwrap();
         assert!(beyond.starts_with("answer word 27 belongs to no call"));
-        let outside = told(&faulty::WRITES_OUTSIDE).unwrap();
+        let outside = said(&faulty::WRITES_OUTSIDE).unwrap();
         assert_eq!(
             outside,
             "the kernel wrote outside the answer space it was lent"
         );
-        let list = told(&faulty::WRITES_LIST).unwrap();
+        let list = said(&faulty::WRITES_LIST).unwrap();
         assert_eq!(list, "the kernel wrote the list");
     }
 
     #[test]
-    fn a_view_that_differs_is_told() {
+    fn a_view_that_differs_is_reported() {
         let case = example();
         let mut ran = separate_run(&case).unwrap();
         ran.answers[3 * 5 + 1] = 1;
-        let told = isolation(&case, &ran, 2).unwrap_err();
-        assert!(told.contains("its call 5 (domain 2 receives from endpoint 1)"));
+        let said = isolation(&case, &ran, 2).unwrap_err();
+        assert!(said.contains("its call 5 (domain 2 receives from endpoint 1)"));
         ran = separate_run(&case).unwrap();
         ran.table[3] = 0x2000_0000;
-        let told = isolation(&case, &ran, 0).unwrap_err();
+        let said = isolation(&case, &ran, 0).unwrap_err();
         assert!(
-            told.contains("the rights of domain 0 on domain 2"),
-            "{told}"
+            said.contains("the rights of domain 0 on domain 2"),
+            "{said}"
         );
         ran = separate_run(&case).unwrap();
         ran.table[25] = 0x6000_0000;
-        let told = isolation(&case, &ran, 2).unwrap_err();
+        let said = isolation(&case, &ran, 2).unwrap_err();
         assert!(
-            told.contains("its endpoint 1 has 50000000 60000000"),
-            "{told}"
+            said.contains("its endpoint 1 has 50000000 60000000"),
+            "{said}"
         );
     }
 }

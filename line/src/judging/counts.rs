@@ -28,8 +28,8 @@ pub struct Queue {
 #[derive(Debug, Clone, Default, PartialEq, Eq)]
 pub struct Counts {
     pub queues: Vec<Queue>,
-    /// The first receive that tells another lost count than was counted.
-    told_wrong: Option<String>,
+    /// The first receive that gives another lost count than was counted.
+    lost_wrong: Option<String>,
 }
 
 /// Follows the queues through a run of calls on an accepted table.
@@ -58,7 +58,7 @@ fn queue(table: &[u32], endpoint: usize) -> Queue {
 
 impl Counts {
     /// A call that was done, by its number, with its second data word.
-    fn take(&mut self, call: &Call, number: usize, told: u32) {
+    fn take(&mut self, call: &Call, number: usize, lost: u32) {
         let endpoint = call.b() as usize;
         let Some(queue) = self.queues.get_mut(endpoint) else {
             return;
@@ -68,9 +68,9 @@ impl Counts {
             RECEIVE => {
                 queue.receive();
                 let counted = queue.lost_count();
-                if u64::from(told) != counted && self.told_wrong.is_none() {
-                    self.told_wrong = Some(format!(
-                        "endpoint {endpoint}: call {number} is told {told} lost, it should be {counted}"
+                if u64::from(lost) != counted && self.lost_wrong.is_none() {
+                    self.lost_wrong = Some(format!(
+                        "endpoint {endpoint}: call {number} is answered {lost} lost, it should be {counted}"
                     ));
                 }
             }
@@ -130,7 +130,7 @@ pub fn difference(
     let counts = follow(before, calls, answers);
     let mut all = 0..endpoints(before);
     all.find_map(|e| endpoint_difference(before, after, e, &counts.queues[e]))
-        .or(counts.told_wrong)
+        .or(counts.lost_wrong)
 }
 
 fn endpoint_difference(before: &[u32], after: &[u32], e: usize, run: &Queue) -> Option<String> {
@@ -189,23 +189,23 @@ mod tests {
     fn invented_counts_are_found() {
         let (mut after, calls, answers) = ran(&TABLE_T, &LIST_L);
         after[25] = 0x6000_0002;
-        let told = difference(&TABLE_T, &after, &calls, &answers).unwrap();
+        let said = difference(&TABLE_T, &after, &calls, &answers).unwrap();
         assert_eq!(
-            told,
+            said,
             "endpoint 1: the lost count should be 1; the table says 2"
         );
         after[24] = 0x5000_0001;
-        let told = difference(&TABLE_T, &after, &calls, &answers).unwrap();
+        let said = difference(&TABLE_T, &after, &calls, &answers).unwrap();
         let should = "endpoint 1: waiting before 0, sent 2, received 1, dropped 1; waiting should";
-        assert!(told.starts_with(should), "{told}");
+        assert!(said.starts_with(should), "{said}");
     }
 
     #[test]
-    fn a_receive_that_tells_another_lost_count_is_found() {
+    fn a_receive_that_gives_another_lost_count_is_found() {
         let (after, calls, mut answers) = ran(&TABLE_T, &LIST_L);
         answers[3 * 4 + 2] = 2;
-        let told = difference(&TABLE_T, &after, &calls, &answers).unwrap();
-        let should = "endpoint 1: call 4 is told 2 lost, it should be 1";
-        assert_eq!(told, should);
+        let said = difference(&TABLE_T, &after, &calls, &answers).unwrap();
+        let should = "endpoint 1: call 4 is answered 2 lost, it should be 1";
+        assert_eq!(said, should);
     }
 }

@@ -1,5 +1,5 @@
 //! Components (document 02, request (j): groups, and walls that no list can open): what
-//! the proved function tells of them beside the separate one, and what they keep apart
+//! the proved function says of them beside the reference, and what they keep apart
 //! in a run.
 
 use reference::table::domains;
@@ -10,12 +10,12 @@ use crate::judging::compare::component_isolation;
 use crate::kernels::boundary;
 use crate::kernels::lent::Ran;
 
-/// The number that is told of a domain that isn't below n.
+/// The code for a domain that isn't below n.
 const NOT_A_DOMAIN: u32 = 32;
 
-/// Compares what the proved function tells of a number's component in any words as a
-/// table with the separate one.
-pub fn told_of(table: &[u32], domain: u32) -> Result<(), String> {
+/// Compares what the proved function says of a number's component in any words as a
+/// table with the reference.
+pub fn is_component(table: &[u32], domain: u32) -> Result<(), String> {
     let wanted = match check_table(table) {
         0 if domain as usize >= domains(table) => (NOT_A_DOMAIN, 0),
         0 => {
@@ -24,13 +24,13 @@ pub fn told_of(table: &[u32], domain: u32) -> Result<(), String> {
         }
         code => (code, 0),
     };
-    let told = boundary::component(table, domain);
-    match told == wanted {
+    let said = boundary::component(table, domain);
+    match said == wanted {
         true => Ok(()),
         false => Err(format!(
-            "the component of {domain} is told as code {} with members {:#b}, it should be code \
+            "the component of {domain} is given as code {} with members {:#b}, it should be code \
              {} with {:#b}",
-            told.0, told.1, wanted.0, wanted.1
+            said.0, said.1, wanted.0, wanted.1
         )),
     }
 }
@@ -63,7 +63,7 @@ mod tests {
     use reference::generate::{list, walled_table, Rng};
 
     #[test]
-    fn any_words_and_any_number_are_told_of() {
+    fn any_words_and_any_number_are_answered() {
         let mut rng = Rng::new(3);
         for _ in 0..2000 {
             let table = walled_table(&mut rng, 8, 2);
@@ -73,8 +73,8 @@ mod tests {
                 domains(&table) as u32,
                 u32::MAX,
             ] {
-                assert_eq!(told_of(&table, domain), Ok(()));
-                assert_eq!(told_of(&table[1..], domain), Ok(()));
+                assert_eq!(is_component(&table, domain), Ok(()));
+                assert_eq!(is_component(&table[1..], domain), Ok(()));
             }
         }
     }
@@ -100,7 +100,7 @@ mod tests {
         });
         let mut ran = run_here(&PROVED, &case).unwrap();
         ran.table[6] = 0x2000_0001;
-        let told = kept_apart(&case, &ran, 0).unwrap_err();
-        assert!(told.contains("domain 1 influences domain 2"), "{told}");
+        let said = kept_apart(&case, &ran, 0).unwrap_err();
+        assert!(said.contains("domain 1 influences domain 2"), "{said}");
     }
 }

@@ -206,12 +206,12 @@ fn same(
 /// Whether the list was one of those.
 pub fn read_as_answered(writer: Writer, list: &[u32], answers: &[u32]) -> Result<bool, String> {
     let calls = read(list);
-    let told = answers.chunks_exact(ANSWER_WORDS);
-    if told.len() < calls.len() {
+    let said = answers.chunks_exact(ANSWER_WORDS);
+    if said.len() < calls.len() {
         let calls = counted(calls.len(), "call");
         return Err(format!("{calls} have {} words of answers", answers.len()));
     }
-    for (number, (call, answer)) in calls.iter().zip(told).enumerate() {
+    for (number, (call, answer)) in calls.iter().zip(said).enumerate() {
         let code = bits(answer[0], 15, 0);
         let refused = match call {
             Value::Refused(code) => Some(*code),

@@ -41,8 +41,8 @@ mod tests {
         assert_eq!(or_panic(|| 5), Ok(5));
         let words = [1, 2];
         let place = words.len();
-        let told = or_panic(|| words[place]).unwrap_err();
-        assert!(told.starts_with("the reference panics: index out of"));
+        let said = or_panic(|| words[place]).unwrap_err();
+        assert!(said.starts_with("the reference panics: index out of"));
         assert!(or_panic(|| -> u8 { panic!("plain") })
             .unwrap_err()
             .ends_with("plain"));

@@ -81,7 +81,7 @@ fn one_run(case: &Case, ran: &Ran, pick: u64, met: &mut Met) -> Result<(), Strin
     if let Some(why) = difference(case, ran, &separate_run(case)?) {
         return Err(why);
     }
-    groups::told_of(&case.table, (pick % 18) as u32)?;
+    groups::is_component(&case.table, (pick % 18) as u32)?;
     let calls = cut(&case.list);
     let code = ran.outcome.code;
     met.add_code("run code", code, 1);
@@ -212,7 +212,7 @@ mod tests {
             faulty::WRITES_LIST,
             faulty::LOSES_COUNT,
             faulty::WRONG_HOLDERS,
-            faulty::WRITES_BEHIND_HOLDERS,
+            faulty::WRITES_AFTER_HOLDERS,
         ];
         for kernel in faulty {
             let report = found(kernel);

@@ -71,7 +71,7 @@ pub fn damaged_tables(input: &Input, rng: &mut Rng) -> Vec<Variant> {
         damaged.push((what, table[..length].to_vec()));
     }
     let longer = [&table[..], &[0xF000_0000]].concat();
-    damaged.push(("a word behind the table".to_string(), longer));
+    damaged.push(("a word after the table".to_string(), longer));
     let list = || input.list.clone();
     let made = damaged.into_iter().map(|(what, table)| Variant {
         what,

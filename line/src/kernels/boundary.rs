@@ -21,7 +21,7 @@ type Run = unsafe fn(
     holders: *mut [u32],
 ) -> u32;
 
-/// A kernel behind the C boundary.
+/// A kernel across the C boundary.
 #[derive(Clone, Copy)]
 pub struct Kernel {
     /// What `--kernel` calls it.

@@ -1,5 +1,5 @@
 //! Kernels in a child process, with a time limit: one that faults, that loops or that
-//! ends the program is told, and this process goes on.
+//! ends the program is reported, and this process goes on.
 //!
 //! The child is a copy of this process. Before each thing that it tries it writes its
 //! number on a board that both see, so that it is known what the kernel stopped at.
@@ -37,7 +37,7 @@ const NUMBER: usize = 0;
 const ENDED: usize = 1;
 const LEFT: usize = 2;
 
-/// What stands at [`ENDED`] once the child has done all that it was asked to.
+/// What is at [`ENDED`] once the child has done all that it was asked to.
 const WITH_FALSE: u64 = 1;
 const WITH_TRUE: u64 = 2;
 
@@ -137,7 +137,7 @@ pub fn run(kernel: &Kernel, case: &Case, limit: Duration) -> Result<Ran, Failure
 }
 
 /// A kernel's runs of cases, one after another in one child process. The first that
-/// stops is the last: those behind it are not run.
+/// stops is the last: those after it are not run.
 pub fn runs(kernel: &Kernel, cases: &[&Case], limit: Duration) -> Vec<Result<Ran, Failure>> {
     runs_by(cases, limit, |case| run_here(kernel, case))
 }
@@ -243,13 +243,13 @@ fn left_run(board: &Board, place: usize, case: &Case) -> Option<Result<Ran, Fail
 }
 
 /// A kernel's checks of table images, one after another in one child process. The first
-/// that stops is the last: those behind it are not checked.
+/// that stops is the last: those after it are not checked.
 pub fn checks(kernel: &Kernel, images: &[&[u8]], limit: Duration) -> Vec<Result<u32, Stopped>> {
     let board = Board::new(images.len());
     let watched = watch(&board, limit, || {
         for (number, image) in images.iter().enumerate() {
             board.announce(number as u64);
-            // One more than the code, since 0 stands where nothing was left.
+            // One more than the code, since 0 is where nothing was left.
             board.leave(number, [1 + u64::from(kernel.table_check(image))]);
         }
         true
@@ -304,7 +304,7 @@ mod tests {
     }
 
     #[test]
-    fn a_kernel_that_stops_is_told() {
+    fn a_kernel_that_stops_is_reported() {
         let stopped = |kernel| run(&kernel, &cases()[0], SOON).unwrap_err().to_string();
         let fault = stopped(faulty::FAULTS_AT_A_GRANT);
         assert_eq!(

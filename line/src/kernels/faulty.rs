@@ -89,7 +89,7 @@ pub const WRONG_HOLDERS: Kernel = faulty!("wrong holders", |holders| {
     }
 });
 
-pub const WRITES_BEHIND_HOLDERS: Kernel = faulty!("writes behind the holders", |holders| {
+pub const WRITES_AFTER_HOLDERS: Kernel = faulty!("writes after the holders", |holders| {
     // The comparison lends them from the middle of a larger space.
     *holders.as_mut_ptr().add(holders.len()) = 0;
 });
@@ -128,7 +128,7 @@ pub const EXITS_AT_A_GRANT: Kernel = faulty!("exits", |_t, list, _a, result| {
     result
 });
 
-/// Its check faults where bytes are left over behind the last whole word.
+/// Its check faults where bytes are left over after the last whole word.
 pub const CHECK_FAULTS: Kernel = PROVED.with_check("check faults", |bytes| unsafe {
     let nowhere = std::hint::black_box(8 as *mut u32);
     if bytes.len() % 4 != 0 {

@@ -1,4 +1,4 @@
-//! The layer of turns above the kernel (document 02, request (m)) behind the C boundary:
+//! The layer of turns above the kernel (document 02, request (m)) across the C boundary:
 //! its exported functions as include/balkwizu.h declares them, and what they are lent.
 
 use reference::words::bits;

@@ -112,16 +112,16 @@ pub struct Fenced {
     end: usize,
 }
 
-/// What stands behind lent words, and before them: a second word, and a first word that
+/// What is after lent words, and before them: a second word, and a first word that
 /// takes one, so that a kernel which reads past a list's end joins what it should not.
 pub const OUTSIDE: u32 = 0xF5A5_5A5A;
-const BEHIND: [u32; 4] = [OUTSIDE; 4];
+const AFTER: [u32; 4] = [OUTSIDE; 4];
 const BEFORE: [u32; 4] = [0x25A5_5A5A; 4];
 
 impl Fenced {
     pub fn new(lent: &[u32]) -> Fenced {
         Fenced {
-            words: [&BEFORE, lent, &BEHIND].concat(),
+            words: [&BEFORE, lent, &AFTER].concat(),
             end: BEFORE.len() + lent.len(),
         }
     }
@@ -146,7 +146,7 @@ impl Fenced {
 
     /// The lent words as they were left, unless a word around them was written.
     pub fn words(mut self, around: Forbidden) -> Result<Vec<u32>, Failure> {
-        if self.words[..BEFORE.len()] != BEFORE || self.words[self.end..] != BEHIND {
+        if self.words[..BEFORE.len()] != BEFORE || self.words[self.end..] != AFTER {
             return Err(Failure::Wrote(around));
         }
         self.words.truncate(self.end);

@@ -1,4 +1,4 @@
-//! What is tried, and how: the kernels behind the C boundary and the layer of turns above
+//! What is tried, and how: the kernels across the C boundary and the layer of turns above
 //! them, the words that they are lent, and the child process that they run in. For tests,
 //! kernels with a fault each.
 

@@ -136,10 +136,10 @@ mod tests {
                 _ => PROVED.table_check(&*bytes),
             }
         });
-        let told = "the table's image is checked with 3, it should be 2".to_string();
-        assert_eq!(three.difference(&reads_on), Some(told.clone()));
+        let said = "the table's image is checked with 3, it should be 2".to_string();
+        assert_eq!(three.difference(&reads_on), Some(said.clone()));
         let at_the_edge = three.difference_at_the_edge(&reads_on, edges);
-        assert_eq!(at_the_edge, Some(told));
+        assert_eq!(at_the_edge, Some(said));
         assert_eq!(three.in_words(), "An image of 3 bytes:\n0000  01 01 00\n");
     }
 }

@@ -22,11 +22,11 @@ const FIELD_BITS: u32 = 22;
 const A_MAX: usize = 63;
 const B_MAX: usize = 255;
 
-/// All kinds, with no bit of the fields set and with each by itself, by a domain and by
+/// All kinds, with no bit of the fields set and with each alone, by a domain and by
 /// nobody, with a second word and without.
 pub fn kinds(table: &[u32]) -> Vec<Planned> {
     let mut plan = Planner::new("every kind and every bit of its fields", table);
-    // A stray at the very beginning, where no word stands before.
+    // A stray at the very beginning, where no word is before.
     plan.make(reference::cut(&[word(STRAY, 0)])[0]);
     for kind in 0..=STRAY {
         let bits = (0..FIELD_BITS).map(|bit| 1 << bit);
@@ -68,7 +68,7 @@ fn lone(call: Call) -> Call {
     }
 }
 
-/// A first word with a word of kind 15 behind it, which is a call's second word or a
+/// A first word with a word of kind 15 after it, which is a call's second word or a
 /// stray, and the first word alone.
 fn with_and_without_second(plan: &mut Planner, first: u32) {
     let second = word(STRAY, plan.message());
@@ -94,7 +94,7 @@ pub fn names(table: &[u32]) -> Vec<Planned> {
             plan.make(look_up(caller, name));
         }
         plan.make(my_endpoints(caller));
-        // The last of these stands behind the table, where no endpoint is.
+        // The last of these is after the table, where no endpoint is.
         for other in [0, CONTENT_MAX, content(OUTSIDE)] {
             plan.make(look_up(caller, other));
         }

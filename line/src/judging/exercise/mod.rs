@@ -1,6 +1,6 @@
 //! The exercise: lists made from a table that go through everything which the table
-//! allows. They are planned with the separate machine, which says what each call comes
-//! to, so that no rule of the kernel stands here a second time.
+//! allows. They are planned with the reference, which says what each call comes
+//! to, so that no rule of the kernel is here a second time.
 //!
 //! A call that a later paper adds gets its function in `planner` and its place in the
 //! lists that it belongs to.
@@ -42,7 +42,7 @@ pub fn exercise(table: &[u32]) -> Vec<Planned> {
     lists
 }
 
-/// The queues on a copy of the table whose lost counts stand one below their top.
+/// The queues on a copy of the table whose lost counts are one below their top.
 fn at_the_top(table: &[u32]) -> Vec<Planned> {
     let copy = queues::one_below_the_top(table);
     queues::queues("every queue, lost counts near their top", &copy, None)
@@ -103,7 +103,7 @@ mod tests {
         for (e, at) in basis.at.iter().enumerate() {
             assert!(at.queue.full > 0 && at.queue.emptied > 0, "{e}");
             assert!(at.outsiders > 0, "{e}");
-            // Endpoint 1 has room for one message.
+            // Endpoint 1 holds one message.
             assert_eq!(at.queue.in_turn > 0, e == 0);
         }
     }

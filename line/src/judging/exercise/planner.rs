@@ -1,6 +1,6 @@
-//! A list in the making: calls are put behind one another while the separate machine
+//! A list in the making: calls are put after one another while the reference
 //! is fed them, so that a planner can ask what a call would come to before it makes it.
-//! No rule stands here: what is allowed is what the machine does.
+//! No rule is here: what is allowed is what the machine does.
 
 use reference::calls::{
     cut, Call, GRANT, LIST_WORDS_MAX, LOOK_UP, MY_ENDPOINTS, MY_RIGHTS, RECEIVE, REMOVE, REVOKE,
@@ -87,7 +87,7 @@ impl Planner {
         let words = call.words();
         let joins = |last: &u32| cut(&[*last, words[0]]).len() == 1;
         if self.list.last().is_some_and(joins) {
-            // A stray directly behind a lone first word would be its second one.
+            // A stray directly after a lone first word would be its second one.
             self.put(my_rights(0));
         }
         if self.list.len() + words.len() > LIST_WORDS_MAX {

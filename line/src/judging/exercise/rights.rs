@@ -10,7 +10,7 @@ use reference::table::{domains, endpoints, owner, right, rights};
 use super::planner::{grant, my_rights, remove, revoke, send, Planned, Planner};
 
 /// Every grant that gives something, twice, until none does; the table that is left
-/// stands beside the lists. Of those that give nothing or are refused, each caller
+/// is beside the lists. Of those that give nothing or are refused, each caller
 /// makes one for each target and number, to itself and to another; and whatever part
 /// of the rights on a target it has, it tries to give itself and to give up each set,
 /// and to give the target something.
@@ -26,7 +26,7 @@ pub fn grown(table: &[u32]) -> (Vec<Planned>, Vec<u32>) {
     (plan.lists(), table)
 }
 
-/// What tells one try from another: caller, target, whether it is to itself, number.
+/// What distinguishes tries: caller, target, whether it is to itself, number.
 type Tried = BTreeSet<(usize, usize, bool, u32)>;
 
 /// And of those with its own rights: kind, holder, target, what it has and what it names.
@@ -203,7 +203,7 @@ fn everybody_tries(plan: &mut Planner) {
     }
 }
 
-/// What tells one try from another: kind, caller, whom it is about, number.
+/// What distinguishes tries: kind, caller, whom it is about, number.
 type TriedOf = BTreeSet<(u32, usize, usize, u32)>;
 
 fn try_once(plan: &mut Planner, tried: &mut TriedOf, caller: usize, about: usize, call: Call) {
