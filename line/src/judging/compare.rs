@@ -103,7 +103,9 @@ fn outcome_difference(kernel: Outcome, right: Outcome) -> Option<String> {
 }
 
 pub fn first_unequal(a: &[u32], b: &[u32]) -> Option<usize> {
-    (0..a.len().max(b.len())).find(|&place| a.get(place) != b.get(place))
+    // Whole slices are compared far faster than word by word.
+    let mut places = 0..if a == b { 0 } else { a.len().max(b.len()) };
+    places.find(|&place| a.get(place) != b.get(place))
 }
 
 fn answers_difference(case: &Case, kernel: &Ran, right: &Ran) -> Option<String> {

@@ -72,15 +72,17 @@ pub fn damaged_tables(input: &Input, rng: &mut Rng) -> Vec<Variant> {
     }
     let longer = [&table[..], &[0xF000_0000]].concat();
     damaged.push(("a word after the table".to_string(), longer));
-    let list = || input.list.clone();
-    let made = damaged.into_iter().map(|(what, table)| Variant {
-        what,
-        case: case_of(&Input {
-            table,
-            list: list(),
-        }),
-    });
-    made.collect()
+    let made = damaged.into_iter();
+    made.map(|(what, table)| of(what, table, input.list.clone()))
+        .collect()
+}
+
+/// A variant of a table and a list.
+fn of(what: impl Into<String>, table: Vec<u32>, list: Vec<u32>) -> Variant {
+    Variant {
+        what: what.into(),
+        case: case_of(&Input { table, list }),
+    }
 }
 
 /// Places and bits such that each bit is turned in some word of each kind of place, and
@@ -149,11 +151,7 @@ pub fn scrambled_lists(input: &Input, rng: &mut Rng) -> Vec<Variant> {
     let mut variants = entry_edges(input).to_vec();
     while variants.len() < SCRAMBLED {
         let (what, list) = scrambled(&input.list, rng);
-        let table = input.table.clone();
-        variants.push(Variant {
-            what: format!("the list {what}"),
-            case: case_of(&Input { table, list }),
-        });
+        variants.push(of(format!("the list {what}"), input.table.clone(), list));
     }
     variants
 }
@@ -162,54 +160,35 @@ pub fn scrambled_lists(input: &Input, rng: &mut Rng) -> Vec<Variant> {
 /// and one word less, with a word too few and one too many for the holders, and repeated
 /// to 4,096 words and one more. And no list at all, which runs and sets the holders.
 pub fn entry_edges(input: &Input) -> [Variant; 7] {
-    let longest = "the list repeated to 4,096 words";
-    let too_long = "the list repeated to 4,097 words";
-    [
-        spaced(input, 0, "the answer space just as it is needed"),
-        spaced(input, 1, "the answer space one word too short"),
-        with_holders(input, "one word too few for the holders", |lent| {
-            lent.pop();
-        }),
-        with_holders(input, "one word too many for the holders", |lent| {
-            lent.push(7)
-        }),
-        repeated(input, 0, "no list"),
-        repeated(input, LIST_WORDS_MAX, longest),
-        repeated(input, LIST_WORDS_MAX + 1, too_long),
-    ]
-}
-
-/// The list as it is, with so many answer words less than it needs.
-fn spaced(input: &Input, less: usize, what: &str) -> Variant {
-    let mut case = case_of(input);
     let enough = ANSWER_WORDS * cut(&input.list).len();
-    case.answers.truncate(enough.saturating_sub(less));
-    Variant {
-        what: what.to_string(),
-        case,
-    }
-}
-
-/// The list as it is, with other words for the holders.
-fn with_holders(input: &Input, what: &str, alter: fn(&mut Vec<u32>)) -> Variant {
-    let mut case = case_of(input);
-    alter(&mut case.holders);
-    Variant {
-        what: what.to_string(),
-        case,
-    }
-}
-
-/// The list repeated to so many words.
-fn repeated(input: &Input, words: usize, what: &str) -> Variant {
-    let mut list = input.list.clone();
-    list.push(0xF000_0000);
-    let list = list.into_iter().cycle().take(words).collect();
-    let table = input.table.clone();
-    Variant {
-        what: what.to_string(),
-        case: case_of(&Input { table, list }),
-    }
+    // The list as it is, with other words lent.
+    let lent = |what, alter: &dyn Fn(&mut Case)| {
+        let mut variant = of(what, input.table.clone(), input.list.clone());
+        alter(&mut variant.case);
+        variant
+    };
+    let repeated = |what, words| {
+        let list = [&input.list[..], &[0xF000_0000]].concat();
+        let list = list.into_iter().cycle().take(words).collect();
+        of(what, input.table.clone(), list)
+    };
+    [
+        lent("the answer space just as it is needed", &|case| {
+            case.answers.truncate(enough)
+        }),
+        lent("the answer space one word too short", &|case| {
+            case.answers.truncate(enough.saturating_sub(1))
+        }),
+        lent("one word too few for the holders", &|case| {
+            case.holders.pop();
+        }),
+        lent("one word too many for the holders", &|case| {
+            case.holders.push(7)
+        }),
+        repeated("no list", 0),
+        repeated("the list repeated to 4,096 words", LIST_WORDS_MAX),
+        repeated("the list repeated to 4,097 words", LIST_WORDS_MAX + 1),
+    ]
 }
 
 /// The list with one thing done to it; an empty list gets a word.
