@@ -17,6 +17,7 @@ pub mod pairs;
 pub mod panics;
 pub mod report;
 pub mod runs;
+pub mod shift;
 pub mod shrink;
 pub mod tally;
 pub mod trying;
