@@ -188,7 +188,7 @@ fn the_worked_example_is_typed_in_and_run() {
     assert_eq!(TOOL.status(&["words", &wrong]), 2);
     assert!(TOOL
         .complaint(&["words", &wrong])
-        .contains("line 2: `1000030` is no word"));
+        .contains("line 2, column 1: `1000030` is no word"));
     let nothing = TOOL.file("nothing.txt", b"# no word\n");
     assert_eq!(TOOL.status(&["words", &nothing]), 2);
     assert!(TOOL
@@ -320,7 +320,7 @@ fn a_text_stands_for_its_input() {
     for command in ["commission", "show"] {
         assert!(TOOL
             .complaint(&[command, &wrong])
-            .contains("line 2: `1000010` is no word"));
+            .contains("line 2, column 1: `1000010` is no word"));
         assert_eq!(TOOL.status(&[command, &wrong]), 2);
     }
     assert!(TOOL
@@ -350,7 +350,7 @@ fn names_that_a_text_gives_stand_beside_the_numbers() {
     let granted = "domain 1 grants domain 0 (link) SEND+GRANT+REMOVE on domain 2";
     assert!(list.contains(granted), "{list}");
     let wrong = TOOL.file("named-wrong.txt", (text + "domain 3 drives\n").as_bytes());
-    let beyond = "line 5: there is no domain 3: the table has 0 to 2";
+    let beyond = "line 5, column 8: there is no domain 3: the table has 0 to 2";
     assert!(TOOL.complaint(&["show", &wrong]).contains(beyond));
 }
 
@@ -673,18 +673,21 @@ list
 #[test]
 fn calls_to_a_list_and_back() {
     let calls = TOOL.file("calls.txt", CALLS.as_bytes());
-    assert_eq!(TOOL.printed(&["write", &calls]), WORDS);
+    assert_eq!(TOOL.printed(&["write", &calls, "--hex"]), WORDS);
     let words = TOOL.file("calls-words.txt", WORDS.as_bytes());
     assert_eq!(TOOL.printed(&["read", &words]), CALLS);
     assert_eq!(
         (
-            TOOL.status(&["write", &calls]),
+            TOOL.status(&["write", &calls, "--hex"]),
             TOOL.status(&["read", &words])
         ),
         (0, 0)
     );
-    let nothing = TOOL.file("no-calls.txt", b"# no call\n");
-    assert_eq!(TOOL.printed(&["write", &nothing]), "list\n");
+    let nothing = TOOL.file("no-calls.txt", b"calls  # no call\n");
+    assert_eq!(TOOL.printed(&["write", &nothing, "--hex"]), "list\n");
+    assert!(TOOL
+        .complaint(&["write", &calls])
+        .contains("calls alone need --table LINE, or --hex"));
     let nothing = TOOL.file("no-words.txt", b"list\n");
     assert_eq!(TOOL.printed(&["read", &nothing]), "");
     assert_eq!(TOOL.status(&["read", &nothing]), 0);
@@ -700,7 +703,7 @@ fn calls_to_an_input_and_back() {
     let path = TOOL.file("input-written.bin", &input);
     assert_eq!(TOOL.printed(&["read", "--calls", &path]), CALLS);
     // the same by texts: as one, and put together
-    let text = TOOL.printed(&["write", &calls, "--table", &table, "--text"]);
+    let text = TOOL.printed(&["write", &calls, "--table", &table, "--hex"]);
     let by_text = TOOL.file("input-text.txt", text.as_bytes());
     assert_eq!(TOOL.run(&["words", &by_text]).stdout, input);
     assert_eq!(TOOL.printed(&["read", "--calls", &by_text]), CALLS);
@@ -763,7 +766,7 @@ fn any_calls_go_both_ways() {
         let text = format!("list\n{}", lines.concat());
         let words = TOOL.file("any-words.txt", text.as_bytes());
         let read = TOOL.file("any-calls.txt", TOOL.printed(&["read", &words]).as_bytes());
-        assert_eq!(TOOL.printed(&["write", &read]), text);
+        assert_eq!(TOOL.printed(&["write", &read, "--hex"]), text);
     }
 }
 
@@ -783,48 +786,23 @@ fn the_example_of_calls_runs_on_the_worked_table() {
 }
 
 #[test]
-fn a_mistake_in_calls_is_told_by_line_and_field() {
-    let wrong = |name: &str, text: &str| {
-        let path = TOOL.file(name, text.as_bytes());
-        (
-            TOOL.status(&["write", &path]),
-            TOOL.complaint(&["write", &path]),
-        )
-    };
-    let (status_, told_) = wrong("wrong-kind.txt", "# calls\n\nsend-to caller 0\n");
-    assert!(told_.contains("line 3: there is no call `send-to`, only look-up, send,"));
-    assert_eq!(status_, 2);
-    let (status_, told_) = wrong("wrong-field.txt", "send caller 0 to 1 message 5\n");
-    assert!(told_.contains("line 1: send has no field `to`, only caller, endpoint, message"));
-    assert_eq!(status_, 2);
-    let (status_, told_) = wrong(
-        "wrong-bits.txt",
-        "my-rights caller 0\n\nmy-rights caller 64\n",
-    );
-    assert!(told_.contains("is refused with 30 ("), "{told_}");
-    assert!(told_.contains("line 3: caller 64 exceeds its 6 bits: 63 is the largest"));
-    assert_eq!(status_, 1);
+fn every_mistake_in_calls_is_reported_by_line_and_column() {
+    let text = "# calls\n\nsend-to caller 0\nsend caller 0 to 1 message 5\nmy-rights caller 64\n";
+    let path = TOOL.file("wrong-calls.txt", text);
+    let (status, _, reported) = TOOL.ran(&["write", &path, "--hex"]);
+    assert_eq!(status, 2);
+    let lines: Vec<&str> = reported.lines().collect();
+    assert!(lines[0].contains("line 3, column 1: there is no call `send-to`, only look-up, send,"));
+    let field = "line 4, column 15: send has no field `to`, only caller, endpoint, message";
+    assert_eq!(lines[1], field);
+    let bits = "line 5, column 18: caller 64 exceeds its 6 bits: 63 is the largest";
+    assert_eq!(lines[2..], [bits]);
     let long = "my-rights caller 0\n".repeat(4095) + "\nsend caller 0 endpoint 0 message 0\n";
-    let (status_, told_) = wrong("wrong-length.txt", &long);
-    assert!(told_.contains("is refused with 31 ("), "{told_}");
-    assert!(
-        told_.contains("line 4097: its words pass the 4,096th"),
-        "{told_}"
-    );
-    assert_eq!(status_, 1);
-    // 30 before 31
-    let (status_, told_) = wrong("wrong-both.txt", &(long + "my-rights caller 99999999999\n"));
-    assert!(
-        told_.contains("line 4098: caller 99999999999 exceeds its 6 bits"),
-        "{told_}"
-    );
-    assert_eq!(status_, 1);
+    let (status, _, reported) = TOOL.ran(&["write", &TOOL.file("long.txt", long), "--hex"]);
+    assert_eq!(status, 2);
+    assert!(reported.contains("line 4097, column 1: the list has more than 4,096 words here"));
     assert_eq!(TOOL.status(&["write", "/no/such/file"]), 2);
     assert_eq!(TOOL.status(&["write", "-", "--table", "-"]), 2);
-    let calls = TOOL.file("wrong-options.txt", CALLS.as_bytes());
-    assert!(TOOL
-        .complaint(&["write", &calls, "--text"])
-        .contains("--text is for --table"));
 }
 
 #[test]
@@ -838,7 +816,8 @@ fn calls_take_the_names_that_the_table_gives() {
     let other = TOOL.file("other.txt", b"\nmy-rights caller belts\n");
     let line = ["write", &other, "--table", &four];
     assert!(
-        TOOL.complaint(&line).contains("line 2: caller is `belts`"),
+        TOOL.complaint(&line)
+            .contains("line 2, column 18: caller is `belts`"),
         "{}",
         TOOL.complaint(&line)
     );
@@ -866,11 +845,11 @@ fn calls_are_read_with_names_in_comments() {
     assert_eq!(comment, "domain 0 (link) sends 5 to endpoint 1\n");
     let calls = TOOL.file("read-again.txt", read.as_bytes());
     assert_eq!(
-        TOOL.printed(&["write", &calls]),
+        TOOL.printed(&["write", &calls, "--hex"]),
         "list\n20000100 F0000005\n"
     );
     let table = concat!(env!("CARGO_MANIFEST_DIR"), "/examples/four.txt");
-    let whole = TOOL.printed(&["write", &calls, "--table", table, "--text"]);
+    let whole = TOOL.printed(&["write", &calls, "--table", table, "--hex"]);
     assert!(
         whole.starts_with("domain 0 link\ndomain 1 loader\n"),
         "{whole}"
@@ -878,7 +857,7 @@ fn calls_are_read_with_names_in_comments() {
 }
 
 #[test]
-fn a_call_that_the_reader_refuses_is_told_by_number_and_code() {
+fn a_call_that_the_reader_refuses_is_reported_by_number_and_code() {
     let input = TOOL.file("refused.bin", worked_example());
     assert_eq!(TOOL.status(&["read", "--calls", &input]), 1);
     assert_eq!(TOOL.printed(&["read", "--calls", &input]), "");
@@ -1057,148 +1036,6 @@ fn what_cannot_be_repaired_is_told_and_nothing_is_written() {
     assert_eq!(TOOL.status(&["repair", &image]), 2);
 }
 
-#[test]
-fn a_page_has_the_names_that_a_text_gives() {
-    let row = |e| format!("endpoint {e} sent 0 received 0 lost 0 start 0 end 0\n");
-    let sheet = format!("{}{}lists 1 code 0\n", row(0), row(1));
-    let sheet = TOOL.file("named-sheet.txt", sheet.as_bytes());
-    let page = |names: &str| TOOL.printed(&["shift", "--html", &sheet, "--names", names]);
-    let alone = page(&TOOL.file("names.txt", b"endpoint 1 drives\n"));
-    assert!(alone.contains("<td>1 drives</td><td>0</td>"), "{alone}");
-    let four = concat!(env!("CARGO_MANIFEST_DIR"), "/examples/four.txt");
-    assert!(page(four).contains("<td>1 routes</td>"));
-    let input = TOOL.file("names.bin", worked_example());
-    assert!(TOOL
-        .complaint(&["shift", "--html", &sheet, "--names", &input])
-        .contains("is no text"));
-}
-
-#[test]
-fn an_option_that_is_for_something_else_is_not_passed_over() {
-    let four = in_examples("four.txt");
-    for (line, why) in [
-        (
-            &["shift", "--join", &four, "--html", &four][..],
-            "--html is not for --join",
-        ),
-        (
-            &["shift", "--join", &four, "--names", &four],
-            "--names is not for --join",
-        ),
-    ] {
-        assert_eq!(TOOL.status(line), 2, "{line:?}");
-        assert!(
-            TOOL.complaint(line).contains(why),
-            "{}",
-            TOOL.complaint(line)
-        );
-    }
-    for line in [
-        ["shift", "--join", "-", "-"].as_slice(),
-        &["shift", "--html", "-", "--names", "-"],
-    ] {
-        assert_eq!(TOOL.status(line), 2, "{line:?}");
-        assert!(TOOL
-            .complaint(line)
-            .contains("standard input can be read once only"));
-    }
-}
-
-#[test]
-fn lines_as_text_are_joined() {
-    let input = TOOL.file("joined.bin", worked_example());
-    let typed = concat!(env!("CARGO_MANIFEST_DIR"), "/examples/worked.txt");
-    let list = TOOL.file("joined.txt", format!("list {}", hex(&LIST_L)).as_bytes());
-    let joined = |line: &[&str]| TOOL.run(&[&["shift", "--join"], line].concat()).stdout;
-    let wanted = joined(&[&input, &input]);
-    assert!(wanted.len() > worked_example().len());
-    assert_eq!(joined(&[typed, &list]), wanted);
-    assert_eq!(TOOL.status(&["shift", "--join", &list]), 2);
-    let nothing = ["shift", "--join", &TOOL.file("joined-none.bin", b"")];
-    assert_eq!(TOOL.status(&nothing), 1);
-    assert!(TOOL
-        .complaint(&nothing)
-        .contains("is refused with 7 (the input is cut short"));
-}
-
-#[test]
-fn a_sheet_becomes_a_page() {
-    let sheet = TOOL.file(
-        "sheet.txt",
-        b"endpoint 0 sent 2 received 1 lost 0 start 0 end 1\nlists 3 code 0\n",
-    );
-    let page = TOOL.printed(&["shift", "--html", &sheet]);
-    assert!(page.contains("<td>0</td><td>2</td><td>1</td><td>0</td><td>0</td><td>1</td>"));
-    assert_eq!(
-        TOOL.status(&["shift", "--html", &TOOL.file("no.txt", b"calls 0 code 7\n")]),
-        1
-    );
-}
-
-/// Each refusal and the two kinds of turn are met in the example, on its own table.
-#[test]
-fn the_example_of_turns_is_played_and_told() {
-    let folder = env!("CARGO_MANIFEST_DIR");
-    let line = ["turns", &format!("{folder}/examples/turns.txt")];
-    let told = TOOL.printed(&line);
-    for part in [
-        "turn 1 is idle: nothing is pending",
-        "domain 0 (link) is refused with 37 (",
-        "domain 2 (chutes) is refused with 36 (",
-        "domain 4 is refused with 35 (",
-        "serves domain 0 (link) after 1 turn (pending calls: 8 of domain 0 (link), 1 of domain 1",
-        "    domain 0 (link) sends 65 to endpoint 3 (belts): refused with 17: ",
-        "turn 5 serves domain 3 (drives) after 4 turns",
-        "    domain 3 (drives) receives from endpoint 3 (belts): message 49; 0 lost so far",
-        "    domain 0 (link) sends 66 to endpoint 3 (belts): done\n",
-        "  the next turn starts at domain 1 (loader)\n",
-        "  the longest waits of an oldest call, 4 turns at the most, and of any since it was handed \
-         in, 64 turns at the most:\n    domain 0 (link): 4 turns, 7 turns",
-    ] {
-        assert!(told.contains(part), "{part}: {told}");
-    }
-    assert!(told.ends_with("they get the same answers and leave the same words.\n"));
-    assert_eq!(TOOL.status(&line), 0);
-}
-
-#[test]
-fn a_damaged_table_of_turns_is_told_with_what_mends_it() {
-    let damaged = in_examples("damaged.txt");
-    let turns = TOOL.file(
-        "damaged-turns.txt",
-        format!("table {damaged}\nturn\n").as_bytes(),
-    );
-    let told = TOOL.printed(&["turns", &turns]);
-    assert!(told.starts_with("table refused with 4 ("), "{told}");
-    let mend = format!("`balkwizu repair {damaged} OUT` may make it fit again\n");
-    assert!(told.ends_with(&mend), "{told}");
-    assert_eq!(TOOL.status(&["turns", &turns]), 1);
-}
-
-#[test]
-fn what_is_wrong_with_turns_is_told_by_its_line() {
-    let wrong = TOOL.file("turns.txt", b"table 10000100 20000000\nturn\nserve 0\n");
-    assert_eq!(TOOL.status(&["turns", &wrong]), 2);
-    let line = "line 3: there is no `serve` here";
-    assert!(TOOL.complaint(&["turns", &wrong]).contains(line));
-    let large = b"table 10000100 20000000\nhand in 0 my-rights caller 64\n";
-    let large = TOOL.file("large.txt", large);
-    assert_eq!(TOOL.status(&["turns", &large]), 2);
-    assert!(TOOL
-        .complaint(&["turns", &large])
-        .contains("line 2: caller 64 exceeds its 6 bits"));
-    let refused = TOOL.file("refused.txt", b"table 10000100 20000010\nturn\n");
-    assert_eq!(TOOL.status(&["turns", &refused]), 1);
-    assert!(TOOL
-        .printed(&["turns", &refused])
-        .starts_with("table refused with 4 ("));
-    let missing = TOOL.file("missing.txt", b"table no-such-table\nturn\n");
-    assert_eq!(TOOL.status(&["turns", &missing]), 2);
-    assert!(TOOL
-        .complaint(&["turns", &missing])
-        .contains("cannot read "));
-}
-
 fn in_examples(name: &str) -> String {
     format!("{}/examples/{name}", env!("CARGO_MANIFEST_DIR"))
 }
@@ -1240,25 +1077,23 @@ fn the_numbers_of_refusals_are_told() {
 #[test]
 fn a_text_of_another_kind_is_told_with_the_command_for_it() {
     let calls = in_examples("calls.txt");
-    for line in [["show", &calls], ["words", &calls], ["read", &calls]] {
-        assert!(TOOL
-            .complaint(&line)
-            .contains("of a text of calls `balkwizu write` makes the words"));
-    }
+    assert!(TOOL
+        .complaint(&["show", &calls])
+        .contains("calls alone are for `balkwizu write --table`"));
     assert!(TOOL
         .complaint(&["show", &in_examples("turns.txt")])
         .contains("only `balkwizu turns` takes"));
     assert!(TOOL
-        .complaint(&["write", &in_examples("four.txt")])
-        .contains("is given with --table"));
-    let words = TOOL.file("words-for-calls.txt", b"20000100 F0000005\n");
+        .complaint(&["write", &in_examples("four.txt"), "--table", &calls])
+        .contains("calls alone are for"));
+    let four = in_examples("four.txt");
     assert!(TOOL
-        .complaint(&["write", &words])
-        .contains("of words `balkwizu read` makes the calls"));
+        .complaint(&["write", &four, "--table", &four])
+        .contains("has a table: --table is for calls alone"));
     let named = TOOL.file("named-caller.txt", b"my-rights caller link\n");
     assert!(TOOL
         .complaint(&["write", &named])
-        .contains("takes the names that INPUT gives"));
+        .contains("no names are given here"));
     let right = TOOL.file("no-right.txt", b"remove caller 1 target 2 rights SIT\n");
     assert!(TOOL
         .complaint(&["write", &right])
@@ -1346,34 +1181,6 @@ fn what_a_controller_answered_to_the_plain_line_is_in_order() {
     assert!(told.contains("summary: 4 passed, 0 failed"), "{told}");
     let exchanged = ["commission", &four, "--answers", &left, "--left", &answers];
     assert_eq!(TOOL.status(&exchanged), 1);
-}
-
-#[test]
-fn the_lists_of_a_shift_are_joined_and_a_sheet_says_what_was_refused() {
-    let [four, evening] = ["four.txt", "evening.txt"].map(in_examples);
-    let joined = TOOL.run(&["shift", "--join", &four, &evening]).stdout;
-    let sheet = String::from_utf8(reference::totals(&joined)).expect("text");
-    let routes = "endpoint 1 sent 5 received 3 lost 1 start 0 end 1\n";
-    assert!(sheet.contains(routes), "{sheet}");
-    assert!(TOOL
-        .complaint(&["shift", &four, &evening])
-        .contains("are joined with --join"));
-    assert!(TOOL
-        .complaint(&["shift", &four])
-        .contains("are joined with --join"));
-    let one = TOOL.printed(&[
-        "shift",
-        "--html",
-        &TOOL.file("one.txt", b"lists 1 code 7\n"),
-    ]);
-    assert!(one.contains("1 list ran; what came then was refused with 7: the input is cut short"));
-    let bytes = TOOL.complaint(&[
-        "shift",
-        "--html",
-        &TOOL.file("no-sheet.bin", worked_example()),
-    ]);
-    assert!(bytes.trim_end().chars().all(|letter| !letter.is_control()));
-    assert!(bytes.contains("is no sheet of linetotals"), "{bytes}");
 }
 
 /// The commands of docs/USERS.md that need nothing but the program, one after another in a

@@ -9,11 +9,11 @@ use line::text::explain::{is_code, meaning};
 pub const HELP: &str = "\
 balkwizu codes [CODE]..
 
-Tells what the numbers mean that the kernel, its programs and its C functions
-answer: those given, or all of them. `balkwizu show FILE --run` tells for each
-call of a list what it is refused with.
+Prints what the numbers mean that the kernel, its programs and its C functions
+answer: those given, or all of them. `balkwizu run FILE` says for each call of a
+list why it is refused.
 
-Exit status: 0 told; 2 bad usage, or a number that nothing answers.
+Exit status: 0 printed; 2 bad usage, or a number that nothing answers.
 ";
 
 /// The largest number that is answered.
@@ -30,7 +30,7 @@ const HEADINGS: [(u32, &str); 4] = [
     ),
 ];
 
-/// The command: whether all that was asked for is told.
+/// The command: whether all that was asked for is printed.
 pub fn command(line: &[OsString]) -> Result<bool, String> {
     let options = Options::parse(line, &[], &[])?;
     let asked = options
@@ -38,12 +38,12 @@ pub fn command(line: &[OsString]) -> Result<bool, String> {
         .iter()
         .map(|word| code(&word.to_string_lossy()));
     let asked: Vec<u32> = asked.collect::<Result<_, _>>()?;
-    let told = |code: &u32| format!("{code:>2}  {}\n", meaning(*code));
-    let told: String = match asked.is_empty() {
-        false => asked.iter().map(told).collect(),
+    let line = |code: &u32| format!("{code:>2}  {}\n", meaning(*code));
+    let lines: String = match asked.is_empty() {
+        false => asked.iter().map(line).collect(),
         true => all(),
     };
-    output::write(told.as_bytes());
+    output::write(lines.as_bytes());
     Ok(true)
 }
 

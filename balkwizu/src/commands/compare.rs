@@ -94,6 +94,7 @@ fn read_image(file: &Path) -> Result<Given, String> {
         bytes: input.to_bytes(),
         names: Names::none(),
         warnings: Vec::new(),
+        lines: Vec::new(),
     })
 }
 

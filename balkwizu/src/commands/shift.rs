@@ -1,127 +1,233 @@
-//! `balkwizu shift`: the input of linetotals out of lines, and its sheet as a page for the
-//! shift leader.
+//! `balkwizu shift`: the lists of a shift run one after another, and its sheet as a table, as a
+//! page for the shift leader, or as an input of linetotals.
 
 use std::ffi::OsString;
 use std::path::{Path, PathBuf};
+use std::time::SystemTime;
 
-use reference::words::to_bytes;
+use reference::table::endpoints;
+use reference::totals::LISTS_MAX;
 
 use line::args::Options;
-use line::output::{self, complain};
-use line::pictures::sheet;
-use line::refused;
-use line::text::given::{read_given, read_given_list, read_names};
+use line::clock::in_utc;
+use line::judging::shift::{Sheet, Shift};
+use line::output::{self, complain, say};
+use line::pictures::sheet::{self, Shown};
+use line::refused::{self, Refusal};
+use line::text::differences::differences;
+use line::text::given::{read_given, read_given_list, Given};
 use line::text::input::{read_at_most, read_once, shown, Input};
-use line::text::names::Names;
+use line::text::names::{sizes, Names};
 
 pub const HELP: &str = "\
-balkwizu shift --join LINE.. > INPUT
-balkwizu shift --html SHEET [--names TEXT] > PAGE
+balkwizu shift LINE [LIST].. [--html OUT]
+balkwizu shift --sheet SHEET [LINE] [--html OUT]
+balkwizu shift --join LINE [LIST].. > INPUT
 
-The page of a shift, whose first list stands in a.txt behind the table:
+Runs the list of LINE and the other lists one after another, by the proved
+kernel, and prints the sheet of the shift: what each endpoint was sent,
+received, lost and has waiting, and each call that was refused. The counts are
+compared with the reference; they are those that linetotals prints.
 
-  balkwizu shift --join a.txt b.txt | target/bin/linetotals > SHEET
-  balkwizu shift --html SHEET --names a.txt > PAGE
+  balkwizu shift four.txt evening.txt --html shift.html
 
-With --join, makes an input of linetotals out of inputs of linerun: the table of
-the first, then the list of each with its length in words before it. The tables
-of the others aren't looked at, since each list runs from what the one before
-leaves. A LINE may be a text as `balkwizu words` takes it; in that of another
-than the first the list may stand without a table, as `balkwizu write` gives it.
+LINE is an input of linerun or a text, as `balkwizu help write` describes it. A
+LIST may be the same, or a text with a list alone: words after `list`, or calls,
+which may use the names of LINE. A LIST with a table or with names must be of
+the same line: its table is LINE's, or the one that the lists before it leave.
 
-With --html, makes a page to read and to print out of what linetotals printed,
-which stands in the file SHEET. `-` is standard input.
+  --html OUT     writes a page too: to read, and to print on A4
+  --sheet SHEET  shows what linetotals printed, with names and owners from LINE
+  --join         writes the input of linetotals: the table, then each list with
+                 its length in words before it
 
-  --names TEXT  the endpoints' names, beside their numbers: a text with lines as
-                `endpoint 1 drives`, alone or as `balkwizu words` takes it
+A list above 4,096 words, or an input that is cut short, ends the shift: what
+ran before it is shown, and no list after it runs.
 
-Exit status: 0 the page or the input was made; 1 otherwise; 2 bad usage, or a
-file that can't be read.
+Exit status: 0 all lists ran; 1 a list, the table or SHEET is refused; 2 bad
+usage, mistakes in a text, or a file that can't be read or written.
 ";
 
-/// The longest sheet that is made a page of: far more than 32 endpoints need.
+/// The longest sheet that is shown: far more than 32 endpoints need.
 const SHEET_BYTES_MAX: usize = 100_000;
 
-/// The command: whether the page or the input was made.
+/// The command: whether all lists ran.
 pub fn command(line: &[OsString]) -> Result<bool, String> {
-    let options = Options::parse(line, &["--html", "--names"], &["--join"])?;
+    let options = Options::parse(line, &["--html", "--sheet"], &["--join"])?;
+    let printed = options.path("--sheet");
+    let files = options.files.iter().map(PathBuf::as_path);
+    let read: Vec<&Path> = files.chain(printed).collect();
+    read_once(&read)?;
+    if let Some(out) = options.path("--html") {
+        output::may_write("--html", out, &read)?;
+    }
     if options.has("--join") {
         options.only("--join", &[])?;
-        return join(&options.files);
     }
-    let Some(file) = options.path("--html") else {
-        return Err(
-            "inputs of linerun are joined with --join, a sheet is made a page with --html"
-                .to_string(),
-        );
-    };
-    options.no_file()?;
-    let names = options.path("--names");
-    read_once(&[file, names.unwrap_or(Path::new(""))])?;
-    page(file, &names.map_or(Ok(Names::none()), read_names)?)
+    match printed {
+        Some(printed) => of_sheet(printed, &options),
+        None => of_lists(&options),
+    }
 }
 
-/// Makes an input out of inputs of linerun.
-fn join(files: &[PathBuf]) -> Result<bool, String> {
-    if files.is_empty() {
-        return Err("--join needs an input of linerun".to_string());
+/// Shows what linetotals printed.
+fn of_sheet(printed: &Path, options: &Options) -> Result<bool, String> {
+    if options.files.len() > 1 {
+        return Err("--sheet takes one LINE: its lists ran already".to_string());
     }
-    read_once(&files.iter().map(PathBuf::as_path).collect::<Vec<_>>())?;
-    let mut inputs = Vec::new();
-    for (place, file) in files.iter().enumerate() {
-        let given = match place {
-            0 => read_given(file)?,
-            _ => read_given_list(file)?,
-        };
-        match Input::parse(&given.bytes) {
-            Ok(input) => inputs.push(input),
-            Err(refusal) => {
-                refused::complain_of("shift", file, &refusal);
+    let given = options.files.first().map(read_given).transpose()?;
+    let text = read_at_most(printed, SHEET_BYTES_MAX)?;
+    let sheet = match sheet::read(&String::from_utf8_lossy(&text)) {
+        Ok(sheet) => sheet,
+        Err(why) => {
+            let file = shown(printed);
+            complain!("balkwizu shift: {file} is no sheet of linetotals: {why}");
+            return Ok(false);
+        }
+    };
+    let table = match given.as_ref().map(Given::accepted).transpose() {
+        Ok(input) => input.map(|input| input.table),
+        Err(refusal) => return Ok(complained(&options.files[0], &refusal)),
+    };
+    let rows = sheet.rows.len();
+    if table
+        .as_ref()
+        .is_some_and(|table| endpoints(table) != rows && rows > 0)
+    {
+        let (line, sheet) = (shown(&options.files[0]), shown(printed));
+        return Err(format!("{line} has not as many endpoints as {sheet}"));
+    }
+    let names = given.map_or(Names::none(), |given| given.names);
+    show(
+        options,
+        &Shown {
+            sheet: &sheet,
+            made: &in_utc(SystemTime::now()),
+            table: table.as_deref(),
+            names: &names,
+            ran: &[],
+            refused: &[],
+            stopped: None,
+        },
+    )
+}
+
+/// Runs the lists, and shows or joins them.
+fn of_lists(options: &Options) -> Result<bool, String> {
+    let Some(first) = options.files.first() else {
+        return Err("LINE is missing; --help says what is wanted".to_string());
+    };
+    if options.files.len() > LISTS_MAX {
+        return Err("more than 65,536 lists".to_string());
+    }
+    let given = read_given(first)?;
+    let input = match given.accepted() {
+        Ok(input) => input,
+        Err(refusal) => return Ok(complained(first, &refusal)),
+    };
+    let mut shift = Shift::begin(&input.table);
+    shift.run(&shown(first), &input.list)?;
+    let mut stopped = None;
+    for file in &options.files[1..] {
+        let other = read_given_list(file, (&given.names, Some(sizes(&input.table))))?;
+        match list_of(&other, &given, &input.table, &shift.table) {
+            Ok(list) => shift.run(&shown(file), &list)?,
+            Err(Wrong::Refused(refusal)) => {
+                complained(file, &refusal);
+                stopped = Some((file, refusal));
+                break;
+            }
+            Err(Wrong::OfAnother(why)) => {
+                let (file, first) = (shown(file), shown(first));
+                complain!("balkwizu shift: {file} isn't of the line of {first}: {why}");
                 return Ok(false);
             }
         }
     }
-    output::write(&joined(&inputs));
-    Ok(true)
-}
-
-/// The first one's table, then the list of each; their lengths in words before them.
-fn joined(inputs: &[Input]) -> Vec<u8> {
-    let lists = inputs.iter().map(|input| &input.list);
-    let parts = inputs.iter().take(1).map(|input| &input.table).chain(lists);
-    let words: Vec<u32> = parts
-        .flat_map(|part| [&[part.len() as u32], part.as_slice()].concat())
-        .collect();
-    to_bytes(&words)
-}
-
-/// Makes the page of a sheet.
-fn page(file: &Path, names: &Names) -> Result<bool, String> {
-    let printed = read_at_most(file, SHEET_BYTES_MAX)?;
-    let printed = String::from_utf8_lossy(&printed);
-    match sheet::page(&printed, names) {
-        Ok(page) => output::write(page.as_bytes()),
-        Err(why) => {
-            complain!(
-                "balkwizu shift: {} is no sheet of linetotals: {why}",
-                shown(file)
-            );
-            return Ok(false);
+    let code = stopped.as_ref().map_or(0, |(_, (code, _))| *code);
+    let sheet = shift.sheet(code)?;
+    if options.has("--join") {
+        if stopped.is_none() {
+            output::write(&shift.joined());
         }
+        return Ok(stopped.is_none());
     }
-    Ok(true)
+    let stopped = stopped
+        .map(|(file, refusal)| format!("{} was {}", shown(file), refused::in_words(&refusal)));
+    shown_lists(
+        options,
+        &shift,
+        &sheet,
+        (&input.table, &given.names),
+        stopped,
+    )
 }
 
-#[cfg(test)]
-mod tests {
-    use super::*;
+fn shown_lists(
+    options: &Options,
+    shift: &Shift,
+    sheet: &Sheet,
+    (table, names): (&[u32], &Names),
+    stopped: Option<String>,
+) -> Result<bool, String> {
+    show(
+        options,
+        &Shown {
+            sheet,
+            made: &in_utc(SystemTime::now()),
+            table: Some(table),
+            names,
+            ran: &shift.ran,
+            refused: &shift.refused,
+            stopped,
+        },
+    )
+}
 
-    #[test]
-    fn inputs_of_linerun_are_joined() {
-        let input = Input::example();
-        let printed = reference::totals(&joined(&[input.clone(), input]));
-        let printed = String::from_utf8(printed).unwrap();
-        let last = "endpoint 1 sent 5 received 2 lost 3 start 0 end 0\nlists 2 code 0\n";
-        assert!(printed.ends_with(last), "{printed}");
+/// Why a list doesn't run.
+enum Wrong {
+    /// It is refused, or its table is.
+    Refused(Refusal),
+    /// It is of another line.
+    OfAnother(String),
+}
+
+/// The list of a file of the same line as the first, whose table is given, and the one that
+/// the lists before leave.
+fn list_of(other: &Given, first: &Given, start: &[u32], now: &[u32]) -> Result<Vec<u32>, Wrong> {
+    let Input { table, list } = Input::parse(&other.bytes).map_err(Wrong::Refused)?;
+    if let Some(why) = other.names.differ_from(&first.names) {
+        return Err(Wrong::OfAnother(format!("{why} there")));
     }
+    if table.is_empty() || table == start || table == now {
+        return Ok(list);
+    }
+    other.accepted().map_err(Wrong::Refused)?;
+    let differing = differences(&table, start, &first.names);
+    let why = differing
+        .first()
+        .map_or(String::new(), |one| one.what.clone());
+    let more = match differing.len() {
+        0 | 1 => String::new(),
+        many => format!(" (and {} more)", many - 1),
+    };
+    Err(Wrong::OfAnother(format!(
+        "its table differs in {why}{more}"
+    )))
+}
+
+/// Says that a file is refused.
+fn complained(file: &Path, refusal: &Refusal) -> bool {
+    refused::complain_of("shift", file, refusal);
+    false
+}
+
+/// Prints the sheet, and writes the page where it is wanted; whether all lists ran.
+fn show(options: &Options, shift: &Shown) -> Result<bool, String> {
+    output::write(shift.text().as_bytes());
+    if let Some(out) = options.path("--html") {
+        output::write_file(out, &shift.page())?;
+        say!("page written to {}", output::shown(out));
+    }
+    Ok(shift.sheet.code == 0)
 }

@@ -1,4 +1,4 @@
-//! `balkwizu turns`: handing in and turns as text, played on the proved layer and told in
+//! `balkwizu turns`: handing in and turns as text, played on the proved layer and printed in
 //! words.
 
 use std::ffi::OsString;
@@ -13,44 +13,48 @@ use line::args::Options;
 use line::judging::turning::{
     difference, pending_calls, pending_words, separate_event, served, Served, Waits,
 };
-use line::kernels::boundary::PROVED_WRITER;
 use line::kernels::layer::{event_here, Event, Layer, Left, Lent, PROVED_LAYER};
 use line::output::{self, say};
 use line::refused;
 use line::text::explain::{answer_on_table, call_in_words, counted, meaning};
-use line::text::given::{self, read_given};
+use line::text::given::read_given;
 use line::text::input::{read_text, shown, Input};
+use line::text::mistakes::reported;
 use line::text::names::Names;
-use line::text::turns::{self, Given, Happens, Table};
+use line::text::turns::{self, Happens, Table};
 
 pub const HELP: &str = "\
 balkwizu turns FILE
 
 Plays what domains hand in and the turns that serve it, on the proved layer of
-turns, and tells each event in words: what was pending, who was served and after
-how many turns, the answer, an idle turn, and each refusal; at the end what is
-still pending, where the next turn starts, and the longest waits of each domain:
-of an oldest call, which is as many turns as there are domains at the most, and
-of any call since it was handed in, which is as many for each call of the domain
-that was pending then, itself among them.
-Every event is compared with the separate layer, and the calls served with a run
-of them as one list. `-` is standard input. A text looks like this:
+turns, and prints each event in words: who is served, how many turns after its
+call was handed in, the answer, and each refusal. At the end it prints what is
+still pending, where the next turn starts, and the longest waits. Every event is
+compared with the reference, and the calls served with a run of them as one
+list. `-` is standard input. A text looks like this:
 
-  table four.txt                        # a file, or the words themselves behind
-                                        # `table`, as `words` takes them
-  hand in 0 send caller 0 endpoint 1 message 5    # a call, as of `write`
-  hand in 1 words F0000005                        # or any words
+  table four.txt                     # a file, as every command takes it
+  hand in link sends 65 to belts     # a sentence, or a call by its fields:
+  hand in link send caller link endpoint routes message 66
+  hand in link sends 67 to routes    8 times
+  hand in chutes words F0000005      # any words
   turn
-  turns 3
+  turns 3                            # or: turn 3 times
 
-A file is an input of linerun or a text as `balkwizu words` takes it, looked for
-beside the text; its list isn't used. Lines as `domain 0 link` and `endpoint 1
-drives` give names, beside those that the file gives. A text has 100,000 turns
-at most, 10,000 in a line.
+The file is looked for beside the text; its list isn't used. The table may also
+be in the text itself, before the first event, as `balkwizu help write`
+describes it: in words, or as hexadecimal words after `table`. Domains and
+endpoints are given by name or number. Lines as `domain 0 link` and `endpoint 1
+drives` give names, beside those that the table has. A text has 100,000 turns
+and calls at most, 10,000 in a line.
+
+A wait is counted in turns, from handing in to the turn that serves the call,
+that one included. With n domains the k-th pending call of a domain waits k
+times n turns at most, so its oldest one n.
 
 Exit status: 0 played, also where something was refused; 1 the table is refused,
-or something differs from the separate layer; 2 bad usage, a file that can't be
-read, or a line that is none of these, told by its number.
+or something differs from the reference; 2 bad usage, a file that can't be read,
+or mistakes in the text, each reported by its line and column.
 ";
 
 /// The command: whether all was played and nothing differs.
@@ -63,19 +67,12 @@ pub fn command(line: &[OsString]) -> Result<bool, String> {
     )?;
     let in_file = |why| format!("{}: {why}", shown(file));
     let script = turns::read(&text).map_err(in_file)?;
-    let mut events = Vec::new();
-    for (line, happens) in &script.events {
-        let event = event_of(happens).map_err(|why| in_file(format!("line {line}: {why}")))?;
-        events.push((*line, event));
-    }
-    let holds_table = file_of(file, &script.table);
-    let given = match script.table {
-        Table::File(_) => read_given(&holds_table)?,
-        Table::Here(bytes) => given::Given {
-            bytes,
-            names: Names::none(),
-            warnings: Vec::new(),
-        },
+    let (given, holds_table) = match &script.table {
+        Table::Here(given) => (given.clone(), file.to_path_buf()),
+        Table::File(name) => {
+            let path = beside(file, name);
+            (read_given(&path)?, path)
+        }
     };
     let table = match given.accepted() {
         Ok(Input { table, .. }) => table,
@@ -88,42 +85,16 @@ pub fn command(line: &[OsString]) -> Result<bool, String> {
         }
     };
     let names = script.namings.added_to(given.names, &table);
-    let names = names.map_err(in_file)?;
-    let (told, same) = played(&PROVED_LAYER, &table, &names, &events);
-    output::write(told.as_bytes());
+    let names = names.map_err(|mistakes| in_file(reported(mistakes)))?;
+    let events = script.events(&names).map_err(in_file)?;
+    let (printed, same) = played(&PROVED_LAYER, &table, &names, &events);
+    output::write(printed.as_bytes());
     Ok(same)
 }
 
-/// The file that has the table of a text: the text itself, or one that is looked for beside
-/// it.
-fn file_of(text: &Path, table: &Table) -> PathBuf {
-    match table {
-        Table::Here(_) => text.to_path_buf(),
-        Table::File(name) => text.parent().unwrap_or(Path::new("")).join(name),
-    }
-}
-
-/// An event, and how often it happens.
-fn event_of(happens: &Happens) -> Result<(Event, u32), String> {
-    let (domain, call) = match happens {
-        Happens::Turns(count) => return Ok((Event::Turn, *count)),
-        Happens::HandIn { domain, call } => (*domain, call),
-    };
-    let words = match call {
-        Given::Words(words) => words.clone(),
-        Given::Call(typed) => {
-            let mut words = vec![0; 2];
-            let (code, count) = PROVED_WRITER(&typed.columns, &mut words);
-            if code != 0 {
-                return Err(typed
-                    .too_large()
-                    .unwrap_or_else(|| meaning(code).to_string()));
-            }
-            words.truncate(count);
-            words
-        }
-    };
-    Ok((Event::HandIn { domain, words }, 1))
+/// A file that is looked for beside another.
+fn beside(text: &Path, name: &str) -> PathBuf {
+    text.parent().unwrap_or(Path::new("")).join(name)
 }
 
 /// What is played so far.
@@ -133,31 +104,88 @@ struct Play<'a> {
     turns: usize,
     served: Served,
     waits: Waits,
-    told: String,
+    printed: String,
+    /// What is still to be printed of the last events, which the next may repeat.
+    last: Option<Said>,
 }
 
-/// Plays events on a table: what is told, and whether nothing differs.
-fn played(
-    layer: &Layer,
-    table: &[u32],
-    names: &Names,
-    events: &[(usize, (Event, u32))],
-) -> (String, bool) {
+/// What is printed of an event that happened, or of the same again and again.
+struct Said {
+    /// The first and the last line of the text.
+    lines: (usize, usize),
+    times: usize,
+    what: What,
+}
+
+/// An event in words.
+enum What {
+    /// The first and the last of turns that found nothing pending.
+    Idle(usize, usize),
+    /// A turn that served a call, or was refused.
+    Turn(String),
+    /// Something handed in: who, what was handed in or refused, and what came of it.
+    HandIn(String, String, String),
+}
+
+impl Said {
+    /// Takes in the next event where it is the same.
+    fn repeated(&mut self, next: &Said) -> bool {
+        match (&mut self.what, &next.what) {
+            (What::Idle(_, last), What::Idle(turn, _)) => *last = *turn,
+            (What::HandIn(who, what, came), What::HandIn(other, same, now))
+                if who == other && what == same =>
+            {
+                came.clone_from(now);
+            }
+            _ => return false,
+        }
+        self.lines.1 = next.lines.1;
+        self.times += 1;
+        true
+    }
+
+    fn in_words(&self) -> String {
+        let lines = match self.lines {
+            (first, last) if first == last => format!("line {first}"),
+            (first, last) => format!("lines {first} to {last}"),
+        };
+        let times = match self.times {
+            1 => String::new(),
+            times => format!(" {times} times"),
+        };
+        match &self.what {
+            What::Idle(first, last) if first == last => {
+                format!("{lines}: turn {first} is idle: nothing is pending\n")
+            }
+            What::Idle(first, last) => {
+                format!("{lines}: turns {first} to {last} are idle: nothing is pending\n")
+            }
+            What::Turn(what) => format!("{lines}: {what}\n"),
+            What::HandIn(who, what, came) => format!("{lines}: {who}{times}{what}{came}\n"),
+        }
+    }
+}
+
+/// Plays events on a table: what is printed, and whether nothing differs.
+fn played(layer: &Layer, table: &[u32], names: &Names, events: &[Happens]) -> (String, bool) {
     let mut play = match Play::begin(layer, table, names) {
         Ok(play) => play,
-        Err(told) => return (format!("DIFFERENCE at the beginning:\n  {told}\n"), false),
+        Err(why) => return (format!("DIFFERENCE at the beginning:\n  {why}\n"), false),
     };
     let each = events
         .iter()
-        .flat_map(|(line, (event, times))| (0..*times).map(move |_| (*line, event)));
-    for (line, event) in each {
-        if let Err(told) = play.event(layer, line, event) {
+        .flat_map(|happens| (0..happens.times).map(move |_| happens));
+    for Happens { line, event, .. } in each {
+        if let Err(why) = play.event(layer, *line, event) {
+            play.print_last();
+            let printed = play.printed;
             return (
-                format!("{}DIFFERENCE at line {line}:\n  {told}\n", play.told),
+                format!("{printed}DIFFERENCE at line {line}:\n  {why}\n"),
                 false,
             );
         }
     }
+    play.print_last();
     let ended = play.ended();
     let same = play.served.as_one_list();
     let end = match &same {
@@ -165,9 +193,9 @@ fn played(
             "{} served; as one list they get the same answers and leave the same words.\n",
             counted(play.served.calls(), "call")
         ),
-        Err(told) => format!("DIFFERENCE: {told}\n"),
+        Err(why) => format!("DIFFERENCE: {why}\n"),
     };
-    (play.told + &ended + &end, same.is_ok())
+    (play.printed + &ended + &end, same.is_ok())
 }
 
 impl<'a> Play<'a> {
@@ -190,13 +218,12 @@ impl<'a> Play<'a> {
             turns: 0,
             served: Served::begin(table),
             waits: Waits::new(n),
-            told: format!(
-                "{}: nothing is pending, the first turn starts at {}, and the k-th pending call \
-                 of a domain waits k times {} at the most\n",
+            printed: format!(
+                "{}: nothing is pending, and the first turn starts at {}\n",
                 counted(n, "domain"),
                 names.domain(0),
-                counted(n, "turn")
             ),
+            last: None,
         })
     }
 
@@ -205,11 +232,11 @@ impl<'a> Play<'a> {
         let left = event_here(layer, &self.lent, event)?;
         let wanted = separate_event(&self.lent, event)?;
         difference(&self.lent, &left, &wanted).map_or(Ok(()), Err)?;
-        let told = match event {
+        let what = match event {
             Event::HandIn { domain, words } => handed_in(&left, *domain, words, self.names),
             _ => self.turned(&left),
         };
-        self.told += &format!("line {line}: {told}\n");
+        self.say(line, what);
         if *event == Event::Turn && left.code == 0 {
             self.served.note(&self.lent, &left);
             self.waits.turned(&self.lent, &left)?;
@@ -218,84 +245,103 @@ impl<'a> Play<'a> {
         Ok(())
     }
 
-    /// What is told of a turn.
-    fn turned(&mut self, left: &Left) -> String {
+    /// Says what happened, with the event before where it is the same.
+    fn say(&mut self, line: usize, what: What) {
+        let next = Said {
+            lines: (line, line),
+            times: 1,
+            what,
+        };
+        if !self.last.as_mut().is_some_and(|last| last.repeated(&next)) {
+            self.print_last();
+            self.last = Some(next);
+        }
+    }
+
+    fn print_last(&mut self) {
+        self.printed += &self
+            .last
+            .take()
+            .map_or(String::new(), |said| said.in_words());
+    }
+
+    /// What is said of a turn.
+    fn turned(&mut self, left: &Left) -> What {
         self.turns += 1;
         let turn = format!("turn {}", self.turns);
-        if left.code != 0 {
-            return format!(
-                "{turn} is refused with {} ({})",
-                left.code,
-                meaning(left.code)
-            );
+        let code = left.code;
+        if code != 0 {
+            return What::Turn(format!("{turn} is refused with {code} ({})", meaning(code)));
         }
         let Some((domain, call)) = served(&self.lent, left) else {
-            return format!("{turn} is idle: nothing is pending");
+            return What::Idle(self.turns, self.turns);
         };
-        format!(
-            "{turn} serves {} after {} ({})\n    {}: {}",
+        What::Turn(format!(
+            "{turn} serves {} after a wait of {} ({})\n    {}: {}",
             self.names.domain(domain),
             counted(self.waits.of_served(domain), "turn"),
             pending_in_short(&self.lent, self.names),
             call_in_words(&call, self.names),
             answer_on_table(&self.lent.table, &call, &left.words.answer, self.names)
-        )
+        ))
     }
 
-    /// What is told at the end.
+    /// What is printed at the end.
     fn ended(&self) -> String {
         let n = domains(&self.lent.table);
-        let mut told = format!("At the end, after {}:\n", counted(self.turns, "turn"));
         let pending = (0..n).filter_map(|domain| {
             let calls = pending_calls(&self.lent.state, domain);
-            let told = calls_in_words(&calls, self.names);
-            let pending = || format!("  pending of {}: {told}\n", self.names.domain(domain));
+            let listed = calls_in_words(&calls, self.names);
+            let pending = || format!("  pending of {}: {listed}\n", self.names.domain(domain));
             (!calls.is_empty()).then(pending)
         });
         let pending: String = pending.collect();
-        told += match pending.as_str() {
+        let pending = match pending.as_str() {
             "" => "  nothing is pending\n",
             some => some,
         };
-        let place = self.lent.state[0] as usize;
-        told += &match place < n {
-            true => format!("  the next turn starts at {}\n", self.names.domain(place)),
-            false => format!(
-                "  the next turn starts at {}, behind the last\n",
-                self.names.domain(0)
-            ),
+        let next = match self.lent.state[0] as usize {
+            place if place < n => self.names.domain(place),
+            _ => format!("{}, after the last", self.names.domain(0)),
         };
-        told += &format!(
-            "  the longest waits of an oldest call, {} at the most, and of any since it was handed \
-             in, {} at the most:\n",
-            counted(n, "turn"),
-            counted(PENDING_WORDS * n, "turn")
+        format!(
+            "At the end, after {}:\n{pending}  the next turn starts at {next}\n{}",
+            counted(self.turns, "turn"),
+            self.longest_waits()
+        )
+    }
+
+    /// The longest waits of each domain, in turns.
+    fn longest_waits(&self) -> String {
+        let n = self.waits.longest.len();
+        let mut table = format!(
+            "  the longest waits in turns: of a call since it was handed in ({} at most), and of \
+             a domain's\n  oldest call since it is the oldest ({n} at most)\n",
+            PENDING_WORDS * n
         );
-        let longest = self.waits.longest.iter().zip(&self.waits.longest_of_all);
-        for (domain, (oldest, any)) in longest.enumerate() {
-            let (oldest, any) = (counted(*oldest, "turn"), counted(*any, "turn"));
-            told += &format!("    {}: {oldest}, {any}\n", self.names.domain(domain));
+        let longest = self.waits.longest_of_all.iter().zip(&self.waits.longest);
+        for (domain, (any, oldest)) in longest.enumerate() {
+            table += &format!("    {}: {any}, {oldest}\n", self.names.domain(domain));
         }
-        told
+        table
     }
 }
 
-/// What is told of words that were handed in.
-fn handed_in(left: &Left, domain: u32, words: &[u32], names: &Names) -> String {
+/// What is said of words that were handed in.
+fn handed_in(left: &Left, domain: u32, words: &[u32], names: &Names) -> What {
     let who = names.domain(domain as usize);
     let what = match words {
         [] => "no word".to_string(),
         _ => calls_in_words(&cut(words), names),
     };
-    if left.code != 0 {
-        return format!(
-            "{who} is refused with {} ({}), handing in: {what}",
-            left.code,
-            meaning(left.code)
-        );
+    let code = left.code;
+    if code != 0 {
+        let why = format!(" with {code} ({}), handing in: {what}", meaning(code));
+        return What::HandIn(format!("{who} is refused"), why, String::new());
     }
     let pending = pending_words(&left.words.state, domain as usize).len();
-    format!("{who} hands in: {what} ({pending} of {PENDING_WORDS} words pending)")
+    let came = format!(" ({pending} of {PENDING_WORDS} words pending)");
+    What::HandIn(format!("{who} hands in"), format!(": {what}"), came)
 }
 
 fn calls_in_words(calls: &[Call], names: &Names) -> String {
@@ -333,90 +379,119 @@ turn
 hand in 2 receive caller 2 endpoint 1
 ";
 
-    fn events(text: &str) -> Vec<(usize, (Event, u32))> {
+    fn events(text: &str) -> Vec<Happens> {
         let script = turns::read(text).unwrap();
-        let events = script.events.iter();
-        events
-            .map(|(line, happens)| (*line, event_of(happens).unwrap()))
-            .collect()
+        script.events(&Names::none()).unwrap()
+    }
+
+    fn printed(text: &str) -> String {
+        let (printed, same) = played(&PROVED_LAYER, &TABLE_T, &Names::none(), &events(text));
+        assert!(same, "{printed}");
+        printed
     }
 
     #[test]
-    fn each_event_and_the_end_are_told() {
-        let (told, same) = played(&PROVED_LAYER, &TABLE_T, &Names::none(), &events(TEXT));
-        assert!(same, "{told}");
-        let lines: Vec<&str> = told.lines().collect();
+    fn each_event_and_the_end_are_printed() {
+        let printed = printed(TEXT);
+        let lines: Vec<&str> = printed.lines().collect();
+        for (at, line) in [
+            (
+                1,
+                "line 2: domain 1 hands in: domain 1 grants domain 0 SEND on domain 2 (1 of 16 \
+                 words pending)",
+            ),
+            (
+                6,
+                "line 7: turn 1 serves domain 0 after a wait of 1 turn (pending calls: 2 of \
+                 domain 0, 1 of domain 1)",
+            ),
+            (11, "    domain 0 sends 6 to endpoint 1: done"),
+            (12, "line 8: turn 4 is idle: nothing is pending"),
+            (14, "At the end, after 4 turns:"),
+            (
+                15,
+                "  pending of domain 2: domain 2 receives from endpoint 1",
+            ),
+            (16, "  the next turn starts at domain 1"),
+            (19, "    domain 0: 3, 2"),
+            (20, "    domain 1: 2, 2"),
+            (21, "    domain 2: 0, 0"),
+        ] {
+            assert_eq!(lines[at], line, "{printed}");
+        }
+        assert!(lines[4].starts_with("line 5: domain 0 is refused with 36 ("));
+        assert!(lines[5].ends_with("), handing in: no word"), "{printed}");
+        assert!(lines[7].starts_with("    domain 0 sends 5 to endpoint 1: refused with 17"));
+        assert!(lines[8].starts_with("line 7: turn 2 serves domain 1 after a wait of 2 turns ("));
+        // Handed in before the first turn, though it was the oldest only since then.
+        assert!(lines[10].starts_with("line 7: turn 3 serves domain 0 after a wait of 3 turns ("));
+        assert!(lines[22].starts_with("3 calls served; as one list"));
+    }
+
+    #[test]
+    fn bursts_and_idle_turns_are_folded() {
+        let text = "\
+table T
+hand in 1 send caller 1 endpoint 1 message 5  10 times
+hand in 1 send caller 1 endpoint 1 message 5
+turns 8
+turn 3 times
+turn
+";
+        let printed = printed(text);
+        let lines: Vec<&str> = printed.lines().collect();
         assert_eq!(
             lines[1],
-            "line 2: domain 1 hands in: domain 1 grants domain 0 SEND on domain 2 (1 of 16 words \
+            "line 2: domain 1 hands in 8 times: domain 1 sends 5 to endpoint 1 (16 of 16 words \
              pending)"
         );
-        assert!(lines[4].starts_with("line 5: domain 0 is refused with 36 ("));
-        assert!(lines[5].ends_with("), handing in: no word"), "{told}");
-        assert_eq!(
-            lines[6],
-            "line 7: turn 1 serves domain 0 after 1 turn (pending calls: 2 of domain 0, 1 of \
-             domain 1)"
-        );
-        assert!(lines[7].starts_with("    domain 0 sends 5 to endpoint 1: refused with 17"));
-        assert!(lines[8].starts_with("line 7: turn 2 serves domain 1 after 2 turns ("));
-        assert_eq!(lines[11], "    domain 0 sends 6 to endpoint 1: done");
-        assert_eq!(lines[12], "line 8: turn 4 is idle: nothing is pending");
-        assert_eq!(lines[14], "At the end, after 4 turns:");
-        assert_eq!(
-            lines[15],
-            "  pending of domain 2: domain 2 receives from endpoint 1"
-        );
-        assert_eq!(lines[16], "  the next turn starts at domain 1");
-        assert_eq!(
-            lines[18..21].join(""),
-            "    domain 0: 2 turns, 3 turns    domain 1: 2 turns, 2 turns    domain 2: 0 turns, 0 turns"
-        );
-        assert!(lines[21].starts_with("3 calls served; as one list"));
+        assert!(lines[2].starts_with("lines 2 to 3: domain 1 is refused 3 times with 37 ("));
+        let idle = "lines 5 to 6: turns 9 to 12 are idle: nothing is pending";
+        assert_eq!(lines[19], idle, "{printed}");
     }
 
     /// Eight sends by one domain before the first turn: the last waits eight turns, and more
     /// where others are served between them.
     #[test]
-    fn the_waits_of_eight_sends_by_one_domain_are_told() {
-        let send = "hand in 1 send caller 1 endpoint 1 message 5\n".repeat(8);
-        let text = format!("table T\n{send}turns 8\n");
-        let (told, same) = played(&PROVED_LAYER, &TABLE_T, &Names::none(), &events(&text));
-        assert!(same, "{told}");
-        assert!(told.contains("    domain 1: 1 turn, 8 turns\n"), "{told}");
-        let ask = |d: u32| format!("hand in {d} my-rights caller {d}\n").repeat(16);
-        let text = format!("table T\n{send}{}{}turns 24\n", ask(0), ask(2));
-        let (told, same) = played(&PROVED_LAYER, &TABLE_T, &Names::none(), &events(&text));
-        assert!(same, "{told}");
-        assert!(told.contains("    domain 1: 3 turns, 23 turns\n"), "{told}");
+    fn the_waits_of_eight_sends_by_one_domain_are_printed() {
+        let send = "hand in 1 send caller 1 endpoint 1 message 5  8 times\n";
+        let alone = printed(&format!("table T\n{send}turns 8\n"));
+        assert!(
+            alone.contains("turn 8 serves domain 1 after a wait of 8 turns ("),
+            "{alone}"
+        );
+        assert!(alone.contains("    domain 1: 8, 1\n"), "{alone}");
+        let ask = |d: u32| format!("hand in {d} my-rights caller {d} 16 times\n");
+        let among = printed(&format!("table T\n{send}{}{}turns 24\n", ask(0), ask(2)));
+        assert!(among.contains("    domain 1: 23, 3\n"), "{among}");
     }
 
     #[test]
-    fn names_stand_beside_the_numbers() {
+    fn names_are_beside_the_numbers() {
         let names = Names::given("domain 0 link\ndomain 2 drives\nendpoint 1 belts");
-        let (told, _) = played(&PROVED_LAYER, &TABLE_T, &names, &events(TEXT));
+        let (printed, _) = played(&PROVED_LAYER, &TABLE_T, &names, &events(TEXT));
         for part in [
             "the first turn starts at domain 0 (link)",
             "line 3: domain 0 (link) hands in: domain 0 (link) sends 5 to endpoint 1 (belts)",
-            "turn 1 serves domain 0 (link) after 1 turn (pending calls: 2 of domain 0 (link), 1",
+            "turn 1 serves domain 0 (link) after a wait of 1 turn (pending calls: 2 of domain 0 (li",
             "  pending of domain 2 (drives): domain 2 (drives) receives from endpoint 1 (belts)",
-            "    domain 0 (link): 2 turns, 3 turns\n    domain 1: 2 turns, 2 turns\n",
+            "    domain 0 (link): 3, 2\n    domain 1: 2, 2\n",
         ] {
-            assert!(told.contains(part), "{part}: {told}");
+            assert!(printed.contains(part), "{part}: {printed}");
         }
     }
 
     #[test]
-    fn a_message_that_a_send_pushed_out_is_told() {
+    fn a_message_that_a_send_pushed_out_is_printed() {
         let send = "hand in 1 send caller 1 endpoint 1 message 5\n";
         let text = format!("table T\n{}turns 2\n", send.repeat(2));
-        let (told, _) = played(&PROVED_LAYER, &TABLE_T, &Names::none(), &events(&text));
-        assert!(told.contains(": done\n"), "{told}");
-        assert!(told.contains(": done; message 5 was pushed out and is lost\n"));
+        let (printed, _) = played(&PROVED_LAYER, &TABLE_T, &Names::none(), &events(&text));
+        assert!(printed.contains(": done\n"), "{printed}");
+        assert!(printed.contains(": done; message 5 was pushed out and is lost\n"));
     }
 
     #[test]
-    fn what_differs_is_told_with_its_line() {
+    fn what_differs_is_reported_with_its_line() {
         let wrong = Layer {
             turn: |table, state, holders, answer| {
                 let told = (PROVED_LAYER.turn)(table, state, holders, answer);
@@ -425,23 +500,16 @@ hand in 2 receive caller 2 endpoint 1
             },
             ..PROVED_LAYER
         };
-        let (told, same) = played(&wrong, &TABLE_T, &Names::none(), &events(TEXT));
+        let (printed, same) = played(&wrong, &TABLE_T, &Names::none(), &events(TEXT));
         assert!(!same);
-        let end = told.lines().rev().nth(1).unwrap();
+        let end = printed.lines().rev().nth(1).unwrap();
         assert_eq!(end, "DIFFERENCE at line 7:");
     }
 
     #[test]
-    fn the_place_behind_the_last_domain_is_told_as_the_first() {
+    fn the_place_after_the_last_domain_is_printed_as_the_first() {
         let text = "table T\nhand in 2 my-rights caller 2\nturn";
-        let (told, _) = played(&PROVED_LAYER, &TABLE_T, &Names::none(), &events(text));
-        assert!(told.contains("  nothing is pending\n  the next turn starts at domain 0, behind"));
-    }
-
-    #[test]
-    fn a_field_that_exceeds_its_bits_is_told() {
-        let script = turns::read("table T\nhand in 0 my-rights caller 64").unwrap();
-        let told = event_of(&script.events[0].1).unwrap_err();
-        assert!(told.starts_with("caller 64 exceeds its 6 bits"), "{told}");
+        let (printed, _) = played(&PROVED_LAYER, &TABLE_T, &Names::none(), &events(text));
+        assert!(printed.contains("  nothing is pending\n  the next turn starts at domain 0, after"));
     }
 }

@@ -1,137 +1,145 @@
-//! `balkwizu write`: calls as text, one a line, into a list, by the proved writer.
+//! `balkwizu write`: a text into an input of linerun.
 
 use std::ffi::OsString;
 use std::path::Path;
 
-use reference::calls::LIST_WORDS_MAX;
+use reference::writer::{to_columns, COLUMNS};
 
 use line::args::Options;
 use line::kernels::boundary::PROVED_WRITER;
-use line::output;
+use line::output::{self, complain};
 use line::refused::{self, Refusal};
-use line::text::calls::{self, Typed};
 use line::text::given::{read_given, Given};
 use line::text::hex;
 use line::text::input::{read_once, read_text, shown, Input};
-use line::text::names::Names;
+use line::text::names::{sizes, Names};
 
 pub const HELP: &str = "\
-balkwizu write FILE
-balkwizu write FILE --table INPUT [--text]
+balkwizu write FILE [--hex] > INPUT
+balkwizu write FILE --table LINE [--hex] > INPUT
 
-Writes the list of the calls that stand in a text, one a line, by the proved
-writer. `-` is standard input. A text looks like this:
+Writes the input of linerun that a text describes; with --hex, the text of its
+words in hexadecimal. FILE is one of three texts; `-` is standard input, and #
+starts a comment. The first is a line in words:
 
-  look-up caller 0 name 0x11
-  send caller 0 endpoint 1 message 5     # a comment goes to the end of its line
-  receive caller 2 endpoint 1
-  my-endpoints caller 2
-  my-rights caller 0
+  domain link
+  domain loader
+  endpoint routes owner loader capacity 4
+  rights link on loader: SEND
+  calls
+    link sends 65 to routes
+    loader receives from routes
+
+An endpoint may also have `name 18`, `lost 3` and `waiting 5 6`; its name is its
+number plus 1 where none is given. A set of rights is SEND+GRANT, of SEND,
+GRANT, REMOVE and REVOKE. Each kind of call has its sentence, with names or
+numbers:
+
+  D looks up name N           D sends N to E         D receives from E
+  D asks for its endpoints    D asks for its rights  D grants D SET on D
+  D gives up SET on D         D takes SET on D back from D
+
+A call may be given by its fields too, and any words as they are:
+
+  look-up caller 0 name 0x11          my-endpoints caller 2
+  receive caller 2 endpoint 1         my-rights caller 0
+  send caller 0 endpoint 1 message 5  remove caller 1 target 2 rights SEND
   grant caller 1 target 2 recipient 0 rights 1
-  remove caller 1 target 2 rights 4
   revoke caller 1 target 2 holder 0 rights 8
+  words F0000009
 
-A call has each of its fields once, in any order. Numbers are decimal, or
-hexadecimal behind 0x. Rights are a sum: SEND 1, GRANT 2, REMOVE 4, REVOKE 8. No
-table is asked: a field is within its bits or it isn't (caller and target 6,
-endpoint, recipient, holder and rights 8, name and message 28).
+The second is calls alone, for the line that --table gives, by its names.
+Without --table, --hex writes their list. The third is the words of a line:
 
-The list is written as the text that `balkwizu words` takes behind a table:
+  domain 0 link                        # or: endpoint 1 drives
+  table 10000201 20000000*4 30000011 40000102 50000000 60000000 F0000000*8
+  list  20000000 F0000005; 30400000    # F0000000*8 is a word eight times
 
-  (cat table.txt; balkwizu write calls.txt) | balkwizu words - > LINE
+A name is a word of letters, digits, `-` and `_`, of 24 characters at most. What
+will be refused is written with a warning. `balkwizu read` writes a text back.
 
-With --table the whole input of linerun is written: the table of INPUT, and this
-list in the place of INPUT's own. INPUT is an input of linerun, or a text as
-`balkwizu words` takes it, whose names may then stand for the numbers of domains
-and endpoints: `send caller link endpoint routes message 5`. With --text what is
-written is such a text too, with the names that INPUT gives.
-
-A mistake is told by its line and field, and a table that will be refused is
-written with a warning. `balkwizu read` makes the text of a list again.
-
-Exit status: 0 written; 1 the writer refuses a call with 30 or the list with 31,
-or INPUT is refused; 2 bad usage, or what is given is no such text.
+Exit status: 0 written; 1 LINE is refused; 2 bad usage, a file that can't be
+read, or mistakes in the text, each reported by its line and column.
 ";
 
 /// The command: whether there was something to write.
 pub fn command(line: &[OsString]) -> Result<bool, String> {
-    let options = Options::parse(line, &["--table"], &["--text"])?;
+    let options = Options::parse(line, &["--table"], &["--hex"])?;
     let file = options.file()?;
-    let input = options.path("--table");
-    if options.has("--text") && input.is_none() {
-        return Err("--text is for --table: without it a text is written".to_string());
-    }
-    read_once(&[file, input.unwrap_or(Path::new(""))])?;
-    let given = input.map(read_given).transpose()?;
-    let names = given.as_ref().map(|given| &given.names);
-    let typed = read_text(file, "calls as text, one a line, are wanted")?;
-    let typed = calls::read(&typed, names.unwrap_or(&Names::none()));
-    let typed = typed.map_err(|why| format!("{}: {why}", shown(file)))?;
-    let list = match written(&typed) {
-        Ok(list) => list,
+    let path = options.path("--table");
+    read_once(&[file, path.unwrap_or(Path::new(""))])?;
+    let of = path.map(read_given).transpose()?;
+    let of = match of.map(parsed).transpose() {
+        Ok(of) => of,
         Err(refusal) => {
-            refused::complain_of("write", file, &refusal);
+            refused::complain_of("write", path.unwrap_or(file), &refusal);
             return Ok(false);
         }
     };
-    match (input, &given) {
-        (Some(path), Some(given)) => Ok(write_input(path, given, list, options.has("--text"))),
-        _ => {
-            output::write(hex::write_list(&list).as_bytes());
-            Ok(true)
+    let text = read_text(file, "`balkwizu read` makes the text of an input")?;
+    let read = match &of {
+        Some((input, names)) => hex::read_list(&text, names, Some(sizes(&input.table))),
+        None => hex::read_list(&text, &Names::none(), None),
+    };
+    let mut given = read.map_err(|why| format!("{}: {why}", shown(file)))?;
+    for warning in &given.warnings {
+        complain!("{}: {warning}", shown(file));
+    }
+    if let Ok(Input { table, list }) = Input::parse(&given.bytes) {
+        written_again(&list)?;
+        match of {
+            Some(_) if !table.is_empty() => {
+                let file = shown(file);
+                return Err(format!("{file} has a table: --table is for calls alone"));
+            }
+            Some((Input { table, .. }, names)) => {
+                given.bytes = Input { table, list }.to_bytes();
+                given.names = names;
+            }
+            None if !table.is_empty() => {}
+            None if options.has("--hex") => {
+                output::write(hex::write_list(&list).as_bytes());
+                return Ok(true);
+            }
+            None => return Err("calls alone need --table LINE, or --hex".to_string()),
         }
     }
+    write(path.unwrap_or(file), &given, options.has("--hex"));
+    Ok(true)
 }
 
-/// Writes the table that was given with another list, unless it has none.
-fn write_input(path: &Path, given: &Given, list: Vec<u32>, as_text: bool) -> bool {
-    let input = match Input::parse(&given.bytes) {
-        Ok(Input { table, .. }) => Input { table, list },
-        Err(refusal) => {
-            refused::complain_of("write", path, &refusal);
-            return false;
+fn parsed(given: Given) -> Result<(Input, Names), Refusal> {
+    Input::parse(&given.bytes).map(|input| (input, given.names))
+}
+
+/// Writes an input, with a warning where it will be refused.
+fn write(file: &Path, given: &Given, as_hex: bool) {
+    match (as_hex, Input::parse(&given.bytes)) {
+        (false, _) => output::write(&given.bytes),
+        (true, Ok(input)) => {
+            output::write((given.names.lines() + &hex::write(&input)).as_bytes());
         }
-    };
-    match as_text {
-        true => output::write((given.names.lines() + &hex::write(&input)).as_bytes()),
-        false => output::write(&input.to_bytes()),
+        (true, Err(_)) => output::write(hex::write_bytes(&given.bytes).as_bytes()),
     }
     if let Err(refusal) = given.accepted() {
-        refused::warn_of("write", path, &refusal);
-    }
-    true
-}
-
-/// The words of calls, or the writer's refusal and why.
-fn written(typed: &[Typed]) -> Result<Vec<u32>, Refusal> {
-    let columns: Vec<u32> = typed.iter().flat_map(|call| call.columns).collect();
-    let mut list = vec![0; LIST_WORDS_MAX];
-    let (code, number) = PROVED_WRITER(&columns, &mut list);
-    match code {
-        0 => {
-            list.truncate(number);
-            Ok(list)
-        }
-        30 => {
-            let why = typed
-                .iter()
-                .skip(number)
-                .find_map(|call| Some(format!("line {}: {}", call.line, call.too_large()?)));
-            Err((code, why.expect("a field exceeds its bits")))
-        }
-        _ => {
-            let line = first_too_long(typed).expect("the words are above 4,096");
-            Err((code, format!("line {line}: its words pass the 4,096th")))
-        }
+        refused::warn_of("write", file, &refusal);
     }
 }
 
-/// The line of the first call of which a word is past the longest list.
-fn first_too_long(typed: &[Typed]) -> Option<usize> {
-    let mut words = 0;
-    let past = typed.iter().find(|call| {
-        words += calls::width(&call.columns);
-        words > LIST_WORDS_MAX
-    });
-    past.map(|call| call.line)
+/// That the proved writer writes the calls of a list in the same words. One that is refused
+/// whatever the table isn't written by it, nor a list that has such a call.
+pub fn written_again(list: &[u32]) -> Result<(), String> {
+    let calls: Option<Vec<[u32; COLUMNS]>> = reference::read(list).iter().map(to_columns).collect();
+    let Some(calls) = calls else {
+        return Ok(());
+    };
+    let mut written = vec![0; list.len()];
+    let answer = PROVED_WRITER(&calls.concat(), &mut written);
+    match answer == (0, list.len()) && written == list {
+        true => Ok(()),
+        false => Err(format!(
+            "the proved writer writes the calls otherwise, with {} and {}",
+            answer.0, answer.1
+        )),
+    }
 }

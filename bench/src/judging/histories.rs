@@ -296,7 +296,7 @@ mod tests {
     #[test]
     fn a_wrong_turn_is_found() {
         let code = turns!(|_t, _s, _h, _a, answered| if answered == 99 { 0 } else { answered });
-        assert!(code.contains("answers 0 (none served), "));
+        assert!(code.contains("answers 0 (none served), the reference 99 ("));
         let idle = turns!(|_t, state, _h, _a, answered| {
             if let (0, Some(place)) = (answered, state.first_mut()) {
                 *place = 0;
@@ -375,7 +375,7 @@ mod tests {
             [one] if code == 36 && kind(*one) == STRAY => 0,
             _ => code,
         });
-        assert!(stray.contains(" 36 ("), "{stray}");
+        assert!(stray.contains("the reference 36 ("), "{stray}");
     }
 
     /// A layer that does one more thing once it has begun.
@@ -415,6 +415,6 @@ mod tests {
         });
         assert!(table.contains("wrote a table that it only reads"));
         let code = begins!(|_t, _s, _h, code| if code == 99 { 0 } else { code });
-        assert!(code.contains(" 99 ("), "{code}");
+        assert!(code.contains("the reference 99 ("), "{code}");
     }
 }

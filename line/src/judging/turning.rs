@@ -1,4 +1,4 @@
-//! What a layer of turns makes of an event, beside what the separate one makes of it; how
+//! What a layer of turns makes of an event, beside what the reference makes of it; how
 //! long calls wait; and the calls served as one list.
 
 use std::collections::VecDeque;
@@ -20,7 +20,7 @@ use crate::kernels::lent::run_here;
 use crate::text::explain::{call_in_words, meaning};
 use crate::text::names::Names;
 
-/// What the separate layer makes of an event; an error where it panics, which is a
+/// What the reference makes of an event; an error where it panics, which is a
 /// difference from a layer that answers.
 pub fn separate_event(lent: &Lent, event: &Event) -> Result<Left, String> {
     or_panic(|| {
@@ -49,7 +49,7 @@ type Part = fn(&Lent) -> &Vec<u32>;
 pub fn difference(lent: &Lent, left: &Left, wanted: &Left) -> Option<String> {
     if (left.code, left.served) != (wanted.code, wanted.served) {
         return Some(format!(
-            "the kernel's layer answers {}, the separate one {}",
+            "the kernel's layer answers {}, the reference {}",
             in_words(left),
             in_words(wanted)
         ));
@@ -57,7 +57,7 @@ pub fn difference(lent: &Lent, left: &Left, wanted: &Left) -> Option<String> {
     let served = wanted.code == 0 && wanted.served == 1;
     if served && left.words.answer[..3] != wanted.words.answer[..3] {
         return Some(format!(
-            "the kernel's layer answers the call with {}, the separate one with {}",
+            "the kernel's layer answers the call with {}, the reference with {}",
             answer_as_printed(&left.words.answer),
             answer_as_printed(&wanted.words.answer)
         ));
@@ -73,7 +73,7 @@ pub fn difference(lent: &Lent, left: &Left, wanted: &Left) -> Option<String> {
         let place = first_unequal(left, wanted)?;
         Some(format!(
             "word {place} of the {what}, was {:08X}: the kernel's layer leaves {:08X}, the \
-             separate one {:08X}",
+             reference {:08X}",
             part(lent)[place],
             left[place],
             wanted[place]
@@ -109,7 +109,7 @@ pub fn pending_calls(state: &[u32], domain: usize) -> Vec<Call> {
     cut(pending_words(state, domain))
 }
 
-/// The word behind the pending ones, which nobody may look at.
+/// The word after the pending ones, which nobody may look at.
 pub fn word_behind(state: &[u32], domain: usize) -> Option<u32> {
     let pending = pending_words(state, domain).len();
     own_words(state, domain).get(1 + pending).copied()
@@ -205,9 +205,10 @@ impl Waits {
         }
     }
 
-    /// How many turns the call has waited that a turn serves, that turn among them.
+    /// How many turns the call has waited since it was handed in that the next turn serves,
+    /// that turn among them.
     pub fn of_served(&self, domain: usize) -> usize {
-        self.now[domain] + 1
+        1 + self.calls[domain].front().map_or(0, |wait| wait.turns)
     }
 }
 
@@ -250,8 +251,8 @@ impl Served {
         }
     }
 
-    /// That as one list they get the same answers and leave the same table by the separate
-    /// machine, and by the proved run, which leaves the same holders too, where a list can
+    /// That as one list they get the same answers and leave the same table by the
+    /// reference, and by the proved run, which leaves the same holders too, where a list can
     /// have so many words.
     pub fn as_one_list(&self) -> Result<(), String> {
         let mut table = self.start.clone();
@@ -259,7 +260,7 @@ impl Served {
         let answers = calls.iter().flat_map(|call| step(&mut table, call));
         let answers: Vec<u32> = answers.collect();
         if answers != self.answers || table != self.table {
-            return Err(self.told("the separate machine"));
+            return Err(self.differs("the reference"));
         }
         if calls.is_empty() || self.pass_a_list() {
             return Ok(());
@@ -276,10 +277,10 @@ impl Served {
             && ran.answers == self.answers
             && ran.table == self.table
             && ran.holders == self.holders;
-        same.then_some(()).ok_or_else(|| self.told("the run"))
+        same.then_some(()).ok_or_else(|| self.differs("the run"))
     }
 
-    fn told(&self, by: &str) -> String {
+    fn differs(&self, by: &str) -> String {
         format!(
             "the calls served, as one list, are answered otherwise by {by}\n\
              The table at the beginning:\n{}\nThe calls:\n{}",
@@ -323,7 +324,7 @@ mod tests {
     }
 
     #[test]
-    fn calls_that_are_answered_otherwise_as_one_list_are_told() {
+    fn calls_that_are_answered_otherwise_as_one_list_are_reported() {
         let mut served = Served::begin(&[0x1000_0100, 0x2000_0000]);
         served.list.push(0x5000_0000);
         served.answers.extend([0x5000_0000, 0, 0]);
@@ -334,7 +335,7 @@ mod tests {
         assert!(told.contains("otherwise by the run"), "{told}");
         served.answers[1] = 1;
         let told = served.as_one_list().unwrap_err();
-        assert!(told.contains("otherwise by the separate machine"), "{told}");
+        assert!(told.contains("otherwise by the reference"), "{told}");
     }
 
     #[test]
@@ -370,13 +371,14 @@ mod tests {
         ] {
             assert_eq!(turned(pending, domain), (Ok(()), longest));
         }
+        assert_eq!(waits.of_served(0), 6);
         let late = waits.turned_for(&lent(&[1, 1, 1]), 0, false).unwrap_err();
         assert!(late.ends_with("of domain 0 is not served within 6 turns"));
         assert_eq!(waits.longest_of_all[0], 6);
     }
 
     #[test]
-    fn what_is_pending_is_told_of_any_words() {
+    fn what_is_pending_is_read_of_any_words() {
         assert_eq!(pending_words(&[], 3), &[] as &[u32]);
         assert_eq!(pending_words(&[0, 5, 1, 2], 0), &[1, 2]);
         let full = lent(&[17, 1]);

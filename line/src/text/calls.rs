@@ -8,9 +8,8 @@ use reference::calls::{GRANT, LOOK_UP, MY_ENDPOINTS, MY_RIGHTS, RECEIVE, REMOVE,
 use reference::writer::COLUMNS;
 
 use crate::text::explain::NAMED_RIGHTS;
-use crate::text::hex::lines_of;
 use crate::text::names::Names;
-use crate::text::sentences;
+use crate::text::sentences::{self, Item, Wrong};
 
 /// A kind of call: its name and number, and its fields in the order that they are
 /// written in.
@@ -51,10 +50,7 @@ impl Field {
         let wanted = match self.name {
             "rights" => "a set is written as SEND+GRANT, of SEND, GRANT, REMOVE and REVOKE".into(),
             "name" | "message" => "17 or 0x11 is one".into(),
-            _ if names.is_empty() => {
-                "17 or 0x11 is one; `balkwizu write --table INPUT` takes the names that INPUT gives"
-                    .into()
-            }
+            _ if names.is_empty() => "17 or 0x11 is one; no names are given here".into(),
             "endpoint" => names.no_endpoint(typed),
             _ => names.no_domain(typed),
         };
@@ -98,71 +94,62 @@ const KINDS: [Kind; 8] = [
 /// A call of a text.
 #[derive(Debug, Clone, PartialEq, Eq)]
 pub struct Typed {
-    /// Its line, counted from 1.
-    pub line: usize,
     /// Its five words. A number that has no word is there as the largest that has one,
     /// which is more than any field can hold.
     pub columns: [u32; COLUMNS],
-    /// Its fields as they are written.
-    fields: Vec<(Field, String)>,
+    /// Its fields as they are written, each in its column of the line.
+    fields: Vec<(Field, usize, String)>,
 }
 
 impl Typed {
     /// A call of some kind whose fields are still to be set.
-    pub fn new(line: usize, kind: u32) -> Typed {
+    pub fn new(kind: u32) -> Typed {
         let mut columns = [0; COLUMNS];
         columns[0] = kind;
         Typed {
-            line,
             columns,
             fields: Vec::new(),
         }
     }
 
     /// Sets a field to the number that was typed.
-    pub fn set(&mut self, field: Field, number: u32, typed: &str) {
+    pub fn set(&mut self, field: Field, number: u32, typed: &Item) {
         self.columns[field.column] = number;
-        self.fields.push((field, typed.to_string()));
+        self.fields
+            .push((field, typed.column, typed.text.to_string()));
     }
 
-    /// What the call names by a number that a table of so many domains and endpoints hasn't.
-    pub fn beyond(&self, (domains, endpoints): (usize, usize)) -> Vec<String> {
-        let beyond = self.fields.iter().filter_map(|(field, _)| {
-            let (what, size) = match field.name {
-                "endpoint" => ("endpoint", endpoints),
-                "rights" | "name" | "message" => return None,
-                _ => ("domain", domains),
-            };
-            let number = self.columns[field.column] as usize;
-            (number >= size).then(|| format!("{what} {number}"))
-        });
-        beyond.collect()
-    }
-
-    /// The field that exceeds its bits, in words.
-    pub fn too_large(&self) -> Option<String> {
-        let (field, typed) = self
-            .fields
-            .iter()
-            .find(|(field, _)| self.columns[field.column] >> field.bits != 0)?;
-        Some(format!(
-            "{} {typed} exceeds its {} bits: {} is the largest",
-            field.name,
-            field.bits,
-            (1u32 << field.bits) - 1
-        ))
+    /// The words of the call, or the first field that exceeds its bits.
+    pub fn words(&self) -> Result<Vec<u32>, Wrong> {
+        let mut fields = self.fields.iter();
+        let large = fields.find(|(field, ..)| self.columns[field.column] >> field.bits != 0);
+        if let Some((field, column, typed)) = large {
+            let why = format!(
+                "{} {typed} exceeds its {} bits: {} is the largest",
+                field.name,
+                field.bits,
+                (1u32 << field.bits) - 1
+            );
+            return Err((*column, why));
+        }
+        let mut space = [0; 2];
+        let (_, words) = reference::writer::write_columns(&self.columns, &mut space);
+        Ok(space[..words].to_vec())
     }
 }
 
-/// The calls of a text, or what is wrong with it and in which line. Names may stand for
-/// the numbers of domains and endpoints.
-pub fn read(text: &str, names: &Names) -> Result<Vec<Typed>, String> {
-    let mut calls = Vec::new();
-    for (number, line) in lines_of(text) {
-        let call = read_line(line, number, names);
-        calls.extend(call.map_err(|why| format!("line {number}: {why}"))?);
-    }
-    Ok(calls)
+/// What a call names by a number that a table of so many domains and endpoints hasn't.
+pub fn beyond(columns: &[u32; COLUMNS], (domains, endpoints): (usize, usize)) -> Vec<String> {
+    let beyond = kind_of(columns).fields.iter().filter_map(|field| {
+        let (what, size) = match field.name {
+            "endpoint" => ("endpoint", endpoints),
+            "rights" | "name" | "message" => return None,
+            _ => ("domain", domains),
+        };
+        let number = columns[field.column] as usize;
+        (number >= size).then(|| format!("{what} {number}"))
+    });
+    beyond.collect()
 }
 
 /// Whether a word is the name of a kind of call.
@@ -170,66 +157,55 @@ pub fn is_kind(word: &str) -> bool {
     KINDS.iter().any(|kind| kind.name == word)
 }
 
-/// What else a text may be that has this in the place of a call.
-fn meant(word: &str) -> &'static str {
-    let digits = word.len() == 8 && word.bytes().all(|digit| digit.is_ascii_hexdigit());
-    match word {
-        "table" | "list" | "domain" | "endpoint" => {
-            "; a text of words is given with --table, and read by `balkwizu read`"
-        }
-        _ if digits => "; of words `balkwizu read` makes the calls",
-        _ => "",
-    }
+/// Whether a word is the name of a field of some kind of call.
+fn is_field(word: &str) -> bool {
+    let mut fields = KINDS.iter().flat_map(|kind| kind.fields);
+    fields.any(|field| field.name == word)
 }
 
-/// The call of a line, where there is one, or what is wrong with it.
-pub fn read_line(line: &str, at: usize, names: &Names) -> Result<Option<Typed>, String> {
-    let mut words = line.split_whitespace();
-    let Some(name) = words.next() else {
-        return Ok(None);
-    };
-    let items = sentences::items_of(line);
-    if items
-        .get(1)
-        .is_some_and(|item| sentences::is_verb(item.text))
-    {
-        let call = sentences::read(&items, at, names);
-        return call.map(Some).map_err(|(_, why)| why);
+/// The call of a line with something in it, as a sentence or by its fields; or what is wrong
+/// with it.
+pub fn read(items: &[Item], names: &Names) -> Result<Typed, Wrong> {
+    let (first, rest) = items.split_first().expect("a line with something in it");
+    let second = rest.first().map_or("", |item| item.text);
+    let kind = KINDS.iter().find(|kind| kind.name == first.text);
+    if sentences::is_verb(second) || kind.is_none() && !is_field(second) {
+        return sentences::read(items, names);
     }
-    let kind = KINDS.iter().find(|kind| kind.name == name).ok_or_else(|| {
-        let names = KINDS.map(|kind| kind.name).join(", ");
-        let meant = meant(name);
-        format!("there is no call `{name}`, only {names}{meant}")
+    let kind = kind.ok_or_else(|| {
+        let (name, known) = (first.text, KINDS.map(|kind| kind.name).join(", "));
+        let why = format!("there is no call `{name}`, only {known}");
+        (first.column, why)
     })?;
-    let mut call = Typed::new(at, kind.number);
-    while let Some(word) = words.next() {
-        let field = kind.field(word)?;
-        if call.fields.iter().any(|(given, _)| *given == field) {
-            return Err(format!("{word} is given a second time"));
+    let mut call = Typed::new(kind.number);
+    for pair in rest.chunks(2) {
+        let field = kind.field(&pair[0])?;
+        let wrong = |why: String| Err((pair[0].column, why));
+        if call.fields.iter().any(|(given, ..)| *given == field) {
+            return wrong(format!("{} is given a second time", field.name));
         }
-        let typed = words
-            .next()
-            .ok_or_else(|| format!("{word} has no number"))?;
-        call.set(field, field.number(typed, names)?, typed);
+        let Some(typed) = pair.get(1) else {
+            return wrong(format!("{} has no number", field.name));
+        };
+        let number = field.number(typed.text, names);
+        call.set(field, number.map_err(|why| (typed.column, why))?, typed);
     }
-    let given = |wanted: &Field| call.fields.iter().any(|(given, _)| given == wanted);
+    let given = |wanted: &Field| call.fields.iter().any(|(given, ..)| given == wanted);
     match kind.fields.iter().find(|wanted| !given(wanted)) {
-        None => Ok(Some(call)),
-        Some(field) => Err(format!("{name} needs {}", field.name)),
+        None => Ok(call),
+        Some(field) => Err((first.column, format!("{} needs {}", kind.name, field.name))),
     }
 }
 
 impl Kind {
-    /// The field of the name.
-    fn field(&self, name: &str) -> Result<Field, String> {
-        let found = self.fields.iter().find(|field| field.name == name);
+    /// The field that is named.
+    fn field(&self, named: &Item) -> Result<Field, Wrong> {
+        let found = self.fields.iter().find(|field| field.name == named.text);
         found.copied().ok_or_else(|| {
             let names: Vec<&str> = self.fields.iter().map(|field| field.name).collect();
-            format!(
-                "{} has no field `{name}`, only {}",
-                self.name,
-                names.join(", ")
-            )
+            let (name, names) = (named.text, names.join(", "));
+            let why = format!("{} has no field `{name}`, only {names}", self.name);
+            (named.column, why)
         })
     }
 }
@@ -254,10 +230,15 @@ pub fn width(columns: &[u32]) -> usize {
     }
 }
 
+/// The kind of a call by its five words.
+fn kind_of(columns: &[u32; COLUMNS]) -> &'static Kind {
+    let kind = KINDS.iter().find(|kind| kind.number == columns[0]);
+    kind.expect("a kind of call")
+}
+
 /// A call's line, with every field in its place and in decimal.
 pub fn write(columns: &[u32; COLUMNS]) -> String {
-    let kind = KINDS.iter().find(|kind| kind.number == columns[0]);
-    let kind = kind.expect("a kind of call");
+    let kind = kind_of(columns);
     let fields = kind.fields.iter();
     let fields = fields.map(|field| format!(" {} {}", field.name, columns[field.column]));
     format!("{}{}\n", kind.name, fields.collect::<String>())
@@ -266,6 +247,7 @@ pub fn write(columns: &[u32; COLUMNS]) -> String {
 #[cfg(test)]
 mod tests {
     use super::*;
+    use crate::text::sentences::items_of;
     use reference::generate::{value, Rng};
     use reference::writer::to_columns;
 
@@ -280,13 +262,17 @@ remove caller 1 target 2 rights 4
 revoke caller 1 target 2 holder 3 rights 8
 ";
 
-    fn columns(text: &str) -> Vec<[u32; COLUMNS]> {
-        let calls = read(text, &Names::none()).unwrap();
-        calls.iter().map(|call| call.columns).collect()
+    fn typed(line: &str, names: &Names) -> Result<Typed, Wrong> {
+        read(&items_of(line), names)
     }
 
-    fn wrong(text: &str) -> String {
-        read(text, &Names::none()).unwrap_err()
+    fn columns(text: &str) -> Vec<[u32; COLUMNS]> {
+        let calls = text.lines().map(|line| typed(line, &Names::none()));
+        calls.map(|call| call.unwrap().columns).collect()
+    }
+
+    fn wrong(line: &str) -> Wrong {
+        typed(line, &Names::none()).unwrap_err()
     }
 
     #[test]
@@ -309,20 +295,16 @@ revoke caller 1 target 2 holder 3 rights 8
     }
 
     #[test]
-    fn a_text_may_have_comments_other_orders_and_hexadecimal_numbers() {
-        let text =
-            "\u{FEFF}# a comment\r\n\r\n  send message 0x0F caller 0 endpoint 1 # and one more\r\n";
-        let calls = read(text, &Names::none()).unwrap();
-        assert_eq!(calls.len(), 1);
-        assert_eq!((calls[0].line, calls[0].columns), (3, [2, 0, 0, 1, 15]));
-        assert_eq!(read("# nothing\n\n", &Names::none()), Ok(Vec::new()));
+    fn fields_may_have_other_orders_and_hexadecimal_numbers() {
+        let line = "  send message 0x0F caller 0 endpoint 1";
+        assert_eq!(columns(line), [[2, 0, 0, 1, 15]]);
     }
 
     #[test]
-    fn names_stand_for_the_numbers_of_domains_and_endpoints() {
+    fn names_are_taken_for_the_numbers_of_domains_and_endpoints() {
         let given = "domain 0 link\ndomain 1 loader\nendpoint 3 loader";
         let names = Names::given(given);
-        let columns = |line: &str| read(line, &names).map(|calls| calls[0].columns);
+        let columns = |line: &str| typed(line, &names).map(|call| call.columns);
         let send = columns("send caller loader endpoint loader message 5");
         assert_eq!(send, Ok([2, 1, 0, 3, 5]));
         let grant = columns("grant caller link target loader recipient link rights 1");
@@ -331,50 +313,75 @@ revoke caller 1 target 2 holder 3 rights 8
         let set = columns("remove caller link target loader rights SEND+REVOKE");
         assert_eq!(set, Ok([7, 0, 1, 0, 9]));
         assert_eq!(columns("link sends 5 to loader"), Ok([2, 0, 0, 3, 5]));
-        let told = columns("my-rights caller belts").unwrap_err();
-        assert!(told.ends_with("no number: no domain has this name"));
+        let (column, why) = columns("my-rights caller belts").unwrap_err();
+        assert_eq!(column, 18);
+        assert!(why.ends_with("no number: no domain has this name"));
         assert!(columns("look-up caller link name loader").is_err());
         assert!(columns("send caller link endpoint link message 5").is_err());
     }
 
     #[test]
-    fn a_mistake_is_told_by_its_line_and_field() {
-        let told = wrong("my-rights caller 0\n\nsned caller 0");
-        assert!(told.starts_with("line 3: there is no call `sned`, only look-up, send,"));
-        let told = wrong("send caller 0 target 1 message 5");
-        assert_eq!(
-            told,
-            "line 1: send has no field `target`, only caller, endpoint, message"
-        );
-        let told = wrong("send caller 0 endpoint 1 caller 2");
-        assert_eq!(told, "line 1: caller is given a second time");
-        assert_eq!(wrong("my-rights caller"), "line 1: caller has no number");
-        assert_eq!(
-            wrong("send caller 0 message 5"),
-            "line 1: send needs endpoint"
-        );
+    fn a_mistake_is_reported_by_its_column_and_field() {
+        let (column, why) = wrong(" sned caller 0");
+        assert_eq!(column, 2);
+        assert!(why.starts_with("there is no call `sned`, only look-up, send,"));
+        for (line, column, why) in [
+            (
+                "send caller 0 target 1 message 5",
+                15,
+                "send has no field `target`, only caller, endpoint, message",
+            ),
+            (
+                "send caller 0 endpoint 1 caller 2",
+                26,
+                "caller is given a second time",
+            ),
+            ("my-rights caller", 11, "caller has no number"),
+            ("send caller 0 message 5", 1, "send needs endpoint"),
+        ] {
+            assert_eq!(wrong(line), (column, why.to_string()));
+        }
         for no_number in ["x", "-1", "0x", "1.5", "+1", "0xG"] {
-            let told = wrong(&format!("\nmy-rights caller {no_number}"));
-            let start = format!("line 2: caller is `{no_number}`, which is no number");
-            assert!(told.starts_with(&start), "{told}");
+            let (column, why) = wrong(&format!("my-rights caller {no_number}"));
+            let start = format!("caller is `{no_number}`, which is no number");
+            assert!(column == 18 && why.starts_with(&start), "{why}");
         }
     }
 
     #[test]
-    fn a_field_that_exceeds_its_bits_is_told_as_it_is_written() {
-        let told = |line: &str| read(line, &Names::none()).unwrap()[0].too_large();
+    fn a_field_that_exceeds_its_bits_is_reported_as_it_is_written() {
+        let words = |line: &str| typed(line, &Names::none()).unwrap().words();
+        let wrong = |column, why: &str| Err((column, why.to_string()));
         assert_eq!(
-            told("send caller 0 endpoint 256 message 5").unwrap(),
-            "endpoint 256 exceeds its 8 bits: 255 is the largest"
+            words("send caller 0 endpoint 256 message 5"),
+            wrong(24, "endpoint 256 exceeds its 8 bits: 255 is the largest")
         );
         assert_eq!(
-            told("send caller 64 endpoint 256 message 5").unwrap(),
-            "caller 64 exceeds its 6 bits: 63 is the largest"
+            words("send caller 64 endpoint 256 message 5"),
+            wrong(13, "caller 64 exceeds its 6 bits: 63 is the largest")
+        );
+        let large = "name 99999999999999999999 exceeds its 28 bits: 268435455 is the largest";
+        assert_eq!(
+            words("look-up caller 0 name 99999999999999999999"),
+            wrong(23, large)
         );
         assert_eq!(
-            told("look-up caller 0 name 99999999999999999999").unwrap(),
-            "name 99999999999999999999 exceeds its 28 bits: 268435455 is the largest"
+            words("look-up caller 63 name 0x0FFFFFFF"),
+            Ok(vec![0x1FC0_0000, 0xFFFF_FFFF])
         );
-        assert_eq!(told("look-up caller 63 name 0x0FFFFFFF"), None);
+    }
+
+    #[test]
+    fn numbers_that_a_table_has_not_are_found_in_each_field() {
+        let beyond = |line: &str| beyond(&columns(line)[0], (4, 2));
+        assert_eq!(beyond("send caller 3 endpoint 1 message 99"), [""; 0]);
+        assert_eq!(
+            beyond("send caller 4 endpoint 2 message 99"),
+            ["domain 4", "endpoint 2"]
+        );
+        assert_eq!(
+            beyond("grant caller 0 target 5 recipient 6 rights 1"),
+            ["domain 5", "domain 6"]
+        );
     }
 }

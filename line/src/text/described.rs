@@ -1,7 +1,7 @@
 //! A line described in words: its domains, endpoints, rights and calls by their names, and
 //! back.
 //!
-//! The help of `balkwizu words` says what such a text looks like.
+//! The help of `balkwizu write` says what such a text looks like.
 
 mod heads;
 
@@ -11,31 +11,50 @@ use reference::table::{endpoint_words, SLOTS_PLACE};
 use reference::words::content;
 use reference::writer::to_columns;
 
-use crate::text::calls::{self, Typed};
+use crate::text::calls;
 use crate::text::explain::rights_in_words;
 use crate::text::given::Given;
 use crate::text::hex::{lines_of, words_of};
 use crate::text::input::Input;
+use crate::text::mistakes::{reported, Mistake};
 use crate::text::names::Names;
 use crate::text::sentences::{self, items_of, Item, Wrong};
 use heads::Heads;
 
-/// What is wrong with a text: where, and what.
-type Problem = (usize, usize, String);
+/// The lines of a text that have something in them, taken apart.
+fn lines(text: &str) -> Vec<(usize, Vec<Item<'_>>)> {
+    let all = lines_of(text).map(|(number, line)| (number, items_of(line)));
+    all.filter(|(_, items)| !items.is_empty()).collect()
+}
 
-/// What one text says, and what is wrong with it.
-#[derive(Default)]
-struct Reader {
-    heads: Heads,
-    list: Vec<u32>,
-    problems: Vec<Problem>,
-    warnings: Vec<String>,
+fn is_calls((_, items): &(usize, Vec<Item>)) -> bool {
+    items.len() == 1 && items[0].text == "calls"
+}
+
+/// Whether a line starts as one does that gives the words of a table or a list.
+fn gives_words(items: &[Item]) -> bool {
+    ["table", "table:", "list", "list:"].contains(&items[0].text)
+}
+
+/// Whether a line starts as one does that describes a line or gives its words.
+fn is_head(items: &[Item]) -> bool {
+    gives_words(items) || ["domain", "endpoint", "rights"].contains(&items[0].text)
+}
+
+/// Whether a line is a call, as a sentence or by its fields.
+fn is_call(items: &[Item]) -> bool {
+    let verb = items.get(1);
+    calls::is_kind(items[0].text) || verb.is_some_and(|item| sentences::is_verb(item.text))
 }
 
 /// Whether a text describes a line in words, rather than giving its words.
 pub fn is_described(text: &str) -> bool {
-    lines_of(text).any(|(_, line)| {
-        let items: Vec<&str> = line.split_whitespace().collect();
+    let lines = lines(text);
+    if lines.iter().any(|(_, items)| gives_words(items)) {
+        return false;
+    }
+    lines.iter().any(|(_, items)| {
+        let items: Vec<&str> = items.iter().map(|item| item.text).collect();
         match items.as_slice() {
             ["calls"] | ["rights", ..] | ["domain", _] => true,
             ["endpoint", _, field, ..] => heads::is_endpoint_field(field),
@@ -44,103 +63,120 @@ pub fn is_described(text: &str) -> bool {
     })
 }
 
-/// The line that a text describes, or everything that is wrong with it.
-pub fn read(text: &str) -> Result<Given, String> {
-    let mut reader = Reader::default();
-    let lines: Vec<(usize, Vec<Item>)> = lines_of(text)
-        .map(|(number, line)| (number, items_of(line)))
-        .filter(|(_, items)| !items.is_empty())
-        .collect();
-    let is_calls = |(_, items): &(usize, Vec<Item>)| items.len() == 1 && items[0].text == "calls";
-    let end = lines.iter().position(is_calls).unwrap_or(lines.len());
-    for (number, items) in &lines[..end] {
-        let read = reader.heads.read(*number, items);
-        reader.note(*number, read);
-    }
-    let resolved = reader.heads.resolve();
-    reader.problems.extend(resolved);
-    for (number, items) in lines.iter().skip(end + 1) {
-        let read = reader.call(*number, items);
-        reader.note(*number, read);
-    }
-    reader.given()
+/// Whether a text has calls alone, without the line that they are for.
+pub fn has_calls_alone(text: &str) -> bool {
+    let lines = lines(text);
+    let some = lines.iter().any(|line| is_calls(line) || is_call(&line.1));
+    some && !lines.iter().any(|(_, items)| is_head(items))
 }
 
-impl Reader {
-    fn note(&mut self, line: usize, read: Result<(), Wrong>) {
-        if let Err((column, why)) = read {
-            self.problems.push((line, column, why));
+/// The line that a text describes, or everything that is wrong with it.
+pub fn read(text: &str) -> Result<Given, String> {
+    let lines = lines(text);
+    let end = lines.iter().position(is_calls).unwrap_or(lines.len());
+    let mut heads = Heads::default();
+    let mut mistakes = Vec::new();
+    for (number, items) in &lines[..end] {
+        let read = heads.read(*number, items);
+        mistakes.extend(read.err().map(|(column, why)| (*number, column, why)));
+    }
+    mistakes.extend(heads.resolve());
+    let mut list = List::new(heads.names(), Some(heads.sizes()));
+    list.mistakes = mistakes;
+    for (number, items) in lines.iter().skip(end + 1) {
+        list.take(*number, items);
+    }
+    list.given(heads.table())
+}
+
+/// The list of a text that has calls alone, with the names and the sizes of the line that it
+/// is for, where they are known; or everything that is wrong with it.
+pub fn read_calls(
+    text: &str,
+    names: &Names,
+    sizes: Option<(usize, usize)>,
+) -> Result<Given, String> {
+    let mut list = List::new(names, sizes);
+    let lines = lines(text);
+    let heading = usize::from(lines.first().is_some_and(is_calls));
+    for (number, items) in &lines[heading..] {
+        list.take(*number, items);
+    }
+    list.given(Vec::new())
+}
+
+/// The calls of a text, and what is wrong with it.
+struct List<'a> {
+    names: &'a Names,
+    sizes: Option<(usize, usize)>,
+    words: Vec<u32>,
+    /// The line of each word.
+    lines: Vec<usize>,
+    mistakes: Vec<Mistake>,
+    warnings: Vec<String>,
+}
+
+impl<'a> List<'a> {
+    fn new(names: &'a Names, sizes: Option<(usize, usize)>) -> List<'a> {
+        List {
+            names,
+            sizes,
+            words: Vec::new(),
+            lines: Vec::new(),
+            mistakes: Vec::new(),
+            warnings: Vec::new(),
         }
     }
 
-    /// Takes in a call: a sentence, a line as `balkwizu write` takes it, or words as they stand.
-    fn call(&mut self, line: usize, items: &[Item]) -> Result<(), Wrong> {
-        let first = items[0].column;
-        let words = match items[0].text {
-            "words" => words_as_they_stand(&items[1..])?,
-            kind if calls::is_kind(kind) && !is_sentence(items) => {
-                let joined: Vec<&str> = items.iter().map(|item| item.text).collect();
-                let call = calls::read_line(&joined.join(" "), line, self.heads.names());
-                let call = call.map_err(|why| (first, why))?;
-                call.map_or(Ok(Vec::new()), |call| self.written(first, &call))?
+    /// Takes in the call of a line.
+    fn take(&mut self, line: usize, items: &[Item]) {
+        let full = self.words.len() > LIST_WORDS_MAX;
+        match self.call(line, items) {
+            Err((column, why)) => self.mistakes.push((line, column, why)),
+            Ok(words) => {
+                self.words.extend(words);
+                self.lines.resize(self.words.len(), line);
+                if self.words.len() > LIST_WORDS_MAX && !full {
+                    let why = "the list has more than 4,096 words here".to_string();
+                    self.mistakes.push((line, items[0].column, why));
+                }
             }
-            _ => {
-                let call = sentences::read(items, line, self.heads.names())?;
-                self.written(first, &call)?
-            }
-        };
-        self.list.extend(words);
-        match self.list.len() {
-            0..=LIST_WORDS_MAX => Ok(()),
-            _ => Err((first, "the list has more than 4,096 words here".to_string())),
         }
     }
 
-    /// The words of a call whose fields are within their bits, with a warning of each number
-    /// that the table hasn't.
-    fn written(&mut self, column: usize, call: &Typed) -> Result<Vec<u32>, Wrong> {
-        if let Some(why) = call.too_large() {
-            return Err((column, why));
+    /// The words of a call, with a warning of each number that the table hasn't. A line may
+    /// also give words.
+    fn call(&mut self, line: usize, items: &[Item]) -> Result<Vec<u32>, Wrong> {
+        if items[0].text == "words" && !is_call(items) {
+            return words_given(&items[1..]);
         }
-        let beyond = call.beyond(self.heads.sizes());
-        let line = call.line;
+        let call = calls::read(items, self.names)?;
+        let words = call.words()?;
+        let beyond = self.sizes.map(|sizes| calls::beyond(&call.columns, sizes));
+        let beyond = beyond.unwrap_or_default();
         let warned = beyond
             .iter()
             .map(|what| format!("line {line}: the table has no {what}"));
         self.warnings.extend(warned);
-        let mut space = [0; 2];
-        let (_, words) = reference::writer::write_columns(&call.columns, &mut space);
-        Ok(space[..words].to_vec())
+        Ok(words)
     }
 
-    fn given(self) -> Result<Given, String> {
-        let mut problems = self.problems;
-        if problems.is_empty() {
-            let input = Input {
-                table: self.heads.table(),
-                list: self.list,
-            };
-            return Ok(Given {
-                bytes: input.to_bytes(),
-                names: self.heads.names().clone(),
-                warnings: self.warnings,
-            });
+    fn given(self, table: Vec<u32>) -> Result<Given, String> {
+        if !self.mistakes.is_empty() {
+            return Err(reported(self.mistakes));
         }
-        problems.sort();
-        let lines = problems
-            .iter()
-            .map(|(line, column, why)| format!("line {line}, column {column}: {why}"));
-        Err(lines.collect::<Vec<_>>().join("\n"))
+        let list = self.words;
+        Ok(Given {
+            bytes: Input { table, list }.to_bytes(),
+            names: self.names.clone(),
+            warnings: self.warnings,
+            lines: self.lines,
+        })
     }
 }
 
-fn is_sentence(items: &[Item]) -> bool {
-    items
-        .get(1)
-        .is_some_and(|item| sentences::is_verb(item.text))
-}
-
-fn words_as_they_stand(items: &[Item]) -> Result<Vec<u32>, Wrong> {
+/// The words that a line gives.
+pub fn words_given(items: &[Item]) -> Result<Vec<u32>, Wrong> {
     let mut words = Vec::new();
     for item in items {
         words.extend(words_of(item.text).map_err(|why| (item.column, why))?);
@@ -148,8 +184,8 @@ fn words_as_they_stand(items: &[Item]) -> Result<Vec<u32>, Wrong> {
     Ok(words)
 }
 
-/// The text of an accepted table and a list. What the text gives no name has its number
-/// behind a letter.
+/// The text of an accepted table and a list. What has no name is called by its number after a
+/// letter.
 pub fn write(input: &Input, names: &Names) -> String {
     let table = &input.table;
     let names = names.completed(domains(table), endpoints(table));
@@ -255,7 +291,7 @@ calls
         Input::parse(&read(text).unwrap().bytes).unwrap()
     }
 
-    fn problems(text: &str) -> Vec<String> {
+    fn mistakes(text: &str) -> Vec<String> {
         read(text)
             .unwrap_err()
             .lines()
@@ -321,8 +357,45 @@ calls
     }
 
     #[test]
+    fn calls_alone_are_read_with_the_names_of_their_line() {
+        let names = Names::given("domain 0 link\nendpoint 1 routes");
+        let calls =
+            "# evening\ncalls\n  link sends 5 to routes\n\nmy-rights caller 7\nwords F0000009";
+        assert!(has_calls_alone(calls) && has_calls_alone("link sends 5 to routes"));
+        for other in ["list 50000000", "50000000", "", &format!("{LINE}calls\n")] {
+            assert!(!has_calls_alone(other), "{other}");
+        }
+        let given = read_calls(calls, &names, Some((2, 2))).unwrap();
+        let list = Input::parse(&given.bytes).unwrap().list;
+        assert_eq!(list, [0x2000_0100, 0xF000_0005, 0x51C0_0000, 0xF000_0009]);
+        assert_eq!(given.lines, [3, 3, 5, 6]);
+        assert_eq!(given.warnings, ["line 5: the table has no domain 7"]);
+        let wrong = read_calls("sned caller 0\nlink sends 5 at 6\nlink", &names, None);
+        let wrong = wrong.unwrap_err();
+        let starts = [
+            "line 1, column 1: there is no call `sned`",
+            "line 2, column 14",
+            "line 3",
+        ];
+        assert!(
+            wrong
+                .lines()
+                .zip(starts)
+                .all(|(line, start)| line.starts_with(start)),
+            "{wrong}"
+        );
+    }
+
+    #[test]
+    fn a_list_that_is_too_long_is_one_mistake() {
+        let wrong = read_calls(&"my-rights caller 0\n".repeat(4099), &Names::none(), None);
+        let wanted = "line 4097, column 1: the list has more than 4,096 words here";
+        assert_eq!(wrong, Err(wanted.to_string()));
+    }
+
+    #[test]
     fn everything_that_is_wrong_is_reported_at_once() {
-        let wrong = problems(
+        let wrong = mistakes(
             "domain link\ndomain 7\nendpoint a owner lnik capacity 9\nendpoint b owner lnik \
              capacity 2\nrights link on belt: SEND\nrights link on link: SEND+SIT\ncalls\n\
              link sends 5 to c\nlink sends 5 at b",
@@ -345,7 +418,7 @@ calls
 
     #[test]
     fn repeated_names_and_rights_are_wrong() {
-        let wrong = problems("domain a\ndomain a\nrights 0 on 0: SEND\nrights 0 on 0: GRANT");
+        let wrong = mistakes("domain a\ndomain a\nrights 0 on 0: SEND\nrights 0 on 0: GRANT");
         assert_eq!(
             wrong[0],
             "line 2, column 8: `a` is the name of domain 0 already"
@@ -354,7 +427,7 @@ calls
             wrong[1],
             "line 4, column 13: these rights are given already"
         );
-        let wrong = problems(
+        let wrong = mistakes(
             "domain a\nendpoint e owner a capacity 1 name 2\nendpoint f owner a capacity 1",
         );
         let same = "line 3, column 1: its name is 2, as that of endpoint 0 (e): give it another";

@@ -14,7 +14,7 @@ use crate::text::input::{read_typed, typed, Input};
 /// a few repetitions too many can't take all memory.
 const WORDS_MAX: usize = 100_000;
 
-/// The bytes of a file, and the words that they are or stand for.
+/// The bytes of a file, and the words that they are or that its text gives.
 pub struct Dump {
     pub bytes: Vec<u8>,
     pub words: Vec<u32>,
@@ -58,7 +58,11 @@ fn words_of_text(text: &str) -> Result<Vec<u32>, String> {
 
 /// Whether a text has a table by its label, as `balkwizu run` writes it.
 fn has_table(text: &str) -> bool {
-    lines_of(text).any(|(_, line)| items_of(line).first() == Some(&"table"))
+    lines_of(text).any(|(_, line)| {
+        items_of(line)
+            .first()
+            .is_some_and(|item| item.text == "table")
+    })
 }
 
 fn table_of(text: &str) -> Result<Vec<u32>, String> {
@@ -75,7 +79,7 @@ fn words_alone(text: &str) -> Result<Vec<u32>, String> {
     });
     let mut words = Vec::new();
     for (number, item) in numbered {
-        words.extend(words_of(item).map_err(|why| format!("line {number}: {why}"))?);
+        words.extend(words_of(item.text).map_err(|why| format!("line {number}: {why}"))?);
         if words.len() > WORDS_MAX {
             return Err(format!("line {number}: more than 100,000 words"));
         }

@@ -1,11 +1,11 @@
-//! What a command is given in a file: an input of linerun, or a text that stands for one.
+//! What a command is given in a file: an input of linerun, or a text that it is made of.
 
 use std::path::Path;
 
 use crate::output::complain;
 use crate::text::explain::table_fault;
 use crate::text::hex;
-use crate::text::input::{read_text, read_typed, shown, typed, Input, INPUT_BYTES_MAX};
+use crate::text::input::{read_typed, shown, typed, Input, INPUT_BYTES_MAX};
 use crate::text::names::Names;
 
 /// What was given: the bytes for `linerun`, and the names that a text gives with them.
@@ -15,6 +15,8 @@ pub struct Given {
     pub names: Names,
     /// What is lawful and probably not meant.
     pub warnings: Vec<String>,
+    /// The line of each word of the list, where a text gives it.
+    pub lines: Vec<usize>,
 }
 
 impl Given {
@@ -29,40 +31,47 @@ impl Given {
     }
 }
 
-/// A file that is an input of linerun or a text that stands for one (`-` is standard
-/// input).
+/// The line whose calls a text may give alone: its names, and how many domains and endpoints
+/// it has.
+pub type Of<'a> = (&'a Names, Option<(usize, usize)>);
+
+/// What a file gives that is an input of linerun or a text (`-` is standard input).
 pub fn read_given(path: impl AsRef<Path>) -> Result<Given, String> {
-    read_by(path.as_ref(), hex::read)
+    warned(path.as_ref(), |bytes| given(bytes, None))
 }
 
-/// The same of a file whose list may stand without a table where it is a text.
-pub fn read_given_list(path: impl AsRef<Path>) -> Result<Given, String> {
-    read_by(path.as_ref(), hex::read_list)
+/// The same of a file that may be a text with a list alone, for some line.
+pub fn read_given_list(path: impl AsRef<Path>, of: Of) -> Result<Given, String> {
+    warned(path.as_ref(), |bytes| given(bytes, Some(of)))
 }
 
-/// The names that a text gives, alone or with words.
-pub fn read_names(path: impl AsRef<Path>) -> Result<Names, String> {
-    let path = path.as_ref();
-    let text = read_text(path, "a text with lines as `endpoint 1 drives` is wanted")?;
-    hex::read_names(&text).map_err(|why| format!("{}: {why}", shown(path)))
-}
-
-fn read_by(path: &Path, read: fn(&str) -> Result<Given, String>) -> Result<Given, String> {
-    read_typed(path, |mut bytes| {
-        if let Some(text) = typed(&bytes)? {
-            let given = read(text)?;
-            for warning in &given.warnings {
-                complain!("{}: {warning}", shown(path));
-            }
-            return Ok(given);
-        }
-        bytes.truncate(INPUT_BYTES_MAX);
-        Ok(Given {
-            bytes,
-            names: Names::none(),
-            warnings: Vec::new(),
-        })
+/// What bytes give; or everything that is wrong with the text that they are.
+pub fn given(mut bytes: Vec<u8>, list_of: Option<Of>) -> Result<Given, String> {
+    if let Some(text) = typed(&bytes)? {
+        return match list_of {
+            None => hex::read(text),
+            Some((names, sizes)) => hex::read_list(text, names, sizes),
+        };
+    }
+    bytes.truncate(INPUT_BYTES_MAX);
+    Ok(Given {
+        bytes,
+        names: Names::none(),
+        warnings: Vec::new(),
+        lines: Vec::new(),
     })
+}
+
+/// What is taken of a file, with its warnings on standard error.
+fn warned(
+    path: &Path,
+    take: impl FnOnce(Vec<u8>) -> Result<Given, String>,
+) -> Result<Given, String> {
+    let given = read_typed(path, take)?;
+    for warning in &given.warnings {
+        complain!("{}: {warning}", shown(path));
+    }
+    Ok(given)
 }
 
 #[cfg(test)]
@@ -76,14 +85,17 @@ mod tests {
     }
 
     #[test]
-    fn a_text_stands_for_its_input() {
+    fn a_text_gives_its_input() {
         let given = read_given(example("../balkwizu/examples/worked.txt")).unwrap();
         assert_eq!(given.bytes, Input::example().to_bytes());
         assert!(given.names.is_empty());
         let wrong = read_given(example("Cargo.toml")).unwrap_err();
-        assert!(wrong.contains("Cargo.toml: line 1: "), "{wrong}");
-        let list = read_given_list(example("../balkwizu/examples/worked.txt")).unwrap();
+        assert!(wrong.contains("Cargo.toml: line 1, column 1: "), "{wrong}");
+        let of = (&Names::none(), None);
+        let list = read_given_list(example("../balkwizu/examples/worked.txt"), of).unwrap();
         assert_eq!(list, given);
+        let calls = read_given_list(example("../balkwizu/examples/calls.txt"), of).unwrap();
+        assert_eq!(calls.bytes.len(), 4 * (1 + 12));
     }
 
     #[test]

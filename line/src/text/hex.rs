@@ -1,13 +1,15 @@
 //! Words as text, the way document 01 writes them, and back. A text that describes the line
 //! is read by [`described`].
 //!
-//! The help of `balkwizu words` says what a text looks like.
+//! The help of `balkwizu write` says what a text looks like.
 
 use crate::text::calls;
 use crate::text::described;
 use crate::text::given::Given;
 use crate::text::input::Input;
+use crate::text::mistakes::{reported, Mistake};
 use crate::text::names::{Names, Namings};
+use crate::text::sentences::{items_between, Item};
 
 /// How often a word may be repeated: once for each word of a list that is too long.
 const REPEATS_MAX: usize = 4097;
@@ -16,20 +18,23 @@ const REPEATS_MAX: usize = 4097;
 /// memory.
 const PART_WORDS_MAX: usize = 100_000;
 
-/// How many words stand in a line where no layout says it.
+/// How many words a line has where no layout says it.
 const WORDS_IN_A_LINE: usize = 8;
 
-/// What one text stands for, in parts as they were labelled.
+/// What one text gives, in parts as they were labelled.
 #[derive(Default)]
 struct Parts<'a> {
     unlabelled: Vec<u32>,
-    /// Single bytes behind the unlabelled words.
+    /// Single bytes after the unlabelled words.
     left_over: Vec<u8>,
     table: Option<Vec<u32>>,
     list: Option<Vec<u32>>,
-    /// Whether a list may stand without a table.
+    /// The line of each word of the list.
+    lines: Vec<usize>,
+    /// Whether there may be a list without a table.
     list_alone: bool,
     namings: Namings<'a>,
+    mistakes: Vec<Mistake>,
 }
 
 /// The text of an input: a line for word 0, for each holder's rights, for each
@@ -49,7 +54,7 @@ pub fn write_list(list: &[u32]) -> String {
     format!("list\n{lines}")
 }
 
-/// The text of any bytes as they stand, in few lines.
+/// The text of any bytes, in few lines.
 pub fn write_bytes(bytes: &[u8]) -> String {
     let mut items = items(&reference::words::from_bytes(bytes));
     let left_over = bytes.chunks_exact(4).remainder();
@@ -80,8 +85,8 @@ fn line(words: &[u32]) -> String {
     items(words).join(" ") + "\n"
 }
 
-/// Words one by one; one that stands three times or more in a row is written once,
-/// with how often.
+/// Words one by one; one that comes three times or more in a row is written once, with how
+/// often.
 fn items(words: &[u32]) -> Vec<String> {
     let mut written = Vec::new();
     let mut rest = words;
@@ -98,45 +103,49 @@ fn items(words: &[u32]) -> Vec<String> {
     written
 }
 
-/// What a text stands for, with the names that it gives, or what is wrong with it and
-/// in which line.
+/// What a text gives, with its names; or everything that is wrong with it.
 pub fn read(text: &str) -> Result<Given, String> {
     if described::is_described(text) {
         return described::read(text);
     }
-    parts_of(text, false)?.given()
+    parts_of(text, false).given()
 }
 
-/// The same of a text whose list may stand without a table, which is then empty.
-pub fn read_list(text: &str) -> Result<Given, String> {
+/// The same of a text that may have a list alone, whose table is then empty: as words, or as
+/// calls with the names and the sizes of the line that it is for.
+pub fn read_list(
+    text: &str,
+    names: &Names,
+    sizes: Option<(usize, usize)>,
+) -> Result<Given, String> {
+    if described::has_calls_alone(text) {
+        return described::read_calls(text, names, sizes);
+    }
     if described::is_described(text) {
         return described::read(text);
     }
-    parts_of(text, true)?.given()
+    parts_of(text, true).given()
 }
 
-/// The names that a text gives; there need be no words in it.
-pub fn read_names(text: &str) -> Result<Names, String> {
-    if described::is_described(text) {
-        return described::read(text).map(|given| given.names);
-    }
-    let parts = parts_of(text, true)?;
-    parts.names()
-}
-
-fn parts_of(text: &str, list_alone: bool) -> Result<Parts<'_>, String> {
+fn parts_of(text: &str, list_alone: bool) -> Parts<'_> {
     let mut parts = Parts {
         list_alone,
         ..Parts::default()
     };
     for (number, line) in lines_of(text) {
         let items = items_of(line);
-        if !parts.namings.take(number, &items) {
-            let read = parts.read_line(&items);
-            read.map_err(|why| format!("line {number}: {why}"))?;
+        if parts.namings.take(number, &items) {
+            continue;
         }
+        for item in items {
+            if let Err(why) = parts.take(item.text) {
+                parts.mistakes.push((number, item.column, why));
+            }
+        }
+        let words = parts.list.as_ref().map_or(0, Vec::len);
+        parts.lines.resize(words, number);
     }
-    Ok(parts)
+    parts
 }
 
 /// The lines of any text that is typed in, counted from 1, each up to its comment.
@@ -147,22 +156,30 @@ pub fn lines_of(text: &str) -> impl Iterator<Item = (usize, &str)> {
     (1..).zip(text.lines().map(move |line| &line[..told(line)]))
 }
 
-/// What stands in a line, between spaces, `;` and `,`.
-pub fn items_of(line: &str) -> Vec<&str> {
-    let items = line.split(|c: char| c.is_whitespace() || c == ';' || c == ',');
-    items.filter(|item| !item.is_empty()).collect()
+/// What a line has between spaces, `;` and `,`.
+pub fn items_of(line: &str) -> Vec<Item<'_>> {
+    items_between(line, |c| c.is_whitespace() || c == ';' || c == ',')
 }
 
 impl Parts<'_> {
-    fn given(self) -> Result<Given, String> {
-        if self.table.is_none() && self.is_empty() {
-            return Err("there is no word in it".to_string());
+    fn given(mut self) -> Result<Given, String> {
+        let names = self.names();
+        self.mistakes
+            .extend(names.as_ref().err().cloned().unwrap_or_default());
+        match names {
+            Ok(names) if self.mistakes.is_empty() => {
+                match self.table.is_none() && self.is_empty() {
+                    true => Err("there is no word in it".to_string()),
+                    false => Ok(Given {
+                        bytes: self.bytes(),
+                        names,
+                        warnings: Vec::new(),
+                        lines: self.lines,
+                    }),
+                }
+            }
+            _ => Err(reported(self.mistakes)),
         }
-        Ok(Given {
-            bytes: self.bytes(),
-            names: self.names()?,
-            warnings: Vec::new(),
-        })
     }
 
     /// The bytes for `linerun`.
@@ -175,37 +192,34 @@ impl Parts<'_> {
         Input { table, list }.to_bytes()
     }
 
-    fn names(&self) -> Result<Names, String> {
+    fn names(&self) -> Result<Names, Vec<Mistake>> {
         let input = Input::parse(&self.bytes());
         let table = input.map(|input| input.table).unwrap_or_default();
         self.namings.added_to(Names::none(), &table)
     }
 
-    fn read_line(&mut self, items: &[&str]) -> Result<(), String> {
-        for item in items {
-            match *item {
-                "table" | "table:" => self.start_table()?,
-                "list" | "list:" => self.start_list()?,
-                _ => self.add(item)?,
-            }
+    fn take(&mut self, item: &str) -> Result<(), String> {
+        match item {
+            "table" | "table:" => self.start_table(),
+            "list" | "list:" => self.start_list(),
+            _ => self.add(item),
         }
-        Ok(())
     }
 
-    /// Whether nothing stands outside `table` and `list`.
+    /// Whether there is nothing outside `table` and `list`.
     fn is_empty(&self) -> bool {
         self.unlabelled.is_empty() && self.left_over.is_empty()
     }
 
     fn start_table(&mut self) -> Result<(), String> {
         if self.list.is_some() && self.list_alone {
-            return Err("`table` is written behind `list`".to_string());
+            return Err("`table` is written after `list`".to_string());
         }
         if self.table.is_some() {
             return Err("`table` is written a second time".to_string());
         }
         if !self.is_empty() {
-            return Err("words stand before `table`".to_string());
+            return Err("there are words before `table`".to_string());
         }
         self.table = Some(Vec::new());
         Ok(())
@@ -219,7 +233,7 @@ impl Parts<'_> {
             return Err("`list` is written without `table` before it".to_string());
         }
         if !self.is_empty() {
-            return Err("words stand before `list`".to_string());
+            return Err("there are words before `list`".to_string());
         }
         self.table.get_or_insert_default();
         self.list = Some(Vec::new());
@@ -238,7 +252,7 @@ impl Parts<'_> {
         }
         let words = words_of(item)?;
         if !self.left_over.is_empty() {
-            return Err(format!("the word `{item}` stands behind single bytes"));
+            return Err(format!("the word `{item}` comes after single bytes"));
         }
         let labelled = self.list.as_mut().or(self.table.as_mut());
         let part = labelled.unwrap_or(&mut self.unlabelled);
@@ -268,14 +282,14 @@ pub fn words_of(item: &str) -> Result<Vec<u32>, String> {
     let digits_only = times.bytes().all(|digit| digit.is_ascii_digit());
     match times.parse() {
         Ok(times @ 1..=REPEATS_MAX) if digits_only => Ok(vec![word; times]),
-        _ => Err(format!("`{item}`: a word can stand 1 to 4,097 times")),
+        _ => Err(format!("`{item}`: a word can come 1 to 4,097 times")),
     }
 }
 
 /// What else a text may be that has this in the place of a word.
 fn meant(item: &str) -> &'static str {
     match item {
-        _ if calls::is_kind(item) => "; of a text of calls `balkwizu write` makes the words",
+        _ if calls::is_kind(item) => "; calls alone are for `balkwizu write --table`",
         "hand" | "turn" | "turns" => "; a text of turns is for `balkwizu turns`",
         "calls" => "; a line that linerun prints is no word either",
         _ if item.contains('.') => "; only `balkwizu turns` takes a file's name here",
@@ -298,7 +312,7 @@ mod tests {
     }
 
     fn list_bytes(text: &str) -> Result<Vec<u8>, String> {
-        read_list(text).map(|given| given.bytes)
+        read_list(text, &Names::none(), None).map(|given| given.bytes)
     }
     use reference::generate::{linerun_input, Rng};
 
@@ -340,7 +354,7 @@ mod tests {
     }
 
     #[test]
-    fn words_without_labels_stand_as_they_are() {
+    fn words_without_labels_are_taken_as_they_are() {
         assert_eq!(
             bytes_of("00000001 10000100"),
             Ok(vec![1, 0, 0, 0, 0, 1, 0, 16])
@@ -373,11 +387,19 @@ mod tests {
     #[test]
     fn what_is_wrong_is_said_with_its_line() {
         let wrong = |text: &str| bytes_of(text).unwrap_err();
-        assert!(wrong("table\n2000010").starts_with("line 2: `2000010` is no word"));
-        assert!(wrong("+2345678").starts_with("line 1:"));
+        assert!(wrong("table\n2000010").starts_with("line 2, column 1: `2000010` is no word"));
+        assert!(wrong("+2345678").starts_with("line 1, column 1:"));
+        let two = wrong("table 10000100 2000\n 20000000\n  F000 list\nlist");
+        let places: Vec<&str> = two.lines().map(|line| &line[..17]).collect();
+        let wanted = [
+            "line 1, column 16",
+            "line 3, column 3:",
+            "line 4, column 1:",
+        ];
+        assert_eq!(places, wanted);
         for times in ["x", "", "0", "4098", "99999999999999999999"] {
             let told = wrong(&format!("F0000000*{times}"));
-            assert!(told.ends_with("can stand 1 to 4,097 times"), "{told}");
+            assert!(told.ends_with("can come 1 to 4,097 times"), "{told}");
         }
         for nothing in ["", "# nothing\n\n"] {
             assert_eq!(wrong(nothing), "there is no word in it");
@@ -388,17 +410,20 @@ mod tests {
     fn labels_out_of_place_are_told_apart() {
         let wrong = |text: &str| bytes_of(text).unwrap_err();
         let twice = wrong("table table");
-        assert_eq!(twice, "line 1: `table` is written a second time");
+        assert_eq!(twice, "line 1, column 7: `table` is written a second time");
         let twice = wrong("table list\nlist");
-        assert_eq!(twice, "line 2: `list` is written a second time");
+        assert_eq!(twice, "line 2, column 1: `list` is written a second time");
         let alone = wrong("list 20000100");
-        assert_eq!(alone, "line 1: `list` is written without `table` before it");
+        assert_eq!(
+            alone.lines().next(),
+            Some("line 1, column 1: `list` is written without `table` before it")
+        );
         let before = wrong("20000100\ntable\n10000100");
-        assert_eq!(before, "line 2: words stand before `table`");
+        assert_eq!(before, "line 2, column 1: there are words before `table`");
     }
 
     #[test]
-    fn a_list_stands_alone_where_it_may() {
+    fn a_list_is_alone_where_it_may_be() {
         let empty_table = bytes_of("table list 20000100 F0000005");
         assert_eq!(list_bytes("list 20000100 F0000005"), empty_table);
         assert_eq!(list_bytes(TYPED), bytes_of(TYPED));
@@ -406,20 +431,19 @@ mod tests {
             list_bytes("00000001 10000100"),
             bytes_of("00000001 10000100")
         );
-        let wrong = |text: &str| read_list(text).unwrap_err();
-        assert_eq!(wrong("20000100\nlist"), "line 2: words stand before `list`");
-        assert_eq!(
-            wrong("list\ntable"),
-            "line 2: `table` is written behind `list`"
-        );
+        let wrong = |text: &str| list_bytes(text).unwrap_err();
+        let before = "line 2, column 1: there are words before `list`";
+        assert_eq!(wrong("20000100\nlist"), before);
+        let after = "line 2, column 1: `table` is written after `list`";
+        assert_eq!(wrong("list\ntable"), after);
     }
 
     #[test]
-    fn single_bytes_stand_at_the_end_of_unlabelled_words() {
+    fn single_bytes_are_at_the_end_of_unlabelled_words() {
         let wrong = |text: &str| bytes_of(text).unwrap_err();
         assert!(wrong("table 10000100 F0").contains("`F0` is no word"));
         assert!(wrong("00000001 F0 F0 F0 F0").contains("make a word"));
-        assert!(wrong("00000001 F0\n10000100").starts_with("line 2: the word"));
+        assert!(wrong("00000001 F0\n10000100").starts_with("line 2, column 1: the word"));
     }
 
     #[test]
@@ -438,7 +462,7 @@ mod tests {
         domain 0 link";
 
     #[test]
-    fn names_stand_before_between_and_behind_the_parts() {
+    fn names_are_before_between_and_after_the_parts() {
         let given = read(NAMED).unwrap();
         let names = Names::given("domain 0 link\ndomain 2 drives\nendpoint 1 drives");
         assert_eq!(given.names, names);
@@ -447,7 +471,6 @@ mod tests {
             .filter(|line| !names_something(line))
             .collect();
         assert_eq!(read(&unnamed.join("\n")).unwrap().bytes, given.bytes);
-        assert_eq!(read_names(NAMED), Ok(names));
     }
 
     fn names_something(line: &str) -> bool {
@@ -455,26 +478,25 @@ mod tests {
     }
 
     #[test]
-    fn wrong_names_are_told_by_their_line() {
+    fn wrong_names_are_reported_by_their_line() {
         let wrong = |text: &str| read(text).unwrap_err();
         let table = "table 10000200 20000000*4\n";
         let beyond = wrong(&format!("{table}domain 2 link"));
-        assert_eq!(beyond, "line 2: there is no domain 2: the table has 0 to 1");
+        let wanted = "line 2, column 8: there is no domain 2: the table has 0 to 1";
+        assert_eq!(beyond, wanted);
         let before = wrong(&format!("domain 2 link\n{table}"));
-        assert!(before.starts_with("line 1: there is no domain 2"));
+        assert!(before.starts_with("line 1, column 8: there is no domain 2"));
         let twice = wrong(&format!("{table}\ndomain 0 link\ndomain 1 link"));
-        assert!(twice.starts_with("line 4: `link` is the name of domain 0 already"));
+        assert!(twice.starts_with("line 4, column 10: `link` is the name of domain 0 already"));
         assert!(wrong("table 10000200 domain 0 link").contains("`domain` is no word"));
         assert_eq!(wrong("domain 0 link"), "there is no word in it");
     }
 
     #[test]
-    fn names_may_stand_alone_where_no_table_is_asked_for() {
-        let alone = read_names("domain 15 link\nendpoint 31 drives\n").unwrap();
-        assert_eq!(alone.lines(), "domain 15 link\nendpoint 31 drives\n");
-        assert!(read_names("# nothing").unwrap().is_empty());
-        assert!(read_names("domain 16 link").is_err());
-        let listed = read_list("list 50000000\ndomain 0 link").unwrap();
+    fn the_line_of_each_word_of_a_list_is_known() {
+        let given = read("table 10000100\n20000000\nlist 50000000\n\n20000000\nF0000005*2");
+        assert_eq!(given.unwrap().lines, [3, 5, 6, 6]);
+        let listed = read_list("list 50000000\ndomain 0 link", &Names::none(), None).unwrap();
         assert_eq!(listed.names.domain(0), "domain 0 (link)");
     }
 }

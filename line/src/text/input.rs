@@ -172,7 +172,7 @@ fn is_no_longer(bytes: &[u8]) -> Result<(), String> {
 }
 
 /// What `take` makes of a file's bytes, as many as a text may have and one more, by which a
-/// longer one is known; what is wrong is told with the file's name.
+/// longer one is known; what is wrong is reported with the file's name.
 pub fn read_typed<T>(
     path: &Path,
     take: impl FnOnce(Vec<u8>) -> Result<T, String>,
@@ -296,7 +296,7 @@ mod tests {
     }
 
     #[test]
-    fn a_text_is_taken_whole_or_told_by_the_line_that_cannot_be_read() {
+    fn a_text_is_taken_whole_or_reported_by_the_line_that_cannot_be_read() {
         assert_eq!(typed(b"table # \xC3\xA9\n"), Ok(Some("table # \u{E9}\n")));
         assert_eq!(typed(&[34, 0, 0, 0]), Ok(None));
         let latin = typed(b"table\n# F\xF6rderer\n").unwrap_err();
@@ -317,7 +317,7 @@ mod tests {
     }
 
     #[test]
-    fn refusals_agree_with_the_separate_implementation() {
+    fn refusals_agree_with_the_reference() {
         let mut rng = reference::generate::Rng::new(5);
         for _ in 0..2000 {
             let input = reference::generate::linerun_input(&mut rng, 3, 3, 40);

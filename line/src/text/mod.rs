@@ -11,6 +11,7 @@ pub mod explain;
 pub mod given;
 pub mod hex;
 pub mod input;
+pub mod mistakes;
 pub mod names;
 pub mod reasons;
 pub mod sentences;

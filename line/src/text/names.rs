@@ -1,10 +1,12 @@
-//! The names that a text gives to a line's domains and endpoints, said beside their
-//! numbers wherever these are told.
+//! The names that a text gives to a line's domains and endpoints, printed beside their
+//! numbers wherever these are.
 
 use std::collections::BTreeMap;
 use std::fmt::Display;
 
 use crate::text::calls::number;
+use crate::text::mistakes::Mistake;
+use crate::text::sentences::{Item, Wrong};
 use reference::table::{domains, endpoints, header_is_right, DOMAINS_MAX, ENDPOINTS_MAX};
 
 /// The most characters of a name.
@@ -18,7 +20,7 @@ pub struct Names {
 }
 
 impl Names {
-    /// Nobody has a name: all is told by numbers alone.
+    /// Nobody has a name: all is printed by numbers alone.
     pub fn none() -> Names {
         Names::default()
     }
@@ -37,12 +39,12 @@ impl Names {
         in_sentence("endpoint", endpoint, self.endpoint_name(endpoint))
     }
 
-    /// A domain where room is scarce, as `0` or `0 link`.
+    /// A domain where space is scarce, as `0` or `0 link`.
     pub fn domain_label(&self, domain: usize) -> String {
         label(domain, self.domain_name(domain))
     }
 
-    /// An endpoint where room is scarce, as `1` or `1 drives`.
+    /// An endpoint where space is scarce, as `1` or `1 drives`.
     pub fn endpoint_label(&self, endpoint: usize) -> String {
         label(endpoint, self.endpoint_name(endpoint))
     }
@@ -68,8 +70,8 @@ impl Names {
         self.endpoints.get(&endpoint).map(String::as_str)
     }
 
-    /// The domain that a word stands for, of so many: a number is taken as one, what is none
-    /// as a name.
+    /// The domain that a word means, of so many: a number is taken as one, what is none as a
+    /// name.
     pub fn domain_of(&self, word: &str, n: usize) -> Result<usize, String> {
         match word.parse::<usize>() {
             Ok(number) if number < n => Ok(number),
@@ -115,8 +117,8 @@ impl Names {
         called(&self.endpoints, name)
     }
 
-    /// What is told by numbers alone, with the names beside them: for what those put
-    /// together who know none, as the judges of a kernel.
+    /// A text that has numbers alone, with the names beside them: for what those write who know
+    /// none, as the judges of a kernel.
     pub fn beside(&self, told: &str) -> String {
         let told = beside_numbers(told, "domain ", |domain| self.domain_name(domain));
         beside_numbers(&told, "endpoint ", |endpoint| self.endpoint_name(endpoint))
@@ -149,22 +151,51 @@ impl Names {
         }
     }
 
-    /// Takes in what a line gives, as `domain 0 link`; what is wrong with it
-    /// otherwise. `sizes` are how many domains and endpoints there are.
-    fn add(&mut self, line: &[&str], sizes: (usize, usize)) -> Result<(), String> {
-        let [what, number, name] = *line else {
-            let what = line.first().unwrap_or(&"domain");
-            return Err(format!(
-                "a name is given as `{what} 0 NAME`, in a line of its own"
-            ));
+    /// What these name otherwise than others: a number with two names, or a name of two
+    /// numbers.
+    pub fn differ_from(&self, others: &Names) -> Option<String> {
+        let domains = differ("domain", &self.domains, &others.domains);
+        domains.or_else(|| differ("endpoint", &self.endpoints, &others.endpoints))
+    }
+
+    /// Takes in what a line gives, as `domain 0 link`; what is wrong with it otherwise. `sizes`
+    /// are how many domains and endpoints there are.
+    fn add(&mut self, line: &[Item], sizes: (usize, usize)) -> Result<(), Wrong> {
+        let (first, column) = line
+            .first()
+            .map_or(("domain", 1), |item| (item.text, item.column));
+        let [what, number, name] = line else {
+            let why = format!("a name is given as `{first} 0 NAME`, in a line of its own");
+            return Err((column, why));
         };
-        let (names, size) = match what {
+        let (names, size) = match what.text {
             "domain" => (&mut self.domains, sizes.0),
             _ => (&mut self.endpoints, sizes.1),
         };
-        let number = number_of(what, number, size)?;
-        give(names, what, number, name)
+        let at = number_of(what.text, number.text, size).map_err(|why| (number.column, why))?;
+        give(names, what.text, at, name.text).map_err(|why| (name.column, why))
     }
+}
+
+/// The first of some names that others give otherwise.
+fn differ(
+    what: &str,
+    names: &BTreeMap<usize, String>,
+    others: &BTreeMap<usize, String>,
+) -> Option<String> {
+    names
+        .iter()
+        .find_map(|(number, name)| match others.get(number) {
+            Some(other) if other != name => {
+                Some(format!("{what} {number} is `{name}` in it, and `{other}`"))
+            }
+            _ => {
+                let other = called(others, name).filter(|other| other != number)?;
+                Some(format!(
+                    "`{name}` is {what} {number} in it, and {what} {other}"
+                ))
+            }
+        })
 }
 
 /// Adds a name to those of its kind, unless there is something wrong with it.
@@ -204,12 +235,13 @@ fn completed(
 
 /// The lines of a text that give names, taken apart, each with its number.
 #[derive(Debug, Clone, Default, PartialEq, Eq)]
-pub struct Namings<'a>(Vec<(usize, Vec<&'a str>)>);
+pub struct Namings<'a>(Vec<(usize, Vec<Item<'a>>)>);
 
 impl<'a> Namings<'a> {
     /// Takes a line that is meant to give a name; whether it is one.
-    pub fn take(&mut self, number: usize, line: &[&'a str]) -> bool {
-        let names = matches!(line.first(), Some(&("domain" | "endpoint")));
+    pub fn take(&mut self, number: usize, line: &[Item<'a>]) -> bool {
+        let first = line.first().map(|item| item.text);
+        let names = matches!(first, Some("domain" | "endpoint"));
         if names {
             self.0.push((number, line.to_vec()));
         }
@@ -217,30 +249,34 @@ impl<'a> Namings<'a> {
     }
 
     /// The names that the lines add to others, which must be those of something in the
-    /// table.
-    pub fn added_to(&self, mut names: Names, table: &[u32]) -> Result<Names, String> {
+    /// table; or every mistake in them.
+    pub fn added_to(&self, mut names: Names, table: &[u32]) -> Result<Names, Vec<Mistake>> {
         let sizes = sizes(table);
+        let mut mistakes = Vec::new();
         for (number, line) in &self.0 {
-            let added = names.add(line, sizes);
-            added.map_err(|why| format!("line {number}: {why}"))?;
+            if let Err((column, why)) = names.add(line, sizes) {
+                mistakes.push((*number, column, why));
+            }
         }
-        Ok(names)
+        match mistakes.is_empty() {
+            true => Ok(names),
+            false => Err(mistakes),
+        }
     }
 }
 
 /// How many domains and endpoints can have a name: those of the table where its word 0
 /// is right, otherwise as many as any table has.
-fn sizes(table: &[u32]) -> (usize, usize) {
+pub fn sizes(table: &[u32]) -> (usize, usize) {
     match table.first() {
         Some(&header) if header_is_right(header) => (domains(table), endpoints(table)),
         _ => (DOMAINS_MAX, ENDPOINTS_MAX),
     }
 }
 
-/// A text with a name behind each number that stands behind some word, unless it is
-/// there already.
-fn beside_numbers<'a>(told: &str, word: &str, name: impl Fn(usize) -> Option<&'a str>) -> String {
-    let mut parts = told.split(word);
+/// A text with a name after each number that follows some word, unless it is there already.
+fn beside_numbers<'a>(text: &str, word: &str, name: impl Fn(usize) -> Option<&'a str>) -> String {
+    let mut parts = text.split(word);
     let mut text = parts.next().unwrap_or("").to_string();
     for part in parts {
         let digits = part.bytes().take_while(u8::is_ascii_digit).count();
@@ -280,7 +316,7 @@ fn number_of(what: &str, number: &str, size: usize) -> Result<usize, String> {
     }
 }
 
-/// What is told of a number that a table hasn't.
+/// What is said of a number that a table hasn't.
 fn not_there(what: &str, number: impl Display, size: usize) -> String {
     match size.checked_sub(1) {
         None => format!("there is no {what} {number}: the table has no {what}s"),
@@ -353,8 +389,8 @@ impl Names {
     pub fn given(text: &str) -> Names {
         let mut names = Names::none();
         for line in text.lines() {
-            let words: Vec<&str> = line.split_whitespace().collect();
-            names.add(&words, (DOMAINS_MAX, ENDPOINTS_MAX)).unwrap();
+            let items = crate::text::sentences::items_of(line);
+            names.add(&items, (DOMAINS_MAX, ENDPOINTS_MAX)).unwrap();
         }
         names
     }
@@ -363,10 +399,11 @@ impl Names {
 #[cfg(test)]
 mod tests {
     use super::*;
+    use crate::text::sentences::items_of;
     use reference::example::TABLE_T;
 
     #[test]
-    fn names_stand_beside_the_numbers() {
+    fn names_are_beside_the_numbers() {
         let names = Names::given("domain 0 link\nendpoint 1 drives");
         assert_eq!(names.domain(0), "domain 0 (link)");
         assert_eq!(names.domain(1), "domain 1");
@@ -383,7 +420,7 @@ mod tests {
     }
 
     #[test]
-    fn without_names_numbers_stand_alone() {
+    fn without_names_numbers_are_alone() {
         let none = Names::none();
         assert!(none.is_empty());
         assert_eq!(none.domain(15), "domain 15");
@@ -395,7 +432,7 @@ mod tests {
     }
 
     #[test]
-    fn names_are_put_beside_numbers_that_were_told_alone() {
+    fn names_are_put_beside_numbers_that_were_alone() {
         let names = Names::given("domain 1 loader\nendpoint 1 routes");
         let told = "call 1 (domain 1 sends to endpoint 1): domain 11, endpoint 0; domain 1";
         let wanted = "call 1 (domain 1 (loader) sends to endpoint 1 (routes)): domain 11, \
@@ -409,17 +446,13 @@ mod tests {
 
     /// What is wrong with the last of some lines.
     fn wrong(lines: &str, sizes: (usize, usize)) -> String {
-        let lines: Vec<Vec<&str>> = lines.lines().map(|l| l.split(' ').collect()).collect();
-        let (last, before) = lines.split_last().unwrap();
-        let mut names = Names::none();
-        for line in before {
-            names.add(line, sizes).unwrap();
-        }
-        names.add(last, sizes).unwrap_err()
+        let (last, before) = lines.rsplit_once('\n').map_or((lines, ""), |(b, l)| (l, b));
+        let mut names = Names::given(before);
+        names.add(&items_of(last), sizes).unwrap_err().1
     }
 
     #[test]
-    fn what_is_no_name_is_told() {
+    fn what_is_no_name_is_said() {
         let given = wrong("domain 0", (3, 2));
         assert_eq!(
             given,
@@ -434,9 +467,7 @@ mod tests {
         );
         assert!(wrong("domain 0 0x1F", (3, 2)).contains("is a number"));
         let longest = "n".repeat(24);
-        assert!(Names::none()
-            .add(&["domain", "0", &longest], (1, 0))
-            .is_ok());
+        Names::given(&format!("domain 0 {longest}"));
         let long = wrong(&format!("domain 0 {longest}n"), (3, 2));
         assert!(long.ends_with("is longer than 24 characters"), "{long}");
     }
@@ -449,6 +480,32 @@ mod tests {
         assert_eq!(twice, "`link` is the name of domain 0 already");
         // A domain and its endpoint may be called the same.
         Names::given("domain 0 link\nendpoint 0 link");
+    }
+
+    #[test]
+    fn every_wrong_line_is_a_mistake_in_its_column() {
+        let mut namings = Namings::default();
+        for (number, line) in ["domain 0 link", "domain 3 a", "endpoint 0 a.b", "table"]
+            .iter()
+            .enumerate()
+        {
+            assert_eq!(namings.take(number, &items_of(line)), number < 3);
+        }
+        let mistakes = namings.added_to(Names::none(), &TABLE_T).unwrap_err();
+        let places: Vec<_> = mistakes.iter().map(|(line, at, _)| (*line, *at)).collect();
+        assert_eq!(places, [(1, 8), (2, 12)]);
+    }
+
+    #[test]
+    fn names_of_another_line_are_known() {
+        let names = Names::given("domain 0 link\nendpoint 1 drives");
+        let differ = |other: &str| Names::given(other).differ_from(&names);
+        assert_eq!(differ("domain 0 link\ndomain 1 loader"), None);
+        assert_eq!(Names::none().differ_from(&names), None);
+        let other = differ("domain 0 loader").unwrap();
+        assert_eq!(other, "domain 0 is `loader` in it, and `link`");
+        let other = differ("endpoint 0 drives").unwrap();
+        assert_eq!(other, "`drives` is endpoint 0 in it, and endpoint 1");
     }
 
     #[test]

@@ -19,7 +19,7 @@ pub struct Item<'a> {
 /// What is wrong, and in which column.
 pub type Wrong = (usize, String);
 
-/// What a sentence has in one place: a word as it stands, or a field.
+/// What a sentence has in one place: a word as it is, or a field.
 #[derive(Clone, Copy)]
 enum Part {
     Word(&'static str),
@@ -42,9 +42,14 @@ const SENTENCES: [(u32, &[Part]); 8] = [
         Word("from"), Value(HOLDER)]),
 ];
 
-/// The words of a line with their columns, up to its comment.
+/// The words of a line with their columns.
 pub fn items_of(line: &str) -> Vec<Item<'_>> {
-    let words = line.split_whitespace();
+    items_between(line, char::is_whitespace)
+}
+
+/// What a line has between gaps of some letters, with its columns.
+pub fn items_between(line: &str, gap: fn(char) -> bool) -> Vec<Item<'_>> {
+    let words = line.split(gap).filter(|text| !text.is_empty());
     let items = words.map(|text| {
         let before = text.as_ptr() as usize - line.as_ptr() as usize;
         let column = line[..before].chars().count() + 1;
@@ -58,10 +63,10 @@ pub fn is_verb(word: &str) -> bool {
     SENTENCES.iter().any(|(_, parts)| verb(parts) == word)
 }
 
-/// The call of a sentence in some line, or what is wrong with it.
-pub fn read(items: &[Item], line: usize, names: &Names) -> Result<Typed, Wrong> {
+/// The call of a sentence, or what is wrong with it.
+pub fn read(items: &[Item], names: &Names) -> Result<Typed, Wrong> {
     let (kind, parts) = sentence_of(items)?;
-    let mut typed = Typed::new(line, kind);
+    let mut typed = Typed::new(kind);
     let mut places = items.iter();
     for part in parts {
         let item = places.next().ok_or_else(|| ended(items, parts))?;
@@ -71,7 +76,7 @@ pub fn read(items: &[Item], line: usize, names: &Names) -> Result<Typed, Wrong> 
             Value(field) => {
                 let number = field.number(item.text, names);
                 let number = number.map_err(|why| (item.column, why))?;
-                typed.set(*field, number, item.text);
+                typed.set(*field, number, item);
             }
         }
     }
@@ -172,7 +177,7 @@ mod tests {
     }
 
     fn columns(line: &str) -> Result<[u32; COLUMNS], Wrong> {
-        read(&items_of(line), 1, &names()).map(|call| call.columns)
+        read(&items_of(line), &names()).map(|call| call.columns)
     }
 
     #[test]

@@ -3,182 +3,236 @@
 //!
 //! The help of `balkwizu turns` says what a text looks like.
 
-use crate::text::calls::{self, number, Typed};
+use crate::kernels::layer::Event;
+use crate::text::calls::{self, number};
+use crate::text::described::words_given;
+use crate::text::given::Given;
 use crate::text::hex::{self, lines_of, words_of};
+use crate::text::mistakes::{reported, Mistake};
 use crate::text::names::{Names, Namings};
+use crate::text::sentences::{self, items_of, Item, Wrong};
 
-/// The most turns that one line can ask for, and all lines together: each is told, so that
-/// a few lines too many can't take all memory.
-const TURNS_MAX: u32 = 10_000;
-const ALL_TURNS_MAX: u64 = 100_000;
+/// The most times that one line can ask for, and all lines together, so that a few lines too
+/// many can't take all memory.
+const TIMES_MAX: u32 = 10_000;
+const ALL_TIMES_MAX: u64 = 100_000;
 
 /// The most words that are handed in at once: any number that no list may have.
 const WORDS_MAX: usize = 4097;
 
-/// A text taken apart.
+/// A line with something in it, taken apart.
+type Line<'a> = (usize, Vec<Item<'a>>);
+
+/// A text taken apart. Its events are read once the names of the table are known.
 #[derive(Debug, PartialEq, Eq)]
 pub struct Script<'a> {
     pub table: Table,
-    /// The lines that give names.
+    /// The lines that give names, beside those of the table.
     pub namings: Namings<'a>,
-    /// What happens, with the lines, counted from 1.
-    pub events: Vec<(usize, Happens)>,
+    events: Vec<Line<'a>>,
 }
 
 /// Where the table is.
 #[derive(Debug, PartialEq, Eq)]
 pub enum Table {
-    /// In the text: the bytes that `linerun` would read of it.
-    Here(Vec<u8>),
+    /// In the text.
+    Here(Given),
     /// In a file of this name.
     File(String),
 }
 
-/// What one line says.
+/// What one line says: an event, and how often it happens.
 #[derive(Debug, PartialEq, Eq)]
-pub enum Happens {
-    HandIn { domain: u32, call: Given },
-    Turns(u32),
+pub struct Happens {
+    pub line: usize,
+    pub event: Event,
+    pub times: u32,
 }
 
-/// What a domain hands in.
-#[derive(Debug, PartialEq, Eq)]
-pub enum Given {
-    Call(Typed),
-    Words(Vec<u32>),
-}
-
-/// Takes a text apart; or what is wrong with it and in which line.
+/// Takes a text apart; or what is wrong with its table, by line and column.
 pub fn read(text: &str) -> Result<Script<'_>, String> {
+    let lines: Vec<(usize, &str)> = lines_of(text).collect();
+    let is_event = |(_, line): &(usize, &str)| {
+        let first = line.split_whitespace().next();
+        matches!(first, Some("hand" | "turn" | "turns"))
+    };
+    let first = lines.iter().position(is_event).unwrap_or(lines.len());
+    let (head, rest) = lines.split_at(first);
     let mut namings = Namings::default();
-    // A line that gives a name leaves an empty one: lines are told by their number.
-    let left = lines_of(text).map(|(number, line)| {
-        let names = namings.take(number, &items(line).collect::<Vec<&str>>());
-        if names {
-            ""
-        } else {
-            line
+    let unnamed = without_names(head, &mut namings);
+    let table = match file_of(&unnamed)? {
+        Some(file) => Table::File(file),
+        None => {
+            // The names of a table that is given here come with it.
+            namings = Namings::default();
+            Table::Here(table_in(head, &unnamed)?)
         }
-    });
-    let lines: Vec<&str> = left.collect();
-    let first = lines.iter().position(|line| is_event(line));
-    let (head, rest) = lines.split_at(first.unwrap_or(lines.len()));
-    let mut events = Vec::new();
-    for (at, line) in rest.iter().enumerate() {
-        let number = head.len() + at + 1;
-        let event = read_event(line, number).map_err(|why| format!("line {number}: {why}"))?;
-        events.extend(event.map(|event| (number, event)));
-    }
-    let turns = events.iter().map(|(_, happens)| match happens {
-        Happens::Turns(count) => *count,
-        Happens::HandIn { .. } => 0,
-    });
-    if turns.map(u64::from).sum::<u64>() > ALL_TURNS_MAX {
-        return Err("it asks for more than 100,000 turns".to_string());
-    }
+    };
+    let events = without_names(rest, &mut namings);
     Ok(Script {
-        table: read_table(head)?,
+        table,
         namings,
         events,
     })
 }
 
-/// What stands in a line.
-fn items(line: &str) -> impl Iterator<Item = &str> {
-    line.split_whitespace()
+/// The lines that have something in them and give no name.
+fn without_names<'a>(lines: &[(usize, &'a str)], namings: &mut Namings<'a>) -> Vec<Line<'a>> {
+    let items = lines.iter().map(|(number, line)| (*number, items_of(line)));
+    items
+        .filter(|(number, items)| !items.is_empty() && !namings.take(*number, items))
+        .collect()
 }
 
-fn is_event(line: &str) -> bool {
-    matches!(items(line).next(), Some("hand" | "turn" | "turns"))
-}
-
-/// The table that the lines before the first event give.
-fn read_table(head: &[&str]) -> Result<Table, String> {
-    let wrong = |at: usize, why: &str| Err(format!("line {}: {why}", at + 1));
-    let Some(first) = head.iter().position(|line| items(line).next().is_some()) else {
-        return Err("there is no table in it".to_string());
+/// The file that the lines before the first event name as the table's.
+fn file_of(head: &[Line]) -> Result<Option<String>, String> {
+    let Some(((_, first), rest)) = head.split_first() else {
+        return Ok(None);
     };
-    if !items(head[first])
-        .next()
-        .is_some_and(|item| item.starts_with("table"))
-    {
-        return wrong(
-            first,
-            "a table comes first: `table`, and its words or a file",
-        );
-    }
-    if let Some(at) = head
-        .iter()
-        .position(|line| items(line).any(|item| matches!(item, "list" | "list:")))
-    {
-        return wrong(at, "a list has no place here: calls are handed in");
-    }
-    let named: Vec<&str> = items(head[first]).collect();
-    let alone = head[first + 1..]
-        .iter()
-        .all(|line| items(line).count() == 0);
-    match named[..] {
-        ["table" | "table:", file] if alone && words_of(file).is_err() => {
-            Ok(Table::File(file.to_string()))
+    let digits = |item: &str| item.bytes().all(|byte| byte.is_ascii_hexdigit());
+    match first.as_slice() {
+        [table, file] if matches!(table.text, "table" | "table:") => {
+            let is_word = words_of(file.text).is_ok() || digits(file.text) && !rest.is_empty();
+            match (is_word, rest.is_empty()) {
+                (true, _) => Ok(None),
+                (false, true) => Ok(Some(file.text.to_string())),
+                (false, false) => Err(reported(rest.iter().map(no_event).collect())),
+            }
         }
-        _ => Ok(Table::Here(hex::read(&head.join("\n"))?.bytes)),
+        _ => Ok(None),
     }
 }
 
-/// The event of a line, where there is one.
-fn read_event(line: &str, at: usize) -> Result<Option<Happens>, String> {
-    let mut words = items(line);
-    match words.next() {
-        None => Ok(None),
-        Some("hand") => {
-            if words.next() != Some("in") {
-                return Err("`hand` stands without `in`".to_string());
-            }
-            let domain = words.next().ok_or("who hands in is missing")?;
-            let no_number = || format!("`{domain}` is no number of a domain");
-            let domain = number(domain).ok_or_else(no_number)?;
-            let call = read_given(&words.collect::<Vec<&str>>(), at)?;
-            Ok(Some(Happens::HandIn { domain, call }))
+/// What is said of a line that is no event.
+fn no_event((line, items): &Line) -> Mistake {
+    let (first, column) = (items[0].text, items[0].column);
+    let why = format!("there is no `{first}` here, only `hand in`, `turn` and `turns`");
+    (*line, column, why)
+}
+
+/// The table that the lines before the first event give, as words or in words.
+fn table_in(head: &[(usize, &str)], unnamed: &[Line]) -> Result<Given, String> {
+    let text: Vec<&str> = head.iter().map(|(_, line)| *line).collect();
+    let text = text.join("\n");
+    let in_words = crate::text::described::is_described(&text);
+    match unnamed.first() {
+        None if !in_words => return Err("there is no table in it".to_string()),
+        Some((line, items)) if !in_words && !items[0].text.starts_with("table") => {
+            let why = "a table comes first: `table`, and its words or a file".to_string();
+            return Err(reported(vec![(*line, items[0].column, why)]));
         }
-        Some("turn") => match words.next() {
-            None => Ok(Some(Happens::Turns(1))),
-            Some(more) => Err(format!(
-                "`{more}` stands behind a turn: `turns 3` are three"
+        _ => {}
+    }
+    let given = hex::read(&text)?;
+    match given.lines.first() {
+        None => Ok(given),
+        Some(&line) => {
+            let why = "a list has no place here: calls are handed in".to_string();
+            Err(reported(vec![(line, 1, why)]))
+        }
+    }
+}
+
+impl Script<'_> {
+    /// What happens, read with the names of the table; or every mistake in it.
+    pub fn events(&self, names: &Names) -> Result<Vec<Happens>, String> {
+        let mut events = Vec::new();
+        let mut mistakes = Vec::new();
+        for (line, items) in &self.events {
+            match read_event(*line, items, names) {
+                Ok(happens) => events.push(happens),
+                Err((column, why)) => mistakes.push((*line, column, why)),
+            }
+        }
+        let mut all = 0;
+        let past = events.iter().find(|happens| {
+            all += u64::from(happens.times);
+            all > ALL_TIMES_MAX
+        });
+        mistakes.extend(past.map(|happens| {
+            let why = "more than 100,000 turns and calls up to here".to_string();
+            (happens.line, 1, why)
+        }));
+        match mistakes.is_empty() {
+            true => Ok(events),
+            false => Err(reported(mistakes)),
+        }
+    }
+}
+
+/// The event of a line, with how often it happens.
+fn read_event(line: usize, items: &[Item], names: &Names) -> Result<Happens, Wrong> {
+    let (items, times) = times_of(items)?;
+    let happens = |event, times| Ok(Happens { line, event, times });
+    let (first, rest) = (&items[0], &items[1..]);
+    match (first.text, rest) {
+        ("hand", rest) => happens(hand_in(first, rest, names)?, times),
+        ("turn", []) => happens(Event::Turn, times),
+        ("turn", [more, ..]) => {
+            let why = format!("`{}` comes after a turn: `turns 3` are three", more.text);
+            Err((more.column, why))
+        }
+        ("turns", rest) => match (rest, rest.first().and_then(|count| number(count.text))) {
+            ([_], Some(count @ 1..=TIMES_MAX)) if times == 1 => happens(Event::Turn, count),
+            _ => Err((
+                first.column,
+                "`turns` needs one number, 1 to 10,000".to_string(),
             )),
         },
-        Some("turns") => {
-            let count = words.next().and_then(number);
-            match (count, words.next()) {
-                (Some(count @ 1..=TURNS_MAX), None) => Ok(Some(Happens::Turns(count))),
-                _ => Err("`turns` needs one number, 1 to 10,000".to_string()),
-            }
+        _ => {
+            let (_, column, why) = no_event(&(line, items.to_vec()));
+            Err((column, why))
         }
-        Some(other) => Err(format!(
-            "there is no `{other}` here, only `hand in`, `turn` and `turns`"
-        )),
     }
 }
 
-/// The call that is handed in, or any words.
-fn read_given(words: &[&str], at: usize) -> Result<Given, String> {
-    if let Some((&"words", given)) = words.split_first() {
-        return read_words(given).map(Given::Words);
+/// A line without `8 times` at its end, and how often that is.
+fn times_of<'a, 'b>(items: &'b [Item<'a>]) -> Result<(&'b [Item<'a>], u32), Wrong> {
+    let Some((last, rest)) = items.split_last() else {
+        return Ok((items, 1));
+    };
+    if last.text != "times" {
+        return Ok((items, 1));
     }
-    // Names are those of a table that is yet to be read.
-    let call = calls::read_line(&words.join(" "), at, &Names::none())?;
-    call.map(Given::Call)
-        .ok_or_else(|| "what is handed in is missing".to_string())
-}
-
-fn read_words(items: &[&str]) -> Result<Vec<u32>, String> {
-    let mut words = Vec::new();
-    for item in items {
-        words.extend(words_of(item)?);
-        if words.len() > WORDS_MAX {
-            return Err("more than 4,097 words are handed in at once".to_string());
+    match rest
+        .split_last()
+        .map(|(count, event)| (number(count.text), event))
+    {
+        Some((Some(times @ 1..=TIMES_MAX), event)) if !event.is_empty() => Ok((event, times)),
+        _ => {
+            let why = "`times` comes after an event and a number, 1 to 10,000".to_string();
+            Err((last.column, why))
         }
     }
-    Ok(words)
+}
+
+/// Who hands in what.
+fn hand_in(hand: &Item, rest: &[Item], names: &Names) -> Result<Event, Wrong> {
+    let wrong = |why: &str| Err((hand.column, why.to_string()));
+    let [within, items @ ..] = rest else {
+        return wrong("`hand` comes without `in`");
+    };
+    if within.text != "in" {
+        return wrong("`hand` comes without `in`");
+    }
+    let Some((who, call)) = items.split_first() else {
+        return wrong("who hands in is missing");
+    };
+    let named = || names.domain_called(who.text).map(|domain| domain as u32);
+    let domain = number(who.text).or_else(named).ok_or_else(|| {
+        let why = names.no_domain(who.text);
+        (who.column, format!("`{}` is no domain: {why}", who.text))
+    })?;
+    let words = match call {
+        [] => return wrong("what is handed in is missing"),
+        [words, given @ ..] if words.text == "words" => words_given(given)?,
+        [verb, ..] if sentences::is_verb(verb.text) => calls::read(items, names)?.words()?,
+        _ => calls::read(call, names)?.words()?,
+    };
+    match words.len() {
+        0..=WORDS_MAX => Ok(Event::HandIn { domain, words }),
+        _ => wrong("more than 4,097 words are handed in at once"),
+    }
 }
 
 #[cfg(test)]
@@ -193,108 +247,181 @@ hand in 0x1 words F0000005   # a stray
 turn
 
 turns 3
+turn 7 times
 ";
 
-    fn wrong(text: &str) -> String {
-        read(text).unwrap_err()
+    fn names() -> Names {
+        Names::given("domain 0 link\ndomain 2 drives\nendpoint 1 belts")
     }
 
-    fn events(text: &str) -> Vec<(usize, Happens)> {
-        read(&format!("table T\n{text}")).unwrap().events
+    fn events(text: &str) -> Result<Vec<Happens>, String> {
+        let text = format!("table T\n{text}");
+        let script = read(&text).unwrap();
+        script.events(&names())
+    }
+
+    fn wrong(text: &str) -> String {
+        read(text)
+            .map(|script| script.events(&Names::none()))
+            .unwrap_err()
     }
 
     #[test]
     fn a_text_is_a_table_and_events_with_their_lines() {
         let script = read(TEXT).unwrap();
         let bytes = [2, 0, 0, 0, 0, 1, 0, 0x10, 0, 0, 0, 0x20];
-        assert_eq!(script.table, Table::Here(bytes.to_vec()));
-        let lines: Vec<usize> = script.events.iter().map(|(line, _)| *line).collect();
-        assert_eq!(lines, [4, 5, 6, 8]);
-        let Happens::HandIn { domain, call } = &script.events[0].1 else {
-            panic!("{script:?}");
+        assert!(matches!(&script.table, Table::Here(given) if given.bytes == bytes));
+        let events = script.events(&Names::none()).unwrap();
+        let lines: Vec<usize> = events.iter().map(|happens| happens.line).collect();
+        assert_eq!(lines, [4, 5, 6, 8, 9]);
+        let times: Vec<u32> = events.iter().map(|happens| happens.times).collect();
+        assert_eq!(times, [1, 1, 1, 3, 7]);
+        let handed = |domain, word| Event::HandIn {
+            domain,
+            words: vec![word],
         };
-        assert!(*domain == 0 && matches!(call, Given::Call(call) if call.columns[0] == 5));
-        let stray = Given::Words(vec![0xF000_0005]);
-        assert_eq!(
-            script.events[1].1,
-            Happens::HandIn {
-                domain: 1,
-                call: stray
-            }
-        );
-        assert_eq!(script.events[3].1, Happens::Turns(3));
+        assert_eq!(events[0].event, handed(0, 0x5000_0000));
+        assert_eq!(events[1].event, handed(1, 0xF000_0005));
     }
 
     #[test]
-    fn a_table_may_be_in_a_file() {
+    fn calls_are_handed_in_by_names_and_in_sentences() {
+        let send = Event::HandIn {
+            domain: 0,
+            words: vec![0x2000_0100, 0xF000_0005],
+        };
+        for line in [
+            "hand in link sends 5 to belts",
+            "hand in 0 send caller link endpoint belts message 5",
+            "hand in link link sends 5 to 1",
+        ] {
+            let burst = events(&format!("{line}  8 times")).unwrap();
+            assert_eq!((&burst[0].event, burst[0].times), (&send, 8), "{line}");
+        }
+        let other = events("hand in link drives asks for its rights").unwrap();
+        let words = vec![0x5080_0000];
+        assert_eq!(other[0].event, Event::HandIn { domain: 0, words });
+    }
+
+    #[test]
+    fn a_table_may_be_in_a_file_or_in_words() {
         let script = read("# a file\ntable four.txt # there\nturn").unwrap();
         assert_eq!(script.table, Table::File("four.txt".to_string()));
-        assert_eq!(script.events, [(3, Happens::Turns(1))]);
-        assert_eq!(read("table T").unwrap().events, []);
-        for file in ["list-of-line.txt", "table.txt"] {
+        for file in ["list-of-line.txt", "table.txt", "face"] {
             let named = Table::File(file.to_string());
             assert_eq!(read(&format!("table {file}\nturn")).unwrap().table, named);
             assert_eq!(read(&format!("table: {file}\nturn")).unwrap().table, named);
         }
+        let script = read("domain link\nendpoint e owner link capacity 1\nturn").unwrap();
+        let Table::Here(given) = script.table else {
+            panic!("a table");
+        };
+        assert_eq!(given.names.endpoint(0), "endpoint 0 (e)");
     }
 
     #[test]
     fn few_lines_take_no_more_memory_than_there_should_be() {
         let most = "turns 10000\n".repeat(10);
-        assert_eq!(events(&most).len(), 10);
-        let told = wrong(&format!("table T\n{most}turn"));
-        assert_eq!(told, "it asks for more than 100,000 turns");
-        assert_eq!(events("hand in 0 words 50000000*4097").len(), 1);
-        let told = wrong("table T\nhand in 0 words 50000000*4097 50000000");
-        assert_eq!(told, "line 2: more than 4,097 words are handed in at once");
+        assert_eq!(events(&most).unwrap().len(), 10);
+        let past = events(&format!("{most}turn\nturn")).unwrap_err();
+        let wanted = "line 12, column 1: more than 100,000 turns and calls up to here";
+        assert_eq!(past, wanted);
+        assert!(events("hand in 0 words 50000000*4097").is_ok());
+        let past = events("hand in 0 words 50000000*4097 50000000").unwrap_err();
+        assert!(past.ends_with(": more than 4,097 words are handed in at once"));
     }
 
     #[test]
-    fn lines_that_give_names_stand_anywhere() {
-        let script =
-            read("domain 0 link\ntable T\nendpoint 1 belts # those\nturn\ndomain 2 a").unwrap();
+    fn lines_that_give_names_are_anywhere() {
+        let text = "domain 0 link\ntable T\nendpoint 1 belts # those\nturn\ndomain 2 drives";
+        let script = read(text).unwrap();
         assert_eq!(script.table, Table::File("T".to_string()));
-        assert_eq!(script.events, [(4, Happens::Turns(1))]);
-        let names = script.namings.added_to(Names::none(), &[]).unwrap();
-        assert_eq!(
-            names,
-            Names::given("domain 0 link\ndomain 2 a\nendpoint 1 belts")
-        );
-        let script = read("table 10000100\ndomain 0 link\n20000000\nturn").unwrap();
-        assert!(matches!(script.table, Table::Here(bytes) if bytes.len() == 12));
-        let twice = script.namings.added_to(names, &[]).unwrap_err();
-        assert_eq!(twice, "line 2: domain 0 has a name already");
+        assert_eq!(script.namings.added_to(Names::none(), &[]), Ok(names()));
+        let script = read("table 10000100\ndomain 0 link\n20000000\nturn\ndomain 0 a").unwrap();
+        let Table::Here(given) = script.table else {
+            panic!("a table");
+        };
+        assert_eq!(given.names.domain(0), "domain 0 (link)");
+        let twice = script.namings.added_to(given.names, &[]).unwrap_err();
+        let why = "domain 0 has a name already".to_string();
+        assert_eq!(twice, [(5, 10, why)]);
     }
 
     #[test]
     fn no_words_and_large_numbers_can_be_handed_in() {
-        let [(2, Happens::HandIn { domain, call })] = &events("hand in 99999999999 words")[..]
-        else {
-            panic!("one event");
-        };
-        assert_eq!((*domain, call), (u32::MAX, &Given::Words(Vec::new())));
+        let handed = events("hand in 99999999999 words").unwrap();
+        let (domain, words) = (u32::MAX, Vec::new());
+        assert_eq!(handed[0].event, Event::HandIn { domain, words });
     }
 
     #[test]
-    fn what_is_wrong_is_told_by_its_line() {
+    fn a_table_that_is_wrong_is_reported_by_its_line() {
         assert_eq!(wrong("# nothing\n"), "there is no table in it");
         assert_eq!(wrong("turn"), "there is no table in it");
-        assert!(wrong("\n10000100").starts_with("line 2: a table comes first"));
-        assert!(wrong("table\n1000010\nturn").starts_with("line 2: `1000010` is no word"));
-        assert!(wrong("table T\nlist\nturn").starts_with("line 2: a list has no place here"));
-        assert!(wrong("table 10000100\nhnad in 0\nturn").starts_with("line 2: `hnad` is no word"));
-        let event = |line: &str| wrong(&format!("table T\nturn\n{line}"));
-        assert!(event("trun").starts_with("line 3: there is no `trun` here"));
-        assert_eq!(event("hand 0"), "line 3: `hand` stands without `in`");
-        assert_eq!(event("hand in"), "line 3: who hands in is missing");
-        assert_eq!(event("hand in x"), "line 3: `x` is no number of a domain");
-        assert_eq!(event("hand in 0"), "line 3: what is handed in is missing");
-        assert!(event("hand in 0 sned caller 0").starts_with("line 3: there is no call `sned`"));
-        assert!(event("hand in 0 words F00").starts_with("line 3: `F00` is no word"));
-        assert!(event("turn 3").starts_with("line 3: `3` stands behind a turn"));
-        for count in ["", "0", "10001", "x", "3 4"] {
-            let told = event(&format!("turns {count}"));
-            assert_eq!(told, "line 3: `turns` needs one number, 1 to 10,000");
+        for (text, start) in [
+            ("\n10000100", "line 2, column 1: a table comes first"),
+            (
+                "table\n1000010\nturn",
+                "line 2, column 1: `1000010` is no word",
+            ),
+            (
+                "table 1000010\n20000000\nturn",
+                "line 1, column 7: `1000010`",
+            ),
+            (
+                "table 10000100 20000000\nlist 50000000\nturn",
+                "line 2, column 1: a list has",
+            ),
+            (
+                "table 10000100\nhnad in 0\nturn",
+                "line 2, column 1: `hnad` is no word",
+            ),
+            // The file is no word, and the line after it is to blame.
+            (
+                "table T\nhnad in 0\nturn",
+                "line 2, column 1: there is no `hnad` here",
+            ),
+        ] {
+            assert!(wrong(text).starts_with(start), "{}", wrong(text));
+        }
+    }
+
+    #[test]
+    fn every_wrong_event_is_reported_by_line_and_column() {
+        for (line, why) in [
+            ("trun", "column 1: there is no `trun` here"),
+            ("hand 0", "column 1: `hand` comes without `in`"),
+            ("hand in", "column 1: who hands in is missing"),
+            (
+                "hand in lnik turn",
+                "column 9: `lnik` is no domain: no domain has this name; did you mean `link`?",
+            ),
+            ("hand in 0", "column 1: what is handed in is missing"),
+            (
+                "hand in 0 sned caller 0",
+                "column 11: there is no call `sned`",
+            ),
+            (
+                "hand in 0 my-rights caller 64",
+                "column 28: caller 64 exceeds its 6 bits",
+            ),
+            ("hand in 0 words F00", "column 17: `F00` is no word"),
+            ("turn 3", "column 6: `3` comes after a turn"),
+            ("turn 0 times", "column 8: `times` comes after an event"),
+            ("times", "column 1: `times` comes after an event"),
+            ("turns", "column 1: `turns` needs one number, 1 to 10,000"),
+            ("turns 0", "column 1: `turns` needs one"),
+            ("turns 10001", "column 1: `turns` needs one"),
+            ("turns 3 4", "column 1: `turns` needs one"),
+        ] {
+            let both = events(&format!("turn\n{line}\nturn\n{line}")).unwrap_err();
+            let starts = [format!("line 3, {why}"), format!("line 5, {why}")];
+            let lines = both.lines().zip(&starts);
+            assert!(
+                lines.clone().all(|(line, start)| line.starts_with(start)),
+                "{both}"
+            );
+            assert_eq!(both.lines().count(), 2);
         }
     }
 }

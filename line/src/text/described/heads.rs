@@ -6,12 +6,12 @@ use reference::table::{
 };
 use reference::words::{word, CONTENT_MAX, EMPTY_SLOT};
 
-use super::Problem;
 use crate::text::calls::{number, set_of};
+use crate::text::mistakes::Mistake;
 use crate::text::names::Names;
 use crate::text::sentences::{Item, Wrong};
 
-/// What may stand behind an endpoint's name.
+/// What may follow an endpoint's name.
 const FIELDS: [&str; 5] = ["owner", "capacity", "name", "lost", "waiting"];
 
 /// Whether a word is a field of an endpoint.
@@ -158,11 +158,11 @@ impl Heads {
         Ok(())
     }
 
-    /// Makes the table, now that all names are known; tells what is wrong.
-    pub fn resolve(&mut self) -> Vec<Problem> {
-        let mut problems = Vec::new();
+    /// Makes the table, now that all names are known; returns what is wrong.
+    pub fn resolve(&mut self) -> Vec<Mistake> {
+        let mut mistakes = Vec::new();
         if self.domains == 0 {
-            problems.push((1, 1, "no domain is given, as `domain link`".to_string()));
+            mistakes.push((1, 1, "no domain is given, as `domain link`".to_string()));
         }
         self.table = vec![header(self.sizes())];
         let (n, none) = (self.domains, word(RIGHTS, 0));
@@ -173,22 +173,22 @@ impl Heads {
                 Ok(place) if self.table[place] == none => {
                     self.table[place] = word(RIGHTS, held.set)
                 }
-                Ok(_) => problems.push(held.target.wrong("these rights are given already".into())),
-                Err(problem) => problems.push(problem),
+                Ok(_) => mistakes.push(held.target.wrong("these rights are given already".into())),
+                Err(mistake) => mistakes.push(mistake),
             }
         }
         for (number, endpoint) in self.endpoints.iter().enumerate() {
-            problems.extend(self.repeated_name(number));
+            mistakes.extend(self.repeated_name(number));
             match endpoint.words(&self.names, n) {
                 Ok(words) => self.table.extend(words),
-                Err(problem) => problems.push(problem),
+                Err(mistake) => mistakes.push(mistake),
             }
         }
-        problems
+        mistakes
     }
 
     /// What is wrong where an endpoint before has the same number as its name.
-    fn repeated_name(&self, number: usize) -> Option<Problem> {
+    fn repeated_name(&self, number: usize) -> Option<Mistake> {
         let (before, rest) = self.endpoints.split_at(number);
         let same = before.iter().position(|other| other.name == rest[0].name)?;
         let why = format!(
@@ -218,12 +218,12 @@ impl Kept {
         }
     }
 
-    fn wrong(&self, why: String) -> Problem {
+    fn wrong(&self, why: String) -> Mistake {
         (self.line, self.column, why)
     }
 
     /// The domain that is named, of so many.
-    fn domain(&self, names: &Names, n: usize) -> Result<usize, Problem> {
+    fn domain(&self, names: &Names, n: usize) -> Result<usize, Mistake> {
         let said = match number(&self.text) {
             Some(number) if (number as usize) < n => return Ok(number as usize),
             Some(number) => format!("there is no domain {number}"),
@@ -237,7 +237,7 @@ impl Kept {
 }
 
 impl Held {
-    fn place(&self, names: &Names, table: &[u32]) -> Result<usize, Problem> {
+    fn place(&self, names: &Names, table: &[u32]) -> Result<usize, Mistake> {
         let n = reference::table::domains(table);
         let holder = self.holder.domain(names, n)?;
         Ok(rights_place(table, holder, self.target.domain(names, n)?))
@@ -245,11 +245,11 @@ impl Held {
 }
 
 impl Endpoint {
-    /// Takes in the fields behind the name.
+    /// Takes in the fields after the name.
     fn read(&mut self, line: usize, fields: &[Item]) -> Result<(), Wrong> {
         let mut given: Vec<&str> = Vec::new();
         let mut rest = fields;
-        while let Some((field, behind)) = rest.split_first() {
+        while let Some((field, after)) = rest.split_first() {
             if given.contains(&field.text) {
                 return Err((
                     field.column,
@@ -257,13 +257,13 @@ impl Endpoint {
                 ));
             }
             given.push(field.text);
-            let taken = behind
+            let taken = after
                 .iter()
                 .take_while(|item| !is_endpoint_field(item.text))
                 .count();
-            let (values, behind) = behind.split_at(taken);
+            let (values, after) = after.split_at(taken);
             self.set(line, field, values)?;
-            rest = behind;
+            rest = after;
         }
         let end = fields.last().map_or(1, |item| item.column);
         match ["owner", "capacity"]
@@ -287,7 +287,7 @@ impl Endpoint {
             return Ok(());
         }
         let [value] = values else {
-            let said = format!("`{}` has one value behind it", field.text);
+            let said = format!("`{}` has one value after it", field.text);
             return Err((field.column, said));
         };
         match field.text {
@@ -307,7 +307,7 @@ impl Endpoint {
     }
 
     /// The twelve words.
-    fn words(&self, names: &Names, n: usize) -> Result<Vec<u32>, Problem> {
+    fn words(&self, names: &Names, n: usize) -> Result<Vec<u32>, Mistake> {
         if self.owner.text.is_empty() {
             return Ok(Vec::new()); // what is wrong was said when its line was read
         }
