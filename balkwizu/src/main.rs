@@ -6,7 +6,8 @@ mod commands;
 use std::process::ExitCode;
 
 use commands::{
-    codes, commission, compare, influence, read, repair, run, shift, show, turns, words, write,
+    check, codes, commission, compare, influence, read, repair, run, shift, show, turns, words,
+    write,
 };
 use line::program::{Command, Program};
 
@@ -39,6 +40,13 @@ const PROGRAM: Program = Program {
             purpose: "an input in words and as a picture",
             help: show::HELP,
             act: show::command,
+        },
+        Command {
+            name: "check",
+            given: "FILE",
+            purpose: "what is wrong with a line, before anything runs",
+            help: check::HELP,
+            act: check::command,
         },
         Command {
             name: "run",

@@ -37,7 +37,7 @@ fn help_is_given_for_every_command() {
     assert_eq!(TOOL.status(&["--help"]), 0);
     assert!(TOOL.printed(&["--help"]).contains("or a closed pipe"));
     let commands =
-        "commission show run compare influence repair write read words turns shift codes";
+        "commission show check run compare influence repair write read words turns shift codes";
     for command in commands.split(' ') {
         let help = TOOL.printed(&[command, "--help"]);
         assert!(help.starts_with(&format!("balkwizu {command}")), "{help}");
@@ -59,7 +59,7 @@ fn help_fits_80_columns() {
     let commands: Vec<&str> = named
         .filter(|name| !["help", "--version"].contains(name))
         .collect();
-    assert!(commands.len() == 12, "{all}");
+    assert!(commands.len() == 13, "{all}");
     for command in commands {
         let help = TOOL.printed(&["help", command]);
         assert!(longest_line(&help) <= 80, "{help}");

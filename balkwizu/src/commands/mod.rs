@@ -1,6 +1,7 @@
 //! The commands of the program, one file each: what is given on the line, what is done with
 //! it, and the help.
 
+pub mod check;
 pub mod codes;
 pub mod commission;
 pub mod compare;
