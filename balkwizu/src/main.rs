@@ -6,20 +6,15 @@ mod commands;
 use std::process::ExitCode;
 
 use commands::{
-    check, codes, commission, compare, influence, read, repair, run, shift, show, turns, words,
-    write,
+    check, codes, commission, compare, influence, read, repair, run, shift, show, turns, write,
 };
 use line::program::{Command, Program};
 
 const FOOT: &str = "\
-FILE is an input of linerun: little-endian words, the table's length in words,
-the table, then the list to the end; or a text of hexadecimal words that stands
-for one, as `words` takes it, which may give names. For `write` and `turns` it
-is a text of theirs. `-` is standard input, and behind `--` are no options.
-
+FILE is an input of linerun, or a text that `write` takes; for `turns` it is a
+text of its own. `-` is standard input, and after `--` are no options.
 Exit status: 0 all is well; 1 something failed, was refused or differs; 2 bad
-usage, a file that can't be read or written, or a closed pipe: nobody reads what
-is printed any more.
+usage, a file that can't be read or written, or a closed pipe.
 ";
 
 const PROGRAM: Program = Program {
@@ -27,13 +22,6 @@ const PROGRAM: Program = Program {
     purpose: "a line's table and its list of calls, planned, tried and commissioned",
     foot: FOOT,
     commands: &[
-        Command {
-            name: "commission",
-            given: "FILE",
-            purpose: "the checklist on an input of linerun",
-            help: commission::HELP,
-            act: commission::command,
-        },
         Command {
             name: "show",
             given: "FILE",
@@ -56,11 +44,11 @@ const PROGRAM: Program = Program {
             act: run::command,
         },
         Command {
-            name: "compare",
-            given: "CARD PLAN",
-            purpose: "what differs between two tables, in words",
-            help: compare::HELP,
-            act: compare::command,
+            name: "commission",
+            given: "FILE",
+            purpose: "the checklist on an input of linerun",
+            help: commission::HELP,
+            act: commission::command,
         },
         Command {
             name: "influence",
@@ -68,13 +56,6 @@ const PROGRAM: Program = Program {
             purpose: "whose calls count for whom, in this list and ever",
             help: influence::HELP,
             act: influence::command,
-        },
-        Command {
-            name: "repair",
-            given: "IN OUT",
-            purpose: "a damaged table made fit again",
-            help: repair::HELP,
-            act: repair::command,
         },
         Command {
             name: "write",
@@ -91,11 +72,18 @@ const PROGRAM: Program = Program {
             act: read::command,
         },
         Command {
-            name: "words",
-            given: "FILE",
-            purpose: "hexadecimal words as text to an input, and back",
-            help: words::HELP,
-            act: words::command,
+            name: "repair",
+            given: "IN OUT",
+            purpose: "a damaged table made fit again",
+            help: repair::HELP,
+            act: repair::command,
+        },
+        Command {
+            name: "compare",
+            given: "CARD PLAN",
+            purpose: "what differs between two tables, in words",
+            help: compare::HELP,
+            act: compare::command,
         },
         Command {
             name: "turns",

@@ -37,7 +37,7 @@ fn help_is_given_for_every_command() {
     assert_eq!(TOOL.status(&["--help"]), 0);
     assert!(TOOL.printed(&["--help"]).contains("or a closed pipe"));
     let commands =
-        "commission show check run compare influence repair write read words turns shift codes";
+        "show check run commission influence write read repair compare turns shift codes";
     for command in commands.split(' ') {
         let help = TOOL.printed(&[command, "--help"]);
         assert!(help.starts_with(&format!("balkwizu {command}")), "{help}");
@@ -52,6 +52,7 @@ fn help_is_given_for_every_command() {
 fn help_fits_80_columns() {
     let all = TOOL.printed(&["--help"]);
     assert!(longest_line(&all) <= 80, "{all}");
+    assert!(all.lines().count() <= 24, "{all}");
     let listed = all
         .lines()
         .filter_map(|line| line.strip_prefix("  balkwizu "));
@@ -59,10 +60,12 @@ fn help_fits_80_columns() {
     let commands: Vec<&str> = named
         .filter(|name| !["help", "--version"].contains(name))
         .collect();
-    assert!(commands.len() == 13, "{all}");
+    assert!(commands.len() == 12, "{all}");
     for command in commands {
         let help = TOOL.printed(&["help", command]);
         assert!(longest_line(&help) <= 80, "{help}");
+        let most = if command == "commission" { 70 } else { 50 };
+        assert!(help.lines().count() <= most, "{help}");
     }
 }
 
@@ -174,38 +177,38 @@ fn bad_usage_ends_with_2_and_says_why() {
 fn the_worked_example_is_typed_in_and_run() {
     let text = format!("table {}\nlist {}\n", hex(&TABLE_T), hex(&LIST_L));
     let typed = TOOL.file("typed.txt", text.as_bytes());
-    let written = TOOL.run(&["words", &typed]);
+    let written = TOOL.run(&["write", &typed]);
     assert_eq!(written.status.code(), Some(0));
     assert_eq!(written.stdout, worked_example());
     assert_eq!(reference::linerun(&written.stdout), PRINTED.as_bytes());
     let input = TOOL.file("typed.bin", &written.stdout);
     let back = TOOL.file(
         "back.txt",
-        TOOL.printed(&["words", "--back", &input]).as_bytes(),
+        TOOL.printed(&["read", "--hex", &input]).as_bytes(),
     );
-    assert_eq!(TOOL.run(&["words", &back]).stdout, worked_example());
+    assert_eq!(TOOL.run(&["write", &back]).stdout, worked_example());
     let wrong = TOOL.file("wrong.txt", b"table\n1000030");
-    assert_eq!(TOOL.status(&["words", &wrong]), 2);
+    assert_eq!(TOOL.status(&["write", &wrong]), 2);
     assert!(TOOL
-        .complaint(&["words", &wrong])
+        .complaint(&["write", &wrong])
         .contains("line 2, column 1: `1000030` is no word"));
     let nothing = TOOL.file("nothing.txt", b"# no word\n");
-    assert_eq!(TOOL.status(&["words", &nothing]), 2);
+    assert_eq!(TOOL.status(&["write", &nothing]), 2);
     assert!(TOOL
-        .complaint(&["words", &nothing])
+        .complaint(&["write", &nothing])
         .contains("there is no word in it"));
     assert!(TOOL
-        .complaint(&["words", "/dev/zero"])
+        .complaint(&["write", "/dev/zero"])
         .contains("is above 1,000,000 bytes"));
     assert!(TOOL
-        .complaint(&["words", &input])
-        .contains("`balkwizu words --back FILE`"));
+        .complaint(&["write", &input])
+        .contains("`balkwizu read` makes the text of an input"));
 }
 
 #[test]
 fn a_table_that_will_be_refused_is_written_with_a_warning() {
     let typed = TOOL.file("warned.txt", b"table 10000100 20000010 list 50000000");
-    let written = TOOL.run(&["words", &typed]);
+    let written = TOOL.run(&["write", &typed]);
     assert_eq!(written.status.code(), Some(0));
     assert_eq!(written.stdout.len(), 4 * 4);
     let warning = String::from_utf8(written.stderr).expect("text");
@@ -213,10 +216,10 @@ fn a_table_that_will_be_refused_is_written_with_a_warning() {
     assert!(warning.contains(wanted), "{warning}");
     let cut = TOOL.file("warned-cut.txt", b"00000002 10000100");
     assert!(TOOL
-        .complaint(&["words", &cut])
+        .complaint(&["write", &cut])
         .contains("will be refused with 7 ("));
     assert_eq!(
-        TOOL.complaint(&["words", &TOOL.file("sound.txt", b"table 10000100 20000000")]),
+        TOOL.complaint(&["write", &TOOL.file("sound.txt", b"table 10000100 20000000")]),
         ""
     );
 }
@@ -237,14 +240,14 @@ fn with_output(line: &str, output: &str) -> (i32, String) {
 fn what_cannot_be_written_ends_with_2() {
     let typed = TOOL.file("unwritten.txt", b"table 10000100 20000000");
     for output in [">&-", ">/dev/full", "1</dev/null"] {
-        let (status, told) = with_output(&format!("words '{typed}'"), output);
+        let (status, told) = with_output(&format!("write '{typed}'"), output);
         assert_eq!(status, 2, "{output}");
         assert!(
             told.starts_with("balkwizu: cannot write: "),
             "{output}: {told}"
         );
     }
-    let (status, told) = with_output(&format!("words '{typed}'"), ">/dev/null");
+    let (status, told) = with_output(&format!("write '{typed}'"), ">/dev/null");
     assert_eq!((status, told.as_str()), (0, ""));
     let (status, _) = with_output("show /no/such/file", "2>/dev/full");
     assert_eq!(status, 2);
@@ -323,12 +326,12 @@ fn a_text_stands_for_its_input() {
             .contains("line 2, column 1: `1000010` is no word"));
         assert_eq!(TOOL.status(&[command, &wrong]), 2);
     }
-    assert!(TOOL
-        .complaint(&["words", "--back", typed])
-        .contains("is this a text?"));
-    assert_eq!(TOOL.status(&["words", "--back", typed]), 1);
+    assert_eq!(
+        TOOL.printed(&["read", "--hex", typed]),
+        TOOL.printed(&["read", "--hex", &input])
+    );
     let latin = TOOL.file("latin.txt", b"# F\xF6rderer\ntable 10000100 20000000\n");
-    for command in ["commission", "show", "words", "read", "write", "turns"] {
+    for command in ["commission", "show", "shift", "read", "write", "turns"] {
         let line = [command, &latin];
         assert!(TOOL
             .complaint(&line)
@@ -342,7 +345,7 @@ fn names_that_a_text_gives_stand_beside_the_numbers() {
     let (table, list) = (hex(&TABLE_T), hex(&LIST_L));
     let text = format!("domain 0 link\ntable {table}\nendpoint 1 belts\nlist {list}\n");
     let named = TOOL.file("named.txt", text.as_bytes());
-    assert_eq!(TOOL.run(&["words", &named]).stdout, worked_example());
+    assert_eq!(TOOL.run(&["write", &named]).stdout, worked_example());
     let shown = TOOL.printed(&["show", &named]);
     let sent = "domain 0 (link) sends 5 to endpoint 1 (belts)";
     assert!(shown.contains(sent), "{shown}");
@@ -626,7 +629,7 @@ fn a_picture_that_cannot_be_written_leaves_everything_as_it_was() {
 #[test]
 fn a_table_on_which_everything_can_be_shown_leaves_nothing_unshown() {
     let ring = concat!(env!("CARGO_MANIFEST_DIR"), "/examples/ring.txt");
-    let input = TOOL.file("ring.bin", &TOOL.run(&["words", ring]).stdout);
+    let input = TOOL.file("ring.bin", &TOOL.run(&["write", ring]).stdout);
     let list = TOOL.printed(&["commission", &input]);
     assert!(!list.contains("not shown"), "{list}");
     assert!(list.ends_with("summary: 4 passed, 0 failed\n"), "{list}");
@@ -705,7 +708,7 @@ fn calls_to_an_input_and_back() {
     // the same by texts: as one, and put together
     let text = TOOL.printed(&["write", &calls, "--table", &table, "--hex"]);
     let by_text = TOOL.file("input-text.txt", text.as_bytes());
-    assert_eq!(TOOL.run(&["words", &by_text]).stdout, input);
+    assert_eq!(TOOL.run(&["write", &by_text]).stdout, input);
     assert_eq!(TOOL.printed(&["read", "--calls", &by_text]), CALLS);
     assert_eq!(
         TOOL.run(&["write", &calls, "--table", &by_text]).stdout,
@@ -713,7 +716,7 @@ fn calls_to_an_input_and_back() {
     );
     let together = format!("table {}\n{WORDS}", hex(&TABLE_T));
     let together = TOOL.file("input-together.txt", together.as_bytes());
-    assert_eq!(TOOL.run(&["words", &together]).stdout, input);
+    assert_eq!(TOOL.run(&["write", &together]).stdout, input);
     // and the calls of an input, put behind its own table
     let back = TOOL.file(
         "input-back.txt",
@@ -732,7 +735,7 @@ fn a_line_in_words_goes_both_ways() {
     assert!(text.contains("\n  d1 grants d0 SEND on d2\n"));
     assert!(text.contains("\n  words F0000009\n"));
     let described = TOOL.file("described.txt", text.as_bytes());
-    assert_eq!(TOOL.run(&["words", &described]).stdout, worked_example());
+    assert_eq!(TOOL.run(&["write", &described]).stdout, worked_example());
     assert_eq!(TOOL.status(&["show", &described]), 0);
     let wrong = TOOL.file(
         "described-wrong.txt",
@@ -950,7 +953,7 @@ fn a_repaired_text_keeps_its_names_where_a_text_is_asked_for() {
     assert!(!told_.contains("has no names"), "{told_}");
     let written = fs::read_to_string(&text).unwrap();
     assert!(written.starts_with("domain 0 link\n"), "{written}");
-    assert_eq!(TOOL.run(&["words", &text]).stdout, fs::read(&out).unwrap());
+    assert_eq!(TOOL.run(&["write", &text]).stdout, fs::read(&out).unwrap());
     assert!(TOOL.printed(&["show", &text]).contains("domain 0 (link)"));
     // What has no names to lose says nothing of them.
     let again = TOOL.printed(&["repair", &out, &TOOL.path("again.bin")]);
@@ -1152,24 +1155,27 @@ fn a_damaged_table_is_told_with_what_mends_it() {
 #[test]
 fn a_card_has_a_text() {
     let card = TOOL.file("card.image", &to_bytes(&TABLE_T));
-    let text = TOOL.printed(&["words", "--back", "--image", &card]);
+    let text = TOOL.printed(&["read", "--hex", "--image", &card]);
     let typed = TOOL.file("card.txt", text.as_bytes());
-    let input = TOOL.run(&["words", &typed]).stdout;
+    let input = TOOL.run(&["write", &typed]).stdout;
     assert_eq!(input, to_bytes(&[&[34], &TABLE_T[..]].concat()));
     assert!(TOOL
         .printed(&["show", &card])
-        .contains("`balkwizu words --back --image FILE`"));
+        .contains("`balkwizu read --image FILE`"));
+    let described = TOOL.printed(&["read", "--image", &card]);
+    let described = TOOL.file("described.txt", described);
+    assert_eq!(TOOL.run(&["write", &described]).stdout, input);
     assert!(TOOL
-        .complaint(&["words", "--image", &card])
-        .contains("--image is for --back"));
+        .complaint(&["read", "--hex", "--calls", &card])
+        .contains("--calls is not for --hex"));
     let cut = TOOL.file("cut.image", &to_bytes(&TABLE_T)[..30]);
-    assert_eq!(TOOL.status(&["words", "--back", "--image", &cut]), 1);
+    assert_eq!(TOOL.status(&["read", "--hex", "--image", &cut]), 1);
     assert!(TOOL
-        .complaint(&["words", "--back", "--image", &cut])
+        .complaint(&["read", "--hex", "--image", &cut])
         .contains("2 bytes left over"));
     let long = TOOL.file("long.image", &[0; 4 * 642]);
     assert!(TOOL
-        .complaint(&["words", "--back", "--image", &long])
+        .complaint(&["read", "--hex", "--image", &long])
         .contains("more than the 641 words"));
 }
 

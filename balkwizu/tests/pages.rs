@@ -194,7 +194,7 @@ fn a_text_in_utf_16_is_said_to_be_one() {
         .flat_map(|word| word.to_le_bytes())
         .collect();
     let saved = TOOL.file("saved.txt", bytes);
-    for command in ["show", "words", "commission", "run"] {
+    for command in ["show", "write", "commission", "run"] {
         let (status, _, told) = TOOL.ran(&[command, &saved]);
         assert_eq!(status, 2);
         assert!(

@@ -159,7 +159,7 @@ fn stopped_fuzz(kernel: &str) -> (String, Vec<u8>) {
     // Nothing comes before what is wrong.
     assert!(report.starts_with("STOPPED in run "), "{report}");
     let (_, words) = report
-        .split_once("as `balkwizu words` takes them:\n")
+        .split_once("as `balkwizu write` takes them:\n")
         .expect("the words are given");
     let (words, _) = words.split_once("# answer space").expect("the space");
     let input = line::text::hex::read(words).expect("a text of words");
@@ -271,7 +271,7 @@ fn a_linerun_that_takes_a_short_read_for_the_end_is_reported() {
 fn an_input_that_differs_comes_back_through_words() {
     let report = TOOL.printed(&["linerun", "/bin/true", "--from", "1", "--cases", "1"]);
     let (_, words) = report
-        .split_once("as `balkwizu words` takes them:\n")
+        .split_once("as `balkwizu write` takes them:\n")
         .expect("the words are given");
     let input = line::text::hex::read(words).expect("a text of words");
     let first = String::from_utf8(reference::linerun(&input.bytes)).expect("text");

@@ -23,7 +23,7 @@ what both have in different ways is altered: rights, an endpoint's owner,
 capacity and name, the messages that wait in its queue, oldest first, and its
 lost count. Domains and endpoints are compared by their numbers.
 
-CARD and PLAN are inputs of linerun, texts as `balkwizu words` takes them, or
+CARD and PLAN are inputs of linerun, texts as `balkwizu write` takes them, or
 lines in words. Names are those of PLAN, and of CARD for what PLAN gives none;
 lists are not compared. One of them may be `-`, standard input.
 

@@ -39,7 +39,7 @@ chains that calls could ever give, and what never shows.
 
   --calls N   print N of the calls that are kept at most (default: all)
 
-FILE is an input of linerun or a text that `balkwizu words` takes. Who has a
+FILE is an input of linerun or a text that `balkwizu write` takes. Who has a
 chain of rights, now or ever, and the connected components are the proved
 functions'. The chains themselves, and the source sets along the list, are found
 here and compared with these functions and with the reference implementation.

@@ -12,5 +12,4 @@ pub mod run;
 pub mod shift;
 pub mod show;
 pub mod turns;
-pub mod words;
 pub mod write;

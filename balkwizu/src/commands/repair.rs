@@ -35,7 +35,7 @@ right, by the proved function: a broken rights word becomes an empty set, and an
 endpoint with a broken waiting, lost or slot word gets an empty queue and lost
 0. Tells every word that was altered and what that means for the line. A table
 whose word 0, length, names, owners or capacities are wrong can't be repaired.
-IN may be a text as `balkwizu words` takes it, OUT is an input of linerun.
+IN may be a text as `balkwizu write` takes it, OUT is an input of linerun.
 
   --image         IN and OUT are a table's bytes alone, as a card has them.
                   Without it they are inputs of linerun, and the list stays as

@@ -16,7 +16,7 @@ pub const HELP: &str = "\
 balkwizu run FILE [--answers OUT] [--left OUT]
 
 Runs the list of an input of linerun on the kernel, and prints each call with
-its answer; of a refused one, why. FILE may be a text as `balkwizu words` takes
+its answer; of a refused one, why. FILE may be a text as `balkwizu write` takes
 it.
 
   --answers OUT  write the answers to OUT, in the lines that linerun prints

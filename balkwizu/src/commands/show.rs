@@ -28,7 +28,7 @@ balkwizu show FILE [--run] [--svg OUT] [--dot OUT] [--page OUT] [--calls N]
 
 Shows an input of linerun in words: who has which right on whom, the queues with
 what waits in them, and the calls of the list. FILE may be a text as
-`balkwizu words` takes it; the names that it gives stand beside the numbers.
+`balkwizu write` takes it; the names that it gives stand beside the numbers.
 
   --run       run the list on the kernel: each call with its answer, and the
               rights and queues that it leaves. Of a refused call: which right

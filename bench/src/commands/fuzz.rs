@@ -39,7 +39,7 @@ enough, just so and too short, every word of them.
   --time T          the processor seconds that one run, image or list may take
                     (default 10)
 
-The first difference ends it, with the words that show it as `balkwizu words`
+The first difference ends it, with the words that show it as `balkwizu write`
 takes them: with as few calls and on as small a table as still differ. The
 kernel runs in a child process: one that faults, that takes longer or that ends
 the program is reported in the same way, as STOPPED.

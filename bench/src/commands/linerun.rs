@@ -38,7 +38,7 @@ answered with; and it must write nothing to standard error.
   --from K   the number of the first input (default 0)
   --time T   the seconds that it may take for one input (default 10)
 
-The first difference ends it, with the words that show it as `balkwizu words`
+The first difference ends it, with the words that show it as `balkwizu write`
 takes them. From 1,000 inputs on, a code that no input met is a failure too, and
 so is a way to give an input that was never used.
 

@@ -23,7 +23,7 @@ that takes none gets one, or it is of another kind than 15.
   --time T   the processor seconds that one list may take (default 10)
 
 The first difference ends it, with the table before the call and the call's
-words as `balkwizu words` takes them. The step runs in a child process: one that
+words as `balkwizu write` takes them. The step runs in a child process: one that
 faults, that takes longer or that ends the program is reported in the same way,
 as STOPPED.
 

@@ -97,7 +97,7 @@ pub fn shorter(program: &Path, input: &[u8], feed: Feed, ran: &Ran) -> String {
         + &match smaller.as_slice() {
             [] => "The input is empty.\n".to_string(),
             _ => format!(
-                "Its words, as `balkwizu words` takes them:\n{}",
+                "Its words, as `balkwizu write` takes them:\n{}",
                 hex::write_bytes(&smaller)
             ),
         }

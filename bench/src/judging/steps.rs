@@ -213,7 +213,7 @@ fn with_words(case: &Case, call: &Call, why: &str) -> String {
         list: case.list.clone(),
     };
     format!(
-        "{why}\nThe call ({}) and the table before it, as `balkwizu words` takes them:\n{}\
+        "{why}\nThe call ({}) and the table before it, as `balkwizu write` takes them:\n{}\
          # answer space: {}",
         call_in_words(call, &Names::none()),
         hex::write(&input),

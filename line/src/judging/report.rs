@@ -1,5 +1,5 @@
 //! What is wrong with a run, reported so that it can be seen again: cut down to fewer calls,
-//! on a smaller table where it was drawn, with its words as `balkwizu words` takes them.
+//! on a smaller table where it was drawn, with its words as `balkwizu write` takes them.
 
 use std::time::Duration;
 
@@ -60,7 +60,7 @@ fn words(case: &Case) -> String {
         list: case.list.clone(),
     };
     format!(
-        "Its words, as `balkwizu words` takes them:\n{}# answer space: {}\n",
+        "Its words, as `balkwizu write` takes them:\n{}# answer space: {}\n",
         hex::write(&input),
         counted(case.answers.len(), "word")
     )

@@ -32,9 +32,9 @@ impl Input {
     pub fn parse(bytes: &[u8]) -> Result<Input, (u32, String)> {
         Input::of_words(bytes).map_err(|(code, mut why)| {
             if is_text(bytes) {
-                why += "; is this a text? `balkwizu words FILE` makes the input of it";
+                why += "; is this a text? `balkwizu write FILE` makes the input of it";
             } else if is_table_alone(bytes) {
-                why += "; are these a table's bytes alone? `balkwizu words --back --image FILE` \
+                why += "; are these a table's bytes alone? `balkwizu read --image FILE` \
                         makes a text of them, and `balkwizu repair --image` takes them";
             }
             (code, why)
@@ -271,7 +271,7 @@ mod tests {
     fn a_text_is_told_from_an_input() {
         let why = |bytes: &[u8]| Input::parse(bytes).unwrap_err().1;
         let typed = why(b"table\n10000302 # \xC3\xA9\r\n");
-        assert!(typed.ends_with("is this a text? `balkwizu words FILE` makes the input of it"));
+        assert!(typed.ends_with("is this a text? `balkwizu write FILE` makes the input of it"));
         assert!(why(b"ab").contains("is this a text?"));
         assert!(!why(b"").contains("text"));
         assert!(!why(b"table\0").contains("text"));
