@@ -129,6 +129,23 @@ pub fn write_file(out: &Path, bytes: &(impl AsRef<[u8]> + ?Sized)) -> Result<(),
     fs::write(out, bytes).map_err(|why| format!("cannot write {}: {why}", shown(out)))
 }
 
+/// Breaks a line between words into lines of so many letters at most.
+pub fn wrapped(line: &str, most: usize) -> Vec<String> {
+    let mut lines = vec![String::new()];
+    for word in line.split(' ') {
+        let last = lines.last_mut().expect("there is a line");
+        if last.is_empty() {
+            last.push_str(word);
+        } else if last.chars().count() + 1 + word.chars().count() <= most {
+            last.push(' ');
+            last.push_str(word);
+        } else {
+            lines.push(word.to_string());
+        }
+    }
+    lines
+}
+
 /// Prints a line, put together as by `format!`.
 #[macro_export]
 macro_rules! say {
@@ -150,6 +167,13 @@ mod tests {
             shown("a\n\u{1B}[31mb\u{85}\u{E9}"),
             "a\\n\\u{1b}[31mb\\u{85}\u{E9}"
         );
+    }
+
+    #[test]
+    fn a_long_line_is_broken_between_words() {
+        assert_eq!(wrapped("ab cd ef", 5), ["ab cd", "ef"]);
+        assert_eq!(wrapped("abcdefg h", 5), ["abcdefg", "h"]);
+        assert_eq!(wrapped("ab", 5), ["ab"]);
     }
 
     #[test]

@@ -24,21 +24,23 @@ use line::text::input::{self, Input};
 use line::text::names::Names;
 
 pub const HELP: &str = "\
-balkwizu show FILE [--run] [--svg OUT] [--dot OUT] [--page OUT] [--calls N]
+balkwizu show FILE [--run] [--svg OUT [--domain D]] [--dot OUT] [--page OUT]
+              [--calls N]
 
 Shows an input of linerun in words: who has which right on whom, the queues with
 what waits in them, and the calls of the list. FILE may be a text as
-`balkwizu write` takes it; the names that it gives stand beside the numbers.
+`balkwizu write` takes it; the names that it gives are printed with the numbers.
 
   --run       run the list on the kernel: each call with its answer, and the
               rights and queues that it leaves. Of a refused call: which right
               on whom is missing, who holds it, and which earlier call took it
               away
-  --svg OUT   write the same as a picture to OUT: who has rights on whom as
-              arrows, groups apart, and with --run the table after the list and
-              the answers too
+  --svg OUT   write the same as a picture to OUT: who has rights on whom as a
+              grid and, up to 40, as arrows, connected components apart; with
+              --run the table after the list and the answers too
+  --domain D  draw the arrows from and to D alone, a domain's number or name
   --dot OUT   write the table as a graph in the language DOT to OUT, for other
-              tools: with --run what the list changed is told at each arrow
+              tools: with --run each arrow says what the list changed
   --page OUT  write a page to step through to OUT, for a browser and without a
               network: the list, and the rights, queues and holders after each
               call, as the reference implementation has them, with the source
@@ -67,12 +69,18 @@ struct Shown<'a> {
     names: &'a Names,
     left: Option<&'a Ran>,
     calls: Option<usize>,
+    /// The domain whose arrows alone are drawn.
+    domain: Option<usize>,
 }
 
 /// The command: whether the input is one that runs.
 pub fn command(line: &[OsString]) -> Result<bool, String> {
-    let options = Options::parse(line, &["--svg", "--dot", "--page", "--calls"], &["--run"])?;
+    let values = ["--svg", "--domain", "--dot", "--page", "--calls"];
+    let options = Options::parse(line, &values, &["--run"])?;
     let file = options.file()?;
+    if options.path("--domain").is_some() && options.path("--svg").is_none() {
+        return Err("--domain is for --svg: it draws the arrows of one domain".to_string());
+    }
     let calls = options.number("--calls")?.map(|calls| calls as usize);
     let outs = Outs::of(&options, file)?;
     let given = read_given(file)?;
@@ -85,6 +93,11 @@ pub fn command(line: &[OsString]) -> Result<bool, String> {
         }
     };
     let names = given.names;
+    let domain = options.path("--domain").map(|word| {
+        let word = word.to_string_lossy();
+        names.domain_of(&word, domains(&input.table))
+    });
+    let domain = domain.transpose()?;
     let left = options.has("--run").then(|| ran(&input)).transpose()?;
     outs.write(&Shown {
         file,
@@ -92,9 +105,10 @@ pub fn command(line: &[OsString]) -> Result<bool, String> {
         names: &names,
         left: left.as_ref(),
         calls,
+        domain,
     })?;
     output::write(in_words(&input, &names, left.as_ref(), calls.unwrap_or(usize::MAX)).as_bytes());
-    outs.tell();
+    outs.report();
     Ok(true)
 }
 
@@ -114,7 +128,8 @@ impl Outs<'_> {
         let Shown { input, names, .. } = shown;
         if let Some(out) = self.svg {
             let most = shown.calls.unwrap_or(CALLS_IN_PICTURE);
-            output::write_file(out, &picture::svg(input, names, shown.left, most))?;
+            let svg = picture::svg_of(input, names, shown.left, most, shown.domain);
+            output::write_file(out, &svg)?;
         }
         if let Some(out) = self.dot {
             let left = shown.left.map(|left| left.table.as_slice());
@@ -129,7 +144,7 @@ impl Outs<'_> {
     }
 
     /// Prints what was written.
-    fn tell(&self) {
+    fn report(&self) {
         for out in [self.svg, self.dot].into_iter().flatten() {
             say!("picture written to {}", input::shown(out));
         }

@@ -1,427 +1,332 @@
-//! The arrows of a table's rights, one for each holder and target, with a label that
-//! names the rights. A label stands on its own arrow and covers nothing else: no disc, no
-//! text, no other label and no other arrow. Where there is no such place the drawing grows
-//! up to the width of a page; then an arrow goes without its label, and the grid of rights
-//! tells what it stands for.
+//! Who has rights on whom as arrows: a ring of discs for each connected component, with the
+//! name of every domain beside its disc. Each arrow has a tooltip that names the rights. Their
+//! letters are on the arrow too, unless they would cover those of another.
+
+use std::f64::consts::{PI, TAU};
 
 use reference::table::{domains, rights};
 
-use crate::pictures::geometry::{at_angle, gap, towards, Curve, Point, Rect};
-use crate::pictures::places::{Place, Places, DISC};
+use crate::pictures::parts::{chip, colour, letters_at, EDGE, INNER, NAMED, NAMED_LETTER};
+use crate::pictures::svg::{towards, Drawing, Point};
+use crate::text::explain::rights_in_words;
+use crate::text::names::Names;
 
-/// The room of a right's letter in a label, and a label's height.
-pub const LETTER: f64 = 13.0;
-pub const LABEL_HIGH: f64 = 16.0;
+/// More arrows than these can't be followed with the eye.
+pub const ARROWS_MAX: usize = 40;
 
-/// The room of a letter and of a line in a disc's text, which has letters of one width.
-pub const TEXT_LETTER: f64 = 6.7;
-pub const TEXT_HIGH: f64 = 14.0;
+const DISC: f64 = 18.0;
 
-/// How much larger than need be it is tried, one after another.
-const LARGER: [f64; 7] = [1.0, 1.25, 1.5, 1.8, 2.2, 2.7, 3.3];
+/// The length of the ring for each disc on it, and the least radius of a ring of several.
+const STEP: f64 = 130.0;
+const RADIUS_MIN: f64 = 105.0;
 
-/// A label may stand so far from the middle of its arrow, tried in so many steps to each
-/// side.
-const FROM_MIDDLE: f64 = 0.38;
-const STEPS: usize = 24;
+/// What is free above and below a ring, for loops and names, and between two rings.
+const ABOVE: f64 = 66.0;
+const APART: f64 = 16.0;
 
-/// How far from the first direction a disc's text may stand, the best first.
-const AROUND: [f64; 13] = [
-    0.0, 0.35, -0.35, 0.7, -0.7, 1.05, -1.05, 1.5, -1.5, 2.0, -2.0, 2.6, -2.6,
-];
+/// How far an arrow bends to the middle of its ring, as a part of the way there, and aside
+/// from the arrow back.
+const INWARD: f64 = 0.35;
+const ASIDE: f64 = 20.0;
 
-/// What a label or a text keeps free around it.
-const CLEAR: f64 = 2.0;
+/// Where on an arrow its letters may be, the best place first, and the size of a letter.
+const LETTERS_AT: [f64; 4] = [0.42, 0.55, 0.32, 0.65];
+const LETTER: (f64, f64) = (13.0, 16.0);
 
-/// An arrow from a holder to a target.
-pub struct Arrow {
-    pub holder: usize,
-    target: usize,
-    pub set: u32,
-    pub curve: Curve,
-    /// Where its letters stand, if there is a place for them.
-    pub label: Option<Rect>,
+/// A domain's disc: its middle, the middle of its ring, and the angle from there.
+#[derive(Clone, Copy)]
+struct Disc {
+    at: Point,
+    centre: Point,
+    angle: f64,
 }
 
-/// All that is drawn of a table's rights as arrows.
-pub struct Layout {
-    pub places: Places,
-    /// Where each domain's text stands, if it has one and there is a place for it.
-    pub texts: Vec<Option<Rect>>,
-    pub arrows: Vec<Arrow>,
-    /// Texts and labels without a place.
-    pub missing: usize,
+/// The discs of a table's domains, and a frame for each component as corner and size.
+pub struct Rings {
+    discs: Vec<Disc>,
+    frames: Vec<(Point, Point)>,
+    pub size: Point,
 }
 
-impl Layout {
-    /// The layout of a table with its groups apart, as large as its labels need; `texts`
-    /// has the lines that stand beside each disc.
-    pub fn of(table: &[u32], groups: &[Vec<usize>], texts: &[Vec<String>]) -> Layout {
-        let widest = texts.iter().map(|lines| text_size(lines).0);
-        let widest = widest.fold(0.0, f64::max);
-        let tried = LARGER.map(|larger| (groups, larger));
-        let mut best: Option<Layout> = None;
-        for (groups, larger) in tried {
-            let next = Layout::on(Places::of(groups, widest, larger), table, texts);
-            if best.as_ref().is_none_or(|best| next.missing < best.missing) {
-                best = Some(next);
-            }
-            if best.as_ref().is_some_and(|best| best.missing == 0) {
-                break;
-            }
-        }
-        best.expect("some size is tried")
-    }
+/// A curve with two ends and the points that it bends to.
+type Curve = [Point; 4];
 
-    /// The layout where the places are given.
-    pub fn on(places: Places, table: &[u32], texts: &[Vec<String>]) -> Layout {
-        let arrows = arrows(&places, table);
-        let mut layout = Layout {
-            texts: vec![None; texts.len()],
-            places,
-            arrows,
-            missing: 0,
+impl Rings {
+    /// Places the domains of components, each in one of them.
+    pub fn of(components: &[Vec<usize>], names: &Names) -> Rings {
+        let nowhere = Disc {
+            at: (0.0, 0.0),
+            centre: (0.0, 0.0),
+            angle: 0.0,
         };
-        layout.place_texts(texts);
-        layout.place_labels();
-        layout
+        let n = components.iter().map(Vec::len).sum();
+        let mut rings = Rings {
+            discs: vec![nowhere; n],
+            frames: Vec::new(),
+            size: (0.0, 0.0),
+        };
+        let longest = (0..n).map(|domain| names.domain_name(domain).unwrap_or("").len());
+        let beside = DISC + 10.0 + (NAMED_LETTER * longest.max().unwrap_or(0) as f64).max(40.0);
+        let mut corner = (0.0, 0.0);
+        for members in components {
+            let radius = radius(members.len(), beside);
+            let size = (2.0 * (radius + beside), 2.0 * (radius + ABOVE));
+            if corner.0 > 0.0 && corner.0 + size.0 > INNER - 36.0 {
+                corner = (0.0, rings.size.1 + APART);
+            }
+            rings.add(members, radius, (corner, size));
+            corner.0 += size.0 + APART;
+        }
+        rings
     }
 
-    fn place_texts(&mut self, texts: &[Vec<String>]) {
-        for (domain, lines) in texts.iter().enumerate() {
-            if !lines.is_empty() {
-                let place = self.places.domains[domain];
-                let mut tried = around(place, text_size(lines));
-                self.texts[domain] = tried.find(|rect| self.is_free(rect, None));
-                self.missing += usize::from(self.texts[domain].is_none());
+    fn add(&mut self, members: &[usize], radius: f64, (corner, size): (Point, Point)) {
+        let centre = (corner.0 + size.0 / 2.0, corner.1 + size.1 / 2.0);
+        for (place, &domain) in members.iter().enumerate() {
+            let angle = PI + TAU * place as f64 / members.len() as f64;
+            let at = at_angle(centre, angle, radius);
+            self.discs[domain] = Disc { at, centre, angle };
+        }
+        let end = (corner.0 + size.0, corner.1 + size.1);
+        self.size = (self.size.0.max(end.0), self.size.1.max(end.1));
+        self.frames.push((corner, size));
+    }
+
+    /// Draws the arrows of a table, of one domain alone where one is given, and the discs.
+    pub fn draw(&self, drawing: &mut Drawing, table: &[u32], names: &Names, of: Option<usize>) {
+        for &(corner, size) in self.frames.iter().filter(|_| self.frames.len() > 1) {
+            drawing.rect(corner, size, 10.0, "#ffffff", EDGE);
+        }
+        let arrows = arrows(table, of);
+        let curves: Vec<Curve> = arrows.iter().map(|&(h, t, _)| self.curve(h, t)).collect();
+        let letters = places_of_letters(&arrows, &curves);
+        let titles = arrows
+            .iter()
+            .map(|&(h, t, set)| right_in_words(names, (h, t), set));
+        let titles: Vec<String> = titles.collect();
+        for ((title, curve), arrow) in titles.iter().zip(&curves).zip(&arrows) {
+            drawing.start_titled(title);
+            drawing.arrow(&path(curve), on(curve, 0.9), curve[3], colour(arrow.0));
+            drawing.end_part();
+        }
+        // Letters are over all arrows.
+        for ((title, at), arrow) in titles.iter().zip(letters).zip(&arrows) {
+            if let Some(at) = at {
+                drawing.start_titled(title);
+                letters_at(drawing, at, LETTER.0, arrow.2);
+                drawing.end_part();
+            }
+        }
+        for (domain, disc) in self.discs.iter().enumerate() {
+            chip(drawing, disc.at, DISC, domain, names);
+            disc.name(drawing, names.domain_name(domain).unwrap_or(""));
+        }
+    }
+
+    /// The way of an arrow from one disc to another, inside the ring and aside from the arrow
+    /// back, or from a disc to itself.
+    fn curve(&self, holder: usize, target: usize) -> Curve {
+        let (from, to) = (self.discs[holder], self.discs[target]);
+        if holder == target {
+            let at = |turn: f64, far: f64| at_angle(from.at, from.loop_angle() + turn, far);
+            return [
+                at(-0.4, DISC + 1.0),
+                at(-0.45, 64.0),
+                at(0.45, 64.0),
+                at(0.4, DISC + 3.0),
+            ];
+        }
+        let (dx, dy) = (to.at.0 - from.at.0, to.at.1 - from.at.1);
+        let aside = ASIDE / dx.hypot(dy);
+        let middle = ((from.at.0 + to.at.0) / 2.0, (from.at.1 + to.at.1) / 2.0);
+        let bend = (
+            middle.0 + INWARD * (from.centre.0 - middle.0) + aside * dy,
+            middle.1 + INWARD * (from.centre.1 - middle.1) - aside * dx,
+        );
+        let start = towards(from.at, bend, DISC + 2.0);
+        [start, bend, bend, towards(to.at, bend, DISC + 4.0)]
+    }
+}
+
+impl Disc {
+    /// Returns the direction of its loop, aside from its name.
+    fn loop_angle(&self) -> f64 {
+        match self.is_aside() {
+            true if self.angle.sin() > 0.01 => PI / 2.0,
+            true => -PI / 2.0,
+            false => 0.0,
+        }
+    }
+
+    /// Whether its name is on its left or right, not over or under it.
+    fn is_aside(&self) -> bool {
+        self.angle.cos().abs() > 0.3
+    }
+
+    /// Writes a name outside of the ring.
+    fn name(&self, drawing: &mut Drawing, name: &str) {
+        let (x, y) = self.at;
+        match self.is_aside() {
+            true if self.angle.cos() > 0.0 => drawing.text(x + DISC + 7.0, y, NAMED, name),
+            true => drawing.text(x - DISC - 7.0, y, NAMED.end(), name),
+            false => {
+                let y = y + self.angle.sin().signum() * (DISC + 22.0);
+                drawing.text(x, y, NAMED.middle(), name);
             }
         }
     }
-
-    /// The shortest arrow first, which has the least choice.
-    fn place_labels(&mut self) {
-        let mut order: Vec<usize> = (0..self.arrows.len()).collect();
-        let length = |arrow: &usize| self.arrows[*arrow].curve.length();
-        order.sort_by(|one, other| length(one).total_cmp(&length(other)));
-        for arrow in order {
-            let found = self.label_of(arrow).or_else(|| self.bend_anew(arrow));
-            self.arrows[arrow].label = found;
-            self.missing += usize::from(found.is_none());
-        }
-    }
-
-    /// A free place for the label of an arrow.
-    fn label_of(&self, arrow: usize) -> Option<Rect> {
-        let Arrow { curve, set, .. } = &self.arrows[arrow];
-        let mut tried = along().map(|part| Rect::around(curve.at(part), label_size(*set)));
-        tried.find(|rect| self.is_free(rect, Some(arrow)))
-    }
-
-    /// Another way for an arrow that has no place for its label, which covers nothing that
-    /// has its place, and the place that it gives.
-    fn bend_anew(&mut self, arrow: usize) -> Option<Rect> {
-        let Arrow { holder, target, .. } = self.arrows[arrow];
-        let first = self.arrows[arrow].curve.clone();
-        for curve in ways(&self.places.domains, holder, target) {
-            let mut taken = self.boxes();
-            if !taken.any(|rect| curve.meets(&rect.grown(CLEAR))) {
-                drop(taken);
-                self.arrows[arrow].curve = curve;
-                if let Some(found) = self.label_of(arrow) {
-                    return Some(found);
-                }
-            }
-        }
-        self.arrows[arrow].curve = first;
-        None
-    }
-
-    /// The labels and texts that have their place.
-    fn boxes(&self) -> impl Iterator<Item = &Rect> {
-        let labels = self.arrows.iter().filter_map(|arrow| arrow.label.as_ref());
-        labels.chain(self.texts.iter().flatten())
-    }
-
-    /// Whether a box covers nothing that stands there already, but for its own arrow
-    /// behind the head.
-    fn is_free(&self, rect: &Rect, own: Option<usize>) -> bool {
-        let page = Rect::around(
-            (self.places.size.0 / 2.0, self.places.size.1 / 2.0),
-            self.places.size,
-        );
-        let clear = rect.grown(CLEAR);
-        let mut taken = self.boxes();
-        let mut discs = self.places.domains.iter();
-        let mut arrows = self.arrows.iter().enumerate();
-        rect.is_within(&page)
-            && !taken.any(|other| other.overlaps(&clear))
-            && !discs.any(|disc| rect.is_near(disc.at, DISC + 2.0 * CLEAR))
-            && !arrows.any(|(arrow, other)| match own == Some(arrow) {
-                true => rect.is_near(other.curve.end(), HEAD),
-                false => other.curve.meets(&clear),
-            })
-    }
 }
 
-/// The length of an arrow's head.
-const HEAD: f64 = 12.0;
+/// A holder, a target, and what the one has on the other.
+type Arrow = (usize, usize, u32);
 
-/// How far along its arrow a label may stand, the best first.
-fn along() -> impl Iterator<Item = f64> {
-    (0..=2 * STEPS).map(|step| {
-        let far = FROM_MIDDLE * step.div_ceil(2) as f64 / STEPS as f64;
-        0.5 + if step % 2 == 0 { far } else { -far }
-    })
-}
-
-/// The size of a label with the letters of a set of rights.
-fn label_size(set: u32) -> (f64, f64) {
-    (LETTER * f64::from(set.count_ones()) + 2.0, LABEL_HIGH)
-}
-
-fn text_size(lines: &[String]) -> (f64, f64) {
-    let longest = lines.iter().map(|line| line.chars().count()).max();
-    (
-        TEXT_LETTER * longest.unwrap_or(0) as f64,
-        TEXT_HIGH * lines.len() as f64,
-    )
-}
-
-/// The boxes around a disc that a text may take, the best first.
-fn around(place: Place, size: (f64, f64)) -> impl Iterator<Item = Rect> {
-    AROUND.into_iter().map(move |turn| {
-        let angle = place.text + turn;
-        let touched = at_angle(place.at, angle, DISC + 2.0 * CLEAR + 1.0);
-        // Beside a disc it stands with its side there, over one with its middle.
-        let share = |part: f64| (1.6 * part).clamp(-1.0, 1.0) / 2.0;
-        let middle = (
-            touched.0 + size.0 * share(angle.cos()),
-            touched.1 + size.1 * share(angle.sin()),
-        );
-        Rect::around(middle, size)
-    })
-}
-
-/// The arrows of a table, without labels.
-fn arrows(places: &Places, table: &[u32]) -> Vec<Arrow> {
+/// The arrows of a table, or those from and to one domain.
+pub fn arrows(table: &[u32], of: Option<usize>) -> Vec<Arrow> {
     let n = domains(table);
     let pairs = (0..n * n).map(|pair| (pair / n, pair % n));
-    let held = pairs.filter(|&(holder, target)| rights(table, holder, target) != 0);
-    held.map(|(holder, target)| Arrow {
-        holder,
-        target,
-        set: rights(table, holder, target),
-        curve: first_way(&places.domains, holder, target),
-        label: None,
-    })
-    .collect()
+    let pairs = pairs.filter(|&(h, t)| of.is_none_or(|domain| h == domain || t == domain));
+    let held = pairs.map(|(h, t)| (h, t, rights(table, h, t)));
+    held.filter(|&(.., set)| set != 0).collect()
 }
 
-/// The best way of an arrow from one disc to another or back to itself.
-fn first_way(places: &[Place], holder: usize, target: usize) -> Curve {
-    let first = ways(places, holder, target).next();
-    first.unwrap_or_else(|| match holder == target {
-        true => around_itself(places[holder], 0.0),
-        false => bent(places[holder], places[target], 0.1),
-    })
-}
-
-/// The ways of an arrow from one disc to another that keep clear of all others, the best
-/// first: it is bent so that it stands beside the one back. From a disc to itself they are
-/// loops.
-fn ways(places: &[Place], holder: usize, target: usize) -> impl Iterator<Item = Curve> + use<> {
-    let (from, to) = (places[holder], places[target]);
-    let apart = (19.0 / gap(from.at, to.at).max(1.0)).clamp(0.06, 0.13);
-    let bends = match across_the_middle(from, to) {
-        _ if holder == target => [0.0, 0.5, -0.5, 1.0, -1.0],
-        true => [apart, 2.0 * apart, 1.5 * apart, 2.5 * apart, 3.0 * apart],
-        false if holder < target => [-0.1, 0.1, 0.04, 0.15, 0.34],
-        false => [0.2, 0.28, 0.24, 0.38, 0.06],
+/// What a holder has on a target, for a tooltip.
+pub fn right_in_words(names: &Names, (holder, target): (usize, usize), set: u32) -> String {
+    let set = match set {
+        0 => "no right".to_string(),
+        set => rights_in_words(set),
     };
-    let others: Vec<Point> = (0..places.len())
-        .filter(|other| *other != holder && *other != target)
-        .map(|other| places[other].at)
-        .collect();
-    let curves = bends.into_iter().map(move |bend| match holder == target {
-        true => around_itself(from, bend),
-        false => bent(from, to, bend),
-    });
-    curves.filter(move |curve| !others.iter().any(|&at| curve.is_near(at, DISC + 6.0)))
+    let (holder, target) = (names.domain(holder), names.domain(target));
+    format!("{holder} has {set} on {target}")
 }
 
-/// A loop over a disc, turned from where it goes first.
-fn around_itself(place: Place, turned: f64) -> Curve {
-    let on = |turn: f64, far: f64| at_angle(place.at, place.turn + turned + turn, far);
-    Curve::new([
-        on(-0.5, DISC + 1.0),
-        on(-0.5, 92.0),
-        on(0.5, 92.0),
-        on(0.5, DISC + 3.0),
-    ])
-}
-
-/// Whether the middle of a ring is on the way, so that no side of it is the inner one.
-fn across_the_middle(from: Place, to: Place) -> bool {
-    let (dx, dy) = (to.at.0 - from.at.0, to.at.1 - from.at.1);
-    let (cx, cy) = (from.centre.0 - from.at.0, from.centre.1 - from.at.1);
-    (dx * cy - dy * cx).abs() < 0.1 * dx.hypot(dy) * dx.hypot(dy)
-}
-
-/// A curve that is bent to the middle of the ring by a part of its length, or to the left
-/// where it goes across the middle.
-fn bent(from: Place, to: Place, bend: f64) -> Curve {
-    let (dx, dy) = (to.at.0 - from.at.0, to.at.1 - from.at.1);
-    let inward = dy * (from.centre.0 - from.at.0) - dx * (from.centre.1 - from.at.1);
-    let bend = match across_the_middle(from, to) || inward >= 0.0 {
-        true => bend,
-        false => -bend,
+/// Where the letters of each arrow are, if there is a place that covers no other's.
+fn places_of_letters(arrows: &[Arrow], curves: &[Curve]) -> Vec<Option<Point>> {
+    let width = |set: u32| LETTER.0 * f64::from(set.count_ones()) + 2.0;
+    let mut taken: Vec<(Point, f64)> = Vec::new();
+    let place = |(&(.., set), curve): (&Arrow, &Curve)| {
+        let free = |at: &Point| {
+            taken.iter().all(|(other, wide)| {
+                (other.0 - at.0).abs() > (wide + width(set)) / 2.0
+                    || (other.1 - at.1).abs() > LETTER.1
+            })
+        };
+        let found = LETTERS_AT
+            .map(|part| on(curve, part))
+            .into_iter()
+            .find(free);
+        taken.extend(found.map(|at| (at, width(set))));
+        found
     };
-    let at = |part: f64| -> Point {
-        (
-            from.at.0 + part * dx + bend * dy,
-            from.at.1 + part * dy - bend * dx,
-        )
+    arrows.iter().zip(curves).map(place).collect()
+}
+
+/// The radius of a ring, with so much beside its discs on a page.
+fn radius(members: usize, beside: f64) -> f64 {
+    match members {
+        1 => 0.0,
+        _ => (STEP * members as f64 / TAU).clamp(RADIUS_MIN, INNER / 2.0 - 18.0 - beside),
+    }
+}
+
+fn at_angle(from: Point, angle: f64, far: f64) -> Point {
+    (from.0 + far * angle.cos(), from.1 + far * angle.sin())
+}
+
+/// The point of a curve at a part of it.
+fn on(points: &Curve, part: f64) -> Point {
+    let rest = 1.0 - part;
+    let shares = [
+        rest * rest * rest,
+        3.0 * rest * rest * part,
+        3.0 * rest * part * part,
+        part * part * part,
+    ];
+    let sum = |of: fn(&Point) -> f64| {
+        points
+            .iter()
+            .zip(shares)
+            .map(|(p, share)| of(p) * share)
+            .sum()
     };
-    let start = towards(from.at, at(0.3), DISC + 2.0);
-    let end = towards(to.at, at(0.7), DISC + 4.0);
-    Curve::new([start, at(0.3), at(0.7), end])
+    (sum(|point| point.0), sum(|point| point.1))
+}
+
+/// A curve as SVG writes it.
+fn path([from, one, other, to]: &Curve) -> String {
+    format!(
+        "M{:.1} {:.1} C{:.1} {:.1} {:.1} {:.1} {:.1} {:.1}",
+        from.0, from.1, one.0, one.1, other.0, other.1, to.0, to.1
+    )
 }
 
 #[cfg(test)]
 mod tests {
     use super::*;
-    use crate::pictures::groups::groups;
-    use reference::generate::{table_of, walled_table, Rng};
-    use reference::table::rights_place;
+    use reference::generate::{table_of, Rng};
 
-    /// A table of n domains with so many sets of rights, the others empty.
-    fn with_sets(rng: &mut Rng, n: usize, sets: usize) -> Vec<u32> {
-        let mut table = table_of(rng, n, 0);
-        table[1..=n * n].fill(0x2000_0000);
-        for pair in rng.order(n * n).into_iter().take(sets) {
-            let place = rights_place(&table, pair / n, pair % n);
-            table[place] |= rng.between(1, 15) as u32;
-        }
-        table
-    }
-
-    fn texts(n: usize, letters: usize, lines: usize) -> Vec<Vec<String>> {
-        vec![vec!["m".repeat(letters); lines]; n]
-    }
-
-    /// That nothing covers anything, of a layout: labels and texts among each other, on
-    /// discs, on arrows that aren't their own, and beyond the edge.
-    fn covers_nothing(layout: &Layout) -> Result<(), String> {
-        let labels = layout.arrows.iter().enumerate();
-        let labels = labels.filter_map(|(own, arrow)| Some((Some(own), arrow.label?)));
-        let texts = layout.texts.iter().flatten().map(|text| (None, *text));
-        let boxes: Vec<(Option<usize>, Rect)> = labels.chain(texts).collect();
-        for (number, (own, rect)) in boxes.iter().enumerate() {
-            if boxes[..number]
-                .iter()
-                .any(|(_, other)| other.overlaps(rect))
-            {
-                return Err(format!("{rect:?} covers another"));
-            }
-            let mut discs = layout.places.domains.iter();
-            if discs.any(|disc| rect.is_near(disc.at, DISC)) {
-                return Err(format!("{rect:?} lies on a disc"));
-            }
-            let mut arrows = layout.arrows.iter().enumerate();
-            if arrows.any(|(arrow, other)| *own != Some(arrow) && other.curve.meets(rect)) {
-                return Err(format!("{rect:?} lies on an arrow"));
-            }
-            let (across, down) = layout.places.size;
-            if rect.left < 0.0 || rect.top < 0.0 || rect.right > across || rect.bottom > down {
-                return Err(format!("{rect:?} is beyond the edge"));
-            }
-        }
-        Ok(())
+    fn far(one: Point, other: Point) -> f64 {
+        (one.0 - other.0).hypot(one.1 - other.1)
     }
 
     #[test]
-    fn nothing_covers_anything_in_tables_of_any_size() {
-        let mut rng = Rng::new(21);
-        for number in 0..120 {
-            let n = 2 + number % 15;
-            let sets = rng.between(0, 4 * n).min(n * n);
-            let table = match number % 3 {
-                0 => walled_table(&mut rng, n, 8),
-                _ => with_sets(&mut rng, n, sets),
-            };
-            let n = domains(&table);
-            let lines = texts(n, [0, 6, 24][number % 3], number % 3);
-            let layout = Layout::of(&table, &groups(&table), &lines);
-            covers_nothing(&layout).unwrap_or_else(|told| panic!("table {number}: {told}"));
-        }
-    }
-
-    #[test]
-    fn what_covers_something_is_told() {
-        let table = with_sets(&mut Rng::new(3), 4, 6);
-        let layout = || Layout::of(&table, &groups(&table), &texts(4, 6, 1));
-        assert_eq!(covers_nothing(&layout()), Ok(()));
-        let told = |at: Point| {
-            let mut layout = layout();
-            layout.texts[0] = Some(Rect::around(at, (8.0, 8.0)));
-            covers_nothing(&layout).unwrap_err()
-        };
-        let plain = layout();
-        let label = plain.arrows[0].label.expect("there is room");
-        assert!(told(label.middle()).contains("covers another"));
-        assert!(told(plain.places.domains[2].at).contains("on a disc"));
-        let clear = |at: &Point| {
-            let rect = Rect::around(*at, (8.0, 8.0));
-            let labels = plain.arrows.iter().filter_map(|arrow| arrow.label);
-            let mut boxes = labels.chain(plain.texts[1..].iter().flatten().copied());
-            let mut discs = plain.places.domains.iter();
-            !boxes.any(|other| other.overlaps(&rect)) && !discs.any(|d| rect.is_near(d.at, DISC))
-        };
-        let mut on_arrows = plain.arrows.iter().map(|arrow| arrow.curve.at(0.8));
-        let at = on_arrows.find(clear).expect("a place on an arrow alone");
-        assert!(told(at).contains("on an arrow"));
-        assert!(told((0.0, 0.0)).contains("beyond the edge"));
-    }
-
-    /// The tables in which labels were seen to cover each other: six domains with nine and
-    /// fourteen sets, five with ten.
-    #[test]
-    fn few_sets_have_all_their_labels() {
-        let mut rng = Rng::new(22);
-        for (n, sets) in [
-            (2, 4),
-            (3, 6),
-            (4, 8),
-            (5, 10),
-            (6, 9),
-            (6, 14),
-            (8, 12),
-            (12, 14),
-        ] {
-            for _ in 0..6 {
-                let table = with_sets(&mut rng, n, sets);
-                let layout = Layout::of(&table, &groups(&table), &texts(n, 24, 2));
-                assert_eq!(layout.missing, 0, "{n} domains, {sets} sets");
-            }
-        }
-    }
-
-    #[test]
-    fn every_set_has_its_arrow_and_no_arrow_goes_through_another_disc() {
-        let mut rng = Rng::new(23);
+    fn no_arrow_goes_through_another_disc_and_every_ring_fits_the_page() {
+        let names = Names::given(&format!("domain 0 {}", "m".repeat(24)));
         for n in 2..=16 {
-            let table = with_sets(&mut rng, n, n * n);
-            let places = Places::of(&groups(&table), 0.0, 1.0);
-            let arrows = arrows(&places, &table);
-            assert_eq!(arrows.len(), n * n);
-            for (pair, arrow) in arrows.iter().enumerate() {
-                let mut others = (0..n).filter(|other| *other != pair / n && *other != pair % n);
-                let through = |other: &usize| {
-                    let at = places.domains[*other].at;
-                    arrow.curve.is_near(at, DISC)
-                };
-                assert_eq!(others.find(through), None, "{n} domains, pair {pair}");
+            let rings = Rings::of(&[(0..n).collect()], &names);
+            assert!(
+                rings.size.0 <= INNER - 35.9,
+                "{n} domains: {:?}",
+                rings.size
+            );
+            for pair in 0..n * n {
+                let curve = rings.curve(pair / n, pair % n);
+                for other in (0..n).filter(|d| *d != pair / n && *d != pair % n) {
+                    let points = (0..=40).map(|part| on(&curve, f64::from(part) / 40.0));
+                    let mut gaps = points.map(|at| far(at, rings.discs[other].at));
+                    assert!(gaps.all(|gap| gap > DISC), "{n} domains, pair {pair}");
+                }
             }
         }
+    }
+
+    #[test]
+    fn components_have_frames_of_their_own() {
+        let components = [vec![0, 3, 4], vec![1], vec![2, 5], vec![6], vec![7]];
+        let rings = Rings::of(&components, &Names::none());
+        for (&(corner, size), members) in rings.frames.iter().zip(&components) {
+            for (domain, disc) in rings.discs.iter().enumerate() {
+                let (x, y) = (disc.at.0 - corner.0, disc.at.1 - corner.1);
+                let within = 0.0 < x && x < size.0 && 0.0 < y && y < size.1;
+                assert_eq!(within, members.contains(&domain));
+            }
+        }
+    }
+
+    #[test]
+    fn the_letters_of_no_arrow_cover_those_of_another() {
+        let mut rng = Rng::new(21);
+        let (mut with, mut all) = (0, 0);
+        for n in 2..=16 {
+            let table = table_of(&mut rng, n, 0);
+            let arrows = arrows(&table, Some(0));
+            let rings = Rings::of(&[(0..n).collect()], &Names::none());
+            let curves: Vec<Curve> = arrows.iter().map(|&(h, t, _)| rings.curve(h, t)).collect();
+            let places = places_of_letters(&arrows, &curves);
+            let found: Vec<Point> = places.iter().flatten().copied().collect();
+            for (number, &at) in found.iter().enumerate() {
+                assert!(found[..number].iter().all(|&other| far(at, other) > 15.0));
+            }
+            (with, all) = (with + found.len(), all + arrows.len());
+        }
+        assert!(4 * with > 3 * all, "{with} of {all} have letters");
+    }
+
+    #[test]
+    fn the_arrows_of_one_domain_are_those_from_it_and_to_it() {
+        let table = table_of(&mut Rng::new(5), 6, 0);
+        let (all, own) = (arrows(&table, None), arrows(&table, Some(2)));
+        let wanted: Vec<Arrow> = all.into_iter().filter(|a| a.0 == 2 || a.1 == 2).collect();
+        assert!(!own.is_empty());
+        assert_eq!(own, wanted);
     }
 }

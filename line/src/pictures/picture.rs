@@ -1,6 +1,6 @@
-//! The picture of a table and a list: who has which right on whom, as arrows and as a
-//! grid, who can reach whom by a chain of rights, the queues with what waits in them, and
-//! the first calls of the list; where the list was run, the same of the table after it.
+//! The picture of a table and a list: who has which right on whom, as a grid and, where they
+//! are few, as arrows, the queues with what waits in them, and the first calls of the list;
+//! where the list was run, the same of the table after it.
 
 use reference::calls::Call;
 use reference::cut;
@@ -10,11 +10,11 @@ use reference::table::{
 use reference::words::{content, hex};
 
 use crate::kernels::lent::Ran;
+use crate::output::wrapped;
 use crate::pictures::diagram::told_answers;
 use crate::pictures::parts::{
-    chip, panel, GAP, INNER, LABEL, MARGIN, NAMED, NAMED_LETTER, PANEL_HEAD, SMALL, SUBTITLE, WIDTH,
+    chip, panel, GAP, INNER, MARGIN, NAMED, PANEL_HEAD, SMALL, SUBTITLE, WIDTH,
 };
-use crate::pictures::reach::{holders_of, reached_by};
 use crate::pictures::rights::Stage;
 use crate::pictures::svg::{Drawing, Style, ARROW, INK, LINE, QUIET};
 use crate::text::explain::{call_on_table, counted, senders};
@@ -24,8 +24,7 @@ use crate::text::names::Names;
 /// The highest picture that programs draw.
 const HIGHEST: f64 = 32_767.0;
 
-const ROW: f64 = 28.0;
-const QUEUE_ROW: f64 = 40.0;
+const QUEUE_ROW: f64 = 48.0;
 const CALL_ROW: f64 = 24.0;
 
 /// The height of a further line of a call.
@@ -44,19 +43,29 @@ const LOST: Style = Style::new(11.0, "#b8383d").bold();
 /// The picture of an accepted table and the first `calls` calls of a list; where the list
 /// was run, with the table that was left and what each call was answered.
 pub fn svg(input: &Input, names: &Names, left: Option<&Ran>, calls: usize) -> String {
+    svg_of(input, names, left, calls, None)
+}
+
+/// The same with the arrows from and to one domain alone, where one is given.
+pub fn svg_of(
+    input: &Input,
+    names: &Names,
+    left: Option<&Ran>,
+    calls: usize,
+    of: Option<usize>,
+) -> String {
     let mut page = Page {
         drawing: Drawing::default(),
-        stage: Stage::of(&input.table, names),
+        stage: Stage::of(&input.table, names, of),
         names,
         y: 92.0,
     };
-    let told = input.size();
+    let size = input.size();
     let drawing = &mut page.drawing;
     drawing.text(MARGIN, 40.0, TITLE, "Capability table of the line");
-    drawing.text(MARGIN, 66.0, SUBTITLE, &told);
+    drawing.text(MARGIN, 66.0, SUBTITLE, &size);
     page.table(&input.table);
-    // The table after the list comes before its calls, which may be as many as there is
-    // room for.
+    // The table after the list comes before its calls, which may fill the rest.
     if let Some(left) = left {
         page.section("After the list");
         page.table(&left.table);
@@ -67,7 +76,7 @@ pub fn svg(input: &Input, names: &Names, left: Option<&Ran>, calls: usize) -> St
     });
     page.calls(input, &answers, calls);
     let height = page.y - GAP + MARGIN;
-    let title = format!("Capability table: {told}");
+    let title = format!("Capability table: {size}");
     page.drawing.finish(WIDTH, height, &title)
 }
 
@@ -86,48 +95,10 @@ impl Page<'_> {
         self.y += 40.0;
     }
 
-    /// A table's rights, who reaches whom, and its queues.
+    /// A table's rights and its queues.
     fn table(&mut self, table: &[u32]) {
         self.y = self.stage.rights_panels(&mut self.drawing, table, self.y) + GAP;
-        self.reach(table);
         self.queues(table);
-    }
-
-    /// Each domain with the others that have a chain of rights to it.
-    fn reach(&mut self, table: &[u32]) {
-        let holders = holders_of(table);
-        let height = PANEL_HEAD + ROW * holders.len() as f64 + 8.0;
-        let heading = "Who can reach a domain, by a chain of rights in this table";
-        let top = panel(
-            &mut self.drawing,
-            (MARGIN, self.y),
-            (INNER, height),
-            heading,
-        );
-        for domain in 0..holders.len() {
-            let others = reached_by(&holders, domain);
-            self.reach_row(domain, &others, top + ROW * (domain as f64 + 0.5));
-        }
-        self.y += height + GAP;
-    }
-
-    fn reach_row(&mut self, domain: usize, others: &[usize], y: f64) {
-        let drawing = &mut self.drawing;
-        let names = (0..16).filter_map(|domain| self.names.domain_name(domain));
-        let longest = names.map(str::len).max().unwrap_or(0) as f64;
-        chip(drawing, MARGIN + 32.0, y, 11.0, domain);
-        let name = self.names.domain_name(domain).unwrap_or("");
-        drawing.text(MARGIN + 50.0, y, NAMED, name);
-        let mut x = MARGIN + 64.0 + NAMED_LETTER * longest;
-        let told = match others.len() {
-            0 | 1 => "by nobody else",
-            _ => "by",
-        };
-        drawing.text(x, y, LABEL, told);
-        for &other in others.iter().filter(|other| **other != domain) {
-            x += 32.0;
-            chip(drawing, x, y, 11.0, other);
-        }
     }
 
     fn queues(&mut self, table: &[u32]) {
@@ -137,30 +108,21 @@ impl Page<'_> {
         let at = (MARGIN, self.y);
         let top = panel(&mut self.drawing, at, (INNER, height), heading);
         if m == 0 {
-            let told = "The table has no endpoint.";
-            self.drawing.text(MARGIN + 18.0, top + 16.0, SUBTITLE, told);
+            let none = "The table has no endpoint.";
+            self.drawing.text(MARGIN + 18.0, top + 16.0, SUBTITLE, none);
         }
         for e in 0..m {
             let y = top + QUEUE_ROW * (e as f64 + 0.5) - 4.0;
-            let title = self.endpoint_title(e);
-            queue_row(&mut self.drawing, table, e, &title, y);
+            queue_row(&mut self.drawing, table, e, self.names, y);
         }
         self.y += height + GAP;
     }
 
-    /// An endpoint's number, with its name where it has one.
-    fn endpoint_title(&self, endpoint: usize) -> String {
-        match self.names.endpoint_name(endpoint) {
-            Some(_) => self.names.endpoint_label(endpoint),
-            None => format!("endpoint {endpoint}"),
-        }
-    }
-
     /// A call in lines, with its answer in one of its own where there is one.
-    fn told(&self, call: &Call, table: &[u32], answer: Option<&String>) -> Vec<String> {
-        let mut lines = lines_of(&call_on_table(call, table, self.names), CALL_LETTERS);
+    fn call(&self, call: &Call, table: &[u32], answer: Option<&String>) -> Vec<String> {
+        let mut lines = wrapped(&call_on_table(call, table, self.names), CALL_LETTERS);
         if let Some(answer) = answer {
-            lines.extend(lines_of(&format!("-> {answer}"), CALL_LETTERS));
+            lines.extend(wrapped(&format!("-> {answer}"), CALL_LETTERS));
         }
         lines
     }
@@ -172,52 +134,56 @@ impl Page<'_> {
             .iter()
             .enumerate()
             .take(most)
-            .map(|(number, call)| self.told(call, &input.table, answers.get(number)))
+            .map(|(number, call)| self.call(call, &input.table, answers.get(number)))
             .collect();
-        let room = HIGHEST - MARGIN - self.y - fixed;
-        let shown = fitting(&rows, room);
+        let shown = fitting(&rows, HIGHEST - MARGIN - self.y - fixed);
         let more = calls.len() - shown;
-        let told = match (shown, more) {
+        let rest = match (shown, more) {
             (_, 1..) => Some(format!("and {more} more")),
             (0, _) => Some("The list is empty.".to_string()),
             _ => None,
         };
         let calls_high: f64 = rows[..shown].iter().map(|lines| row_height(lines)).sum();
-        let height = fixed - CALL_ROW + calls_high + told.as_ref().map_or(0.0, |_| CALL_ROW);
+        let height = fixed - CALL_ROW + calls_high + rest.as_ref().map_or(0.0, |_| CALL_ROW);
         let heading = format!("List: {}", counted(calls.len(), "call"));
         let at = (MARGIN, self.y);
         let mut line = panel(&mut self.drawing, at, (INNER, height), &heading) + 6.0;
         for (number, (call, lines)) in calls.iter().zip(&rows[..shown]).enumerate() {
-            call_row(&mut self.drawing, number, call, lines, line);
+            call_row(&mut self.drawing, self.names, (number, call), lines, line);
             line += row_height(lines);
         }
-        if let Some(told) = told {
-            self.drawing.text(MARGIN + 18.0, line, SUBTITLE, &told);
+        if let Some(rest) = rest {
+            self.drawing.text(MARGIN + 18.0, line, SUBTITLE, &rest);
         }
         self.y += height + GAP;
     }
 }
 
-/// One endpoint: its name and lost count, its senders, its places with the oldest
-/// message next to the owner, and its owner.
-fn queue_row(drawing: &mut Drawing, table: &[u32], e: usize, title: &str, y: f64) {
-    let left = MARGIN + 18.0;
-    drawing.text(left, y - 7.0, NAMED.bold(), title);
-    drawing.text(left, y + 9.0, SMALL, &format!("name {}", name(table, e)));
+/// One endpoint: its names, owner and lost count, its senders, and its places with the
+/// oldest message next to the owner.
+fn queue_row(drawing: &mut Drawing, table: &[u32], e: usize, names: &Names, y: f64) {
+    let (left, to) = (MARGIN + 18.0, owner(table, e));
+    let title = match names.endpoint_name(e) {
+        Some(_) => names.endpoint_label(e),
+        None => format!("endpoint {e}"),
+    };
+    drawing.text(left, y - 14.0, NAMED.bold(), &title);
+    drawing.text(left, y, NAMED, &format!("of {}", names.domain(to)));
+    drawing.text(left, y + 14.0, SMALL, &format!("name {}", name(table, e)));
     let lost = lost(table, e);
     let style = if lost == 0 { SMALL } else { LOST };
-    drawing.text(left + 108.0, y + 9.0, style, &format!("lost {lost}"));
-    let to = owner(table, e);
+    drawing.text(left + 108.0, y + 14.0, style, &format!("lost {lost}"));
     let senders = senders(table, e);
-    let boxes = left + 236.0 + 16.0 * domains(table) as f64;
-    for (place, domain) in senders.iter().rev().enumerate() {
-        chip(drawing, boxes - 36.0 - 16.0 * place as f64, y, 7.5, *domain);
+    let boxes = left + 256.0 + 15.5 * domains(table) as f64;
+    for (place, &domain) in senders.iter().rev().enumerate() {
+        let x = boxes - 34.0 - 15.5 * place as f64;
+        chip(drawing, (x, y), 7.5, domain, names);
     }
     let last = boxes + PLACE * capacity(table, e) as f64;
     level_arrow(drawing, boxes - 24.0, boxes - 3.0, y);
     queue_boxes(drawing, table, e, (boxes, y));
     level_arrow(drawing, last + 2.0, last + 19.0, y);
-    chip(drawing, last + 31.0, y, 11.0, to);
+    chip(drawing, (last + 31.0, y), 11.0, to, names);
 }
 
 fn queue_boxes(drawing: &mut Drawing, table: &[u32], e: usize, at: (f64, f64)) {
@@ -252,30 +218,13 @@ fn level_arrow(drawing: &mut Drawing, from: f64, to: f64, y: f64) {
     drawing.arrow(&path, (from, y), (to, y), ARROW);
 }
 
-/// A text in lines of so many letters at most, broken between words.
-fn lines_of(text: &str, most: usize) -> Vec<String> {
-    let mut lines = vec![String::new()];
-    for word in text.split(' ') {
-        let line = lines.last_mut().expect("there is a line");
-        if line.is_empty() {
-            line.push_str(word);
-        } else if line.len() + 1 + word.len() <= most {
-            line.push(' ');
-            line.push_str(word);
-        } else {
-            lines.push(word.to_string());
-        }
-    }
-    lines
-}
-
 fn row_height(lines: &[String]) -> f64 {
     CALL_ROW + CALL_LINE * (lines.len() as f64 - 1.0)
 }
 
-/// How many rows fit into so much room.
-fn fitting(rows: &[Vec<String>], room: f64) -> usize {
-    let mut left = room;
+/// How many rows fit into a height.
+fn fitting(rows: &[Vec<String>], height: f64) -> usize {
+    let mut left = height;
     let fits = |lines: &&Vec<String>| {
         left -= row_height(lines);
         left >= 0.0
@@ -283,12 +232,18 @@ fn fitting(rows: &[Vec<String>], room: f64) -> usize {
     rows.iter().take_while(fits).count()
 }
 
-fn call_row(drawing: &mut Drawing, number: usize, call: &Call, lines: &[String], y: f64) {
+fn call_row(
+    drawing: &mut Drawing,
+    names: &Names,
+    (number, call): (usize, &Call),
+    lines: &[String],
+    y: f64,
+) {
     let left = MARGIN + 18.0;
     let style = Style::new(11.0, QUIET).even();
     drawing.text(left + 24.0, y, style.end(), &number.to_string());
     match call.caller() {
-        Some(caller) => chip(drawing, left + 40.0, y, 8.0, caller as usize),
+        Some(caller) => chip(drawing, (left + 40.0, y), 8.0, caller as usize, names),
         None => drawing.circle(left + 40.0, y, 3.0, QUIET),
     }
     drawing.text(left + 56.0, y, style, &hex(&call.words()));
@@ -301,6 +256,7 @@ fn call_row(drawing: &mut Drawing, number: usize, call: &Call, lines: &[String],
 mod tests {
     use super::*;
     use crate::kernels::boundary::Outcome;
+    use crate::pictures::parts::NAMED_LETTER;
     use reference::generate::{list, table_of, Rng};
 
     fn opened_and_closed(svg: &str) -> bool {
@@ -326,7 +282,16 @@ mod tests {
         assert_eq!(bent, 3, "three rights words are not empty");
         assert!(picture.contains("domain 0 sends 5 to endpoint 1"));
         assert!(picture.contains("name 18"));
-        assert!(picture.contains("Who can reach a domain, by a chain of rights in this table"));
+        let titles = "<title>domain 1 has SEND+GRANT+REMOVE on domain 2</title>";
+        assert_eq!(
+            picture.matches(titles).count(),
+            2,
+            "of its arrow and its cell"
+        );
+        assert_eq!(
+            picture.matches(", but a chain of rights</title>").count(),
+            1
+        );
     }
 
     #[test]
@@ -364,11 +329,8 @@ mod tests {
         let input = Input::parse(&given.bytes).unwrap();
         let picture = svg(&input, &given.names, None, 24);
         assert!(opened_and_closed(&picture));
-        assert_eq!(
-            picture.matches(">link<").count(),
-            3,
-            "by its disc, grid and reach"
-        );
+        let count = picture.matches(">link<").count();
+        assert_eq!(count, 3, "by its disc, row and column");
         assert!(picture.contains(">0 routes<"));
         assert!(picture.contains(">domain 0 (link) asks for its rights<"));
         assert!(!drawn(&input, 24).contains("link"));
@@ -401,13 +363,6 @@ mod tests {
         assert!((HIGHEST - CALL_ROW..HIGHEST).contains(&height), "{height}");
         let shown = picture.matches("domain 0 asks for its rights").count();
         assert!(picture.contains(&format!(">and {} more<", 4096 - shown)));
-    }
-
-    #[test]
-    fn a_long_call_is_broken_between_words() {
-        assert_eq!(lines_of("ab cd ef", 5), ["ab cd", "ef"]);
-        assert_eq!(lines_of("abcdefg h", 5), ["abcdefg", "h"]);
-        assert_eq!(lines_of("ab", 5), ["ab"]);
     }
 
     #[test]

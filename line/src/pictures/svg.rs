@@ -1,6 +1,7 @@
 //! A few shapes of SVG, as text: what `picture` draws with.
 
-use crate::pictures::geometry::{towards, Point};
+/// A point of a picture, across from the left and down from the top, or a size.
+pub type Point = (f64, f64);
 
 /// The length of an arrow's head, and half of its width.
 const HEAD: f64 = 9.0;
@@ -99,6 +100,13 @@ impl Drawing {
         );
     }
 
+    /// A text that goes upwards from a point.
+    pub fn text_up(&mut self, x: f64, y: f64, style: Style, text: &str) {
+        self.body += &format!("<g transform=\"translate({x:.1} {y:.1}) rotate(-90)\">\n");
+        self.text(0.0, 0.0, style, text);
+        self.end_part();
+    }
+
     /// A box with round corners; `edge` is its line's colour, or `none`.
     pub fn rect(&mut self, at: (f64, f64), size: (f64, f64), round: f64, fill: &str, edge: &str) {
         self.body += &format!(
@@ -148,6 +156,11 @@ impl Drawing {
         );
     }
 
+    /// What is drawn from here to [`Drawing::end_part`] has a tooltip.
+    pub fn start_titled(&mut self, title: &str) {
+        self.body += &format!("<g><title>{}</title>\n", escaped(title));
+    }
+
     pub fn end_part(&mut self) {
         self.body += "</g>\n";
     }
@@ -164,6 +177,13 @@ impl Drawing {
             self.body
         )
     }
+}
+
+/// The point so far from one on the way to another.
+pub fn towards(from: Point, to: Point, far: f64) -> Point {
+    let (dx, dy) = (to.0 - from.0, to.1 - from.1);
+    let part = far / dx.hypot(dy).max(1.0);
+    (from.0 + part * dx, from.1 + part * dy)
 }
 
 /// A text with what means something to SVG written so that it doesn't.
