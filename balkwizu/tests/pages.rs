@@ -68,11 +68,11 @@ fn tables_are_compared_in_each_form() {
         "card.txt",
         LINE.replace("chute on loader: SEND", "chute on loader: GRANT"),
     );
-    let (status, printed, told) = TOOL.ran(&["compare", &card, &plan]);
+    let (status, printed, said) = TOOL.ran(&["compare", &card, &plan]);
     let wanted =
         "altered  the rights of domain 2 (chute) on domain 1 (loader): GRANT, in the plan \
                   SEND\n1 difference: 1 altered\n";
-    assert_eq!((status, printed.as_str(), told.as_str()), (1, wanted, ""));
+    assert_eq!((status, printed.as_str(), said.as_str()), (1, wanted, ""));
     let (status, printed, _) = TOOL.ran(&["compare", &plan, &plan]);
     assert_eq!(
         (status, printed.as_str()),
@@ -91,31 +91,31 @@ fn tables_are_compared_in_each_form() {
 fn what_cannot_be_compared_is_said() {
     let plan = TOOL.file("plan.txt", LINE);
     let image = TOOL.file("image.bin", to_bytes(&TABLE_T));
-    let (status, _, told) = TOOL.ran(&["compare", &image, &plan]);
+    let (status, _, said) = TOOL.ran(&["compare", &image, &plan]);
     assert_eq!(status, 2);
-    assert!(told.contains("image.bin is refused with 7"), "{told}");
+    assert!(said.contains("image.bin is refused with 7"), "{said}");
     let mut broken = TABLE_T;
     broken[9] = 0x3000_0000;
     let broken = TOOL.file("broken.bin", to_bytes(&broken));
-    let (status, _, told) = TOOL.ran(&["compare", &broken, &plan, "--image"]);
+    let (status, _, said) = TOOL.ran(&["compare", &broken, &plan, "--image"]);
     assert_eq!(status, 2);
-    assert!(told.contains("broken.bin is refused with 4"), "{told}");
-    let (status, _, told) = TOOL.ran(&["compare", &plan]);
+    assert!(said.contains("broken.bin is refused with 4"), "{said}");
+    let (status, _, said) = TOOL.ran(&["compare", &plan]);
     assert_eq!(status, 2);
     assert!(
-        told.contains("two files are needed, CARD and PLAN; 1 given"),
-        "{told}"
+        said.contains("two files are needed, CARD and PLAN; 1 given"),
+        "{said}"
     );
     let other = TOOL.file(
         "other.txt",
         LINE.replace("domain chute", "domain slide")
             .replace("rights chute", "rights slide"),
     );
-    let (status, _, told) = TOOL.ran(&["compare", &other, &plan]);
+    let (status, _, said) = TOOL.ran(&["compare", &other, &plan]);
     assert_eq!(status, 0);
     assert!(
-        told.contains("domain 2 is slide in CARD and chute in PLAN"),
-        "{told}"
+        said.contains("domain 2 is slide in CARD and chute in PLAN"),
+        "{said}"
     );
 }
 
@@ -136,8 +136,8 @@ fn a_run_leaves_its_answers_and_its_table() {
     let (status, differs, _) = TOOL.ran(&["compare", &wanted, &left, "--image"]);
     assert_eq!(status, 0, "{differs} {table}");
     let read_back = ["commission", &input, "--answers", &answers, "--left", &left];
-    let (status, judged, told) = TOOL.ran(&read_back);
-    assert_eq!(status, 0, "{judged} {told}");
+    let (status, judged, said) = TOOL.ran(&read_back);
+    assert_eq!(status, 0, "{judged} {said}");
     assert!(judged.contains("check 2"), "{judged}");
     let wrong = fs::read_to_string(&answers)
         .unwrap()
@@ -156,17 +156,17 @@ fn names_stay_in_the_table_that_a_run_leaves() {
         printed.contains("endpoint 0 (routes, name 1) [- - - 65]"),
         "{printed}"
     );
-    let (status, _, told) = TOOL.ran(&["run", &line, "--left", &left, "--answers", &left]);
+    let (status, _, said) = TOOL.ran(&["run", &line, "--left", &left, "--answers", &left]);
     assert_eq!(status, 2);
     assert!(
-        told.contains("--answers and --left need a file each"),
-        "{told}"
+        said.contains("--answers and --left need a file each"),
+        "{said}"
     );
-    let (status, _, told) = TOOL.ran(&["run", &line, "--left", &line]);
+    let (status, _, said) = TOOL.ran(&["run", &line, "--left", &line]);
     assert_eq!(status, 2);
     assert!(
-        told.contains("is the input, which it would overwrite"),
-        "{told}"
+        said.contains("is the input, which it would overwrite"),
+        "{said}"
     );
     let refused = TOOL.file("refused.txt", "table 10000100 30000000");
     assert_eq!(TOOL.ran(&["run", &refused]).0, 1);
@@ -175,16 +175,16 @@ fn names_stay_in_the_table_that_a_run_leaves() {
 #[test]
 fn options_are_given_once_and_names_stay_in_their_line() {
     let line = TOOL.file("line.txt", LINE);
-    let (status, _, told) = TOOL.ran(&["show", &line, "--run", "--run"]);
+    let (status, _, said) = TOOL.ran(&["show", &line, "--run", "--run"]);
     assert_eq!(status, 2);
-    assert_eq!(told, "balkwizu show: --run is given twice\n");
-    let (status, _, told) = TOOL.ran(&["show", "no\nsuch\u{1B}file"]);
+    assert_eq!(said, "balkwizu show: --run is given twice\n");
+    let (status, _, said) = TOOL.ran(&["show", "no\nsuch\u{1B}file"]);
     assert_eq!(status, 2);
     assert!(
-        told.starts_with("balkwizu show: cannot read no\\nsuch\\u{1b}file: "),
-        "{told}"
+        said.starts_with("balkwizu show: cannot read no\\nsuch\\u{1b}file: "),
+        "{said}"
     );
-    assert_eq!(told.lines().count(), 1, "{told}");
+    assert_eq!(said.lines().count(), 1, "{said}");
 }
 
 #[test]
@@ -195,11 +195,11 @@ fn a_text_in_utf_16_is_said_to_be_one() {
         .collect();
     let saved = TOOL.file("saved.txt", bytes);
     for command in ["show", "write", "commission", "run"] {
-        let (status, _, told) = TOOL.ran(&[command, &saved]);
+        let (status, _, said) = TOOL.ran(&[command, &saved]);
         assert_eq!(status, 2);
         assert!(
-            told.contains("it is saved as UTF-16: save it as UTF-8"),
-            "{told}"
+            said.contains("it is saved as UTF-16: save it as UTF-8"),
+            "{said}"
         );
     }
 }
@@ -218,9 +218,9 @@ fn the_page_is_one_file_that_fetches_nothing() {
     for fetched in ["http:", "https:", "src=", "href=", "@import", "url("] {
         assert!(!written.contains(fetched), "{fetched}");
     }
-    let (status, _, told) = TOOL.ran(&["show", &line, "--page", &page, "--svg", &page]);
+    let (status, _, said) = TOOL.ran(&["show", &line, "--page", &page, "--svg", &page]);
     assert_eq!(status, 2);
-    assert!(told.contains("--svg and --page need a file each"), "{told}");
+    assert!(said.contains("--svg and --page need a file each"), "{said}");
     let long = TOOL.file(
         "long.bin",
         to_bytes(&[&[34], &TABLE_T[..], &[0x5000_0000; 600]].concat()),

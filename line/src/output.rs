@@ -5,8 +5,8 @@ use std::fs;
 use std::os::unix::fs::MetadataExt;
 use std::path::Path;
 
-/// Says a line on standard error, put together as by `format!`. Where that can't be
-/// written there is nobody else to tell.
+/// Prints a line on standard error, put together as by `format!`. Where that can't be
+/// written nobody reads it.
 #[macro_export]
 macro_rules! complain {
     ($($parts:tt)*) => {{
@@ -109,7 +109,7 @@ fn are_one(one: &Path, other: &Path) -> bool {
         || place(one).is_some() && place(one) == place(other)
 }
 
-/// The folder that a file stands in, or should.
+/// The folder of a file, which need not be there.
 fn folder_of(file: &Path) -> Option<&Path> {
     let folder = file.parent()?;
     match folder.as_os_str().is_empty() {
@@ -118,7 +118,7 @@ fn folder_of(file: &Path) -> Option<&Path> {
     }
 }
 
-/// The folder that a file should stand in, where there is none.
+/// The folder of a file, where there is none.
 fn no_folder(out: &Path) -> Option<String> {
     let folder = folder_of(out)?;
     (!folder.is_dir()).then(|| shown(folder))

@@ -51,10 +51,13 @@ fn is_repairable(file: &Path) -> bool {
         _ => Ok(bytes),
     };
     let input = bytes.ok().and_then(|bytes| Input::parse(&bytes).ok());
-    input.is_some_and(|mut input| {
-        let mut changes = vec![0; PAIR_WORDS * input.table.len()];
-        repair(&mut input.table, &mut changes).0 == 0
-    })
+    input.is_some_and(|input| takes_repair(&input.table))
+}
+
+/// Whether the repair makes a table fit again, or has nothing to do.
+pub fn takes_repair(table: &[u32]) -> bool {
+    let mut changes = vec![0; PAIR_WORDS * table.len()];
+    repair(&mut table.to_vec(), &mut changes).0 == 0
 }
 
 /// Says on standard error that a file is refused, for a command whose standard output is

@@ -7,7 +7,7 @@ use reference::table::{domains, endpoints, DOMAINS_MAX, ENDPOINTS_MAX};
 
 use line::args::Options;
 use line::output::{complain, say};
-use line::refused::{self, Refusal};
+use line::refused::{self, takes_repair, Refusal};
 use line::text::differences::{differences, summary};
 use line::text::explain::{counted, table_fault};
 use line::text::given::{read_given, Given};
@@ -74,10 +74,22 @@ fn table_of(file: &Path, image: bool) -> Result<(Vec<u32>, Names), String> {
         true => read_image(file)?,
     };
     let input = Input::parse(&bytes).map_err(is_refused)?;
-    match table_fault(&input.table, &names) {
-        Some(refusal) => Err(is_refused(refusal)),
-        None => Ok((input.table, names)),
-    }
+    let Some(refusal) = table_fault(&input.table, &names) else {
+        return Ok((input.table, names));
+    };
+    let option = if image && names.is_empty() {
+        " --image"
+    } else {
+        ""
+    };
+    let mends = match takes_repair(&input.table) {
+        true => format!(
+            "\n`balkwizu repair {} OUT{option}` makes it fit again; compare OUT then",
+            shown(file)
+        ),
+        false => String::new(),
+    };
+    Err(is_refused(refusal) + &mends)
 }
 
 /// A file that is a table's bytes alone, or a text.
@@ -87,8 +99,8 @@ fn read_image(file: &Path) -> Result<Given, String> {
     }
     let input = Input::of_image(&read_input(file)?);
     let input = input.map_err(|refusal| {
-        let (file, told) = (shown(file), refused::in_words(&refusal));
-        format!("{file} is {told}")
+        let (file, why) = (shown(file), refused::in_words(&refusal));
+        format!("{file} is {why}")
     })?;
     Ok(Given {
         bytes: input.to_bytes(),
@@ -113,14 +125,24 @@ fn together(planned: Names, on_card: &Names) -> Names {
     names
 }
 
-/// Warns of a domain that both texts name, each by another name.
+/// Warns of a domain or an endpoint that both texts name, each by another name.
 fn warn_of_names(card: &[u32], on_card: &Names, planned: &Names) {
-    for domain in 0..domains(card) {
+    let domains = (0..domains(card)).map(|domain| {
         let both = (on_card.domain_name(domain), planned.domain_name(domain));
+        ("domain", domain, both)
+    });
+    let endpoints = (0..endpoints(card)).map(|endpoint| {
+        let both = (
+            on_card.endpoint_name(endpoint),
+            planned.endpoint_name(endpoint),
+        );
+        ("endpoint", endpoint, both)
+    });
+    for (what, number, both) in domains.chain(endpoints) {
         if let (Some(there), Some(name)) = both {
             if there != name {
                 complain!(
-                    "balkwizu compare: domain {domain} is {there} in CARD and {name} in PLAN: \
+                    "balkwizu compare: {what} {number} is {there} in CARD and {name} in PLAN: \
                      numbers are compared, not names"
                 );
             }

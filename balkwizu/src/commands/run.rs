@@ -55,8 +55,8 @@ pub fn command(line: &[OsString]) -> Result<bool, String> {
         let table = hex::write(&Input { table, list });
         output::write_file(out, &(given.names.lines() + &table))?;
     }
-    let told = calls_in_words(&input, &given.names, Some(&left.answers), usize::MAX);
-    output::write(told.as_bytes());
+    let said = calls_in_words(&input, &given.names, Some(&left.answers), usize::MAX);
+    output::write(said.as_bytes());
     for (what, out) in [("answers", to_answers), ("table", to_left)] {
         if let Some(out) = out {
             say!("{what} written to {}", shown(out));

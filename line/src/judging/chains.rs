@@ -464,15 +464,15 @@ mod tests {
     fn a_chain_that_the_proved_function_does_not_know_is_reported_and_the_other_way_round() {
         let mut chains = Chains::now(&TABLE_T).unwrap();
         chains.proved[2] &= !1;
-        let told = chains.chain(0, 2).unwrap_err();
-        assert!(told.contains(
+        let said = chains.chain(0, 2).unwrap_err();
+        assert!(said.contains(
             "the search finds a chain of rights, the proved function says that there is none"
         ));
         chains.proved[0] |= 1 << 2;
-        let told = chains.chain(2, 0).unwrap_err();
+        let said = chains.chain(2, 0).unwrap_err();
         assert!(
-            told.contains("the search finds no chain of rights"),
-            "{told}"
+            said.contains("the search finds no chain of rights"),
+            "{said}"
         );
     }
 
@@ -510,10 +510,10 @@ mod tests {
     fn a_chain_that_grants_give_comes_by_a_short_list() {
         let mut table = TABLE_T;
         table[2] = 0x2000_0000;
-        let told = could_ever(&table, 0, 2).unwrap();
+        let said = could_ever(&table, 0, 2).unwrap();
         let list = vec![0x6042_0007];
         let chain = vec![hold(0, 7, 2)];
-        assert_eq!(told, Ever::Could { list, chain });
+        assert_eq!(said, Ever::Could { list, chain });
         table[6] = 0x2000_0005;
         let apart = false;
         assert_eq!(could_ever(&table, 0, 2), Ok(Ever::Never { apart }));
@@ -624,15 +624,15 @@ mod tests {
     }
 
     #[test]
-    fn a_call_that_is_kept_wrongly_is_told() {
+    fn a_call_that_is_kept_wrongly_is_reported() {
         let input = Input::example();
         let run = Run::of(&input.table, &input.list).unwrap();
         let mut kept = run.kept_for(1).unwrap();
         kept[4] = Some(Kept::Joined(7));
-        let told = run.compare_with_the_reference(1, &kept).unwrap_err();
+        let said = run.compare_with_the_reference(1, &kept).unwrap_err();
         assert!(
-            told.contains("for domain 1 call 4 is Some(Joined(7))"),
-            "{told}"
+            said.contains("for domain 1 call 4 is Some(Joined(7))"),
+            "{said}"
         );
         kept[4] = None;
         kept[3] = Some(Kept::Joins(hold(0, 1, 1)));

@@ -131,7 +131,9 @@ pub fn calls_in_words(
     most: usize,
 ) -> String {
     let calls = cut(&input.list);
-    let told = answers.map_or(vec![], |answers| told_answers(input, names, answers, most));
+    let said = answers.map_or(vec![], |answers| {
+        answers_in_words(input, names, answers, most)
+    });
     let mut text = format!(
         "List: {} in {}\n",
         counted(calls.len(), "call"),
@@ -141,7 +143,7 @@ pub fn calls_in_words(
         let words = reference::words::hex(&call.words());
         let asked = call_on_table(call, &input.table, names);
         text += &format!("  {number:>4}  {words:<17}  {asked}\n");
-        if let Some(answer) = told.get(number) {
+        if let Some(answer) = said.get(number) {
             text += &format!("  {:>4}  {:<17}  -> {answer}\n", "", "");
         }
     }
@@ -153,12 +155,12 @@ pub fn calls_in_words(
 
 /// What the first `most` calls of a list were answered, each in words. The table before each
 /// is the reference's, which can't fault: the kernel whose answers are shown may.
-pub fn told_answers(input: &Input, names: &Names, answers: &[u32], most: usize) -> Vec<String> {
+pub fn answers_in_words(input: &Input, names: &Names, answers: &[u32], most: usize) -> Vec<String> {
     let calls = cut(&input.list);
     let mut replay = Replay::new(&input.table, &calls, names);
     let answers = answers.chunks_exact(ANSWER_WORDS).take(calls.len());
-    let told = answers.take(most).map(|answer| replay.answered(answer));
-    told.collect()
+    let said = answers.take(most).map(|answer| replay.answered(answer));
+    said.collect()
 }
 
 #[cfg(test)]
@@ -171,37 +173,37 @@ mod tests {
 
     #[test]
     fn the_worked_example_in_words() {
-        let told = in_words(&Input::example(), &Names::none(), None, 2);
-        assert!(told.starts_with("Table: 3 domains, 2 endpoints, 34 words\n"));
-        assert!(told.contains("domain  1     S    .  SGR\n"), "{told}");
-        assert!(told.contains("from 0 ==> endpoint 0 (name 17) [- -] ==> domain 1; 0 of 2 waiting"));
-        assert!(told.contains("   0  20000100 F0000005  domain 0 sends 5 to endpoint 1\n"));
-        assert!(told.ends_with("  and 7 more\n"), "{told}");
+        let said = in_words(&Input::example(), &Names::none(), None, 2);
+        assert!(said.starts_with("Table: 3 domains, 2 endpoints, 34 words\n"));
+        assert!(said.contains("domain  1     S    .  SGR\n"), "{said}");
+        assert!(said.contains("from 0 ==> endpoint 0 (name 17) [- -] ==> domain 1; 0 of 2 waiting"));
+        assert!(said.contains("   0  20000100 F0000005  domain 0 sends 5 to endpoint 1\n"));
+        assert!(said.ends_with("  and 7 more\n"), "{said}");
     }
 
     #[test]
     fn names_stand_beside_the_numbers() {
         let names = "domain 0 link\ndomain 2 drives\nendpoint 1 belts";
-        let told = in_words(&Input::example(), &Names::given(names), None, 1);
+        let said = in_words(&Input::example(), &Names::given(names), None, 1);
         assert!(
-            told.contains("\n                       0    1    2\n"),
-            "{told}"
+            said.contains("\n                       0    1    2\n"),
+            "{said}"
         );
-        assert!(told.contains("\n  domain  0 link       .    S    .\n"));
-        assert!(told.contains("\n  domain  1            S    .  SGR\n"));
+        assert!(said.contains("\n  domain  0 link       .    S    .\n"));
+        assert!(said.contains("\n  domain  1            S    .  SGR\n"));
         let reached = "domain 2 (drives) by 0 (link) 1 2 (drives)\n";
-        assert!(told.contains(reached), "{told}");
+        assert!(said.contains(reached), "{said}");
         let queue = "from 1 ==> endpoint 1 (belts, name 18) [-] ==> domain 2 (drives); 0 of 1";
-        assert!(told.contains(queue), "{told}");
-        assert!(told.contains("  domain 0 (link) sends 5 to endpoint 1 (belts)\n"));
+        assert!(said.contains(queue), "{said}");
+        assert!(said.contains("  domain 0 (link) sends 5 to endpoint 1 (belts)\n"));
     }
 
     #[test]
     fn the_worked_example_with_its_answers() {
         let input = Input::example();
         let ran = run_here(&PROVED, &case_of(&input)).unwrap();
-        let told = in_words(&input, &Names::none(), Some(&ran), usize::MAX);
-        let answers: Vec<&str> = told
+        let said = in_words(&input, &Names::none(), Some(&ran), usize::MAX);
+        let answers: Vec<&str> = said
             .lines()
             .filter_map(|line| line.trim().strip_prefix("-> "))
             .collect();
@@ -218,8 +220,8 @@ mod tests {
             "S on domain 1, S on domain 2",
             "endpoint 1",
         ];
-        assert_eq!(answers, wanted, "{told}");
-        let after = told.split("After the list").nth(1).unwrap();
+        assert_eq!(answers, wanted, "{said}");
+        let after = said.split("After the list").nth(1).unwrap();
         assert!(after.contains("domain  0     .    S    S\n"), "{after}");
         let reach = "in this table: domain 0 by 0 1, domain 1 by 0 1, domain 2 by 0 1 2\n";
         assert!(after.contains(reach), "{after}");
@@ -227,7 +229,7 @@ mod tests {
     }
 
     #[test]
-    fn what_a_list_lost_is_told_send_by_send() {
+    fn what_a_list_lost_is_reported_send_by_send() {
         let list = [0x2040_0000, 0xF000_0007].repeat(4);
         let mut input = Input {
             table: TABLE_T.to_vec(),
@@ -235,11 +237,11 @@ mod tests {
         };
         input.table[5] = 0x2000_0001;
         let ran = run_here(&PROVED, &case_of(&input)).unwrap();
-        let told = in_words(&input, &Names::none(), Some(&ran), usize::MAX);
-        let lost = told.matches("-> done; message 7 was pushed out and is lost\n");
-        assert_eq!(lost.count(), 2, "{told}");
-        assert!(told.contains("domain 45, which the table hasn't, asks for its rights\n"));
-        assert!(told.contains("-> refused with 12: "), "{told}");
+        let said = in_words(&input, &Names::none(), Some(&ran), usize::MAX);
+        let lost = said.matches("-> done; message 7 was pushed out and is lost\n");
+        assert_eq!(lost.count(), 2, "{said}");
+        assert!(said.contains("domain 45, which the table hasn't, asks for its rights\n"));
+        assert!(said.contains("-> refused with 12: "), "{said}");
     }
 
     #[test]
@@ -248,12 +250,12 @@ mod tests {
         table[11] = 0x4000_0103;
         table[12] = 0x5000_0002;
         (table[14], table[15]) = (0xF000_0007, 0xF000_0008);
-        let told = queues_in_words(&table, &Names::none());
+        let said = queues_in_words(&table, &Names::none());
         assert!(
-            told.contains("[- 8 7] ==> domain 1; 2 of 3 waiting, 0 lost"),
-            "{told}"
+            said.contains("[- 8 7] ==> domain 1; 2 of 3 waiting, 0 lost"),
+            "{said}"
         );
-        let legend = told.lines().next().unwrap();
+        let legend = said.lines().next().unwrap();
         assert!(legend.contains("the oldest last] ==> owner"), "{legend}");
     }
 }

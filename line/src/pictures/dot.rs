@@ -147,7 +147,7 @@ mod tests {
     use crate::text::input::Input;
     use reference::generate::{walled_table, Rng};
 
-    /// The statements of a graph, the braces told apart; what is wrong otherwise.
+    /// The statements of a graph, the braces kept apart; what is wrong otherwise.
     fn statements(graph: &str) -> Result<Vec<String>, String> {
         let mut found = vec![String::new()];
         let (mut quoted, mut escaped, mut depth) = (false, false, 0);
@@ -193,7 +193,7 @@ mod tests {
     }
 
     #[test]
-    fn what_the_list_changed_is_told() {
+    fn what_the_list_changed_is_reported() {
         let input = Input::example();
         let mut left = input.table.clone();
         reference::run(&mut left, &input.list, &mut [0; 27]);

@@ -11,7 +11,7 @@ use reference::words::{content, hex};
 
 use crate::kernels::lent::Ran;
 use crate::output::wrapped;
-use crate::pictures::diagram::told_answers;
+use crate::pictures::diagram::answers_in_words;
 use crate::pictures::parts::{
     chip, panel, GAP, INNER, MARGIN, NAMED, PANEL_HEAD, SMALL, SUBTITLE, WIDTH,
 };
@@ -30,7 +30,7 @@ const CALL_ROW: f64 = 24.0;
 /// The height of a further line of a call.
 const CALL_LINE: f64 = 16.0;
 
-/// So many letters of a call stand in a line, which all have one width.
+/// So many letters of a call fit a line, which all have one width.
 const CALL_LETTERS: usize = 116;
 
 /// The width of one place of a queue.
@@ -72,7 +72,7 @@ pub fn svg_of(
         page.section("The list");
     }
     let answers = left.map_or(vec![], |left| {
-        told_answers(input, names, &left.answers, calls)
+        answers_in_words(input, names, &left.answers, calls)
     });
     page.calls(input, &answers, calls);
     let height = page.y - GAP + MARGIN;
@@ -337,13 +337,13 @@ mod tests {
     }
 
     #[test]
-    fn a_caller_that_the_table_has_not_is_told_as_such() {
+    fn a_caller_that_the_table_has_not_is_shown_as_such() {
         let input = Input {
             list: vec![0x5B40_0000],
             ..Input::example()
         };
-        let told = ">domain 45, which the table hasn't, asks for its rights<";
-        assert!(drawn(&input, 24).contains(told));
+        let said = ">domain 45, which the table hasn't, asks for its rights<";
+        assert!(drawn(&input, 24).contains(said));
     }
 
     #[test]

@@ -34,7 +34,7 @@ mod tests {
     use reference::example::TABLE_T;
 
     #[test]
-    fn who_reaches_whom_is_told() {
+    fn who_reaches_whom_is_reported() {
         let holders = holders_of(&TABLE_T);
         assert_eq!(holders, [0b010, 0b001, 0b010]);
         assert_eq!(

@@ -22,7 +22,7 @@ pub const CALLS_MAX: usize = 500;
 const STYLE: &str = include_str!("stepping.css");
 const SCRIPT: &str = include_str!("stepping.js");
 
-/// What stands in the page before the script fills it.
+/// The page before the script fills it.
 const BODY: &str = "\
 <div id=\"list\">
 <h1>TITLE</h1>
@@ -89,12 +89,12 @@ fn data(input: &Input, names: &Names, most: usize) -> Json {
     let shown = calls.len().min(most);
     let label = |domain| Json::text(names.domain_label(domain));
     let each = || 0..domains(table);
-    let (told, changes) = played(table, &calls, shown, names);
+    let (said, changes) = played(table, &calls, shown, names);
     Json::Object(vec![
         ("domains", Json::List(each().map(label).collect())),
         ("endpoints", Json::List(fixed(table, names))),
         ("more", number(calls.len() - shown)),
-        ("calls", Json::List(told)),
+        ("calls", Json::List(said)),
         ("changes", Json::List(changes)),
         (
             "sources",
@@ -128,19 +128,19 @@ fn fixed(table: &[u32], names: &Names) -> Vec<Json> {
 /// list, then what each call changes.
 fn played(table: &[u32], calls: &[Call], shown: usize, names: &Names) -> (Vec<Json>, Vec<Json>) {
     let mut replay = Replay::new(table, calls, names);
-    let mut told = Vec::new();
+    let mut said = Vec::new();
     let mut changes = vec![change(None, table)];
     for call in &calls[..shown] {
         let (before, answer) = (replay.table().to_vec(), replay.answer());
         let answered = replay.answered(&answer);
-        told.push(Json::Object(vec![
+        said.push(Json::Object(vec![
             ("asked", Json::text(call_on_table(call, table, names))),
             ("answer", Json::text(answered)),
             ("refused", number(bits(answer[0], 15, 0) as usize)),
         ]));
         changes.push(change(Some(&before), replay.table()));
     }
-    (told, changes)
+    (said, changes)
 }
 
 /// What a table has that the one before hadn't: all of it where there is none before.

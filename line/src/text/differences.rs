@@ -64,11 +64,11 @@ fn sizes(card: &[u32], plan: &[u32]) -> Vec<Difference> {
         ("endpoint", endpoints(card), endpoints(plan)),
     ];
     let differing = both.into_iter().filter(|(_, card, plan)| card != plan);
-    let told = differing.map(|(one, card, plan)| {
+    let said = differing.map(|(one, card, plan)| {
         let size = counted(card, one);
         Difference::altered(format!("the table: {size}, in the plan {plan}"))
     });
-    told.collect()
+    said.collect()
 }
 
 /// The rights of a pair, none where the table hasn't got both.
@@ -88,14 +88,14 @@ fn rights_differ(
     let (there, planned) = (set(card, pair), set(plan, pair));
     let of_whom = format!("{} on {}", names.domain(pair.0), names.domain(pair.1));
     let (more, less) = (there & !planned, planned & !there);
-    let told = |how, set| {
+    let one = |how, set| {
         let what = format!("{} of {of_whom}", rights_in_words(set));
         Some(Difference { how, what })
     };
     match (more, less) {
         (0, 0) => None,
-        (_, 0) => told(How::Added, more),
-        (0, _) => told(How::Lost, less),
+        (_, 0) => one(How::Added, more),
+        (0, _) => one(How::Lost, less),
         _ => Some(Difference::altered(format!(
             "the rights of {of_whom}: {}, in the plan {}",
             rights_in_words(there),
@@ -119,14 +119,14 @@ fn endpoint_differs(card: &[u32], plan: &[u32], endpoint: usize, names: &Names) 
         .into_iter()
         .zip(facts(plan, endpoint, names));
     let differing = both.filter(|(there, planned)| there != planned);
-    let told = differing.map(|(there, planned)| {
+    let said = differing.map(|(there, planned)| {
         let what = names.endpoint(endpoint);
         Difference::altered(format!("{what}: {there}, in the plan {planned}"))
     });
-    told.collect()
+    said.collect()
 }
 
-/// What an endpoint's words say, each fact by itself: all of the words and nothing else.
+/// What an endpoint's words say, one fact each: all of the words and nothing else.
 fn facts(table: &[u32], endpoint: usize, names: &Names) -> Vec<String> {
     let slots = &endpoint_words(table, endpoint)[SLOTS_PLACE..];
     let messages: Vec<String> = slots
@@ -157,7 +157,7 @@ pub fn summary(all: &[Difference]) -> String {
     let parts: Vec<String> = kinds
         .into_iter()
         .filter(|&(how, _)| count(how) > 0)
-        .map(|(how, told)| format!("{} {told}", count(how)))
+        .map(|(how, word)| format!("{} {word}", count(how)))
         .collect();
     format!("{}: {}", counted(all.len(), "difference"), parts.join(", "))
 }
@@ -181,7 +181,7 @@ rights loader on drives: SEND+GRANT
 rights loader on link: SEND
 ";
 
-    fn told(card: &str) -> Vec<String> {
+    fn said(card: &str) -> Vec<String> {
         let read = |text: &str| described::read(text).unwrap();
         let plan = read(PLAN);
         let table = |bytes: &[u8]| Input::parse(bytes).unwrap().table;
@@ -192,7 +192,7 @@ rights loader on link: SEND
 
     #[test]
     fn rights_are_added_lost_or_altered() {
-        assert!(told(PLAN).is_empty());
+        assert!(said(PLAN).is_empty());
         let card = PLAN
             .replace(
                 "rights link on loader: SEND",
@@ -209,7 +209,7 @@ rights loader on link: SEND
             "altered  the rights of domain 1 (loader) on domain 2 (drives): REMOVE, in the plan \
              SEND+GRANT",
         ];
-        assert_eq!(told(&card), wanted);
+        assert_eq!(said(&card), wanted);
     }
 
     #[test]
@@ -218,7 +218,7 @@ rights loader on link: SEND
             "owner drives capacity 8 name 18 lost 3 waiting 5 6",
             "owner link capacity 2 name 19 waiting 6 5",
         );
-        let belts = |told: &str| format!("altered  endpoint 1 (belts): {told}");
+        let belts = |said: &str| format!("altered  endpoint 1 (belts): {said}");
         let wanted = [
             belts("owner domain 0 (link), in the plan owner domain 2 (drives)"),
             belts("capacity 2, in the plan capacity 8"),
@@ -226,7 +226,7 @@ rights loader on link: SEND
             belts("waiting 6 5, in the plan waiting 5 6"),
             belts("0 lost, in the plan 3 lost"),
         ];
-        assert_eq!(told(&card), wanted);
+        assert_eq!(said(&card), wanted);
     }
 
     #[test]
@@ -242,7 +242,7 @@ rights loader on link: SEND
             "lost     endpoint 1 (belts): owner domain 2 (drives), capacity 8, name 18, waiting 5 \
              6, 3 lost",
         ];
-        assert_eq!(told(card), wanted);
+        assert_eq!(said(card), wanted);
     }
 
     #[test]

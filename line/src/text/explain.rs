@@ -1,5 +1,5 @@
 //! The kernel's words in plain ones: what a number means, what a call asks for,
-//! what stands at a place of a table, and what is wrong with a refused one.
+//! what a word of a table is, and what is wrong with a refused one.
 
 use std::fmt::Display;
 
@@ -168,8 +168,8 @@ pub fn answer_in_words(answer: &[u32], names: &Names) -> String {
             let both = u64::from(y) << 32 | u64::from(x);
             let sets = (0..16).map(|target| (target, (both >> (4 * target)) as u32 & 15));
             let held = sets.filter(|&(_, set)| set != 0);
-            let told = |(target, set)| format!("{} on {}", letters(set), names.domain(target));
-            some_or_none(held.map(told))
+            let said = |(target, set)| format!("{} on {}", letters(set), names.domain(target));
+            some_or_none(held.map(said))
         }
         _ => "done".to_string(),
     }
@@ -178,10 +178,10 @@ pub fn answer_in_words(answer: &[u32], names: &Names) -> String {
 /// What an answer says of a call, and what the call did besides on the table that was
 /// before it: a send to a full queue is done, and a message is lost by it.
 pub fn answer_on_table(before: &[u32], call: &Call, answer: &[u32], names: &Names) -> String {
-    let told = answer_in_words(answer, names);
+    let said = answer_in_words(answer, names);
     match pushed_out(before, call, answer) {
-        Some(message) => format!("{told}; message {message} was pushed out and is lost"),
-        None => told,
+        Some(message) => format!("{said}; message {message} was pushed out and is lost"),
+        None => said,
     }
 }
 
@@ -204,7 +204,7 @@ fn some_or_none(items: impl Iterator<Item = String>) -> String {
     }
 }
 
-/// An endpoint with the name that it is looked up by, behind the one that a text gives.
+/// An endpoint with the name that it is looked up by, after the one that a text gives.
 pub fn endpoint_in_words(table: &[u32], endpoint: usize, names: &Names) -> String {
     let number = name(table, endpoint);
     match names.endpoint_name(endpoint) {
@@ -213,7 +213,7 @@ pub fn endpoint_in_words(table: &[u32], endpoint: usize, names: &Names) -> Strin
     }
 }
 
-/// What stands at a place of a table whose word 0 and length are right.
+/// What the word at a place is, of a table whose word 0 and length are right.
 pub fn place_in_words(table: &[u32], place: usize, names: &Names) -> String {
     let n = domains(table);
     if place == 0 {
@@ -234,11 +234,11 @@ pub fn place_in_words(table: &[u32], place: usize, names: &Names) -> String {
     format!("word {place}, {endpoint}'s {part}")
 }
 
-/// So many broken words of a table are told.
+/// So many broken words of a table are reported.
 const FAULTS_MAX: usize = 20;
 
 /// What is wrong with a table, with the number that refuses it; nothing where
-/// the table is accepted. The broken word that decides is told first, and the others
+/// the table is accepted. The broken word that decides comes first, and the others
 /// in lines of their own.
 pub fn table_fault(table: &[u32], names: &Names) -> Option<(u32, String)> {
     let code = check_table(table);
@@ -267,15 +267,15 @@ fn header_fault(header: u32) -> &'static str {
 /// The broken words of a table whose word 0 and length are right.
 fn faults_in_words(table: &[u32], code: u32, names: &Names) -> String {
     let faults = faults(table, names);
-    let told = |fault: &Fault| {
+    let said = |fault: &Fault| {
         let (place, word) = (fault.place, table[fault.place]);
         let place = place_in_words(table, place, names);
         format!("{place}, is {word:08X}: {}", fault.why)
     };
     let mut lines = faults.iter().take(FAULTS_MAX);
-    let mut text = lines.next().map_or(meaning(code).to_string(), told);
+    let mut text = lines.next().map_or(meaning(code).to_string(), said);
     for fault in lines {
-        text += &format!("\n  also with {}: {}", fault.code, told(fault));
+        text += &format!("\n  also with {}: {}", fault.code, said(fault));
     }
     if faults.len() > FAULTS_MAX {
         let more = counted(faults.len() - FAULTS_MAX, "broken word");
@@ -394,18 +394,18 @@ mod tests {
 
     #[test]
     fn an_answer_in_words() {
-        let told = |first, x, y| answer_in_words(&[first, x, y], &Names::none());
-        assert_eq!(told(0x10C0_0000, 2, 0), "endpoint 2");
-        assert_eq!(told(0x2000_0000, 0, 0), "done");
-        assert_eq!(told(0x3040_0000, 9, 1), "message 9; 1 lost so far");
+        let said = |first, x, y| answer_in_words(&[first, x, y], &Names::none());
+        assert_eq!(said(0x10C0_0000, 2, 0), "endpoint 2");
+        assert_eq!(said(0x2000_0000, 0, 0), "done");
+        assert_eq!(said(0x3040_0000, 9, 1), "message 9; 1 lost so far");
         assert_eq!(
-            told(0x3040_0012, 0, 0),
+            said(0x3040_0012, 0, 0),
             format!("refused with 18: {}", meaning(18))
         );
-        assert_eq!(told(0x4000_0000, 0x8000_0001, 0), "endpoint 0, endpoint 31");
-        assert_eq!(told(0x5000_0000, 0, 0), "none");
+        assert_eq!(said(0x4000_0000, 0x8000_0001, 0), "endpoint 0, endpoint 31");
+        assert_eq!(said(0x5000_0000, 0, 0), "none");
         assert_eq!(
-            told(0x5000_0000, 15, 0x5000_0000),
+            said(0x5000_0000, 15, 0x5000_0000),
             "SGRV on domain 0, SR on domain 15"
         );
     }
@@ -420,38 +420,38 @@ mod tests {
     #[test]
     fn calls_of_the_worked_example() {
         let calls = cut(&LIST_L);
-        let told = calls.iter().map(|call| call_in_words(call, &Names::none()));
-        let told: Vec<String> = told.collect();
-        assert_eq!(told[0], "domain 0 sends 5 to endpoint 1");
-        assert_eq!(told[1], "domain 1 grants domain 0 SEND on domain 2");
-        assert_eq!(told[4], "domain 2 receives from endpoint 1");
-        assert_eq!(told[6], "a stray word with content 9");
-        assert_eq!(told[7], "domain 0 asks for its rights");
+        let said = calls.iter().map(|call| call_in_words(call, &Names::none()));
+        let said: Vec<String> = said.collect();
+        assert_eq!(said[0], "domain 0 sends 5 to endpoint 1");
+        assert_eq!(said[1], "domain 1 grants domain 0 SEND on domain 2");
+        assert_eq!(said[4], "domain 2 receives from endpoint 1");
+        assert_eq!(said[6], "a stray word with content 9");
+        assert_eq!(said[7], "domain 0 asks for its rights");
     }
 
     #[test]
     fn names_stand_beside_the_numbers() {
         let names = "domain 0 link\ndomain 1 loader\ndomain 2 drives\nendpoint 1 belts";
         let names = Names::given(names);
-        let told = |word| call_in_words(&cut(&[word])[0], &names);
+        let said = |word| call_in_words(&cut(&[word])[0], &names);
         assert_eq!(
             call_in_words(&cut(&LIST_L)[0], &names),
             "domain 0 (link) sends 5 to endpoint 1 (belts)"
         );
         assert_eq!(
-            told(0x3080_0100),
+            said(0x3080_0100),
             "domain 2 (drives) receives from endpoint 1 (belts)"
         );
         assert_eq!(
-            told(0x6042_0001),
+            said(0x6042_0001),
             "domain 1 (loader) grants domain 0 (link) SEND on domain 2 (drives)"
         );
         assert_eq!(
-            told(0x8042_0001),
+            said(0x8042_0001),
             "domain 1 (loader) takes SEND on domain 2 (drives) back from domain 0 (link)"
         );
         assert_eq!(
-            told(0x7042_0001),
+            said(0x7042_0001),
             "domain 1 (loader) gives up SEND on domain 2 (drives)"
         );
         let answer = |first, x| answer_in_words(&[first, x, 0], &names);
@@ -466,37 +466,37 @@ mod tests {
 
     #[test]
     fn calls_that_will_be_refused() {
-        let told = |word| call_in_words(&cut(&[word])[0], &Names::none());
+        let said = |word| call_in_words(&cut(&[word])[0], &Names::none());
         assert_eq!(
-            told(0x2000_0100),
+            said(0x2000_0100),
             "domain 0 sends (no second word) to endpoint 1"
         );
         assert_eq!(
-            told(0x7042_0003),
+            said(0x7042_0003),
             "domain 1 gives up SEND+GRANT on domain 2"
         );
         assert_eq!(
-            told(0x6042_0007),
+            said(0x6042_0007),
             "domain 1 grants domain 0 SEND+GRANT+REMOVE on domain 2"
         );
         assert_eq!(
-            told(0x7042_0011),
+            said(0x7042_0011),
             "domain 1 gives up the rights 17 on domain 2"
         );
         assert_eq!(
-            told(0x8042_0308),
+            said(0x8042_0308),
             "domain 1 takes REVOKE on domain 2 back from domain 3"
         );
-        assert_eq!(told(0x90C0_0000), "domain 3 makes a call of unknown kind 9");
+        assert_eq!(said(0x90C0_0000), "domain 3 makes a call of unknown kind 9");
     }
 
     #[test]
     fn places_of_a_table() {
-        let told = |place| place_in_words(&TABLE_T, place, &Names::none());
-        assert_eq!(told(6), "word 6, the rights of domain 1 on domain 2");
-        assert_eq!(told(9), "word 9, the rights of domain 2 on domain 2");
-        assert_eq!(told(10), "word 10, endpoint 0's name");
-        assert_eq!(told(33), "word 33, endpoint 1's message slot 7");
+        let said = |place| place_in_words(&TABLE_T, place, &Names::none());
+        assert_eq!(said(6), "word 6, the rights of domain 1 on domain 2");
+        assert_eq!(said(9), "word 9, the rights of domain 2 on domain 2");
+        assert_eq!(said(10), "word 10, endpoint 0's name");
+        assert_eq!(said(33), "word 33, endpoint 1's message slot 7");
     }
 
     fn fault(place: usize, word: u32) -> (u32, String) {
@@ -506,37 +506,37 @@ mod tests {
     }
 
     #[test]
-    fn faults_of_the_whole_table_are_told() {
+    fn faults_of_the_whole_table_are_reported() {
         assert_eq!(table_fault(&TABLE_T, &Names::none()), None);
         assert_eq!(
             table_fault(&[], &Names::none()),
             Some((2, "the table is empty".into()))
         );
-        let (code, told) = table_fault(&TABLE_T[..33], &Names::none()).unwrap();
+        let (code, said) = table_fault(&TABLE_T[..33], &Names::none()).unwrap();
         assert_eq!(code, 3);
-        assert_eq!(told, "word 0 asks for 34 words, the table has 33");
-        let (code, told) = fault(0, 0x1001_0302);
+        assert_eq!(said, "word 0 asks for 34 words, the table has 33");
+        let (code, said) = fault(0, 0x1001_0302);
         assert_eq!(code, 2);
-        assert!(told.ends_with("its bits 27 to 16 must be zero"), "{told}");
+        assert!(said.ends_with("its bits 27 to 16 must be zero"), "{said}");
     }
 
     #[test]
-    fn faults_of_a_rights_word_are_told() {
-        let (code, told) = fault(9, 0x2000_0010);
+    fn faults_of_a_rights_word_are_reported() {
+        let (code, said) = fault(9, 0x2000_0010);
         assert_eq!(code, 4);
         let rights = "word 9, the rights of domain 2 on domain 2, is 20000010";
-        assert_eq!(told, format!("{rights}: bits 27 to 4 aren't zero"));
-        let (code, told) = fault(6, 0x3000_0007);
+        assert_eq!(said, format!("{rights}: bits 27 to 4 aren't zero"));
+        let (code, said) = fault(6, 0x3000_0007);
         assert_eq!(code, 4);
-        assert!(told.ends_with("is 30000007: kind 3 where 2 is wanted"));
+        assert!(said.ends_with("is 30000007: kind 3 where 2 is wanted"));
     }
 
     #[test]
-    fn faults_of_an_endpoint_word_are_told() {
-        let (code, told) = fault(10, 0x3000_0000);
+    fn faults_of_an_endpoint_word_are_reported() {
+        let (code, said) = fault(10, 0x3000_0000);
         assert_eq!(code, 5);
         let name = "word 10, endpoint 0's name, is 30000000: the name is 0";
-        assert_eq!(told, name);
+        assert_eq!(said, name);
         let why = |place, word| fault(place, word).1.split_once(": ").unwrap().1.to_string();
         let repeats = "the name 17 is that of endpoint 0";
         assert_eq!(why(22, 0x3000_0011), repeats);
@@ -550,39 +550,39 @@ mod tests {
         assert_eq!(why(27, 0xF000_0001), empty);
         let mut table = TABLE_T;
         (table[24], table[26]) = (0x5000_0001, 0xE000_0000);
-        let (_, told) = table_fault(&table, &Names::none()).unwrap();
-        assert!(told.ends_with("is E0000000: kind 14 where 15 is wanted"));
+        let (_, said) = table_fault(&table, &Names::none()).unwrap();
+        assert!(said.ends_with("is E0000000: kind 14 where 15 is wanted"));
     }
 
     #[test]
-    fn every_broken_word_is_told_and_the_one_that_decides_first() {
+    fn every_broken_word_is_reported_and_the_one_that_decides_first() {
         let mut table = TABLE_T;
         (table[9], table[3]) = (0x2000_0010, 0x3000_0000);
         (table[12], table[22]) = (0x5000_0009, 0x3000_0011);
-        let (code, told) = table_fault(&table, &Names::none()).unwrap();
-        let lines: Vec<&str> = told.lines().collect();
-        assert_eq!((code, lines.len()), (4, 4), "{told}");
+        let (code, said) = table_fault(&table, &Names::none()).unwrap();
+        let lines: Vec<&str> = said.lines().collect();
+        assert_eq!((code, lines.len()), (4, 4), "{said}");
         assert!(lines[0].starts_with("word 3, the rights of domain 0 on domain 2, is 30000000"));
         assert!(lines[1].starts_with("  also with 4: word 9, the rights of domain 2 on domain 2"));
         let waits = "  also with 5: word 12, endpoint 0's waiting count, is 50000009: 9 wait";
-        assert!(lines[2].starts_with(waits), "{told}");
+        assert!(lines[2].starts_with(waits), "{said}");
         assert!(
             lines[3].ends_with("endpoint 1's name, is 30000011: the name 17 is that of endpoint 0")
         );
     }
 
     #[test]
-    fn a_word_is_told_once_and_many_are_counted() {
+    fn a_word_is_reported_once_and_many_are_counted() {
         let mut table = TABLE_T;
         (table[10], table[22]) = (0x3000_0000, 0x3000_0000);
-        let (_, told) = table_fault(&table, &Names::none()).unwrap();
-        assert_eq!(told.matches("the name is 0").count(), 2, "{told}");
-        assert_eq!(told.lines().count(), 2, "{told}");
+        let (_, said) = table_fault(&table, &Names::none()).unwrap();
+        assert_eq!(said.matches("the name is 0").count(), 2, "{said}");
+        assert_eq!(said.lines().count(), 2, "{said}");
         table[1..].fill(0);
-        let (code, told) = table_fault(&table, &Names::none()).unwrap();
-        assert_eq!((code, told.lines().count()), (4, 21), "{told}");
+        let (code, said) = table_fault(&table, &Names::none()).unwrap();
+        assert_eq!((code, said.lines().count()), (4, 21), "{said}");
         // All 33 but word 0's are of a wrong kind.
-        assert!(told.ends_with("\n  and 13 broken words more"), "{told}");
+        assert!(said.ends_with("\n  and 13 broken words more"), "{said}");
     }
 
     #[test]
@@ -591,13 +591,13 @@ mod tests {
         let mut met = [0; 6];
         for _ in 0..4000 {
             let (table, code) = damaged_table(&mut rng, 4, 4);
-            let told = table_fault(&table, &Names::none()).map(|(_, told)| told);
-            let told = told.unwrap_or_default();
+            let said = table_fault(&table, &Names::none()).map(|(_, said)| said);
+            let said = said.unwrap_or_default();
             met[code as usize] += 1;
-            let named = told.starts_with("word ") && told.contains(": ");
-            assert!(named || code < 4, "{code}: {told}");
+            let named = said.starts_with("word ") && said.contains(": ");
+            assert!(named || code < 4, "{code}: {said}");
             if let 4 | 5 = code {
-                assert_eq!(faults(&table, &Names::none())[0].code, code, "{told}");
+                assert_eq!(faults(&table, &Names::none())[0].code, code, "{said}");
             }
         }
         assert!(met[4] > 100 && met[5] > 100, "{met:?}");

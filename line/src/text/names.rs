@@ -78,10 +78,14 @@ impl Names {
             Ok(number) => Err(not_there("domain", number, n)),
             Err(_) => self.domain_called(word).ok_or_else(|| {
                 let known: Vec<&str> = self.domains.values().map(String::as_str).collect();
+                let other = match self.endpoint_called(word) {
+                    Some(_) => ", but an endpoint is",
+                    None => "",
+                };
                 match known.is_empty() {
-                    true => format!("no domain is called `{word}`: the input gives no names"),
+                    true => format!("no domain is called `{word}`{other}: the input names none"),
                     false => format!(
-                        "no domain is called `{word}`: there are {}",
+                        "no domain is called `{word}`{other}: there are {}",
                         known.join(", ")
                     ),
                 }

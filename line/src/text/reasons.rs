@@ -45,10 +45,10 @@ impl<'a> Replay<'a> {
     /// Says what an answer to the next call means, and plays the call.
     pub fn answered(&mut self, answer: &[u32]) -> String {
         let call = &self.calls[self.done];
-        let told = self.refused(call, bits(answer[0], 15, 0));
-        let told = told.unwrap_or_else(|| answer_on_table(&self.table, call, answer, self.names));
+        let why = self.refused(call, bits(answer[0], 15, 0));
+        let said = why.unwrap_or_else(|| answer_on_table(&self.table, call, answer, self.names));
         self.play();
-        told
+        said
     }
 
     /// Returns the answer of the reference to the next call.
@@ -140,20 +140,26 @@ impl<'a> Replay<'a> {
         format!("the table has {}: it has {}", row(&missing), below(n))
     }
 
+    /// Says which names there are, or the one of the endpoint with that index.
     fn no_name(&self, wanted: u32) -> String {
         let table = &self.table;
-        let known = (0..endpoints(table)).map(|e| name(table, e).to_string());
-        match endpoints(table) {
-            0 => format!("no endpoint has the name {wanted}: the table has none"),
-            1 => format!(
-                "no endpoint has the name {wanted}: the only one is {}",
-                name(table, 0)
+        let called = |e: usize| match self.names.endpoint_name(e) {
+            Some(given) => format!("{} ({given})", name(table, e)),
+            None => name(table, e).to_string(),
+        };
+        let there_are = match endpoints(table) {
+            0 => "the table has no endpoint".to_string(),
+            many if (wanted as usize) < many => {
+                let endpoint = self.names.endpoint(wanted as usize);
+                format!("{endpoint} has the name {}", name(table, wanted as usize))
+            }
+            1 => format!("the only one is {}", called(0)),
+            many => format!(
+                "there are {}",
+                row(&(0..many).map(called).collect::<Vec<_>>())
             ),
-            _ => format!(
-                "no endpoint has the name {wanted}: there are {}",
-                row(&known.collect::<Vec<_>>())
-            ),
-        }
+        };
+        format!("no endpoint has the name {wanted}: {there_are}")
     }
 
     fn no_send(&self, call: &Call, endpoint: usize) -> String {
@@ -170,7 +176,7 @@ impl<'a> Replay<'a> {
                 self.call(number)
             ),
             None => format!(
-                "nothing waits in {it}; it was empty before the list, and no call sent to it"
+                "nothing waits in {it}; it was empty before the list, and no send to it was done"
             ),
         }
     }
@@ -198,7 +204,7 @@ impl<'a> Replay<'a> {
             .iter()
             .map(|&bit| format!("no {}", rights_in_words(bit)))
             .collect();
-        let mut told = format!(
+        let mut said = format!(
             "{} has {} on {}{of_it}",
             self.names.domain(caller),
             row(&lacked),
@@ -209,10 +215,10 @@ impl<'a> Replay<'a> {
                 1 => "it".to_string(),
                 _ => rights_in_words(bit),
             };
-            told += &self.held(target, bit, &it);
-            told += &self.took(caller, target, bit, &it);
+            said += &self.held(target, bit, &it);
+            said += &self.took(caller, target, bit, &it);
         }
-        told
+        said
     }
 
     /// Says who holds one of some rights on a target.
@@ -309,7 +315,7 @@ calls
 ";
 
     /// What is said of the answers of the reference to a list in words.
-    fn told(calls: &str) -> Vec<String> {
+    fn said(calls: &str) -> Vec<String> {
         let given = described::read(&format!("{LINE}{calls}")).unwrap();
         let input = Input::parse(&given.bytes).unwrap();
         let calls = cut(&input.list);
@@ -319,7 +325,7 @@ calls
     }
 
     fn last(calls: &str) -> String {
-        told(calls).pop().unwrap()
+        said(calls).pop().unwrap()
     }
 
     #[test]
@@ -330,8 +336,12 @@ calls
 
     #[test]
     fn names_and_endpoints_that_the_table_has_not_are_15_and_16() {
-        let wanted = "refused with 15: no endpoint has the name 5: there are 17 and 18";
+        let wanted = "refused with 15: no endpoint has the name 5: there are 17 (routes) and 18 \
+                      (slides)";
         assert_eq!(last("link looks up name 5"), wanted);
+        let index = "refused with 15: no endpoint has the name 1: endpoint 1 (slides) has the \
+                     name 18";
+        assert_eq!(last("link looks up name 1"), index);
         let wanted = "refused with 16: the table has no endpoint 7: it has 2, 0 to 1";
         assert_eq!(last("link sends 5 to 7"), wanted);
         assert_eq!(last("link receives from 7"), wanted);
@@ -339,7 +349,7 @@ calls
 
     #[test]
     fn a_send_is_refused_with_17_by_the_call_that_took_the_right_away() {
-        let all = told(
+        let all = said(
             "link sends 5 to routes\nloader takes SEND on loader back from link\n\
              link sends 6 to routes",
         );
@@ -362,7 +372,7 @@ calls
                       domain 0 (link)";
         assert_eq!(last("link receives from slides"), wanted);
         let never = "refused with 19: nothing waits in endpoint 0 (routes); it was empty before \
-                     the list, and no call sent to it";
+                     the list, and no send to it was done";
         assert_eq!(last("loader receives from routes"), never);
         let taken = last(
             "link sends 5 to routes\nloader receives from routes\nloader receives from routes",
@@ -437,16 +447,16 @@ calls
             let tables = reference::influence::tables_before(&table, &calls);
             for number in 0..calls.len() {
                 assert_eq!(replay.table(), tables[number]);
-                let told = replay.answered(&replay.answer());
-                named += usize::from(took_it(&told, &tables));
+                let said = replay.answered(&replay.answer());
+                named += usize::from(took_it(&said, &tables));
             }
         }
         assert!(named > 20, "{named}");
     }
 
     /// Whether a call is named that took a right away: then a word of the rights lost a bit.
-    fn took_it(told: &str, tables: &[Vec<u32>]) -> bool {
-        let Some((before, _)) = told.split_once(" took ") else {
+    fn took_it(said: &str, tables: &[Vec<u32>]) -> bool {
+        let Some((before, _)) = said.split_once(" took ") else {
             return false;
         };
         let number = before.rsplit_once("; call ").unwrap().1;
@@ -456,7 +466,7 @@ calls
             words
                 .clone()
                 .any(|(before, after)| before & !after & 15 != 0),
-            "{told}"
+            "{said}"
         );
         true
     }

@@ -174,7 +174,7 @@ impl Checklist {
             .collect();
         format!(
             "{}: {} refused ({}), their images too; {} still sound and run, which is right, \
-             since a bit turned inside a name is a different name ({})",
+             since what was altered is sound too ({})",
             counted(self.damaged.len(), "damaged table"),
             ends.refused(),
             ends.in_words(),
