@@ -559,14 +559,14 @@ fn what_cannot_be_answered_is_said() {
     let input = TOOL.file("no-roads.bin", worked_example());
     for (line, why) in [
         (vec!["influence"], "no file is given"),
-        (vec!["influence", &input, "0"], "FROM is given without TO"),
+        (vec!["influence", &input, "3"], "there is no domain 3"),
         (
             vec!["influence", &input, "0", "3"],
             "there is no domain 3: the table has 0 to 2",
         ),
         (
             vec!["influence", &input, "0", "link"],
-            "the input gives no names",
+            "the input names none",
         ),
         (
             vec!["influence", &input, "0", "1", "2"],
@@ -1059,7 +1059,7 @@ fn a_slip_in_a_command_is_told_with_what_is_meant() {
     let roads = ["influence", "link", "loader", &in_examples("four.txt")];
     assert!(TOOL
         .complaint(&roads)
-        .ends_with("FILE comes first, then FROM and TO\n"));
+        .ends_with("FILE comes first, then the domains\n"));
 }
 
 #[test]

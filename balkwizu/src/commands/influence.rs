@@ -14,14 +14,14 @@ use line::text::input::Input;
 use line::text::names::Names;
 
 pub const HELP: &str = "\
-balkwizu influence FILE [FROM TO] [--calls N]
+balkwizu influence FILE [DOMAIN | FROM TO] [--calls N]
 
 Do the calls of FROM count for TO? A call counts for a domain where its caller
 is in the domain's source set: going from the end of the list back, the caller
 of a call joins it by any right that it has then on a member. All other calls
 are purged, and the domain has the same answers, rights, queues and lost counts
 without them. With FROM and TO, each a domain's number or its name in the text,
-the first line is one of these:
+the first line is one of these, and why comes after it:
 
   In this list ...     calls of FROM count for TO, which ones, and whether any
                        table of the run has a chain of rights from FROM to TO
@@ -30,12 +30,13 @@ the first line is one of these:
   Never ...            no list, whoever makes its calls, has one that counts: so
                        nothing that FROM does ever shows at TO. This is proved
 
-A chain of rights is of one table: FROM has one, of any kind, on some domain,
-that has one on the next, and so on to TO. Then come the chain in the table, and
-each call that is kept for TO, with when and by which right its caller joined. A
-word that is a number is taken as one. Without FROM and TO the same is printed
-of all domains: chains of rights in the table, source sets along the list, the
-chains that calls could ever give, and what never shows.
+With DOMAIN alone: whose calls count for it, for whom its own do, and each call
+that is kept for it, with when and by which right its caller joined. Without
+any: the same answers for all pairs as a grid, then all chains of rights in the
+table, source sets along the list, the chains that calls could ever give, and
+what never shows. A chain of rights is of one table: FROM has one, of any kind,
+on some domain, that has one on the next, and so on to TO. A word that is a
+number is taken as one.
 
   --calls N   print N of the calls that are kept at most (default: all)
 
@@ -49,22 +50,29 @@ refused, with what is wrong, or what was found differs; 2 bad usage, or a file
 that can't be read.
 ";
 
+/// Whom is asked about.
+enum About<T> {
+    All,
+    One(T),
+    Pair(T, T),
+}
+
 /// The command: whether it was answered.
 pub fn command(line: &[OsString]) -> Result<bool, String> {
     let options = Options::parse(line, &["--calls"], &[])?;
-    let (file, pair) = match options.files.as_slice() {
+    let (file, about) = match options.files.as_slice() {
         [] => return Err("no file is given; --help says what is wanted".to_string()),
-        [file] => (file, None),
-        [file, from, to] => (file, Some((from, to))),
-        [_, _] => return Err("FROM is given without TO".to_string()),
+        [file] => (file, About::All),
+        [file, domain] => (file, About::One(domain)),
+        [file, from, to] => (file, About::Pair(from, to)),
         [_, _, _, more, ..] => {
             return Err(format!("`{}` is not expected here", output::shown(more)))
         }
     };
     let calls = options.number("--calls")?.unwrap_or(u64::MAX) as usize;
-    let given = read_given(file).map_err(|why| match pair {
-        Some(_) if why.starts_with("cannot read") && !file.exists() => {
-            format!("{why}; FILE comes first, then FROM and TO")
+    let given = read_given(file).map_err(|why| match about {
+        About::One(_) | About::Pair(..) if why.starts_with("cannot read") && !file.exists() => {
+            format!("{why}; FILE comes first, then the domains")
         }
         _ => why,
     })?;
@@ -75,20 +83,23 @@ pub fn command(line: &[OsString]) -> Result<bool, String> {
             return Ok(false);
         }
     };
-    let pair = pair.map(|(from, to)| {
-        let found = |word: &Path| {
-            let word = word.to_string_lossy();
-            given.names.domain_of(&word, domains(&input.table))
-        };
-        Ok::<_, String>((found(from)?, found(to)?))
-    });
-    Ok(answer(&input, &given.names, pair.transpose()?, calls))
+    let domain = |word: &Path| {
+        let word = word.to_string_lossy();
+        given.names.domain_of(&word, domains(&input.table))
+    };
+    let about = match about {
+        About::All => About::All,
+        About::One(one) => About::One(domain(one)?),
+        About::Pair(from, to) => About::Pair(domain(from)?, domain(to)?),
+    };
+    Ok(answer(&input, &given.names, about, calls))
 }
 
-fn answer(input: &Input, names: &Names, pair: Option<(usize, usize)>, calls: usize) -> bool {
-    let answer = Asked::of(input, names, calls).and_then(|asked| match pair {
-        Some((from, to)) => asked.pair(from, to),
-        None => asked.everything(),
+fn answer(input: &Input, names: &Names, about: About<usize>, calls: usize) -> bool {
+    let answer = Asked::of(input, names, calls).and_then(|asked| match about {
+        About::All => asked.everything(),
+        About::One(domain) => asked.one(domain),
+        About::Pair(from, to) => asked.pair(from, to),
     });
     match &answer {
         Ok(text) => output::write(text.as_bytes()),

@@ -14,6 +14,26 @@ use crate::text::names::Names;
 /// For so many pairs that could come to a chain of rights the calls are printed.
 const PAIRS_MAX: usize = 40;
 
+/// How the calls of one domain come to count for another.
+#[derive(Clone, Copy, PartialEq, Eq)]
+enum Counts {
+    Own,
+    InThisList,
+    Could,
+    Never,
+}
+
+/// The sign of each in the grid, and what it means.
+const HOW: [(Counts, &str, &str); 3] = [
+    (Counts::InThisList, "L", "in this list"),
+    (Counts::Could, "c", "not in this list, but by other calls"),
+    (
+        Counts::Never,
+        ".",
+        "never, whatever calls are made (proved)",
+    ),
+];
+
 /// An input to be reported on: an accepted table, its list and its names.
 pub struct Asked<'a> {
     input: &'a Input,
@@ -34,10 +54,95 @@ impl<'a> Asked<'a> {
         })
     }
 
-    /// All chains of rights of the table, the source sets along the list, and what could
-    /// ever come about.
+    /// Who influences whom, then why: all chains of rights of the table, the source sets
+    /// along the list, and what could ever come about.
     pub fn everything(&self) -> Result<String, String> {
-        Ok([self.all_chains()?, self.all_sets()?, self.all_ever()?].join("\n"))
+        let parts = [
+            self.grid()?,
+            self.all_chains()?,
+            self.all_sets()?,
+            self.all_ever()?,
+        ];
+        Ok(parts.join("\n"))
+    }
+
+    /// Whose calls count for a domain, for whom its own do, and the calls that are kept for
+    /// it.
+    pub fn one(&self, domain: usize) -> Result<String, String> {
+        let counts = self.counts()?;
+        let who = self.names.domain(domain);
+        let on_it = counts.iter().map(|row| row[domain]).collect::<Vec<_>>();
+        let mut text = format!("Influence on {who}: whose calls count for it\n");
+        text += &self.by_how(&on_it);
+        text += &format!("Influence of {who}: for whom its calls count\n");
+        text += &self.by_how(&counts[domain]);
+        if !self.run.calls.is_empty() {
+            text += "\n";
+            text += &self.calls_kept(domain)?;
+        }
+        Ok(text)
+    }
+
+    /// The domains of a row or a column of the grid, by how calls count.
+    fn by_how(&self, counts: &[Counts]) -> String {
+        let each = HOW.iter().map(|(how, _, words)| {
+            let all = (0..counts.len()).filter(|&domain| counts[domain] == *how);
+            let row = match all.collect::<Vec<_>>().as_slice() {
+                [] => "nobody".to_string(),
+                some => self.names.domain_row(some),
+            };
+            format!("  {words}: {row}\n")
+        });
+        each.collect()
+    }
+
+    /// Who influences whom, by a sign for each pair.
+    fn grid(&self) -> Result<String, String> {
+        let counts = self.counts()?;
+        let each = HOW.map(|(_, sign, words)| format!("  {sign}  {words}\n"));
+        let heads: String = (0..counts.len()).map(|to| format!("{to:>3}")).collect();
+        let mut text = format!(
+            "Influence: whether calls of a domain (row) count for another (column)\n{}  {:8}{heads}\n",
+            each.concat(),
+            ""
+        );
+        for (from, row) in counts.iter().enumerate() {
+            let sign = |how: &Counts| {
+                HOW.iter()
+                    .find(|one| one.0 == *how)
+                    .map_or("=", |one| one.1)
+            };
+            let signs: String = row.iter().map(|how| format!("{:>3}", sign(how))).collect();
+            let name = self.names.domain_name(from).unwrap_or("");
+            text += format!("  from {from:>2} {signs}  {name}").trim_end();
+            text += "\n";
+        }
+        Ok(text)
+    }
+
+    /// How the calls of each domain come to count for each other, by the source sets along
+    /// the list and the proved function.
+    fn counts(&self) -> Result<Vec<Vec<Counts>>, String> {
+        let n = domains(&self.input.table);
+        let ever = Chains::ever(&self.input.table)?;
+        let mut counts = vec![vec![Counts::Never; n]; n];
+        for to in 0..n {
+            ever.to(to)
+                .for_each(|from| counts[from][to] = Counts::Could);
+            counts[to][to] = Counts::Own;
+            for (call, kept) in self.run.kept_for(to)?.iter().enumerate() {
+                match self.run.caller(call) {
+                    Some(from) if kept.is_some() && from != to => {
+                        if counts[from][to] == Counts::Never {
+                            self.run.verdict(from, to)?;
+                        }
+                        counts[from][to] = Counts::InThisList;
+                    }
+                    _ => {}
+                }
+            }
+        }
+        Ok(counts)
     }
 
     /// Whether the calls of one domain count for another, in this list or ever, and by
@@ -45,14 +150,24 @@ impl<'a> Asked<'a> {
     pub fn pair(&self, from: usize, to: usize) -> Result<String, String> {
         let verdict = self.run.verdict(from, to)?;
         let mut text = self.verdict(from, to, &verdict)?;
-        if from != to {
+        let (never, in_list) = (
+            matches!(verdict, Verdict::Never { .. }),
+            !self.run.calls.is_empty(),
+        );
+        if from != to && !never {
             text += &self.chain_now(from, to)?;
             text += &self.chain_ever(from, to, &verdict)?;
         }
-        text += &self.own_rights(from, to)?;
-        if !self.run.calls.is_empty() {
+        if !never {
+            text += &self.own_rights(from, to)?;
+        }
+        if in_list && !never {
             text += &self.after_the_list(from, to)?;
+        }
+        if in_list {
             text += &self.own_calls(from, to)?;
+        }
+        if in_list && matches!(verdict, Verdict::InThisList { .. }) {
             text += "\n";
             text += &self.calls_kept(to)?;
         }
