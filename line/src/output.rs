@@ -1,7 +1,11 @@
-//! What the commands print, and the files that they write. Where nobody reads what is
-//! printed any more the program just ends, as a program in a pipe should.
+//! What the commands print, and the files that they write. On a terminal lines are broken at
+//! its width. Where nobody reads what is printed any more the program just ends, as a program
+//! in a pipe should.
 
+use std::env;
 use std::fs;
+use std::io::IsTerminal;
+use std::os::fd::AsRawFd;
 use std::os::unix::fs::MetadataExt;
 use std::path::Path;
 
@@ -11,7 +15,9 @@ use std::path::Path;
 macro_rules! complain {
     ($($parts:tt)*) => {{
         use std::io::Write;
-        let _ = writeln!(std::io::stderr(), $($parts)*);
+        let mut out = std::io::stderr();
+        let line = $crate::output::for_terminal(format!($($parts)*), &out);
+        let _ = writeln!(out, "{line}");
     }};
 }
 
@@ -27,8 +33,11 @@ pub fn write(bytes: &[u8]) {
     use std::io::{ErrorKind, Write};
     use std::process::exit;
 
+    let text = String::from_utf8(bytes.to_vec());
+    let text = text.map(|text| for_terminal(text, &std::io::stdout()).into_bytes());
+    let bytes = text.unwrap_or_else(|no_text| no_text.into_bytes());
     let out = crate::closed::standard_output();
-    if let Err(why) = out.and_then(|mut out| out.write_all(bytes)) {
+    if let Err(why) = out.and_then(|mut out| out.write_all(&bytes)) {
         if why.kind() != ErrorKind::BrokenPipe {
             complain!("{}: cannot write: {why}", crate::program::name());
         }
@@ -129,6 +138,61 @@ pub fn write_file(out: &Path, bytes: &(impl AsRef<[u8]> + ?Sized)) -> Result<(),
     fs::write(out, bytes).map_err(|why| format!("cannot write {}: {why}", shown(out)))
 }
 
+/// Breaks the lines of a text at the width of a terminal, where `out` is one.
+pub fn for_terminal(text: String, out: &(impl IsTerminal + AsRawFd)) -> String {
+    match width(out) {
+        Some(width) => fitted(&text, width),
+        None => text,
+    }
+}
+
+/// The width of a terminal: what COLUMNS says, or the terminal itself.
+fn width(out: &(impl IsTerminal + AsRawFd)) -> Option<usize> {
+    if !out.is_terminal() {
+        return None;
+    }
+    let given = env::var("COLUMNS").ok().and_then(|text| text.parse().ok());
+    given
+        .or_else(|| asked_width(out.as_raw_fd()))
+        .filter(|width| *width >= WIDTH_MIN)
+}
+
+/// Lines aren't broken where they would be shorter than this.
+const WIDTH_MIN: usize = 40;
+
+fn asked_width(file: i32) -> Option<usize> {
+    extern "C" {
+        fn ioctl(file: i32, request: u64, ...) -> i32;
+    }
+    const SIZE_OF_THE_WINDOW: u64 = 0x5413;
+    let mut size = [0_u16; 4];
+    // SAFETY: this request writes four numbers of 16 bits, rows and columns first.
+    let code = unsafe { ioctl(file, SIZE_OF_THE_WINDOW, size.as_mut_ptr()) };
+    (code == 0).then_some(usize::from(size[1]))
+}
+
+/// A text whose lines are not longer than a width, as far as its words are not. What is
+/// broken goes on under the last column of its line, or further in than its start.
+fn fitted(text: &str, width: usize) -> String {
+    let line = |line: &str| {
+        let body = line.trim_end_matches('\n');
+        if body.chars().count() <= width {
+            return line.to_string();
+        }
+        let indent = body.len() - body.trim_start_matches(' ').len();
+        let (letters, most) = (body.as_bytes(), body.len().min(width / 2));
+        let column = (2..most).rfind(|&at| letters[at] != b' ' && letters[at - 2..at] == *b"  ");
+        let (head, under) = match column {
+            Some(column) if column > indent => (column, column),
+            _ => (indent.min(most), indent.min(most) + 2),
+        };
+        let lines = wrapped(&body[head..], width - under);
+        let lines = lines.join(&format!("\n{}", " ".repeat(under)));
+        format!("{}{lines}{}", &body[..head], &line[body.len()..])
+    };
+    text.split_inclusive('\n').map(line).collect()
+}
+
 /// Breaks a line between words into lines of so many letters at most.
 pub fn wrapped(line: &str, most: usize) -> Vec<String> {
     let mut lines = vec![String::new()];
@@ -174,6 +238,39 @@ mod tests {
         assert_eq!(wrapped("ab cd ef", 5), ["ab cd", "ef"]);
         assert_eq!(wrapped("abcdefg h", 5), ["abcdefg", "h"]);
         assert_eq!(wrapped("ab", 5), ["ab"]);
+    }
+
+    #[test]
+    fn the_lines_of_a_text_fit_a_terminal() {
+        let text = "   0  20000100  domain 0 sends 5 to endpoint 1\nshort\n  one two three four";
+        let wanted =
+            "   0  20000100  domain 0 sends 5\n                to endpoint 1\nshort\n  one \
+                      two three four";
+        assert_eq!(fitted(text, 34), wanted);
+        let indented = format!("  word 7, {}\n", "the rights of domain 1 ".repeat(3));
+        let broken = fitted(&indented, 40);
+        assert!(
+            broken.lines().all(|line| line.chars().count() <= 40),
+            "{broken}"
+        );
+        assert!(
+            broken.starts_with("  word 7, ") && broken.ends_with('\n'),
+            "{broken}"
+        );
+        assert!(
+            broken.lines().skip(1).all(|line| line.starts_with("    ")),
+            "{broken}"
+        );
+        let words =
+            |text: &str| -> Vec<String> { text.split_whitespace().map(str::to_string).collect() };
+        assert_eq!(words(&broken), words(&indented));
+    }
+
+    #[test]
+    fn nothing_is_broken_in_a_file() {
+        let file = fs::File::open("/dev/null").unwrap();
+        let long = "word ".repeat(100);
+        assert_eq!(for_terminal(long.clone(), &file), long);
     }
 
     #[test]

@@ -8,6 +8,7 @@ pub struct Progress {
     what: &'static str,
     done: u64,
     of: u64,
+    on_terminal: bool,
     shown: Option<Instant>,
 }
 
@@ -15,27 +16,28 @@ const EVERY: Duration = Duration::from_millis(200);
 
 impl Progress {
     pub fn new(what: &'static str, numbers: &Range<u64>) -> Progress {
-        let shown = io::stderr().is_terminal().then(Instant::now);
         Progress {
             what,
             done: 0,
             of: numbers.end - numbers.start,
-            shown,
+            on_terminal: io::stderr().is_terminal(),
+            shown: None,
         }
     }
 
-    /// One more is done.
+    /// Shows that one more is done, at once where it is the first.
     pub fn step(&mut self) {
         self.done += 1;
-        if self.shown.is_some_and(|shown| shown.elapsed() >= EVERY) {
+        let lately = self.shown.is_some_and(|shown| shown.elapsed() < EVERY);
+        if self.on_terminal && !lately {
             show(&format!("\r{} of {} {} ", self.done, self.of, self.what));
             self.shown = Some(Instant::now());
         }
     }
 
-    /// Takes the line away.
+    /// Takes the line away. What showed it may be a child process, so it is not asked for.
     pub fn clear(&mut self) {
-        if self.shown.is_some() {
+        if self.on_terminal {
             show(&format!("\r{:60}\r", ""));
         }
     }
