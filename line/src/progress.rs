@@ -30,7 +30,7 @@ impl Progress {
         self.done += 1;
         let lately = self.shown.is_some_and(|shown| shown.elapsed() < EVERY);
         if self.on_terminal && !lately {
-            show(&format!("\r{} of {} {} ", self.done, self.of, self.what));
+            show(&format!("{} of {} {}", self.done, self.of, self.what));
             self.shown = Some(Instant::now());
         }
     }
@@ -38,13 +38,27 @@ impl Progress {
     /// Takes the line away. What showed it may be a child process, so it is not asked for.
     pub fn clear(&mut self) {
         if self.on_terminal {
-            show(&format!("\r{:60}\r", ""));
+            show("");
         }
     }
 }
 
-/// Where the terminal has gone there is nobody to show it to.
+/// Shows what is being done while it is, for what has no steps to count.
+pub fn phase<T>(what: &str, act: impl FnOnce() -> T) -> T {
+    let on_terminal = io::stderr().is_terminal();
+    if on_terminal {
+        show(what);
+    }
+    let done = act();
+    if on_terminal {
+        show("");
+    }
+    done
+}
+
+/// Shows a line in the place of the last one. Where the terminal has gone nobody sees it.
 fn show(line: &str) {
     let mut out = io::stderr();
-    let _ = out.write_all(line.as_bytes()).and_then(|()| out.flush());
+    let end = if line.is_empty() { "\r" } else { "" };
+    let _ = write!(out, "\r{line:60}{end}").and_then(|()| out.flush());
 }

@@ -283,11 +283,7 @@ mod tests {
         assert!(picture.contains("domain 0 sends 5 to endpoint 1"));
         assert!(picture.contains("name 18"));
         let titles = "<title>domain 1 has SEND+GRANT+REMOVE on domain 2</title>";
-        assert_eq!(
-            picture.matches(titles).count(),
-            2,
-            "of its arrow and its cell"
-        );
+        assert_eq!(picture.matches(titles).count(), 3, "arrow, letters, cell");
         assert_eq!(
             picture.matches(", but a chain of rights</title>").count(),
             1

@@ -18,7 +18,7 @@ use crate::judging::variants::{case_of, damaged_tables, scrambled_lists, Variant
 use crate::kernels::boundary::Kernel;
 use crate::kernels::child;
 use crate::kernels::lent::{Failure, Ran, Stopped};
-use crate::progress::Progress;
+use crate::progress::{phase, Progress};
 use crate::text::explain::counted;
 use crate::text::input::Input;
 use crate::text::names::Names;
@@ -146,10 +146,11 @@ impl Checklist {
     }
 
     pub fn verdicts(&self) -> Verdicts {
-        let runs = self.runs();
+        let runs = phase("running the exercise", || self.runs());
         let check = |name, judged| Check::new(name, judged, &self.names);
+        let refusals = phase("judging refusals", || self.refusals(&runs));
         let checks = [
-            check("refusals", self.refusals(&runs)),
+            check("refusals", refusals),
             check("answers and table", self.answers_and_table(&runs)),
             check("isolation", self.isolation(&runs)),
             check("counts", self.counts(&runs)),
