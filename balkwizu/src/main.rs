@@ -73,7 +73,7 @@ const PROGRAM: Program = Program {
         },
         Command {
             name: "repair",
-            given: "IN OUT",
+            given: "IN [OUT]",
             purpose: "a damaged table made fit again",
             help: repair::HELP,
             act: repair::command,

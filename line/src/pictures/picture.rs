@@ -66,10 +66,14 @@ pub fn svg_of(
     drawing.text(MARGIN, 66.0, SUBTITLE, &size);
     page.table(&input.table);
     // The table after the list comes before its calls, which may fill the rest.
-    if let Some(left) = left {
-        page.section("After the list");
-        page.table(&left.table);
-        page.section("The list");
+    match left {
+        Some(left) if left.table == input.table => page.section("After the list: the same"),
+        Some(left) => {
+            page.section("After the list");
+            page.table(&left.table);
+            page.section("The list");
+        }
+        None => {}
     }
     let answers = left.map_or(vec![], |left| {
         answers_in_words(input, names, &left.answers, calls)

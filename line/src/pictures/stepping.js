@@ -46,7 +46,9 @@ function makeRights() {
   data.domains.forEach((name, holder) => {
     const row = make(at("rights"), "tr");
     make(row, "th", name);
-    data.domains.forEach((_, target) => make(row, "td", "", "r" + holder + "-" + target));
+    data.domains.forEach((on, target) => {
+      make(row, "td", "", "r" + holder + "-" + target).title = name + " on " + on;
+    });
   });
 }
 
