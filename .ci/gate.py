@@ -20,6 +20,8 @@ PARTS = ("src", "specs", "proofs")
 LISTED = re.compile(r"^(\w+):(.*)$", re.M)
 FAULT = re.compile(r"fault: (\S+) in (\S+(?:, \S+)*)")
 REFUSED_BY = "refused by: "
+IMPORT = re.compile(r"^ *(?:pub )?use Rattle·own·(specs|proofs)\.(?:specs|proofs)\.([^\s{]*?)\.?(?:\{|\s|$)", re.M)
+MODULE = re.compile(r"(?:pub )?mod (\S+)$")
 
 
 def texts(*kinds):
@@ -129,6 +131,56 @@ def applied(edit, where):
         path.write_text(text.replace(old, new), encoding="utf-8")
     if not replacements:
         raise Bad("it has no 'old:' and 'new:' pair")
+
+
+def stated_in(where, theorem):
+    """The files of proofs/ that state a theorem."""
+    stated = re.compile(rf"^(?:pub )?{re.escape(theorem)} :", re.M)
+    return {path for path in (where / "proofs").rglob("*.antt") if stated.search(path.read_text(encoding="utf-8"))}
+
+
+def has_code(where):
+    """Whether a crate has a function, and not only types."""
+    return any("fn " in path.read_text(encoding="utf-8") for path in (where / "src").rglob("*.rt"))
+
+
+def imported(path, where, crate):
+    """The files of specs/ and proofs/ that a file imports, and those above them, which declare them."""
+    found = set()
+    for part, name in IMPORT.findall(path.read_text(encoding="utf-8").replace(f"Rattle·{crate}·", "Rattle·own·")):
+        file = where / part / f"{name.replace('.', '/')}.antt"
+        found |= {file} if file.parent == where / part else {file, file.parent.with_suffix(".antt")}
+    return found
+
+
+def needed(where, crate, theorems):
+    """The files of specs/ and proofs/ that some theorems need; None where one isn't stated in proofs/, or they may need code."""
+    stated = [stated_in(where, theorem) for theorem in theorems]
+    found, new = set(), set().union(*stated)
+    while new:
+        found |= new
+        files = set().union(*(imported(path, where, crate) for path in new))
+        if not all(path.is_file() for path in files) and has_code(where):
+            return None
+        new = {path for path in files if path.is_file()} - found
+    return found if all(stated) else None
+
+
+def cut_down(where, kept):
+    """Leaves of a copy these files of specs/ and proofs/, the lines that declare them, and no code."""
+    files = [*where.glob("specs/**/*.antt"), *where.glob("proofs/**/*.antt")]
+    for path in files:
+        if path not in kept and path.name != "Lib.antt":
+            path.unlink()
+    for path in filter(pathlib.Path.is_file, files):
+        below = path.parent if path.name == "Lib.antt" else path.with_suffix("")
+        lines = path.read_text(encoding="utf-8").splitlines(keepends=True)
+        left = [line for line in lines if not (module := MODULE.match(line)) or (below / f"{module[1]}.antt").is_file()]
+        path.write_text("".join(left), encoding="utf-8")
+    if has_code(where):
+        shutil.rmtree(where / "src")
+        (where / "src").mkdir()
+        (where / "src/lib.rt").write_text("// Has no code: what must refuse the edit needs none.\n", encoding="utf-8")
 
 
 def judged(tried, judge, exact=False):
