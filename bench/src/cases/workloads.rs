@@ -1,8 +1,8 @@
 //! What the speed is measured on: tables, and sixty different lists of 4,096 words for
 //! each, to be gone through in turn.
 //!
-//! One list that is run again and again is learnt by the
-//! branch predictor. Sixty are too many for that.
+//! The branch predictor learns one list that is run again and again. Sixty are too many for
+//! that.
 //!
 //! Every list is drawn from a seed, and leaves every queue and every right as it was
 //! after each few calls, so that its calls come to the same wherever they are in it
