@@ -98,28 +98,42 @@ fn of_sheet(printed: &Path, options: &Options) -> Result<bool, String> {
         return Err(format!("{line} has not as many endpoints as {sheet}"));
     }
     let names = given.map_or(Names::none(), |given| given.names);
+    let known = (table.as_deref(), &names);
     show(
         options,
-        &Shown {
-            sheet: &sheet,
-            made: &in_utc(SystemTime::now()),
-            table: table.as_deref(),
-            names: &names,
-            ran: &[],
-            refused: &[],
-            stopped: None,
-        },
+        &shown_sheet(&sheet, known, &in_utc(SystemTime::now())),
     )
+}
+
+/// A sheet of which nothing else is known than its line.
+fn shown_sheet<'a>(
+    sheet: &'a Sheet,
+    (table, names): (Option<&'a [u32]>, &'a Names),
+    made: &'a str,
+) -> Shown<'a> {
+    Shown {
+        sheet,
+        made,
+        table,
+        names,
+        ran: &[],
+        refused: &[],
+        stopped: None,
+    }
+}
+
+/// The first of not too many files.
+fn first_of(files: &[PathBuf]) -> Result<&Path, String> {
+    match (files.first(), files.len()) {
+        (Some(first), ..=LISTS_MAX) => Ok(first),
+        (Some(_), _) => Err("more than 65,536 lists".to_string()),
+        (None, _) => Err("LINE is missing; --help says what is wanted".to_string()),
+    }
 }
 
 /// Runs the lists, and shows or joins them.
 fn of_lists(options: &Options) -> Result<bool, String> {
-    let Some(first) = options.files.first() else {
-        return Err("LINE is missing; --help says what is wanted".to_string());
-    };
-    if options.files.len() > LISTS_MAX {
-        return Err("more than 65,536 lists".to_string());
-    }
+    let first = first_of(&options.files)?;
     let given = read_given(first)?;
     let input = match given.accepted() {
         Ok(input) => input,
@@ -127,42 +141,50 @@ fn of_lists(options: &Options) -> Result<bool, String> {
     };
     let mut shift = Shift::begin(&input.table);
     shift.run(&shown(first), &input.list)?;
-    let mut stopped = None;
-    for file in &options.files[1..] {
-        let other = read_given_list(file, (&given.names, Some(sizes(&input.table))))?;
-        match list_of(&other, &given, &input.table, &shift.table) {
-            Ok(list) => shift.run(&shown(file), &list)?,
-            Err(Wrong::Refused(refusal)) => {
-                complained(file, &refusal);
-                stopped = Some((file, refusal));
-                break;
-            }
-            Err(Wrong::OfAnother(why)) => {
-                let (file, first) = (shown(file), shown(first));
-                complain!("balkwizu shift: {file} isn't of the line of {first}: {why}");
-                return Ok(false);
-            }
+    let stopped = match run_others(&mut shift, &given, &input.table, &options.files[1..])? {
+        None => None,
+        Some((file, Wrong::Refused(refusal))) => {
+            complained(file, &refusal);
+            Some((file, refusal))
         }
-    }
-    let code = stopped.as_ref().map_or(0, |(_, (code, _))| *code);
-    let sheet = shift.sheet(code)?;
+        Some((file, Wrong::OfAnother(why))) => {
+            let (file, first) = (shown(file), shown(first));
+            complain!("balkwizu shift: {file} isn't of the line of {first}: {why}");
+            return Ok(false);
+        }
+    };
+    let sheet = shift.sheet(stopped.as_ref().map_or(0, |(_, (code, _))| *code))?;
     if options.has("--join") {
-        if stopped.is_none() {
-            output::write(&shift.joined());
-        }
-        return Ok(stopped.is_none());
+        let all = stopped.is_none();
+        output::write(if all { shift.joined() } else { Vec::new() }.as_slice());
+        return Ok(all);
     }
-    let stopped = stopped
-        .map(|(file, refusal)| format!("{} was {}", shown(file), refused::in_words(&refusal)));
-    shown_lists(
-        options,
-        &shift,
-        &sheet,
-        (&input.table, &given.names),
-        stopped,
-    )
+    let stopped = stopped.map(|(file, refusal)| {
+        let (file, why) = (shown(file), refused::in_words(&refusal));
+        format!("{file} was {why}")
+    });
+    let line = (input.table.as_slice(), &given.names);
+    shown_lists(options, &shift, &sheet, line, stopped)
 }
 
+/// Runs the lists of other files after the first; the one that can't run, and why.
+fn run_others<'a>(
+    shift: &mut Shift,
+    first: &Given,
+    start: &[u32],
+    files: &'a [PathBuf],
+) -> Result<Option<(&'a Path, Wrong)>, String> {
+    for file in files {
+        let other = read_given_list(file, (&first.names, Some(sizes(start))))?;
+        match list_of(&other, first, start, &shift.table) {
+            Ok(list) => shift.run(&shown(file), &list)?,
+            Err(wrong) => return Ok(Some((file, wrong))),
+        }
+    }
+    Ok(None)
+}
+
+/// Shows the lists that ran.
 fn shown_lists(
     options: &Options,
     shift: &Shift,
@@ -170,18 +192,14 @@ fn shown_lists(
     (table, names): (&[u32], &Names),
     stopped: Option<String>,
 ) -> Result<bool, String> {
-    show(
-        options,
-        &Shown {
-            sheet,
-            made: &in_utc(SystemTime::now()),
-            table: Some(table),
-            names,
-            ran: &shift.ran,
-            refused: &shift.refused,
-            stopped,
-        },
-    )
+    let made = in_utc(SystemTime::now());
+    let shown = Shown {
+        ran: &shift.ran,
+        refused: &shift.refused,
+        stopped,
+        ..shown_sheet(sheet, (Some(table), names), &made)
+    };
+    show(options, &shown)
 }
 
 /// Why a list doesn't run.

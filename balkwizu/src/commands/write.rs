@@ -68,8 +68,7 @@ pub fn command(line: &[OsString]) -> Result<bool, String> {
     let file = options.file()?;
     let path = options.path("--table");
     read_once(&[file, path.unwrap_or(Path::new(""))])?;
-    let of = path.map(read_given).transpose()?;
-    let of = match of.map(parsed).transpose() {
+    let of = match path.map(read_given).transpose()?.map(parsed).transpose() {
         Ok(of) => of,
         Err(refusal) => {
             refused::complain_of("write", path.unwrap_or(file), &refusal);
@@ -87,25 +86,25 @@ pub fn command(line: &[OsString]) -> Result<bool, String> {
     }
     if let Ok(Input { table, list }) = Input::parse(&given.bytes) {
         written_again(&list)?;
-        match of {
-            Some(_) if !table.is_empty() => {
-                let file = shown(file);
-                return Err(format!("{file} has a table: --table is for calls alone"));
-            }
-            Some((Input { table, .. }, names)) => {
+        match (of, table.is_empty()) {
+            (Some((Input { table, .. }, names)), true) => {
                 given.bytes = Input { table, list }.to_bytes();
                 given.names = names;
             }
-            None if !table.is_empty() => {}
-            None if options.has("--hex") => {
+            (None, false) => {}
+            (None, true) if options.has("--hex") => {
                 output::write(hex::write_list(&list).as_bytes());
                 return Ok(true);
             }
-            None => return Err("calls alone need --table LINE, or --hex".to_string()),
+            (None, true) => return Err("calls alone need --table LINE, or --hex".to_string()),
+            (Some(_), false) => return Err(has_table(file)),
         }
     }
-    write(path.unwrap_or(file), &given, options.has("--hex"));
-    Ok(true)
+    Ok(write(path.unwrap_or(file), &given, options.has("--hex")))
+}
+
+fn has_table(file: &Path) -> String {
+    format!("{} has a table: --table is for calls alone", shown(file))
 }
 
 fn parsed(given: Given) -> Result<(Input, Names), Refusal> {
@@ -113,7 +112,7 @@ fn parsed(given: Given) -> Result<(Input, Names), Refusal> {
 }
 
 /// Writes an input, with a warning where it will be refused.
-fn write(file: &Path, given: &Given, as_hex: bool) {
+fn write(file: &Path, given: &Given, as_hex: bool) -> bool {
     match (as_hex, Input::parse(&given.bytes)) {
         (false, _) => output::write(&given.bytes),
         (true, Ok(input)) => {
@@ -124,6 +123,7 @@ fn write(file: &Path, given: &Given, as_hex: bool) {
     if let Err(refusal) = given.accepted() {
         refused::warn_of("write", file, &refusal);
     }
+    true
 }
 
 /// That the proved writer writes the calls of a list in the same words. One that is refused
