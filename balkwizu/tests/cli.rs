@@ -1188,39 +1188,3 @@ fn what_a_controller_answered_to_the_plain_line_is_in_order() {
     let exchanged = ["commission", &four, "--answers", &left, "--left", &answers];
     assert_eq!(TOOL.status(&exchanged), 1);
 }
-
-/// The commands of docs/USERS.md that need nothing but the program, one after another in a
-/// folder that has the repository's examples and nothing else.
-#[test]
-fn the_ways_are_walked() {
-    let root = PathBuf::from(env!("CARGO_MANIFEST_DIR")).join("..");
-    let ways = fs::read_to_string(root.join("docs/USERS.md")).expect("the ways are there");
-    let folder = PathBuf::from(TOOL.path("ways"));
-    let _ = fs::remove_dir_all(&folder);
-    fs::create_dir_all(folder.join("build")).expect("a folder can be made");
-    std::os::unix::fs::symlink(root.join("balkwizu"), folder.join("balkwizu")).expect("a link");
-    let lines = ways
-        .lines()
-        .filter_map(|line| line.strip_prefix("build/release/balkwizu "))
-        .filter(|line| !line.contains("CARD") && !line.contains("target/bin"));
-    let mut walked = 0;
-    for line in lines {
-        // Without a campaign, which takes its time, where a kernel is commissioned.
-        let line = match line.contains("--answers") {
-            true => line.to_string(),
-            false => line.replacen("commission ", "commission --campaign 0 ", 1),
-        };
-        let line = format!("'{}' {line}", env!("CARGO_BIN_EXE_balkwizu"));
-        let mut shell = Command::new("bash");
-        // linetotals makes it, which need not be at hand here.
-        if line.contains("build/sheet ") {
-            let sheet = folder.join("build/sheet");
-            fs::write(sheet, "lists 1 code 0\n").expect("a file can be written");
-        }
-        let ran = shell.args(["-c", &line]).current_dir(&folder).output();
-        let ran = ran.expect("bash starts");
-        assert_eq!(ran.status.code(), Some(0), "{line}: {ran:?}");
-        walked += 1;
-    }
-    assert!(walked >= 12, "{walked}");
-}

@@ -42,7 +42,9 @@ fn a_damaged_table_of_turns_is_reported_with_what_mends_it() {
     let (status, printed, _) = TOOL.ran(&["turns", &turns]);
     assert_eq!(status, 1);
     assert!(printed.starts_with("table refused with 4 ("), "{printed}");
-    let mend = format!("`balkwizu repair {damaged} OUT` makes it fit again; without OUT it only says how\n");
+    let mend = format!(
+        "`balkwizu repair {damaged} OUT` makes it fit again; without OUT it only says how\n"
+    );
     assert!(printed.ends_with(&mend), "{printed}");
     let refused = TOOL.file("refused.txt", "table 10000100 20000010\nturn\n");
     let (status, printed, _) = TOOL.ran(&["turns", &refused]);
