@@ -2,7 +2,7 @@
 """Shows that `bench fuzz`, `bench step`, `bench queue`, `bench tables`, `bench
 histories` and `balkwizu influence` report a difference when there is one.
 
-The faults are those of the separate implementation's own mutants, by edits as
+The faults are those of the reference implementation's own mutants, by edits as
 reference/edits.py has them. The programs are built against a copy of the separate
 implementation with the faults in it, and with each of them switched on the same
 seeded fuzz must end with a reported difference between that and the kernel. What it
@@ -13,7 +13,7 @@ of potential rights or of who could influence a domain by the same seeded tables
 turns by the same seeded histories, one of the writer by the fuzz's lists alone, and one
 of a source set that leaves every view equal by `balkwizu influence` on an example. With none
 switched on all must pass. A panic, a run that doesn't end and a code never met are no
-reported difference, and none may be told as one that is right when it is tried alone.
+reported difference, and none may be reported as one that is right when it is tried alone.
 
     python3 bench/planted_faults.py            all faults
     python3 bench/planted_faults.py NAME...    some of them
@@ -54,7 +54,7 @@ BEHIND = "Only after those before it"
 PANICS = "the reference panics"
 
 # Faults that no comparison with the kernel can show, by name, each with why. They
-# are caught by the tests of the separate implementation itself.
+# are caught by the tests of the reference implementation itself.
 UNSEEN = {
     "agree_*": "the second table of a pair of lines is drawn so that it agrees",
     "group_keeps_*": "a stray and a call of nobody alter nothing",
@@ -134,7 +134,7 @@ def ran_by(bench, command, fault):
 
 
 def check_unedited(bench):
-    """Against the separate implementation as it stands all must pass."""
+    """Against the reference implementation as it stands all must pass."""
     for command in FUZZ, WORKING, LISTS, STEP, QUEUE, TABLES, HISTORIES, INFLUENCE:
         ran = ran_by(bench, command, 0)
         if ran.returncode != 0:
@@ -180,10 +180,10 @@ def reported(bench, fault, name, edit):
     for pattern, command in BY_ANOTHER.items():
         if fnmatch(name, pattern):
             return f"by {command[0]}: {difference(bench, command, fault)}"
-    told = difference_by_both(bench, fault)
+    found = difference_by_both(bench, fault)
     if not any(fnmatch(name, pattern) for pattern in UNSEEN_BY_STEPS):
-        told += f"; by steps: {difference(bench, STEP, fault)}"
-    return told
+        found += f"; by steps: {difference(bench, STEP, fault)}"
+    return found
 
 
 def unseen(path):

@@ -112,7 +112,7 @@ static int say(const char *name, size_t bytes, size_t most, uint32_t code)
 }
 
 /* Measures a call and prints what it took: 0 where all is well. */
-static int tell(const char *name, const struct call *call, size_t most)
+static int report(const char *name, const struct call *call, size_t most)
 {
     uint64_t result;
     bytes_taken(call, &result);
@@ -121,7 +121,7 @@ static int tell(const char *name, const struct call *call, size_t most)
 }
 
 /* The same of the function that writes a list. */
-static int tell_write(const char *name, const struct call *call, size_t most)
+static int report_write(const char *name, const struct call *call, size_t most)
 {
     uint64_t result;
     bytes_taken(call, &result);
@@ -130,7 +130,7 @@ static int tell_write(const char *name, const struct call *call, size_t most)
 }
 
 /* The same of a function that answers no code. */
-static int tell_plain(const char *name, const struct call *call, size_t most)
+static int report_plain(const char *name, const struct call *call, size_t most)
 {
     uint64_t no_code;
     bytes_taken(call, &no_code);
@@ -140,7 +140,7 @@ static int tell_plain(const char *name, const struct call *call, size_t most)
 
 /* The most that a turn takes: idle, or serving the last domain's calls of the list, of
  * which each kind is there. */
-static int tell_turn(const struct call *turn)
+static int report_turn(const struct call *turn)
 {
     const uint32_t *calls_of_last = list + 17 * (DOMAINS - 1);
     size_t most = 0;
@@ -162,7 +162,7 @@ static int tell_turn(const struct call *turn)
 
 /* The most that a step takes, of the same calls: each as it is in the list, of one word or
  * of two. */
-static int tell_step(const struct call *of_two, const struct call *of_one)
+static int report_step(const struct call *of_two, const struct call *of_one)
 {
     const uint32_t *calls_of_last = list + 17 * (DOMAINS - 1);
     size_t most = 0;
@@ -181,7 +181,7 @@ static int tell_step(const struct call *of_two, const struct call *of_one)
 }
 
 /* The functions of the turns; the first call of the list is domain 0's. */
-static int tell_turns(void)
+static int report_turns(void)
 {
     const struct call begin = { (void (*)(void))balkwizu_turns_begin,
                                 { (uintptr_t)table, BALKWIZU_TABLE_WORDS_MAX,
@@ -203,12 +203,12 @@ static int tell_turns(void)
                                  (uintptr_t)answers, BALKWIZU_ANSWER_WORDS } };
     struct call short_step = step;
     short_step.given[5] = 1;
-    int failed = tell_plain("balkwizu_turns_version", &version,
+    int failed = report_plain("balkwizu_turns_version", &version,
                             BALKWIZU_TURNS_VERSION_STACK_BYTES);
-    failed |= tell("balkwizu_turns_begin", &begin, BALKWIZU_TURNS_BEGIN_STACK_BYTES);
-    failed |= tell("balkwizu_hand_in", &hand_in, BALKWIZU_HAND_IN_STACK_BYTES);
-    failed |= tell_step(&step, &short_step);
-    return failed | tell_turn(&turn);
+    failed |= report("balkwizu_turns_begin", &begin, BALKWIZU_TURNS_BEGIN_STACK_BYTES);
+    failed |= report("balkwizu_hand_in", &hand_in, BALKWIZU_HAND_IN_STACK_BYTES);
+    failed |= report_step(&step, &short_step);
+    return failed | report_turn(&turn);
 }
 
 int main(void)
@@ -246,21 +246,21 @@ int main(void)
                                   (uintptr_t)written, BALKWIZU_LIST_WORDS_MAX } };
     const struct call version = { (void (*)(void))balkwizu_version, { 0 } };
     int failed =
-        tell("balkwizu_table_check", &check, BALKWIZU_TABLE_CHECK_STACK_BYTES);
-    failed |= tell_plain("balkwizu_version", &version, BALKWIZU_VERSION_STACK_BYTES);
-    failed |= tell("balkwizu_component", &component, BALKWIZU_COMPONENT_STACK_BYTES);
-    failed |= tell("balkwizu_potential", &potential, BALKWIZU_POTENTIAL_STACK_BYTES);
-    failed |= tell("balkwizu_could_influence", &could_influence,
+        report("balkwizu_table_check", &check, BALKWIZU_TABLE_CHECK_STACK_BYTES);
+    failed |= report_plain("balkwizu_version", &version, BALKWIZU_VERSION_STACK_BYTES);
+    failed |= report("balkwizu_component", &component, BALKWIZU_COMPONENT_STACK_BYTES);
+    failed |= report("balkwizu_potential", &potential, BALKWIZU_POTENTIAL_STACK_BYTES);
+    failed |= report("balkwizu_could_influence", &could_influence,
                    BALKWIZU_COULD_INFLUENCE_STACK_BYTES);
-    failed |= tell("balkwizu_repair", &repair, BALKWIZU_REPAIR_STACK_BYTES);
-    failed |= tell_write("balkwizu_write", &write, BALKWIZU_WRITE_STACK_BYTES);
-    failed |= tell_turns();
-    failed |= tell("balkwizu_run_working", &run_working,
+    failed |= report("balkwizu_repair", &repair, BALKWIZU_REPAIR_STACK_BYTES);
+    failed |= report_write("balkwizu_write", &write, BALKWIZU_WRITE_STACK_BYTES);
+    failed |= report_turns();
+    failed |= report("balkwizu_run_working", &run_working,
                    BALKWIZU_RUN_WORKING_STACK_BYTES);
-    failed |= tell("balkwizu_run_by_length", &run_by_length,
+    failed |= report("balkwizu_run_by_length", &run_by_length,
                    BALKWIZU_RUN_BY_LENGTH_STACK_BYTES);
-    failed |= tell("balkwizu_run", &run, BALKWIZU_RUN_STACK_BYTES);
+    failed |= report("balkwizu_run", &run, BALKWIZU_RUN_STACK_BYTES);
     /* The run has left the holders: everybody has every right, so that none is added. */
     return failed
-           | tell("balkwizu_who_reaches", &who_reaches, BALKWIZU_WHO_REACHES_STACK_BYTES);
+           | report("balkwizu_who_reaches", &who_reaches, BALKWIZU_WHO_REACHES_STACK_BYTES);
 }

@@ -51,7 +51,7 @@ static const struct { int before, during; } turns[] = {
 static volatile sig_atomic_t arrived, beyond, in_turn, handed_in_during_a_turn;
 static sigset_t wire;
 
-/* The interrupt. It doesn't print: what it did is told by the loop. One that nobody
+/* The interrupt. It doesn't print: what it did is reported by the loop. One that nobody
  * waits for is counted, and stores nothing. */
 static void on_arrival(int number)
 {
@@ -95,16 +95,16 @@ static balkwizu_result turn(int interrupts)
 }
 
 /* Tells what was handed in since the last time; how much that is in all. */
-static int tell_arrivals(const char *when, int told)
+static int report_arrivals(const char *when, int reported)
 {
-    for (; told < arrived; told++)
+    for (; reported < arrived; reported++)
         printf("  %s domain %u hands in kind %u: code %u, %s\n", when,
-               (unsigned)arrivals[told].domain, (unsigned)(arrivals[told].words[0] >> 28),
-               (unsigned)arrivals[told].code, code_meaning(arrivals[told].code));
-    return told;
+               (unsigned)arrivals[reported].domain, (unsigned)(arrivals[reported].words[0] >> 28),
+               (unsigned)arrivals[reported].code, code_meaning(arrivals[reported].code));
+    return reported;
 }
 
-static void tell_turn(unsigned number, balkwizu_result result)
+static void report_turn(unsigned number, balkwizu_result result)
 {
     uint32_t code = BALKWIZU_TURN_CODE(result);
     if (code != BALKWIZU_OK)
@@ -168,16 +168,16 @@ static uint32_t begin(void)
 
 int main(void)
 {
-    int told = 0, refused = begin() != BALKWIZU_OK, wrong = !holders_are_right();
+    int reported = 0, refused = begin() != BALKWIZU_OK, wrong = !holders_are_right();
     for (unsigned i = 0; i < sizeof turns / sizeof *turns; i++) {
         for (int k = 0; k < turns[i].before; k++)
             raise(SIGUSR1);
-        told = tell_arrivals("between turns:", told);
+        reported = report_arrivals("between turns:", reported);
         balkwizu_result result = turn(turns[i].during);
         refused |= BALKWIZU_TURN_CODE(result) != BALKWIZU_OK;
         wrong |= !holders_are_right();
-        tell_turn(i + 1, result);
-        told = tell_arrivals("kept out until now:", told);
+        report_turn(i + 1, result);
+        reported = report_arrivals("kept out until now:", reported);
     }
     printf("interrupts that handed in during a turn: %s\n",
            handed_in_during_a_turn ? "some" : "none");

@@ -1,4 +1,4 @@
-"""Edits of the separate implementation, tried in copies of it: what mutants.py
+"""Edits of the reference implementation, tried in copies of it: what mutants.py
 and bench/planted_faults.py share.
 
 An edit puts one fault in. It is a file mutants/NAME.edit:
@@ -200,11 +200,11 @@ def tried(judge, program, fault):
     number, name, edit = fault
     start = time.monotonic()
     try:
-        told = judge(program, number, name, edit)
+        reported = judge(program, number, name, edit)
     except Wrong as wrong:
         return False, f"FAILED  {name}: {wrong}"
     seconds = time.monotonic() - start
-    return True, f"ok      {name} ({seconds:.1f} s): {told}"
+    return True, f"ok      {name} ({seconds:.1f} s): {reported}"
 
 
 def edit_files(wanted):
@@ -223,7 +223,7 @@ def try_all(paths, copy, make, check_unedited, judge):
 
     make(copy) gives the program of the copy once the faults are in it,
     check_unedited(program) raises Wrong where it doesn't do what it should with no
-    fault switched on, and judge(program, number, name, edit) gives what to tell of a
+    fault switched on, and judge(program, number, name, edit) gives what to report of a
     fault that is switched on by its number, or raises Wrong where it doesn't show.
     """
     try:

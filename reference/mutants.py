@@ -1,5 +1,5 @@
 #!/usr/bin/env python3
-"""Shows that the tests of the separate implementation catch its mutants.
+"""Shows that the tests of the reference implementation catch its mutants.
 
 A mutant is the package with one fault put in, by an edit as edits.py has them.
 The tests must pass with no fault switched on, and fail with each. The copy and its

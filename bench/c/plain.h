@@ -1,9 +1,9 @@
 /*
  * plain.h: a plain C kernel and table check that do what include/balkwizu.h says,
  * written by hand for speed, with no proof. The bench measures the proved archive
- * against it, and holds both to the same separate implementation.
+ * against it, and holds both to the same reference implementation.
  *
- * The caller's duties are those written in include/balkwizu.h.
+ * The caller's preconditions are those written in include/balkwizu.h.
  */
 #ifndef PLAIN_H
 #define PLAIN_H

@@ -1,6 +1,6 @@
 /*
  * plain_input.h: what the plain C programs read from standard input. Words are read as
- * they stand, so it is for a little-endian machine.
+ * they are, so it is for a little-endian machine.
  */
 #ifndef PLAIN_INPUT_H
 #define PLAIN_INPUT_H
@@ -24,7 +24,7 @@ static inline size_t read_bytes(void *to, size_t count)
     return have;
 }
 
-/* A table behind its length in words: 0, or 7 where it can't be had. */
+/* A table after its length in words: 0, or 7 where it can't be had. */
 static inline uint32_t read_table(uint32_t *table, uint32_t *length)
 {
     if (read_bytes(length, 4) < 4 || *length > TABLE_WORDS_MAX)

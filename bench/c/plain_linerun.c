@@ -86,10 +86,10 @@ int main(void)
     uint32_t code = read_input(&table_len, &list_len);
     if (code == 0) {
         uint32_t n = table_len > 0 ? table[0] >> 8 & 255u : 1;
-        uint32_t told = plain_run(table, table_len, list, list_len, answers, 3 * LIST_WORDS_MAX,
+        uint32_t reported = plain_run(table, table_len, list, list_len, answers, 3 * LIST_WORDS_MAX,
                                   holders, n <= DOMAINS_MAX ? n : 1);
-        code = told & 0xFFFFu;
-        calls = told >> 16;
+        code = reported & 0xFFFFu;
+        calls = reported >> 16;
     }
     char *end = put_first(lines, calls, code);
     for (uint32_t i = 0; i < calls; i++)

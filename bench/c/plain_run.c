@@ -4,7 +4,7 @@
  * Rights are taken in once for a run, one 64-bit row for each domain with four
  * bits for each target, so that a right is tested by a shift and `my rights` is
  * the row itself; a grant, a remove or a revoke writes the row and the table's word.
- * Names stand side by side for look up, and so do the sets of endpoints owned.
+ * Names are side by side for look up, and so do the sets of endpoints owned.
  * Queues are worked on in the table. The holders' words are worked out with the rows
  * and then kept call by call.
  */
@@ -121,7 +121,7 @@ static uint32_t look_up(const struct line *line, struct call call, uint32_t *dat
     return 0;
 }
 
-/* The messages behind the oldest move up by one slot; 1 or more wait. */
+/* The messages after the oldest move up by one slot; 1 or more wait. */
 static inline void move_up(uint32_t *words, uint32_t waiting)
 {
     for (uint32_t i = 1; i < waiting; i++)

@@ -194,7 +194,7 @@ static int try(const struct tried *tried)
 }
 
 /* 0 where the call came to the same. */
-static int tell(const struct tried *tried)
+static int report(const struct tried *tried)
 {
     int status = 0;
     fflush(stdout);
@@ -216,6 +216,6 @@ int main(int count, char **words)
         registers_too = strcmp(words[1], "registers") == 0;
     }
     for (size_t i = 0; i < BALKWIZU_COUNT(all); i++)
-        different |= tell(&all[i]);
+        different |= report(&all[i]);
     return different;
 }
