@@ -111,7 +111,7 @@ UNSEEN_BY_STEPS = {
 
 PROFILE = """
 [profile.release]
-opt-level = 0
+opt-level = 1
 debug = false
 codegen-units = 16
 """
