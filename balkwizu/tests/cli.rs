@@ -127,10 +127,10 @@ fn a_file_can_be_called_anything() {
     ] {
         let ended = ran(line);
         assert_eq!(ended.status.code(), Some(2));
-        let told = String::from_utf8(ended.stderr).expect("text");
+        let said = String::from_utf8(ended.stderr).expect("text");
         assert!(
-            told.starts_with("balkwizu ") && told.contains('\u{FFFD}'),
-            "{told}"
+            said.starts_with("balkwizu ") && said.contains('\u{FFFD}'),
+            "{said}"
         );
     }
 }
@@ -232,23 +232,23 @@ fn with_output(line: &str, output: &str) -> (i32, String) {
         .args(["-c", &script])
         .output()
         .expect("a shell starts");
-    let told = String::from_utf8(ended.stderr).expect("text");
-    (ended.status.code().expect("it ends by itself"), told)
+    let said = String::from_utf8(ended.stderr).expect("text");
+    (ended.status.code().expect("it ends by itself"), said)
 }
 
 #[test]
 fn what_cannot_be_written_ends_with_2() {
     let typed = TOOL.file("unwritten.txt", b"table 10000100 20000000");
     for output in [">&-", ">/dev/full", "1</dev/null"] {
-        let (status, told) = with_output(&format!("write '{typed}'"), output);
+        let (status, said) = with_output(&format!("write '{typed}'"), output);
         assert_eq!(status, 2, "{output}");
         assert!(
-            told.starts_with("balkwizu: cannot write: "),
-            "{output}: {told}"
+            said.starts_with("balkwizu: cannot write: "),
+            "{output}: {said}"
         );
     }
-    let (status, told) = with_output(&format!("write '{typed}'"), ">/dev/null");
-    assert_eq!((status, told.as_str()), (0, ""));
+    let (status, said) = with_output(&format!("write '{typed}'"), ">/dev/null");
+    assert_eq!((status, said.as_str()), (0, ""));
     let (status, _) = with_output("show /no/such/file", "2>/dev/full");
     assert_eq!(status, 2);
 }
@@ -256,8 +256,8 @@ fn what_cannot_be_written_ends_with_2() {
 #[test]
 fn the_worked_example_is_commissioned() {
     let input = TOOL.file("commission.bin", worked_example());
-    let list = TOOL.printed(&["commission", &input, "--struck", "1"]);
-    assert!(list.contains("struck for domain 1: 4 of 9 calls"), "{list}");
+    let list = TOOL.printed(&["commission", &input, "--purged", "1"]);
+    assert!(list.contains("purged for domain 1: 4 of 9 calls"), "{list}");
     assert!(list.contains(&format!(" on {}: 3 domains", archive_title())));
     for check in 1..=4 {
         assert!(list.contains(&format!("check {check} passed")), "{list}");
@@ -267,9 +267,9 @@ fn the_worked_example_is_commissioned() {
         "{list}"
     );
     assert_eq!(TOOL.status(&["commission", &input]), 0);
-    let beyond = ["commission", &input, "--struck", "3"];
+    let beyond = ["commission", &input, "--purged", "3"];
     assert_eq!(TOOL.status(&beyond), 2);
-    let none = "--struck: there is no domain 3: the table has 0 to 2\n";
+    let none = "--purged: there is no domain 3: the table has 0 to 2\n";
     assert!(
         TOOL.complaint(&beyond).ends_with(none),
         "{}",
@@ -278,12 +278,12 @@ fn the_worked_example_is_commissioned() {
 }
 
 #[test]
-fn struck_calls_are_listed_for_a_domain_by_its_name() {
+fn purged_calls_are_listed_for_a_domain_by_its_name() {
     let four = in_examples("four.txt");
-    let struck = |domain: &str| TOOL.printed(&["commission", &four, "--struck", domain]);
-    assert_eq!(struck("drives"), struck("3"));
-    assert!(struck("drives").contains("struck for domain 3 (drives): "));
-    let nobody = TOOL.complaint(&["commission", &four, "--struck", "nobody"]);
+    let purged = |domain: &str| TOOL.printed(&["commission", &four, "--purged", domain]);
+    assert_eq!(purged("drives"), purged("3"));
+    assert!(purged("drives").contains("purged for domain 3 (drives): "));
+    let nobody = TOOL.complaint(&["commission", &four, "--purged", "nobody"]);
     assert!(nobody.contains("no domain is called `nobody`: there are link,"));
 }
 
@@ -349,7 +349,7 @@ fn names_that_a_text_gives_stand_beside_the_numbers() {
     let shown = TOOL.printed(&["show", &named]);
     let sent = "domain 0 (link) sends 5 to endpoint 1 (belts)";
     assert!(shown.contains(sent), "{shown}");
-    let list = TOOL.printed(&["commission", &named, "--struck", "1"]);
+    let list = TOOL.printed(&["commission", &named, "--purged", "1"]);
     let granted = "domain 1 grants domain 0 (link) SEND+GRANT+REMOVE on domain 2";
     assert!(list.contains(granted), "{list}");
     let wrong = TOOL.file("named-wrong.txt", (text + "domain 3 drives\n").as_bytes());
@@ -390,7 +390,7 @@ fn names_add_nothing_but_themselves() {
     ];
     for (line, with, without) in [
         (&["show", "--run"][..], &named, &plain),
-        (&["commission", "--struck", "3"], &named, &plain),
+        (&["commission", "--purged", "3"], &named, &plain),
         (&["turns"], &turns[0], &turns[1]),
     ] {
         let of = |path: &String| {
@@ -545,7 +545,7 @@ fn all_chains_and_source_sets_are_printed() {
     let chain = "\n    domain 0 has SEND on domain 1, domain 1 has SEND+GRANT+REMOVE on domain \
                  2\n";
     assert!(all.contains(chain), "{all}");
-    // Document 01, P12: four of the nine calls are struck for domain 1.
+    // Document 01, P12: four of the nine calls are purged for domain 1.
     let set = "Source set of domain 1 along the list, from its end back: 5 of 9 calls kept\n  at \
                call 7: domain 0";
     assert!(all.contains(set), "{all}");
@@ -833,9 +833,9 @@ fn calls_behind_a_damaged_table_are_written_with_a_warning() {
     let ran = TOOL.run(&["write", &calls, "--table", &damaged]);
     assert_eq!(ran.status.code(), Some(0));
     assert!(!ran.stdout.is_empty());
-    let told = String::from_utf8(ran.stderr).expect("text");
+    let said = String::from_utf8(ran.stderr).expect("text");
     let wanted = "damaged.txt is written, and will be refused with 4 (a rights word";
-    assert!(told.contains(wanted), "{told}");
+    assert!(said.contains(wanted), "{said}");
 }
 
 #[test]
@@ -871,8 +871,8 @@ fn a_call_that_the_reader_refuses_is_reported_by_number_and_code() {
     );
     // Kind 9; a caller that no table has; a receive with C; a send alone.
     let words = TOOL.file("refused.txt", b"list 90000000 5FC00000 30000001 20000000");
-    let told_ = TOOL.complaint(&["read", &words]);
-    let codes: Vec<&str> = told_.lines().map(|line| &line[15..40]).collect();
+    let said_ = TOOL.complaint(&["read", &words]);
+    let codes: Vec<&str> = said_.lines().map(|line| &line[15..40]).collect();
     let wanted = [
         "call 0 is refused with 11",
         "call 2 is refused with 13",
@@ -910,11 +910,11 @@ fn a_worn_table_is_repaired_and_its_old_words_are_put_back() {
         TOOL.path("list.bin"),
         TOOL.path("back.bin"),
     );
-    let told = TOOL.printed(&["repair", &input, &sound, "--changes", &list]);
-    assert!(told.starts_with("2 words altered\n  word 6, "), "{told}");
+    let said = TOOL.printed(&["repair", &input, &sound, "--changes", &list]);
+    assert!(said.starts_with("2 words altered\n  word 6, "), "{said}");
     assert!(
-        told.contains("the queue of endpoint 1 (name 18) is empty"),
-        "{told}"
+        said.contains("the queue of endpoint 1 (name 18) is empty"),
+        "{said}"
     );
     assert_eq!(TOOL.status(&["commission", &sound]), 0);
     assert_eq!(TOOL.status(&["repair", &sound, &back, "--undo", &list]), 0);
@@ -934,9 +934,9 @@ fn a_worn_table_may_be_a_text_with_names() {
     let text = format!("endpoint 1 belts\ntable {}\n", hex(&worn));
     let typed = TOOL.file("worn.txt", text.as_bytes());
     let out = TOOL.path("worn-sound.bin");
-    let told = TOOL.printed(&["repair", &typed, &out]);
+    let said = TOOL.printed(&["repair", &typed, &out]);
     let emptied = "the queue of endpoint 1 (belts, name 18) is empty";
-    assert!(told.contains(emptied), "{told}");
+    assert!(said.contains(emptied), "{said}");
     let mut sound = worked_example();
     sound.truncate(4 * (1 + 34));
     assert_eq!(fs::read(&out).unwrap(), sound);
@@ -946,11 +946,11 @@ fn a_worn_table_may_be_a_text_with_names() {
 fn a_repaired_text_keeps_its_names_where_a_text_is_asked_for() {
     let damaged = in_examples("damaged.txt");
     let (out, text) = (TOOL.path("fit.bin"), TOOL.path("fit.txt"));
-    let told_ = TOOL.printed(&["repair", &damaged, &out]);
+    let said_ = TOOL.printed(&["repair", &damaged, &out]);
     let without = format!("{out} is an input of linerun, which has no names: --text writes");
-    assert!(told_.contains(&without), "{told_}");
-    let told_ = TOOL.printed(&["repair", &damaged, &text, "--text"]);
-    assert!(!told_.contains("has no names"), "{told_}");
+    assert!(said_.contains(&without), "{said_}");
+    let said_ = TOOL.printed(&["repair", &damaged, &text, "--text"]);
+    assert!(!said_.contains("has no names"), "{said_}");
     let written = fs::read_to_string(&text).unwrap();
     assert!(written.starts_with("domain 0 link\n"), "{written}");
     assert_eq!(TOOL.run(&["write", &text]).stdout, fs::read(&out).unwrap());
@@ -1029,10 +1029,10 @@ fn what_cannot_be_repaired_is_told_and_nothing_is_written() {
     let _ = fs::remove_file(&out);
     let line = ["repair", &image, &out, "--image"];
     assert_eq!(TOOL.status(&line), 1);
-    let told = TOOL.printed(&line);
+    let said = TOOL.printed(&line);
     assert!(
-        told.starts_with("refused with 33") && told.contains("the name is 0"),
-        "{told}"
+        said.starts_with("refused with 33") && said.contains("the name is 0"),
+        "{said}"
     );
     assert!(fs::metadata(&out).is_err());
     assert_eq!(TOOL.status(&["repair", &image, &image, "--image"]), 2);
@@ -1138,11 +1138,11 @@ fn a_folder_that_there_is_not_is_told_before_anything_is_done() {
 fn a_damaged_table_is_told_with_what_mends_it() {
     let damaged = in_examples("damaged.txt");
     for command in ["show", "influence", "commission"] {
-        let told = TOOL.printed(&[command, &damaged]);
+        let said = TOOL.printed(&[command, &damaged]);
         let mend = format!(
             "`balkwizu repair {damaged} OUT` makes it fit again; without OUT it only says how\n"
         );
-        assert!(told.ends_with(&mend), "{told}");
+        assert!(said.ends_with(&mend), "{said}");
         assert_eq!(TOOL.status(&[command, &damaged]), 1);
     }
     let out = TOOL.path("mended.bin");
@@ -1183,8 +1183,8 @@ fn a_card_has_a_text() {
 fn what_a_controller_answered_to_the_plain_line_is_in_order() {
     let [four, answers, left] = ["four.txt", "answers.txt", "left.txt"].map(in_examples);
     let line = ["commission", &four, "--answers", &answers, "--left", &left];
-    let told = TOOL.printed(&line);
-    assert!(told.contains("summary: 4 passed, 0 failed"), "{told}");
+    let said = TOOL.printed(&line);
+    assert!(said.contains("summary: 4 passed, 0 failed"), "{said}");
     let exchanged = ["commission", &four, "--answers", &left, "--left", &answers];
     assert_eq!(TOOL.status(&exchanged), 1);
 }

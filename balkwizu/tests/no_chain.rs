@@ -40,7 +40,7 @@ fn the_checklist_and_its_page_have_the_link_in_the_source_set_of_the_drive() {
                 4 (drive)";
     let unshown =
         "by this list, isolation of domains 2 (belt) and 4 (drive): each call of another \
-                   domain counts for it, so nothing is struck";
+                   domain counts for it, so nothing is purged";
     for text in [sets, unshown] {
         assert!(checked.contains(text), "{checked}");
         assert!(page.contains(text), "{page}");

@@ -369,3 +369,15 @@ fn a_kernel_that_only_the_drills_show_fails_by_them() {
         "{list}"
     );
 }
+
+#[test]
+fn what_never_ends_is_read_no_further_than_it_can_matter() {
+    for line in [
+        ["speed", "--merge", "/dev/zero"],
+        ["instructions", "--file", "/dev/zero"],
+    ] {
+        let (status, _, complaint) = TOOL.ran(&line);
+        assert_eq!(status, 2, "{complaint}");
+        assert!(complaint.contains("/dev/zero: it is "), "{complaint}");
+    }
+}

@@ -35,18 +35,18 @@ mod tests {
     use super::*;
     use std::time::Duration;
 
-    fn told(second: u64) -> String {
+    fn said(second: u64) -> String {
         in_utc(UNIX_EPOCH + Duration::from_secs(second))
     }
 
     #[test]
     fn times_that_are_known() {
-        assert_eq!(told(0), "1970-01-01T00:00:00Z");
-        assert_eq!(told(951_782_399), "2000-02-28T23:59:59Z");
-        assert_eq!(told(951_782_400), "2000-02-29T00:00:00Z");
-        assert_eq!(told(1_000_000_000), "2001-09-09T01:46:40Z");
-        assert_eq!(told(4_107_542_400), "2100-03-01T00:00:00Z");
-        assert_eq!(told(1_794_828_283), "2026-11-16T11:24:43Z");
+        assert_eq!(said(0), "1970-01-01T00:00:00Z");
+        assert_eq!(said(951_782_399), "2000-02-28T23:59:59Z");
+        assert_eq!(said(951_782_400), "2000-02-29T00:00:00Z");
+        assert_eq!(said(1_000_000_000), "2001-09-09T01:46:40Z");
+        assert_eq!(said(4_107_542_400), "2100-03-01T00:00:00Z");
+        assert_eq!(said(1_794_828_283), "2026-11-16T11:24:43Z");
     }
 
     #[test]

@@ -20,18 +20,18 @@ pub fn in_words((code, why): &Refusal) -> String {
 }
 
 /// Prints that a file or its table is refused, what is shown of it, and what mends it.
-pub fn tell(file: &Path, refusal: &Refusal, of_it: &str) {
+pub fn report(file: &Path, refusal: &Refusal, of_it: &str) {
     let what = match refusal.0 {
         2..=5 => "table ",
         _ => "",
     };
     say!("{what}{}", in_words(refusal));
     output::write(of_it.as_bytes());
-    tell_mending(file, refusal);
+    report_mending(file, refusal);
 }
 
 /// Suggests the repair of a file whose table the repair makes fit again: it is tried.
-pub fn tell_mending(file: &Path, (code, _): &Refusal) {
+pub fn report_mending(file: &Path, (code, _): &Refusal) {
     if matches!(code, 4 | 5) && is_repairable(file) {
         let file = output::shown(file);
         say!("`balkwizu repair {file} OUT` makes it fit again; without OUT it only says how");

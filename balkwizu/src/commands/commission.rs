@@ -42,7 +42,7 @@ table: no verdict, but for whoever planned it.
   --controller TEXT, --site TEXT, --firmware TEXT
                  fill these fields of the report; otherwise its page has places
                  to write them by hand
-  --struck D     list the calls that are struck for domain D, a number or a name
+  --purged D     list the calls that are purged for domain D, a number or a name
   --seed S       the seed of the variants and of the campaign (default 1)
   --campaign N   the runs of the campaign (default 50,000, some ten seconds of a
                  processor; 0 for none)

@@ -88,7 +88,7 @@ pub fn command(line: &[OsString]) -> Result<bool, String> {
         Ok(input) => input,
         Err(refusal) => {
             let words = Input::parse(&given.bytes).map(|input| hex::write(&input));
-            refused::tell(file, &refusal, &words.unwrap_or_default());
+            refused::report(file, &refusal, &words.unwrap_or_default());
             return Ok(false);
         }
     };

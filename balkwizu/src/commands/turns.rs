@@ -79,7 +79,7 @@ pub fn command(line: &[OsString]) -> Result<bool, String> {
         Err(refusal) => {
             say!("table {}", refused::in_words(&refusal));
             if holds_table != file {
-                refused::tell_mending(&holds_table, &refusal);
+                refused::report_mending(&holds_table, &refusal);
             }
             return Ok(false);
         }
@@ -494,9 +494,9 @@ turn
     fn what_differs_is_reported_with_its_line() {
         let wrong = Layer {
             turn: |table, state, holders, answer| {
-                let told = (PROVED_LAYER.turn)(table, state, holders, answer);
+                let answered = (PROVED_LAYER.turn)(table, state, holders, answer);
                 state[0] %= 1;
-                told
+                answered
             },
             ..PROVED_LAYER
         };

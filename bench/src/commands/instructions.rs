@@ -16,6 +16,7 @@ use line::args::Options;
 use line::output::{self, say};
 use line::scratch::Folder;
 use line::text::explain::counted;
+use line::text::input::read_text;
 
 pub const HELP: &str = "\
 bench instructions [--worst] [--write] [--file FILE]
@@ -97,10 +98,10 @@ pub fn command(line: &[OsString]) -> Result<bool, String> {
     }
     let written = match file {
         None => read_written(counting.written)?,
-        Some(file) => read_file(file).map_err(|why| format!("{}: {why}", output::shown(file)))?,
+        Some(file) => read_file(file)?,
     };
     if !worst {
-        return Ok(tell(&counted_now(&counting, worst)?, &written));
+        return Ok(report(&counted_now(&counting, worst)?, &written));
     }
     let header = fs::read_to_string(HEADER).map_err(|why| format!("{HEADER}: {why}"))?;
     let beyond = beyond(&header, &written);
@@ -112,8 +113,8 @@ pub fn command(line: &[OsString]) -> Result<bool, String> {
 }
 
 fn read_file(file: &Path) -> Result<Vec<Figure>, String> {
-    let text = fs::read_to_string(file).map_err(|why| why.to_string())?;
-    read_written(&text)
+    let text = read_text(file, "`bench instructions --write` writes one")?;
+    read_written(&text).map_err(|why| format!("{}: {why}", output::shown(file)))
 }
 
 /// Counts, and writes the figures to a file; whether that can be is known before.
@@ -127,7 +128,7 @@ fn write_anew(counting: &Counting, file: &Path, worst: bool) -> Result<bool, Str
 }
 
 /// Tells what became of each figure; whether all hold.
-fn tell(figures: &[Figure], written: &[Figure]) -> bool {
+fn report(figures: &[Figure], written: &[Figure]) -> bool {
     let (report, failed) = compared(figures, written, near);
     report.iter().for_each(|line| say!("{line}"));
     if failed > 0 {

@@ -19,6 +19,7 @@ use line::args::Options;
 use line::clock;
 use line::kernels::boundary::WORKING;
 use line::output::{self, say};
+use line::text::input::read_text;
 
 pub const HELP: &str = "\
 bench speed [--by-kind] [--lengths] [--growth] [--turns] [--all] [--rounds N]
@@ -160,9 +161,8 @@ fn merge(options: &Options) -> Result<bool, String> {
 }
 
 fn read_run(file: &Path) -> Result<Run, String> {
-    let text = fs::read_to_string(file).map_err(|why| why.to_string());
-    let run = text.and_then(|text| read(&text));
-    run.map_err(|why| format!("cannot read {}: {why}", output::shown(file)))
+    let text = read_text(file, "`bench speed --record` writes one")?;
+    read(&text).map_err(|why| format!("cannot read {}: {why}", output::shown(file)))
 }
 
 /// A mark of this program, so that runs of different ones aren't merged: an FNV hash of

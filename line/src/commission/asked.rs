@@ -17,8 +17,8 @@ use crate::text::names::Names;
 pub struct Asked<'a> {
     pub file: &'a Path,
     pub on: On<'a>,
-    /// The domain whose struck calls are to be listed, by its number or its name.
-    struck: Option<&'a str>,
+    /// The domain whose purged calls are to be listed, by its number or its name.
+    purged: Option<&'a str>,
     place: [Option<&'a str>; 3],
     report: Option<&'a Path>,
     json: Option<&'a Path>,
@@ -43,7 +43,7 @@ pub const VALUED: [&str; 11] = [
     "--controller",
     "--site",
     "--firmware",
-    "--struck",
+    "--purged",
     "--seed",
     "--campaign",
     "--kernel",
@@ -58,7 +58,7 @@ impl Asked<'_> {
         let asked = Asked {
             file: options.file()?,
             on: on(options, kernels)?,
-            struck: options.text("--struck"),
+            purged: options.text("--purged"),
             place: PLACE.map(|option| options.text(option)),
             report: options.path("--report"),
             json: options.path("--json"),
@@ -105,12 +105,12 @@ impl Asked<'_> {
         may_write_both(("--report", self.report), ("--json", self.json))
     }
 
-    /// The domain of a table whose struck calls are to be listed.
-    pub fn struck_in(&self, table: &[u32], names: &Names) -> Result<Option<usize>, String> {
+    /// The domain of a table whose purged calls are to be listed.
+    pub fn purged_in(&self, table: &[u32], names: &Names) -> Result<Option<usize>, String> {
         let found = self
-            .struck
+            .purged
             .map(|word| names.domain_of(word, domains(table)));
-        found.transpose().map_err(|why| format!("--struck: {why}"))
+        found.transpose().map_err(|why| format!("--purged: {why}"))
     }
 
     /// Writes what is to be filed; returns what to say of it, or what couldn't be written.

@@ -40,13 +40,13 @@ pub fn command(options: &[OsString], kernels: &[Kernel]) -> Result<bool, String>
         Err(refusal) => {
             let (file, why) = (shown(asked.file), refused::in_words(&refusal));
             say!("{file} cannot be commissioned: {why}");
-            refused::tell_mending(asked.file, &refusal);
+            refused::report_mending(asked.file, &refusal);
             return Ok(false);
         }
     };
     let line = Commissioned {
         file: asked.file,
-        struck: asked.struck_in(&input.table, &given.names)?,
+        purged: asked.purged_in(&input.table, &given.names)?,
         input: &input,
         names: &given.names,
     };
@@ -84,8 +84,8 @@ struct Commissioned<'a> {
     file: &'a Path,
     input: &'a Input,
     names: &'a Names,
-    /// The domain whose struck calls are to be listed.
-    struck: Option<usize>,
+    /// The domain whose purged calls are to be listed.
+    purged: Option<usize>,
 }
 
 /// Verdicts, with what they are about for the report; or why words can't be judged.
@@ -135,9 +135,9 @@ impl Commissioned<'_> {
     fn say_head(&self, on: &str) {
         let (file, size) = (shown(self.file), self.input.size());
         say!("commissioning {file} on {on}: {size}");
-        if let Some(domain) = self.struck {
-            let struck = struck_calls(&case_of(self.input), domain, self.names);
-            output::write(struck.as_bytes());
+        if let Some(domain) = self.purged {
+            let purged = purged_calls(&case_of(self.input), domain, self.names);
+            output::write(purged.as_bytes());
         }
         output::write(potential_in_words(&self.input.table, self.names).as_bytes());
     }
@@ -166,10 +166,10 @@ fn source(file: &Path, bytes: &[u8]) -> Source {
     }
 }
 
-/// The calls that are struck for a domain, each in words.
-fn struck_calls(case: &Case, domain: usize, names: &Names) -> String {
+/// The calls that are purged for a domain, each in words.
+fn purged_calls(case: &Case, domain: usize, names: &Names) -> String {
     let calls = kept_calls(case, domain);
-    let struck: Vec<String> = calls
+    let purged: Vec<String> = calls
         .iter()
         .enumerate()
         .filter(|(_, (_, kept))| !kept)
@@ -179,11 +179,11 @@ fn struck_calls(case: &Case, domain: usize, names: &Names) -> String {
         })
         .collect();
     format!(
-        "struck for {}: {} of {}\n{}",
+        "purged for {}: {} of {}\n{}",
         names.domain(domain),
-        struck.len(),
+        purged.len(),
         counted(calls.len(), "call"),
-        struck.concat()
+        purged.concat()
     )
 }
 
@@ -247,21 +247,21 @@ mod tests {
     }
 
     #[test]
-    fn struck_calls_are_printed_in_words() {
-        let struck = struck_calls(&case_of(&Input::example()), 1, &Names::none());
-        let start = "struck for domain 1: 4 of 9 calls\n  call 4: domain 2 receives";
-        assert!(struck.starts_with(start));
-        assert!(struck.ends_with("call 8: domain 2 asks for its endpoints\n"));
+    fn purged_calls_are_printed_in_words() {
+        let purged = purged_calls(&case_of(&Input::example()), 1, &Names::none());
+        let start = "purged for domain 1: 4 of 9 calls\n  call 4: domain 2 receives";
+        assert!(purged.starts_with(start));
+        assert!(purged.ends_with("call 8: domain 2 asks for its endpoints\n"));
     }
 
     #[test]
-    fn a_struck_caller_that_the_table_has_not_is_printed_as_such() {
+    fn a_purged_caller_that_the_table_has_not_is_printed_as_such() {
         let input = Input {
             list: vec![0x5B40_0000],
             ..Input::example()
         };
-        let struck = struck_calls(&case_of(&input), 1, &Names::none());
-        assert!(struck.ends_with("domain 45, which the table hasn't, asks for its rights\n"));
+        let purged = purged_calls(&case_of(&input), 1, &Names::none());
+        assert!(purged.ends_with("domain 45, which the table hasn't, asks for its rights\n"));
     }
 
     fn checks(kernel: Kernel, table: &[u32]) -> [String; 4] {

@@ -527,9 +527,9 @@ mod tests {
         let input = Input::example();
         let run = Run::of(&input.table, &input.list).unwrap();
         let kept = run.kept_for(1).unwrap();
-        // Document 01, P12: for domain 1 the calls 4, 5, 6 and 8 are struck.
-        let struck: Vec<usize> = (0..9).filter(|call| kept[*call].is_none()).collect();
-        assert_eq!(struck, [4, 5, 6, 8]);
+        // Document 01, P12: for domain 1 the calls 4, 5, 6 and 8 are purged.
+        let purged: Vec<usize> = (0..9).filter(|call| kept[*call].is_none()).collect();
+        assert_eq!(purged, [4, 5, 6, 8]);
         assert_eq!(kept[7], Some(Kept::Joins(hold(0, 1, 1))));
         assert_eq!(kept[3], Some(Kept::Joined(7)));
         assert_eq!(kept[1], Some(Kept::Own));
@@ -602,7 +602,7 @@ mod tests {
     #[test]
     fn who_can_never_have_a_chain_is_purged_in_every_list() {
         let mut rng = Rng::new(13);
-        let (mut kept, mut struck) = (0, 0);
+        let (mut kept, mut purged) = (0, 0);
         for _ in 0..150 {
             let table = walled_table(&mut rng, 6, 3);
             let list = list(&mut rng, &table, 40);
@@ -617,10 +617,10 @@ mod tests {
                     .is_some_and(|caller| ever.says(caller, domain));
                 assert!(could || why.is_none(), "call {call} of domain {domain}");
                 kept += usize::from(why.is_some());
-                struck += usize::from(!could && run.caller(call).is_some());
+                purged += usize::from(!could && run.caller(call).is_some());
             }
         }
-        assert!(kept > 100 && struck > 100, "{kept} and {struck}");
+        assert!(kept > 100 && purged > 100, "{kept} and {purged}");
     }
 
     #[test]

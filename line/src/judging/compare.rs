@@ -166,35 +166,35 @@ pub fn kept_calls(case: &Case, domain: usize) -> Vec<(Call, bool)> {
     calls.into_iter().zip(kept).collect()
 }
 
-/// How many calls were struck for a domain, and how many of them by other domains: a
-/// stray and a call of nobody are struck for everyone.
+/// How many calls were purged for a domain, and how many of them by other domains: a
+/// stray and a call of nobody are purged for everyone.
 #[derive(Debug, Clone, Copy, Default, PartialEq, Eq)]
-pub struct Struck {
+pub struct Purged {
     pub calls: usize,
     pub by_domains: usize,
 }
 
-impl Struck {
-    pub fn add(&mut self, other: Struck) {
+impl Purged {
+    pub fn add(&mut self, other: Purged) {
         self.calls += other.calls;
         self.by_domains += other.by_domains;
     }
 }
 
 /// Compares what a domain sees of the kernel's run of the whole list and of the
-/// reference's run of the calls kept for it: the number of calls struck,
+/// reference's run of the calls kept for it: the number of calls purged,
 /// or the first difference.
-pub fn isolation(case: &Case, kernel: &Ran, domain: usize) -> Result<Struck, String> {
-    without_struck(case, kernel, domain, &kept_calls(case, domain))
+pub fn isolation(case: &Case, kernel: &Ran, domain: usize) -> Result<Purged, String> {
+    without_purged(case, kernel, domain, &kept_calls(case, domain))
 }
 
-/// The same with every call struck that comes from outside the component of the domain
+/// The same with every call purged that comes from outside the component of the domain
 /// in the table at the start (document 02, request (j): its group).
-pub fn component_isolation(case: &Case, kernel: &Ran, domain: usize) -> Result<Struck, String> {
+pub fn component_isolation(case: &Case, kernel: &Ran, domain: usize) -> Result<Purged, String> {
     let calls = cut(&case.list);
     let from = from_group(&case.table, &calls, domain);
     let calls: Vec<(Call, bool)> = calls.into_iter().zip(from).collect();
-    without_struck(case, kernel, domain, &calls)
+    without_purged(case, kernel, domain, &calls)
 }
 
 /// The same with every call purged whose caller isn't in a set of domains, as bits.
@@ -203,21 +203,21 @@ pub fn influence_isolation(
     kernel: &Ran,
     domain: usize,
     set: u32,
-) -> Result<Struck, String> {
+) -> Result<Purged, String> {
     let member = |caller: u32| caller < 32 && set >> caller & 1 == 1;
     let kept = |call: &Call| call.caller().is_some_and(member);
     let calls = cut(&case.list).into_iter();
     let calls: Vec<(Call, bool)> = calls.map(|call| (call, kept(&call))).collect();
-    without_struck(case, kernel, domain, &calls)
+    without_purged(case, kernel, domain, &calls)
 }
 
 /// Compares what a domain sees of the kernel's run of all calls and of the reference's run of those that are kept.
-fn without_struck(
+fn without_purged(
     case: &Case,
     kernel: &Ran,
     domain: usize,
     calls: &[(Call, bool)],
-) -> Result<Struck, String> {
+) -> Result<Purged, String> {
     let kept: Vec<Call> = calls.iter().filter(|(_, k)| *k).map(|(c, _)| *c).collect();
     let mut table = case.table.clone();
     let answers: Vec<u32> = kept
@@ -227,24 +227,24 @@ fn without_struck(
     let again = view(&table, &kept, &answers, domain);
     let all: Vec<Call> = calls.iter().map(|(call, _)| *call).collect();
     let whole = view(&kernel.table, &all, &kernel.answers, domain);
-    let struck = struck(calls, domains(&case.table));
+    let purged = purged(calls, domains(&case.table));
     match view_difference(case, &all, &whole, &again, domain) {
-        None => Ok(struck),
+        None => Ok(purged),
         Some(said) => Err(format!(
-            "domain {domain}, with {} of {} struck: {said}",
-            struck.calls,
+            "domain {domain}, with {} of {} purged: {said}",
+            purged.calls,
             counted(all.len(), "call")
         )),
     }
 }
 
-/// What is struck among calls that are kept or not, in a table of n domains.
-fn struck(calls: &[(Call, bool)], n: usize) -> Struck {
-    let struck = calls.iter().filter(|(_, kept)| !kept);
+/// What is purged among calls that are kept or not, in a table of n domains.
+fn purged(calls: &[(Call, bool)], n: usize) -> Purged {
+    let purged = calls.iter().filter(|(_, kept)| !kept);
     let of_a_domain = |call: &Call| call.caller().is_some_and(|caller| (caller as usize) < n);
-    Struck {
-        calls: struck.clone().count(),
-        by_domains: struck.filter(|(call, _)| of_a_domain(call)).count(),
+    Purged {
+        calls: purged.clone().count(),
+        by_domains: purged.filter(|(call, _)| of_a_domain(call)).count(),
     }
 }
 
@@ -267,13 +267,13 @@ fn own_answer_difference(
     domain: usize,
 ) -> Option<String> {
     if whole.answers.len() != again.answers.len() {
-        return Some("one of its own calls was struck".to_string());
+        return Some("one of its own calls was purged".to_string());
     }
     let place = (0..whole.answers.len()).find(|&i| whole.answers[i] != again.answers[i])?;
     let own = |(_, call): &(usize, &Call)| call.caller() == Some(domain as u32);
     let (number, call) = calls.iter().enumerate().filter(own).nth(place)?;
     Some(format!(
-        "its call {number} ({}) is answered {} in the whole list, {} without the struck calls",
+        "its call {number} ({}) is answered {} in the whole list, {} without the purged calls",
         call_in_words(call, &Names::none()),
         answer_as_printed(&whole.answers[place]),
         answer_as_printed(&again.answers[place])
@@ -284,7 +284,7 @@ fn own_rights_difference(case: &Case, whole: &View, again: &View, domain: usize)
     let target = first_unequal(&whole.rights, &again.rights)?;
     let place = rights_place(&case.table, domain, target);
     Some(format!(
-        "{}, is {:08X} after the whole list, {:08X} without the struck calls",
+        "{}, is {:08X} after the whole list, {:08X} without the purged calls",
         place_in_words(&case.table, place, &Names::none()),
         whole.rights[target],
         again.rights[target]
@@ -294,7 +294,7 @@ fn own_rights_difference(case: &Case, whole: &View, again: &View, domain: usize)
 fn own_queue_difference(whole: &View, again: &View) -> Option<String> {
     if whole.queues.len() != again.queues.len() {
         return Some(format!(
-            "it owns {} after the whole list, {} without the struck calls",
+            "it owns {} after the whole list, {} without the purged calls",
             counted(whole.queues.len(), "endpoint"),
             again.queues.len()
         ));
@@ -302,7 +302,7 @@ fn own_queue_difference(whole: &View, again: &View) -> Option<String> {
     let pairs = whole.queues.iter().zip(&again.queues);
     let (with, without) = pairs.into_iter().find(|(a, b)| a != b)?;
     Some(format!(
-        "its endpoint {} has {} after the whole list, {} without the struck calls",
+        "its endpoint {} has {} after the whole list, {} without the purged calls",
         with.endpoint,
         queue_words(with),
         queue_words(without)
@@ -344,16 +344,16 @@ mod tests {
         assert_eq!(said(&PROVED), None);
         let case = example();
         let ran = run_here(&PROVED, &case).unwrap();
-        let struck = [0, 1, 2].map(|domain| isolation(&case, &ran, domain).unwrap());
-        assert_eq!(struck.map(|struck| struck.calls), [4, 4, 1]);
-        assert_eq!(struck.map(|struck| struck.by_domains), [3, 3, 0]);
+        let purged = [0, 1, 2].map(|domain| isolation(&case, &ran, domain).unwrap());
+        assert_eq!(purged.map(|purged| purged.calls), [4, 4, 1]);
+        assert_eq!(purged.map(|purged| purged.by_domains), [3, 3, 0]);
     }
 
     #[test]
-    fn struck_calls_are_those_of_p12() {
+    fn purged_calls_are_those_of_p12() {
         let calls = kept_calls(&example(), 1);
-        let struck: Vec<usize> = (0..9).filter(|&i| !calls[i].1).collect();
-        assert_eq!(struck, [4, 5, 6, 8]);
+        let purged: Vec<usize> = (0..9).filter(|&i| !calls[i].1).collect();
+        assert_eq!(purged, [4, 5, 6, 8]);
     }
 
     #[test]

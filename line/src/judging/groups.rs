@@ -37,7 +37,7 @@ pub fn is_component(table: &[u32], domain: u32) -> Result<(), String> {
 
 /// That a run that was not refused kept components apart: nobody influences one outside
 /// its own at the start, and a domain sees the same without the calls from outside. The
-/// number of calls that were struck.
+/// number of calls that were purged.
 pub fn kept_apart(case: &Case, ran: &Ran, domain: usize) -> Result<u64, String> {
     let n = domains(&case.table);
     for u in 0..n {
@@ -82,16 +82,16 @@ mod tests {
     #[test]
     fn a_right_across_a_wall_is_found() {
         let mut rng = Rng::new(4);
-        let mut struck = 0;
+        let mut purged = 0;
         for _ in 0..500 {
             let table = walled_table(&mut rng, 6, 3);
             let list = list(&mut rng, &table, 30);
             let case = case_of(&Input { table, list });
             let ran = run_here(&PROVED, &case).unwrap();
             let domain = rng.below(domains(&case.table));
-            struck += kept_apart(&case, &ran, domain).unwrap();
+            purged += kept_apart(&case, &ran, domain).unwrap();
         }
-        assert!(struck > 100, "{struck}");
+        assert!(purged > 100, "{purged}");
         let mut apart = TABLE_T.to_vec();
         apart[6] = 0x2000_0000;
         let case = case_of(&Input {

@@ -331,11 +331,11 @@ mod tests {
         served.holders.push(0);
         assert_eq!((served.calls(), served.as_one_list()), (1, Ok(())));
         served.holders[0] = 1;
-        let told = served.as_one_list().unwrap_err();
-        assert!(told.contains("otherwise by the run"), "{told}");
+        let said = served.as_one_list().unwrap_err();
+        assert!(said.contains("otherwise by the run"), "{said}");
         served.answers[1] = 1;
-        let told = served.as_one_list().unwrap_err();
-        assert!(told.contains("otherwise by the reference"), "{told}");
+        let said = served.as_one_list().unwrap_err();
+        assert!(said.contains("otherwise by the reference"), "{said}");
     }
 
     #[test]

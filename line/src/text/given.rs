@@ -108,16 +108,16 @@ mod tests {
             format!("table 10000100 20000000\n{comment}\nlist 50000000"),
         )
         .unwrap();
-        let told = read_given(&file).unwrap_err();
+        let said = read_given(&file).unwrap_err();
         assert!(
-            told.ends_with("long.txt: it is above 1,000,000 bytes"),
-            "{told}"
+            said.ends_with("long.txt: it is above 1,000,000 bytes"),
+            "{said}"
         );
         fs::write(&file, b"table 10000100\n20000000 # \xE9\n").unwrap();
-        let told = read_given(&file).unwrap_err();
+        let said = read_given(&file).unwrap_err();
         assert!(
-            told.contains("long.txt: line 2 has a letter that is not UTF-8"),
-            "{told}"
+            said.contains("long.txt: line 2 has a letter that is not UTF-8"),
+            "{said}"
         );
     }
 

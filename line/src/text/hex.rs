@@ -152,8 +152,8 @@ fn parts_of(text: &str, list_alone: bool) -> Parts<'_> {
 pub fn lines_of(text: &str) -> impl Iterator<Item = (usize, &str)> {
     // Some editors put a byte-order mark before a text.
     let text = text.strip_prefix('\u{FEFF}').unwrap_or(text);
-    let told = |line: &'_ str| line.find('#').unwrap_or(line.len());
-    (1..).zip(text.lines().map(move |line| &line[..told(line)]))
+    let said = |line: &'_ str| line.find('#').unwrap_or(line.len());
+    (1..).zip(text.lines().map(move |line| &line[..said(line)]))
 }
 
 /// What a line has between spaces, `;` and `,`.
@@ -398,8 +398,8 @@ mod tests {
         ];
         assert_eq!(places, wanted);
         for times in ["x", "", "0", "4098", "99999999999999999999"] {
-            let told = wrong(&format!("F0000000*{times}"));
-            assert!(told.ends_with("can come 1 to 4,097 times"), "{told}");
+            let said = wrong(&format!("F0000000*{times}"));
+            assert!(said.ends_with("can come 1 to 4,097 times"), "{said}");
         }
         for nothing in ["", "# nothing\n\n"] {
             assert_eq!(wrong(nothing), "there is no word in it");
@@ -448,8 +448,8 @@ mod tests {
 
     #[test]
     fn repetitions_take_no_more_memory_than_there_should_be() {
-        let told = bytes_of(&"F0000000*4097 ".repeat(25)).unwrap_err();
-        assert!(told.contains("more than 100,000 words"), "{told}");
+        let said = bytes_of(&"F0000000*4097 ".repeat(25)).unwrap_err();
+        assert!(said.contains("more than 100,000 words"), "{said}");
     }
 
     const NAMED: &str = "

@@ -279,14 +279,14 @@ mod tests {
 
     #[test]
     fn a_text_in_utf_16_is_known_as_one() {
-        let told = Err("it is saved as UTF-16: save it as UTF-8".to_string());
+        let utf_16 = Err("it is saved as UTF-16: save it as UTF-8".to_string());
         let words = |mark: &str| format!("{mark}table\r\n10000302").encode_utf16().collect();
         for mark in ["", "\u{FEFF}"] {
             let words: Vec<u16> = words(mark);
             let little: Vec<u8> = words.iter().flat_map(|word| word.to_le_bytes()).collect();
             let big: Vec<u8> = words.iter().flat_map(|word| word.to_be_bytes()).collect();
-            assert_eq!(typed(&little), told);
-            assert_eq!(typed(&big), told);
+            assert_eq!(typed(&little), utf_16);
+            assert_eq!(typed(&big), utf_16);
         }
         let mut rng = reference::generate::Rng::new(7);
         for _ in 0..2000 {

@@ -123,9 +123,11 @@ impl Names {
 
     /// A text that has numbers alone, with the names beside them: for what those write who know
     /// none, as the judges of a kernel.
-    pub fn beside(&self, told: &str) -> String {
-        let told = beside_numbers(told, "domain ", |domain| self.domain_name(domain));
-        beside_numbers(&told, "endpoint ", |endpoint| self.endpoint_name(endpoint))
+    pub fn beside(&self, reported: &str) -> String {
+        let reported = beside_numbers(reported, "domain ", |domain| self.domain_name(domain));
+        beside_numbers(&reported, "endpoint ", |endpoint| {
+            self.endpoint_name(endpoint)
+        })
     }
 
     /// The lines that give the names in a text.
@@ -438,12 +440,12 @@ mod tests {
     #[test]
     fn names_are_put_beside_numbers_that_were_alone() {
         let names = Names::given("domain 1 loader\nendpoint 1 routes");
-        let told = "call 1 (domain 1 sends to endpoint 1): domain 11, endpoint 0; domain 1";
+        let reported = "call 1 (domain 1 sends to endpoint 1): domain 11, endpoint 0; domain 1";
         let wanted = "call 1 (domain 1 (loader) sends to endpoint 1 (routes)): domain 11, \
                       endpoint 0; domain 1 (loader)";
-        assert_eq!(names.beside(told), wanted);
+        assert_eq!(names.beside(reported), wanted);
         assert_eq!(names.beside(wanted), wanted);
-        assert_eq!(Names::none().beside(told), told);
+        assert_eq!(Names::none().beside(reported), reported);
         let looked_up = "endpoint 1 (routes, name 9) of each domain that there is";
         assert_eq!(names.beside(looked_up), looked_up);
     }

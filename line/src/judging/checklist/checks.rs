@@ -8,7 +8,7 @@ use super::{each_run, Checklist, Found, Judged, Runs};
 use crate::cases::Case;
 use crate::judging::checklist::basis::Basis;
 use crate::judging::checklist::shown;
-use crate::judging::compare::{difference, isolation, separate_run, Struck};
+use crate::judging::compare::{difference, isolation, separate_run, Purged};
 use crate::judging::counts;
 use crate::judging::variants::Variant;
 use crate::kernels::lent::Ran;
@@ -63,28 +63,28 @@ impl Checklist {
     /// Check 3.
     pub(super) fn isolation(&self, runs: &Runs) -> Judged {
         let table = &self.this_list().table;
-        let nothing = vec![Struck::default(); domains(table)];
+        let nothing = vec![Purged::default(); domains(table)];
         let (mut exercise, mut list) = (nothing.clone(), nothing);
         self.judged(runs, |number, case, ran| {
-            let struck = match number < self.exercise_lists().len() {
+            let purged = match number < self.exercise_lists().len() {
                 true => &mut exercise,
                 false => &mut list,
             };
-            for (domain, struck) in struck.iter_mut().enumerate() {
-                struck.add(isolation(case, ran, domain)?);
+            for (domain, purged) in purged.iter_mut().enumerate() {
+                purged.add(isolation(case, ran, domain)?);
             }
             Ok(())
         })?;
         let has_calls = !self.this_list().list.is_empty();
         let of_list = has_calls.then_some(&list[..]);
         Ok(Found {
-            in_order: "every domain sees the same without the calls struck for it",
+            in_order: "every domain sees the same without the calls purged for it",
             based_on: vec![
-                struck_in_words(&list, &exercise, &self.names),
+                purged_in_words(&list, &exercise, &self.names),
                 sources_in_words(self.this_list(), &self.names),
             ],
             not_shown: shown::isolation(table, &exercise, of_list, &self.names),
-            shown: exercise.iter().any(|struck| struck.by_domains != 0),
+            shown: exercise.iter().any(|purged| purged.by_domains != 0),
         })
     }
 
@@ -239,33 +239,33 @@ pub(super) fn sources_in_words(case: &Case, names: &Names) -> String {
     )
 }
 
-/// The calls struck for each domain, those of other domains apart from those that are
-/// struck for everyone.
-fn struck_in_words(list: &[Struck], exercise: &[Struck], names: &Names) -> String {
+/// The calls purged for each domain, those of other domains apart from those that are
+/// purged for everyone.
+fn purged_in_words(list: &[Purged], exercise: &[Purged], names: &Names) -> String {
     let each = (0..).zip(list.iter().zip(exercise));
     let each = each.map(|(domain, (list, exercise))| {
         let (list, exercise) = (list.by_domains, exercise.by_domains);
         format!("{}: {list} and {exercise}", names.domain(domain))
     });
-    let nobody = |struck: &Struck| struck.calls - struck.by_domains;
+    let nobody = |purged: &Purged| purged.calls - purged.by_domains;
     format!(
-        "calls of other domains struck in this list and in the exercise: {}; strays and calls of \
-         nobody, struck for everyone: {} and {}",
+        "calls of other domains purged in this list and in the exercise: {}; strays and calls of \
+         nobody, purged for everyone: {} and {}",
         each.collect::<Vec<_>>().join(", "),
         list.first().map_or(0, nobody),
         exercise.first().map_or(0, nobody)
     )
 }
 
-/// The calls struck for each domain in a list alone.
-pub(super) fn struck_by_list(list: &[Struck], names: &Names) -> String {
+/// The calls purged for each domain in a list alone.
+pub(super) fn purged_by_list(list: &[Purged], names: &Names) -> String {
     let each = (0..).zip(list);
-    let each = each.map(|(d, struck)| format!("{}: {}", names.domain(d), struck.by_domains));
+    let each = each.map(|(d, purged)| format!("{}: {}", names.domain(d), purged.by_domains));
     format!(
-        "calls of other domains struck in this list: {}; strays and calls of nobody, struck for \
+        "calls of other domains purged in this list: {}; strays and calls of nobody, purged for \
          everyone: {}",
         each.collect::<Vec<_>>().join(", "),
         list.first()
-            .map_or(0, |struck| struck.calls - struck.by_domains)
+            .map_or(0, |purged| purged.calls - purged.by_domains)
     )
 }

@@ -9,13 +9,13 @@ use reference::table::{domains, endpoints};
 use reference::words::bits;
 
 use super::checks::{
-    count_difference, endpoint_counts, same_size, sources_in_words, struck_by_list, word_difference,
+    count_difference, endpoint_counts, purged_by_list, same_size, sources_in_words, word_difference,
 };
 use super::{Check, Found, Judged, Verdicts};
 use crate::cases::Case;
 use crate::judging::checklist::basis::Basis;
 use crate::judging::checklist::shown;
-use crate::judging::compare::{answer_as_printed, isolation, separate_run, Struck};
+use crate::judging::compare::{answer_as_printed, isolation, separate_run, Purged};
 use crate::kernels::boundary::Outcome;
 use crate::kernels::lent::Ran;
 use crate::text::explain::{call_in_words, counted, place_in_words};
@@ -172,15 +172,15 @@ impl ReadBack {
     fn isolation(&self) -> Judged {
         same_size(&self.case, &self.ran)?;
         let each = (0..domains(&self.case.table)).map(|d| isolation(&self.case, &self.ran, d));
-        let struck: Vec<Struck> = each.collect::<Result<_, _>>()?;
+        let purged: Vec<Purged> = each.collect::<Result<_, _>>()?;
         Ok(Found {
-            in_order: "every domain sees the same without the calls struck for it",
+            in_order: "every domain sees the same without the calls purged for it",
             based_on: vec![
-                struck_by_list(&struck, &self.names),
+                purged_by_list(&purged, &self.names),
                 sources_in_words(&self.case, &self.names),
             ],
-            not_shown: shown::isolation_by_list(&struck, &self.names),
-            shown: struck.iter().any(|struck| struck.by_domains != 0),
+            not_shown: shown::isolation_by_list(&purged, &self.names),
+            shown: purged.iter().any(|purged| purged.by_domains != 0),
         })
     }
 

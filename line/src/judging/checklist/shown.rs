@@ -4,7 +4,7 @@
 use reference::table::{capacity, domains, endpoints};
 
 use crate::judging::checklist::basis::{AtEndpoint, Basis, OnTarget, CALL_CODES};
-use crate::judging::compare::Struck;
+use crate::judging::compare::Purged;
 use crate::text::explain::meaning;
 use crate::text::names::Names;
 
@@ -92,19 +92,19 @@ fn rights(basis: &Basis, names: &Names) -> NotShown {
     all
 }
 
-/// Of check 3: domains for which no call of another domain is struck, in the exercise and
+/// Of check 3: domains for which no call of another domain is purged, in the exercise and
 /// in the list that was handed in.
 pub fn isolation(
     table: &[u32],
-    exercise: &[Struck],
-    list: Option<&[Struck]>,
+    exercise: &[Purged],
+    list: Option<&[Purged]>,
     names: &Names,
 ) -> NotShown {
     let why = match domains(table) {
         1 => "there is no other domain",
-        _ => "every other domain has a right on it for good, so nothing is struck",
+        _ => "every other domain has a right on it for good, so nothing is purged",
     };
-    let mut all = things("isolation of domain", nothing_struck(exercise, names), why);
+    let mut all = things("isolation of domain", nothing_purged(exercise, names), why);
     all.extend(match list {
         Some(list) if domains(table) > 1 => isolation_by_list(list, names),
         _ => NotShown::new(),
@@ -113,19 +113,19 @@ pub fn isolation(
 }
 
 /// Of check 3, by a list alone.
-pub fn isolation_by_list(list: &[Struck], names: &Names) -> NotShown {
-    let everyone = "each call of another domain counts for it, so nothing is struck";
+pub fn isolation_by_list(list: &[Purged], names: &Names) -> NotShown {
+    let everyone = "each call of another domain counts for it, so nothing is purged";
     things(
         "by this list, isolation of domain",
-        nothing_struck(list, names),
+        nothing_purged(list, names),
         everyone,
     )
 }
 
-/// The domains for which no call of another one is struck.
-fn nothing_struck(struck: &[Struck], names: &Names) -> Vec<String> {
-    let none = struck.iter().enumerate();
-    let none = none.filter(|(_, struck)| struck.by_domains == 0);
+/// The domains for which no call of another one is purged.
+fn nothing_purged(purged: &[Purged], names: &Names) -> Vec<String> {
+    let none = purged.iter().enumerate();
+    let none = none.filter(|(_, purged)| purged.by_domains == 0);
     none.map(|(domain, _)| beside(domain, names.domain_name(domain)))
         .collect()
 }
@@ -290,12 +290,12 @@ mod tests {
     }
 
     #[test]
-    fn isolation_that_holds_since_nothing_is_struck() {
-        let some = Struck {
+    fn isolation_that_holds_since_nothing_is_purged() {
+        let some = Purged {
             calls: 3,
             by_domains: 1,
         };
-        let strays = Struck {
+        let strays = Purged {
             calls: 3,
             by_domains: 0,
         };

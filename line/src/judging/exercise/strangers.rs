@@ -1,5 +1,5 @@
 //! For a domain: those who have no right on it do to it whatever a call can ask for,
-//! while it looks on. All that they do is struck for it.
+//! while it looks on. All that they do is purged for it.
 
 use reference::influences;
 use reference::table::{domains, endpoints, owner, right};
