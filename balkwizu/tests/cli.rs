@@ -540,7 +540,7 @@ fn what_could_count_is_answered_by_the_calls_and_what_never_can_by_why() {
 
 #[test]
 fn all_chains_and_source_sets_are_printed() {
-    let input = TOOL.file("roads.bin", worked_example());
+    let input = TOOL.file("influence.bin", worked_example());
     let all = TOOL.printed(&["influence", &input]);
     let chain = "\n    domain 0 has SEND on domain 1, domain 1 has SEND+GRANT+REMOVE on domain \
                  2\n";
@@ -556,7 +556,7 @@ fn all_chains_and_source_sets_are_printed() {
 
 #[test]
 fn what_cannot_be_answered_is_said() {
-    let input = TOOL.file("no-roads.bin", worked_example());
+    let input = TOOL.file("no-influence.bin", worked_example());
     for (line, why) in [
         (vec!["influence"], "no file is given"),
         (vec!["influence", &input, "3"], "there is no domain 3"),
@@ -583,7 +583,7 @@ fn what_cannot_be_answered_is_said() {
     let mut table = TABLE_T;
     table[9] = 0x2000_0010;
     let refused = TOOL.file(
-        "no-roads-refused.bin",
+        "no-influence-refused.bin",
         &to_bytes(&[&[34], &table[..]].concat()),
     );
     assert_eq!(TOOL.status(&["influence", &refused]), 1);
@@ -593,7 +593,7 @@ fn what_cannot_be_answered_is_said() {
     assert_eq!(
         TOOL.status(&[
             "influence",
-            &TOOL.file("no-roads-short.bin", &worked_example()[..50])
+            &TOOL.file("no-influence-short.bin", &worked_example()[..50])
         ]),
         1
     );
@@ -1056,9 +1056,9 @@ fn a_slip_in_a_command_is_told_with_what_is_meant() {
         .complaint(&["show"])
         .contains("--help says what is wanted"));
     assert!(TOOL.complaint(&["repair"]).contains("no file is given"));
-    let roads = ["influence", "link", "loader", &in_examples("four.txt")];
+    let named = ["influence", "link", "loader", &in_examples("four.txt")];
     assert!(TOOL
-        .complaint(&roads)
+        .complaint(&named)
         .ends_with("FILE comes first, then the domains\n"));
 }
 
