@@ -82,7 +82,7 @@ impl Call {
 /// The calls of a list: a word of kind 1 or 2 directly followed by a word of
 /// kind 15 makes one call of both, every other word is a call of one word.
 pub fn cut(list: &[u32]) -> Vec<Call> {
-    let mut calls = Vec::new();
+    let mut calls = Vec::with_capacity(list.len());
     let mut place = 0;
     while place < list.len() {
         let first = list[place];

@@ -11,28 +11,28 @@ pub const ANSWER_WORDS: usize = 3;
 /// Runs a list on a table: (code 0, the number of calls), or (the code of the
 /// entry's refusal, 0) with table and answers as they were.
 pub fn run(table: &mut [u32], list: &[u32], answers: &mut [u32]) -> (u32, u32) {
-    let calls = cut(list);
-    let code = entry_code(table, list, &calls, answers.len());
-    if code != 0 {
-        return (code, 0);
-    }
+    let calls = match accepted(table, list, answers.len()) {
+        Ok(calls) => calls,
+        Err(code) => return (code, 0),
+    };
     run_calls(table, &calls, answers);
     (0, calls.len() as u32)
 }
 
-/// 1, then the table's 2 to 5, then 6; 0 when none of them refuses.
-pub(crate) fn entry_code(table: &[u32], list: &[u32], calls: &[Call], space: usize) -> u32 {
+/// The calls of a list that the entry accepts; else 1, then the table's 2 to 5, then 6.
+fn accepted(table: &[u32], list: &[u32], space: usize) -> Result<Vec<Call>, u32> {
     if list.len() > LIST_WORDS_MAX {
-        return 1;
+        return Err(1);
     }
     let table_code = check_table(table);
     if table_code != 0 {
-        return table_code;
+        return Err(table_code);
     }
+    let calls = cut(list);
     if space < ANSWER_WORDS * calls.len() {
-        return 6;
+        return Err(6);
     }
-    0
+    Ok(calls)
 }
 
 /// Feeds the calls to the machine in their order. Space beyond three words a

@@ -2,8 +2,8 @@
 //! domain, in which bit h is set when domain h has any right on it. From the words the
 //! panel asks who can reach a domain.
 
-use crate::calls::{cut, Call};
-use crate::entry::{entry_code, run};
+use crate::calls::{Call, LIST_WORDS_MAX};
+use crate::entry::run;
 use crate::machine::step;
 use crate::table::{check_table, domains, rights, DOMAINS_MAX};
 
@@ -27,15 +27,14 @@ pub fn run_with_holders(
     answers: &mut [u32],
     panel: &mut [u32],
 ) -> (u32, u32) {
-    let code = entry_code(table, list, &cut(list), answers.len());
-    if code == 0 && panel.len() != domains(table) {
+    if list.len() <= LIST_WORDS_MAX && check_table(table) == 0 && panel.len() != domains(table) {
         return (6, 0);
     }
-    let answer = run(table, list, answers);
+    let (code, calls) = run(table, list, answers);
     if code == 0 {
         panel.copy_from_slice(&holders(table));
     }
-    answer
+    (code, calls)
 }
 
 /// A run of one call: its three answer words, or a refusal by the table's 2 to 5 or
