@@ -91,15 +91,12 @@ impl Tables {
     }
 }
 
-/// All drills, in the order in which they are gone through.
+/// All drills, in the order in which they are gone through: those with long lists, which take
+/// longest, at the end.
 pub const DRILLS: [Drill; 17] = [
     drill(
         "the fields of calls at their edges in every combination",
         orders::calls,
-    ),
-    drill(
-        "refusals of the entry in every combination",
-        entries::entries,
     ),
     drill("every bit of calls that are done", bits::calls),
     drill("every bit of every table word", bits::tables),
@@ -121,7 +118,6 @@ pub const DRILLS: [Drill; 17] = [
         "rights in every state, held in part, on oneself and on others",
         rights::rights,
     ),
-    drill("sizes around each limit", sizes::sizes),
     drill(
         "answer spaces that are short, for lists of every kind of word",
         ends::ends,
@@ -145,6 +141,11 @@ pub const DRILLS: [Drill; 17] = [
     drill(
         "short lists over tables of different sizes",
         runs::one_after_another,
+    ),
+    drill("sizes around each limit", sizes::sizes),
+    drill(
+        "refusals of the entry in every combination",
+        entries::entries,
     ),
 ];
 
@@ -379,7 +380,7 @@ mod tests {
         assert_eq!(drilled.wrong.map(|wrong| wrong.word), None);
         let cases = drilled.cases;
         assert!(cases.iter().all(|&cases| cases > 1000), "{cases:?}");
-        assert!(cases[DRILLS.len() - 1] > 100_000);
+        assert!(cases.iter().any(|&cases| cases > 100_000), "{cases:?}");
     }
 
     #[test]
