@@ -18,5 +18,4 @@ pub mod refused;
 pub mod reports;
 pub mod scratch;
 pub mod text;
-#[cfg(any(test, feature = "trials"))]
 pub mod trial;

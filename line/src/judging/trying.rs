@@ -106,7 +106,7 @@ impl Met {
     }
 
     /// How often something was met.
-    #[cfg(any(test, feature = "trials"))]
+    #[cfg(test)]
     pub fn count(&mut self, name: &str) -> u64 {
         *self.named(name)
     }

@@ -82,7 +82,7 @@ impl Kernel {
     }
 
     /// The kernel with another check, for tests of what judges it.
-    #[cfg(any(test, feature = "trials"))]
+    #[cfg(test)]
     pub const fn with_check(self, name: &'static str, table_check: TableCheck) -> Kernel {
         Kernel {
             name,
@@ -92,7 +92,6 @@ impl Kernel {
     }
 
     /// The kernel with another run, for tests of what judges it.
-    #[cfg(any(test, feature = "trials"))]
     pub const fn with_run(self, name: &'static str, run: Run) -> Kernel {
         Kernel { name, run, ..self }
     }

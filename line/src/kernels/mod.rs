@@ -4,7 +4,7 @@
 
 pub mod boundary;
 pub mod child;
-#[cfg(any(test, feature = "trials"))]
+#[cfg(test)]
 pub mod faulty;
 pub mod layer;
 pub mod lent;

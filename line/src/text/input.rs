@@ -106,7 +106,6 @@ impl Input {
     }
 }
 
-#[cfg(any(test, feature = "trials"))]
 impl Input {
     /// Document 01's table T and list L.
     pub fn example() -> Input {

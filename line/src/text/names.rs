@@ -389,7 +389,6 @@ fn check_name(name: &str) -> Result<(), String> {
     }
 }
 
-#[cfg(any(test, feature = "trials"))]
 impl Names {
     /// The names that a text gives, for tests.
     pub fn given(text: &str) -> Names {
