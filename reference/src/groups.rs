@@ -13,7 +13,11 @@ pub fn component(table: &[u32], d: usize) -> BTreeSet<usize> {
     let mut group = BTreeSet::from([d]);
     // A way from one domain to another needs fewer steps than there are domains.
     for _ in 1..domains(table) {
-        group = one_step_further(table, &group);
+        let further = one_step_further(table, &group);
+        if further == group {
+            break;
+        }
+        group = further;
     }
     group
 }
