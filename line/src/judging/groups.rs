@@ -2,6 +2,8 @@
 //! the proved function says of them beside the reference, and what they keep apart
 //! in a run.
 
+use std::collections::BTreeSet;
+
 use reference::table::domains;
 use reference::{check_table, component, influences};
 
@@ -40,14 +42,18 @@ pub fn is_component(table: &[u32], domain: u32) -> Result<(), String> {
 /// number of calls that were purged.
 pub fn kept_apart(case: &Case, ran: &Ran, domain: usize) -> Result<u64, String> {
     let n = domains(&case.table);
-    for u in 0..n {
-        let group = component(&case.table, u);
-        let outside = (0..n).find(|v| influences(&ran.table, u, *v) && !group.contains(v));
-        if let Some(v) = outside {
-            return Err(format!(
-                "after the list domain {u} influences domain {v}, outside its component at the start"
-            ));
+    let mut left: BTreeSet<usize> = (0..n).collect();
+    while let Some(&first) = left.first() {
+        let group = component(&case.table, first);
+        for &u in &group {
+            let outside = (0..n).find(|v| influences(&ran.table, u, *v) && !group.contains(v));
+            if let Some(v) = outside {
+                return Err(format!(
+                    "after the list domain {u} influences domain {v}, outside its component at the start"
+                ));
+            }
         }
+        left = &left - &group;
     }
     Ok(component_isolation(case, ran, domain)?.by_domains as u64)
 }
