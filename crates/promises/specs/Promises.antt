@@ -584,9 +584,9 @@ pub record Promises : Type 0 where
   pub L-loaded-once : working-load-run.EveryRunLoadedOnce
   -- Rows loaded from an accepted table represent its rights.
   pub L-rights-loaded : rights-matrix-theory-claims.LoadedRights
-  -- What is put into rows is held.
+  -- What is put into sixteen rows of sixteen is held, and nothing else in them is altered.
   pub L-rights-put : rights-matrix-theory-claims.PutIsHeld
-  -- Stored rows are the table's rights words.
+  -- Rows stored to a table with words enough for its rights are its rights words, and its other words stay.
   pub L-rights-stored : rights-matrix-theory-claims.StoredRights
   -- A row of what each domain holds on each, and of what is held on and by a domain that is not there.
   pub L-rights-row-loaded : rights-matrix-theory-examples.RowLoaded
@@ -594,8 +594,8 @@ pub record Promises : Type 0 where
   pub L-rights-row-stored : rights-matrix-theory-examples.RowStored
   -- A ring loaded from a queue in which at most 8 wait represents it.
   pub L-ring-loaded : ring-theory-claims.LoadedRingRepresents
-  -- Of twelve words with a capacity of 1 to 8: a send, to a full queue too, and a receive, where one waits, leave a ring that
-  -- represents what they leave of the queue.
+  -- Of twelve words with a capacity of 1 to 8: a send of a message of 28 bits, to a full queue too, and a receive, where one waits,
+  -- leave a ring that represents what they leave of the queue.
   pub L-ring-simulates : ring-theory-claims.QueuesSimulate
   -- A ring that represents twelve words with a sound queue, stored to twelve words with the same name and info, gives these words.
   pub L-ring-stored : ring-theory-claims.StoreIsQueue

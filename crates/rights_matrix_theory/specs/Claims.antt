@@ -30,7 +30,7 @@ pub record Altered (rows : List (List ℕ)) (h g s : ℕ) (rows′ : List (List 
   pub held : heldIn rows′ h g ≡ s
   pub others : (i j : ℕ) → i < 16 → j < 16 → (i ≡ h → j ≡ g → ⊥) → heldIn rows′ i j ≡ heldIn rows i j
 
--- what is put into rows is held
+-- what is put into sixteen rows of sixteen is held, and nothing else in them is altered
 abbrev pub PutIsHeld : Type 0
 PutIsHeld = (rows : List (List ℕ)) (h g s : ℕ) → Sixteen rows → h < 16 → g < 16 → Altered rows h g s (withHeld rows h g s)
 
@@ -41,6 +41,6 @@ pub record StoredTo (n : ℕ) (rows : List (List ℕ)) (t t′ : List ℕ) : Typ
   pub header : getD t′ 0 0 ≡ getD t 0 0
   pub behind : (i : ℕ) → n * n < i → getD t′ i 0 ≡ getD t i 0
 
--- stored rows are the table's rights words
+-- rows stored to a table with words enough for its rights are its rights words, and its other words stay
 abbrev pub StoredRights : Type 0
 StoredRights = (n : ℕ) (rows : List (List ℕ)) (t : List ℕ) → n * n < length t → StoredTo n rows t (storedRows n rows t)

@@ -26,8 +26,8 @@ pub record RepresentsQueue (r q : List ℕ) : Type 0 where
 abbrev pub LoadedRingRepresents : Type 0
 LoadedRingRepresents = (q : List ℕ) → waiting q ≤ 8 → RepresentsQueue (ringOf q) q
 
--- Of twelve words with a capacity of 1 to 8: a send, to a full queue too, and a receive, where one waits, leave a ring that
--- represents what they leave of the queue.
+-- Of twelve words with a capacity of 1 to 8: a send of a message of 28 bits, to a full queue too, and a receive, where one waits,
+-- leave a ring that represents what they leave of the queue.
 abbrev pub QueuesSimulate : Type 0
 QueuesSimulate =
     (q r : List ℕ)
