@@ -17,6 +17,10 @@ use crate::cases::Case;
 /// longer.
 const TIME: Duration = Duration::from_secs(if cfg!(test) { 120 } else { 5 });
 
+/// So many tries in a row that leave nothing out are enough: where it is the number of calls
+/// that is wrong, none can be left out.
+const IN_VAIN: usize = 1000;
+
 /// Where a call's caller and its fields A and B begin.
 const CALLER: u32 = 22;
 const A: u32 = 16;
@@ -50,19 +54,22 @@ pub fn shrink(case: &Case, down: Cut, differs: impl Fn(&Case) -> bool) -> Case {
 pub fn fewest<T: Clone>(all: &[T], differs: impl Fn(&[T]) -> bool) -> Vec<T> {
     let mut parts = all.to_vec();
     let began = Instant::now();
+    let mut in_vain = 0;
     let mut at_a_time = parts.len().div_ceil(2).max(1);
     loop {
         let mut start = 0;
-        while start < parts.len() && began.elapsed() < TIME {
+        while start < parts.len() && in_vain < IN_VAIN && began.elapsed() < TIME {
             let end = (start + at_a_time).min(parts.len());
             let rest = [&parts[..start], &parts[end..]].concat();
             if differs(&rest) {
                 parts = rest;
+                in_vain = 0;
             } else {
                 start = end;
+                in_vain += 1;
             }
         }
-        if at_a_time == 1 || began.elapsed() >= TIME {
+        if at_a_time == 1 || in_vain == IN_VAIN || began.elapsed() >= TIME {
             return parts;
         }
         at_a_time = at_a_time.div_ceil(2);
@@ -217,6 +224,7 @@ mod tests {
     use reference::generate::call_word;
     use reference::table::{name, rights};
     use reference::words::bits;
+    use std::cell::Cell;
 
     /// Four domains with every right, endpoints 101 to 104, of which the third has three
     /// messages waiting and has lost five.
@@ -249,6 +257,19 @@ mod tests {
             reference::run_with_holders(&mut table, &case.list, &mut answers, &mut holders);
         let answers = answers.chunks(3).take(calls as usize);
         (code == 0).then(|| answers.map(|answer| bits(answer[0], 15, 0)).collect())
+    }
+
+    #[test]
+    fn tries_in_vain_end_and_one_part_of_many_is_found() {
+        let all: Vec<u32> = (0..5000).collect();
+        let tried = Cell::new(0);
+        let number_alone = |rest: &[u32]| {
+            tried.set(tried.get() + 1);
+            rest.len() == all.len()
+        };
+        assert_eq!(fewest(&all, number_alone), all);
+        assert_eq!(tried.get(), IN_VAIN);
+        assert_eq!(fewest(&all, |rest| rest.contains(&4321)), [4321]);
     }
 
     #[test]
