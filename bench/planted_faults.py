@@ -114,6 +114,12 @@ PROFILE = """
 opt-level = 1
 debug = false
 codegen-units = 16
+
+[profile.release.package.balkwizu]
+opt-level = 0
+
+[profile.release.package.balkwizu-bench]
+opt-level = 0
 """
 
 
