@@ -105,7 +105,8 @@ fn gives(lines: Lines, answers: &[u32], space: usize) -> bool
 // nothing, and the cursor is still at the same line, so that what isn't given never passes for given.
 pub fn next(lines: Lines, answers: &[u32], out: &mut [u8]) -> Lines
     ensures { λ r. ⌜ r ≡ advanced lines (now (answers .entry)) (length (now (out .entry))) ⌝ }
-    ensures { λ _. ⌜ now (out .exit) ≡ overwrite 0 (partOf lines (now (answers .entry)) (length (now (out .entry)))) (now (out .entry)) ⌝ }
+    ensures { λ _. ⌜ now (out .exit)
+        ≡ overwrite 0 (partOf lines (now (answers .entry)) (length (now (out .entry)))) (now (out .entry)) ⌝ }
     ensures { λ r. ⌜ givenOf r ≤ length (now (out .exit)) ⌝ }
 {
     let calls = lines.calls;

@@ -27,7 +27,8 @@ fn mended_rights(word: u32) -> u32
 // Mends every rights word.
 fn mend_rights(table: &mut [u32])
     requires { ⌜ Headed (now table) ⌝ }
-    ensures { λ _. ⌜ RightsMended (now (table .entry)) (now (table .exit)) (domains (now (table .entry)) * domains (now (table .entry))) ⌝ }
+    ensures { λ _. ⌜ RightsMended (now (table .entry)) (now (table .exit))
+        (domains (now (table .entry)) * domains (now (table .entry))) ⌝ }
 {
     let header = table[0];
     let n = (header / 256 % 256) as usize;

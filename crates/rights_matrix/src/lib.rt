@@ -86,7 +86,8 @@ pub fn load(table: &[u32], n: u32) -> [[u8; 16]; 16]
 // Stores a row to its holder's rights words.
 fn store_row(rows: &[[u8; 16]; 16], holder: u32, words: &mut [u32])
     requires { ⌜ length (now words) ≤ 16 ⌝ }
-    ensures { λ _. ⌜ now (words .exit) ≡ wordsBelow (length (now (words .entry))) (λ g. word 2 (heldIn (now (rows .entry)) holder g)) ⌝ }
+    ensures { λ _. ⌜ now (words .exit)
+        ≡ wordsBelow (length (now (words .entry))) (λ g. word 2 (heldIn (now (rows .entry)) holder g)) ⌝ }
 {
     let h = (holder % 16) as usize;
     let row = rows[h];

@@ -82,7 +82,8 @@ fn rights_ok(bytes: &[u8]) -> bool
 // Returns whether the eight slots from word `start` on are valid, by the waiting word.
 fn slots_ok(bytes: &[u8], start: usize, waiting: u32) -> bool
     requires { ⌜ 4 * start + 32 ≤ length (now bytes) ⌝ }
-    ensures { λ b. ⌜ b ≡ allBelow 8 (λ i. slotWordOk (waiting - tableWord 5 0) i (getD (wordsOf (now (bytes .entry))) (start + i) 0)) ⌝ }
+    ensures { λ b. ⌜ b
+        ≡ allBelow 8 (λ i. slotWordOk (waiting - tableWord 5 0) i (getD (wordsOf (now (bytes .entry))) (start + i) 0)) ⌝ }
 {
     let mut wrong: u32 = 0;
     let mut i: u32 = 0;
