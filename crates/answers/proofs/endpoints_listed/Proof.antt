@@ -41,7 +41,7 @@ returns-2 c =
     let past = endpoints-past _ _ m.before.domains.ensures _ _ m.endpoints.ensures at.endpoint-at.ensures c.before.if1.false in
     c.done2.ensures ∙ same-data (shows-none _ past) refl
 
-pub endpoints-listed-spec : {M : Type 1} → statement M
-endpoints-listed-spec =
+pub endpoints_listed_spec : {M : Type 1} → statement M
+endpoints_listed_spec =
     tie.close
     (tie.spec domains-requires endpoints-requires endpoint-at-requires owned-bits-requires done-requires returns done-requires-2 returns-2)

@@ -17,5 +17,5 @@ add-word c = omega (arith, c.number.ensures, number-most c.before.args.refusal)
 returns : tie.Need-returns
 returns c = ap (λ (k : ℕ). (c.before.args.head + k) ∷ 0 ∷ 0 ∷ []) c.number.ensures
 
-pub refused-spec : {M : Type 1} → statement M
-refused-spec = tie.close (tie.spec number-requires add-word returns)
+pub refused_spec : {M : Type 1} → statement M
+refused_spec = tie.close (tie.spec number-requires add-word returns)

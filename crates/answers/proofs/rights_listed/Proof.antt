@@ -59,8 +59,8 @@ returns-3 c =
     ∙ same-data (shows _ is c.before.rights-bits.ensures)
     (shows _ is (rights-none _ a.caller (omega (arith, at.before.domains.ensures, few.if2.false))))
 
-pub rights-listed-spec : {M : Type 1} → statement M
-rights-listed-spec =
+pub rights_listed_spec : {M : Type 1} → statement M
+rights_listed_spec =
     tie.close
     (tie.spec
     domains-requires

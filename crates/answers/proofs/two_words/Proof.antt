@@ -33,8 +33,8 @@ done-requires-2 c κs = search rules
 returns-2 : tie.Need-returns-2
 returns-2 c = c.done2.ensures ∙ same-data c.before.before.before.rights-bits.ensures c.before.rights-bits3.ensures
 
-pub two-words-spec : {M : Type 1} → statement M
-two-words-spec =
+pub two_words_spec : {M : Type 1} → statement M
+two_words_spec =
     tie.close
     (tie.spec
     rights-bits-requires

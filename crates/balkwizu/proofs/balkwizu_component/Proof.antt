@@ -43,7 +43,7 @@ returns c =
     (sym c.members.ensures ∙ high c.before.code.result c.members.result (small c))
     c.before.before.component-of.ensures
 
-pub balkwizu-component-spec : {M : Type 1} → statement M
-balkwizu-component-spec =
+pub balkwizu_component_spec : {M : Type 1} → statement M
+balkwizu_component_spec =
     tie.close
     (tie.spec component-of-requires code-requires members-requires mul-result add-result returns)

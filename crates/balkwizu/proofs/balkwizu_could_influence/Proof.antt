@@ -43,7 +43,7 @@ returns c =
     (sym c.set.ensures ∙ high c.before.code.result c.set.result (small c))
     c.before.before.could-influence.ensures
 
-pub balkwizu-could-influence-spec : {M : Type 1} → statement M
-balkwizu-could-influence-spec =
+pub balkwizu_could_influence_spec : {M : Type 1} → statement M
+balkwizu_could_influence_spec =
     tie.close
     (tie.spec could-influence-requires code-requires set-requires mul-result add-result returns)

@@ -29,8 +29,8 @@ returns c =
     (sym c.count.ensures ∙ high c.before.code.result c.count.result (omega (arith, small c)))
     done.repair.ensures
 
-pub balkwizu-repair-spec : {M : Type 1} → statement M
-balkwizu-repair-spec =
+pub balkwizu_repair_spec : {M : Type 1} → statement M
+balkwizu_repair_spec =
     tie.close
     (tie.spec
     (λ c κs. tt)

@@ -39,8 +39,8 @@ returns : tie.Need-returns
 returns c =
     run-halves _ _ _ _ _ _ _ _ _ c.before.before.before.before.before.before.before.before.run.ensures _ _ c.before.code.ensures c.calls.ensures
 
-pub balkwizu-run-spec : {M : Type 1} → statement M
-balkwizu-run-spec =
+pub balkwizu_run_spec : {M : Type 1} → statement M
+balkwizu_run_spec =
     tie.close
     (tie.spec
     run-requires

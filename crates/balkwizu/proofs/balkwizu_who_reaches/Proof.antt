@@ -43,7 +43,7 @@ returns c =
     (sym c.set.ensures ∙ high c.before.code.result c.set.result (small c))
     c.before.before.who-reaches.ensures
 
-pub balkwizu-who-reaches-spec : {M : Type 1} → statement M
-balkwizu-who-reaches-spec =
+pub balkwizu_who_reaches_spec : {M : Type 1} → statement M
+balkwizu_who_reaches_spec =
     tie.close
     (tie.spec who-reaches-requires code-requires set-requires mul-result add-result returns)

@@ -30,8 +30,8 @@ returns-3 c =
     let wrote = found.before.before.before.before.write-rows in
     says-outcome _ _ _ (BadCall _) _ found.written2.given.1 wrote.ensures
 
-pub balkwizu-write-spec : {M : Type 1} → statement M
-balkwizu-write-spec =
+pub balkwizu_write_spec : {M : Type 1} → statement M
+balkwizu_write_spec =
     tie.close
     (tie.spec
     (λ c κs. tt)

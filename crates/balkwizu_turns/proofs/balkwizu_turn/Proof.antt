@@ -38,8 +38,8 @@ returns c =
     (sym c.served.ensures ∙ high c.before.to-code.result c.served.result (omega (arith, small c)))
     turned.turn.ensures
 
-pub balkwizu-turn-spec : {M : Type 1} → statement M
-balkwizu-turn-spec =
+pub balkwizu_turn_spec : {M : Type 1} → statement M
+balkwizu_turn_spec =
     tie.close
     (tie.spec
     (λ c κs. search rules)

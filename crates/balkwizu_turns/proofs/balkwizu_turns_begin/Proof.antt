@@ -16,8 +16,8 @@ returns c =
     (sym c.to-code.ensures)
     begun.begin.ensures
 
-pub balkwizu-turns-begin-spec : {M : Type 1} → statement M
-balkwizu-turns-begin-spec =
+pub balkwizu_turns_begin_spec : {M : Type 1} → statement M
+balkwizu_turns_begin_spec =
     tie.close
     (tie.spec
     (λ c κs. search rules)

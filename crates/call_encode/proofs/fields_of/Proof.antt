@@ -41,8 +41,8 @@ returns-9 : tie.Need-returns-9
 unfolding fields_of
 returns-9 c = c.fields-at9.ensures ∙ sym (ap fields_of c.before.before.call9.given.1)
 
-pub fields-of-spec : {M : Type 1} → statement M
-fields-of-spec =
+pub fields_of_spec : {M : Type 1} → statement M
+fields_of_spec =
     tie.close
     (tie.spec
     (λ c. c.match.keys1)

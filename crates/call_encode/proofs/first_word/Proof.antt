@@ -38,8 +38,8 @@ returns : tie.Need-returns
 unfolding first_word
 returns c = refl
 
-pub first-word-spec : {M : Type 1} → statement M
-first-word-spec =
+pub first_word_spec : {M : Type 1} → statement M
+first_word_spec =
     tie.close
     (tie.spec
     mul-result

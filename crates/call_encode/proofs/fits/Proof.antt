@@ -15,5 +15,5 @@ returns : tie.Need-returns
 unfolding fits
 returns c = c.within-bits.ensures ∙ ap within_bits c.before.fields-of.ensures
 
-pub fits-spec : {M : Type 1} → statement M
-fits-spec = tie.close (tie.spec fields-of-requires within-bits-requires returns)
+pub fits_spec : {M : Type 1} → statement M
+fits_spec = tie.close (tie.spec fields-of-requires within-bits-requires returns)

@@ -64,8 +64,8 @@ returns c =
 returns-2 : tie.Need-returns-2
 returns-2 c = one_set _ _ _ (room c.before.before) ∙ as-words c.before false c.if1.false
 
-pub put-fields-spec : {M : Type 1} → statement M
-put-fields-spec =
+pub put_fields_spec : {M : Type 1} → statement M
+put_fields_spec =
     tie.close
     (tie.spec
     (λ c κs. (c.before.requires.0, c.before.requires.1.0))

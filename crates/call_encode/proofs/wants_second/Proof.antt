@@ -8,5 +8,5 @@ returns : tie.Need-returns
 unfolding wants_second
 returns c = refl
 
-pub wants-second-spec : {M : Type 1} → statement M
-wants-second-spec = tie.close (tie.spec returns)
+pub wants_second_spec : {M : Type 1} → statement M
+wants_second_spec = tie.close (tie.spec returns)

@@ -8,5 +8,5 @@ returns : tie.Need-returns
 unfolding within_bits
 returns c = refl
 
-pub within-bits-spec : {M : Type 1} → statement M
-within-bits-spec = tie.close (tie.spec returns)
+pub within_bits_spec : {M : Type 1} → statement M
+within_bits_spec = tie.close (tie.spec returns)

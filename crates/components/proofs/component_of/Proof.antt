@@ -47,8 +47,8 @@ returns-3 c =
     let test = c.before in
     reported _ _ (accepted test.before.before) (omega (arith, test.before.domains.ensures, test.if1.false)) _ c.members.ensures
 
-pub component-of-spec : {M : Type 1} → statement M
-component-of-spec =
+pub component_of_spec : {M : Type 1} → statement M
+component_of_spec =
     tie.close
     (tie.spec
     check-requires

@@ -38,8 +38,8 @@ returns-2 c =
 returns-3 : tie.Need-returns-3
 returns-3 c = noted-no-word _ _ _ _ c.before.if1.false c.if2.false
 
-pub note-spec : {M : Type 1} → statement M
-note-spec =
+pub note_spec : {M : Type 1} → statement M
+note_spec =
     tie.close
     (tie.spec
     returns

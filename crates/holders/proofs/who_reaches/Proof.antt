@@ -30,6 +30,6 @@ returns-2 c =
     let alone = bit_is (omega (arith, few, below)) c.before.bit.ensures in
     reported _ _ asked _ (c.closure.ensures ∙ ap (closed test.before.before.before.args.words.now) alone)
 
-pub who-reaches-spec : {M : Type 1} → statement M
-who-reaches-spec =
+pub who_reaches_spec : {M : Type 1} → statement M
+who_reaches_spec =
     tie.close (tie.spec askable-requires returns bit-requires closure-requires returns-2)

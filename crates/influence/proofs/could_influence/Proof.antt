@@ -79,8 +79,8 @@ influence-by-requires c κs =
 returns-3 : tie.Need-returns-3
 returns-3 c = search rules
 
-pub could-influence-spec : {M : Type 1} → statement M
-could-influence-spec =
+pub could_influence_spec : {M : Type 1} → statement M
+could_influence_spec =
     tie.close
     (tie.spec
     check-requires

@@ -43,8 +43,8 @@ returns-2 c =
     _
     c.chained.ensures
 
-pub influence-by-spec : {M : Type 1} → statement M
-influence-by-spec =
+pub influence_by_spec : {M : Type 1} → statement M
+influence_by_spec =
     tie.close
     (tie.spec
     potential-of-requires

@@ -45,8 +45,8 @@ returns c =
     prints bytes (ended_of input) (all_read start.requires.1.0.0 start.requires.1.0.1) (was-run.ensures.0 ∙ ap first_of same)
     (was-run.ensures.1 ∙ ap (λ (o : Outcome). o.answers) same)
 
-pub answer-input-spec : {M : Type 1} → statement M
-answer-input-spec =
+pub answer_input_spec : {M : Type 1} → statement M
+answer_input_spec =
     tie.close
     (tie.spec
     have-requires

@@ -50,8 +50,8 @@ returns-2 c =
     let at-loop = tested.before.before.loop in
     (sym tested.before.ended.ensures ∙ not-false _ tested.if1.false, at-loop.invariant.1.same-calls, at-loop.invariant.1.same_code)
 
-pub write-lines-spec : {M : Type 1} → statement M
-write-lines-spec =
+pub write_lines_spec : {M : Type 1} → statement M
+write_lines_spec =
     tie.close
     (tie.spec
     invariant-loop

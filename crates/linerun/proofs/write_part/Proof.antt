@@ -11,5 +11,5 @@ returns c = λ _. refl
 returns-2 : tie.Need-returns-2
 returns-2 c = λ none. absurd (true≢false (sym (not-false _ c.before.before.if1.false) ∙ none))
 
-pub write-part-spec : {M : Type 1} → statement M
-write-part-spec = tie.close (tie.spec returns (λ c κs. tt) (λ c κs. tt) returns-2)
+pub write_part_spec : {M : Type 1} → statement M
+write_part_spec = tie.close (tie.spec returns (λ c κs. tt) (λ c κs. tt) returns-2)

@@ -26,6 +26,6 @@ unfolding unreadable left_over
 returns-3 c =
     simp (sym c.before.before.before.no_table.ensures ∙ c.before.before.if1.false, ← c.before.after_table.ensures, le-ltb _ _ c.if2.false)
 
-pub unreadable-spec : {M : Type 1} → statement M
-unreadable-spec =
+pub unreadable_spec : {M : Type 1} → statement M
+unreadable_spec =
     tie.close (tie.spec no-table-requires returns after-table-requires returns-2 returns-3)

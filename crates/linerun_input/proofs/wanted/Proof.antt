@@ -32,8 +32,8 @@ unfolding wanted
 returns-3 c =
     simp (sym c.before.before.before.no_table.ensures ∙ c.before.before.if1.false, ← c.before.after_table.ensures) (omega arith)
 
-pub wanted-spec : {M : Type 1} → statement M
-wanted-spec =
+pub wanted_spec : {M : Type 1} → statement M
+wanted_spec =
     tie.close
     (tie.spec
     no-table-requires

@@ -108,8 +108,8 @@ returns-2 c =
     let holders = lent-part (table_of bytes) (lent.holders-lent.ensures ∙ ap (λ (t : List ℕ). min (domains t) 16) table) in
     answered-ran bytes readable table list holders ran.run.ensures called.calls.ensures c.code.ensures
 
-pub answer-spec : {M : Type 1} → statement M
-answer-spec =
+pub answer_spec : {M : Type 1} → statement M
+answer_spec =
     tie.close
     (tie.spec
     unreadable-requires

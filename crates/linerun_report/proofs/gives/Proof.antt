@@ -21,5 +21,5 @@ returns-3 : tie.Need-returns-3
 unfolding gives
 returns-3 c = simp (le-leb _ _ c.before.before.if1.false, le-leb _ _ c.if2.false)
 
-pub gives-spec : {M : Type 1} → statement M
-gives-spec = tie.close (tie.spec returns mul-if2 returns-2 returns-3)
+pub gives_spec : {M : Type 1} → statement M
+gives_spec = tie.close (tie.spec returns mul-if2 returns-2 returns-3)

@@ -41,7 +41,7 @@ returns-2 c =
     let next = after.line_after.ensures in
     goes_on _ _ _ given next put.ensures.0 (omega (arith, put.ensures.1, next, lent.2))
 
-pub next-spec : {M : Type 1} → statement M
-next-spec =
+pub next_spec : {M : Type 1} → statement M
+next_spec =
     tie.close
     (tie.spec gives-requires returns line-after-requires put-lines-requires same_length returns-2)

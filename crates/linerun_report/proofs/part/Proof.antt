@@ -24,5 +24,5 @@ part-result-end c = search rules
 returns-2 : tie.Need-returns-2
 returns-2 c = ap (λ (k : ℕ). take k c.before.before.args.out.now) (sub-zero c.before.before.args.lines.given)
 
-pub part-spec : {M : Type 1} → statement M
-part-spec = tie.close (tie.spec returns sub-result part-result-start part-result-end returns-2)
+pub part_spec : {M : Type 1} → statement M
+part_spec = tie.close (tie.spec returns sub-result part-result-start part-result-end returns-2)

@@ -106,8 +106,8 @@ returns c =
     let at-loop = c.before.before.loop in
     input-ran _ _ _ _ at-loop.invariant.1 _ at-loop.invariant.0 (sym c.before.wanted.ensures ∙ c.if1.false)
 
-pub run-input-spec : {M : Type 1} → statement M
-run-input-spec =
+pub run_input_spec : {M : Type 1} → statement M
+run_input_spec =
     tie.close
     (tie.spec
     invariant-loop

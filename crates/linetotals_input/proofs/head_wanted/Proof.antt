@@ -10,5 +10,5 @@ returns c = sym (head-last _ c.if1.true)
 returns-2 : tie.Need-returns-2
 returns-2 c = sym (head-other _ c.if1.false)
 
-pub head-wanted-spec : {M : Type 1} → statement M
-head-wanted-spec = tie.close (tie.spec returns returns-2)
+pub head_wanted_spec : {M : Type 1} → statement M
+head_wanted_spec = tie.close (tie.spec returns returns-2)

@@ -47,7 +47,7 @@ returns-5 c =
       le-ltb _ _ c.if4.false,
     )
 
-pub next-list-spec : {M : Type 1} → statement M
-next-list-spec =
+pub next_list_spec : {M : Type 1} → statement M
+next_list_spec =
     tie.close
     (tie.spec returns returns-2 returns-3 word-at-requires cast-if4 returns-4 returns-5)

@@ -87,8 +87,8 @@ returns c =
       ),
     )
 
-pub report-spec : {M : Type 1} → statement M
-report-spec =
+pub report_spec : {M : Type 1} → statement M
+report_spec =
     tie.close
     (tie.spec
     counts-requires

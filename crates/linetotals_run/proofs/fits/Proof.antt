@@ -46,8 +46,8 @@ returns-6 c = simp (c.before.before.before.phase2.given.1, lt-leb _ _ c.if1.fals
 returns-7 : tie.Need-returns-7
 returns-7 c = search rules
 
-pub fits-spec : {M : Type 1} → statement M
-fits-spec =
+pub fits_spec : {M : Type 1} → statement M
+fits_spec =
     tie.close
     (tie.spec
     enum_told

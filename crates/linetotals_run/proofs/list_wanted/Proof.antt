@@ -28,8 +28,8 @@ returns c =
     let left : c.before.one_less.result ≡ most_lists - (c.before.before.before.args.count + 1) = omega (arith, c.before.one_less.ensures, c.before.before.left_after.ensures) in
     rw (c.head-wanted.ensures, left)
 
-pub list-wanted-spec : {M : Type 1} → statement M
-list-wanted-spec =
+pub list_wanted_spec : {M : Type 1} → statement M
+list_wanted_spec =
     tie.close
     (tie.spec
     left-after-requires

@@ -38,8 +38,8 @@ returns-3 c =
     let came = le-leb _ _ (rw c.before.before.count.ensures at c.before.if2.false) in
     simp (own, came) c.fits2.ensures
 
-pub takes-spec : {M : Type 1} → statement M
-takes-spec =
+pub takes_spec : {M : Type 1} → statement M
+takes_spec =
     tie.close
     (tie.spec
     want-requires

@@ -85,8 +85,8 @@ returns-4 c =
     let n = space.before in
     reported _ _ _ (accepted n.before) _ n.domains.ensures space.if1.false _ set.before.power.ensures set.if2.false _ _ fill.fill.ensures settle.settle.ensures
 
-pub potential-of-spec : {M : Type 1} → statement M
-potential-of-spec =
+pub potential_of_spec : {M : Type 1} → statement M
+potential_of_spec =
     tie.close
     (tie.spec
     check-requires

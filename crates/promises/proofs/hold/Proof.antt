@@ -351,5 +351,5 @@ returns c =
       M-turn-rows = turns-examples-proofs.every-turn-row;
     }
 
-pub hold-spec : {M : Type 1} → statement M
-hold-spec = tie.close (tie.spec returns)
+pub hold_spec : {M : Type 1} → statement M
+hold_spec = tie.close (tie.spec returns)

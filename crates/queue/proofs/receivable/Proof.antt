@@ -15,5 +15,5 @@ returns-2 : tie.Need-returns-2
 unfolding receivable waiting
 returns-2 c = rw (eq-eqb _ _ c.before.if1.false)
 
-pub receivable-spec : {M : Type 1} → statement M
-receivable-spec = tie.close (tie.spec returns (λ c. search rules) returns-2)
+pub receivable_spec : {M : Type 1} → statement M
+receivable_spec = tie.close (tie.spec returns (λ c. search rules) returns-2)

@@ -27,8 +27,8 @@ returns-2 c =
     let h = passed call.before.before in
     (sym h, call.take-oldest.ensures ∙ received-there _ h)
 
-pub receive-spec : {M : Type 1} → statement M
-receive-spec =
+pub receive_spec : {M : Type 1} → statement M
+receive_spec =
     tie.close
     (tie.spec
     (λ c κs. tt)

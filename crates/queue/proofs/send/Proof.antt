@@ -56,8 +56,8 @@ returns-3 c =
     let h = passed space.before.before.before in
     (sym h, call.send-with-space.ensures ∙ sent-with-space _ _ h (omega (arith, space.if2.false)))
 
-pub send-spec : {M : Type 1} → statement M
-send-spec =
+pub send_spec : {M : Type 1} → statement M
+send_spec =
     tie.close
     (tie.spec
     (λ c κs. tt)

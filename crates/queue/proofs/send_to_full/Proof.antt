@@ -33,8 +33,8 @@ returns c =
     let raised = took.before.before.lost-after in
     pushed-out _ _ _ _ _ took.take-oldest.ensures call.send-with-space.ensures raised.ensures
 
-pub send-to-full-spec : {M : Type 1} → statement M
-send-to-full-spec =
+pub send_to_full_spec : {M : Type 1} → statement M
+send_to_full_spec =
     tie.close
     (tie.spec
     (λ c. omega (arith, c.before.before.requires.oldest.twelve))

@@ -15,8 +15,8 @@ returns : tie.Need-returns
 unfolding send_with_space waiting
 returns c = refl
 
-pub send-with-space-spec : {M : Type 1} → statement M
-send-with-space-spec =
+pub send_with_space_spec : {M : Type 1} → statement M
+send_with_space_spec =
     tie.close
     (tie.spec
     (λ c. search rules)

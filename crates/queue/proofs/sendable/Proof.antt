@@ -15,5 +15,5 @@ returns-2 : tie.Need-returns-2
 unfolding sendable capacity waiting
 returns-2 c = rw (eq-eqb _ _ c.before.before.if1.false)
 
-pub sendable-spec : {M : Type 1} → statement M
-sendable-spec = tie.close (tie.spec returns (λ c. search rules) (λ c. search rules) returns-2)
+pub sendable_spec : {M : Type 1} → statement M
+sendable_spec = tie.close (tie.spec returns (λ c. search rules) (λ c. search rules) returns-2)

@@ -39,9 +39,9 @@ returns c =
     ap (λ (q : List ℕ). set (set q (4 + left) empty_slot) 2 (word 5 left)) (c.before.loop.invariant.3 ∙ ap (moved q₀) all)
     ∙ moved-end q₀ pre.some (omega arith)
 
-pub take-oldest-spec : {M : Type 1} → statement M
+pub take_oldest_spec : {M : Type 1} → statement M
 unfolding waiting
-take-oldest-spec =
+take_oldest_spec =
     tie.close
     (tie.spec
     invariant-loop

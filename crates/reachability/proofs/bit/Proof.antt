@@ -11,5 +11,5 @@ shl-result c = search rules
 returns : tie.Need-returns
 returns c = one_bit _ (omega arith)
 
-pub bit-spec : {M : Type 1} → statement M
-bit-spec = tie.close (tie.spec shl-result returns)
+pub bit_spec : {M : Type 1} → statement M
+bit_spec = tie.close (tie.spec shl-result returns)

@@ -37,8 +37,8 @@ loop-again c =
 returns-2 : tie.Need-returns-2 invariant-loop decreases-loop
 returns-2 c = closing_end _ _ _ _ c.before.loop.invariant c.loop-test.false
 
-pub closure-spec : {M : Type 1} → statement M
-closure-spec =
+pub closure_spec : {M : Type 1} → statement M
+closure_spec =
     tie.close
     (tie.spec
     invariant-loop

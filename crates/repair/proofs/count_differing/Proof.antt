@@ -24,8 +24,8 @@ loop-again c =
 returns : tie.Need-returns invariant-loop decreases-loop
 returns c = counted-end c.before.loop.invariant c.loop-test.false
 
-pub count-differing-spec : {M : Type 1} → statement M
-count-differing-spec =
+pub count_differing_spec : {M : Type 1} → statement M
+count_differing_spec =
     tie.close
     (tie.spec
     invariant-loop

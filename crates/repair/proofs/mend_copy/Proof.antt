@@ -32,8 +32,8 @@ returns c =
     let mends = m.mend.ensures ∙ ap mended (copied-end l.before.loop.invariant (sym l.before.before.before.before.requires) l.loop-test.false) in
     (ap (λ (k : ℕ). eqb k 0) (c.code.ensures ∙ c.before.check.ensures ∙ ap table_code mends) ∙ accepted-exactly _, mends)
 
-pub mend-copy-spec : {M : Type 1} → statement M
-mend-copy-spec =
+pub mend_copy_spec : {M : Type 1} → statement M
+mend_copy_spec =
     tie.close
     (tie.spec
     invariant-loop

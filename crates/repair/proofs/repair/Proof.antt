@@ -17,8 +17,8 @@ lent copy size l = length-take-le (size - 0) copy (omega arith) ∙ omega arith
 refused : tie.Need-returns
 refused c = too-many-words _ _ c.if1.true
 
-pub repair-spec : {M : Type 1} → statement M
-repair-spec =
+pub repair_spec : {M : Type 1} → statement M
+repair_spec =
     tie.close
     (tie.spec
     refused

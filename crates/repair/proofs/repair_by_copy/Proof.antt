@@ -51,8 +51,8 @@ repaired c =
     let e = counted.before.before.before in
     done _ _ (can e) _ (mends e.before.before.before) _ counted.count-differing.ensures enough.if2.false _ _ wrote.replace.ensures.0 wrote.replace.ensures.1
 
-pub repair-by-copy-spec : {M : Type 1} → statement M
-repair-by-copy-spec =
+pub repair_by_copy_spec : {M : Type 1} → statement M
+repair_by_copy_spec =
     tie.close
     (tie.spec
     (λ c κs. c.before.before.before.before.before.requires.0)

@@ -12,5 +12,5 @@ mul-result c = square-fits _ c.if1.false
 returns-2 : tie.Need-returns-2
 returns-2 c = few-enough _ _ c.if1.false
 
-pub has-rights-spec : {M : Type 1} → statement M
-has-rights-spec = tie.close (tie.spec returns mul-result returns-2)
+pub has_rights_spec : {M : Type 1} → statement M
+has_rights_spec = tie.close (tie.spec returns mul-result returns-2)

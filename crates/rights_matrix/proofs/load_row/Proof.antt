@@ -42,8 +42,8 @@ loop-again c = filling-next 0 _ _ _ _ _ c.before.before.loop.invariant (omega (a
 returns : tie.Need-returns invariant-loop decreases-loop
 returns c = row-filled _ _ _ c.before.loop.invariant c.loop-test.false
 
-pub load-row-spec : {M : Type 1} → statement M
-load-row-spec =
+pub load_row_spec : {M : Type 1} → statement M
+load_row_spec =
     tie.close
     (tie.spec
     invariant-loop

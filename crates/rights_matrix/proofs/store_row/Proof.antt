@@ -64,8 +64,8 @@ same_length c = c.before.loop.invariant.size
 returns : tie.Need-returns invariant-loop decreases-loop
 returns c = words-filled _ _ _ _ c.before.loop.invariant (omega (arith, c.loop-test.false, c.before.loop.invariant.size))
 
-pub store-row-spec : {M : Type 1} → statement M
-store-row-spec =
+pub store_row_spec : {M : Type 1} → statement M
+store_row_spec =
     tie.close
     (tie.spec
     invariant-loop

@@ -55,8 +55,8 @@ returns-2 c =
       left = of-twelve _ _ _ twelve (taken _ _ _ c.before.next_place.ensures c.one_less.ensures);
     }
 
-pub receive-spec : {M : Type 1} → statement M
-receive-spec =
+pub receive_spec : {M : Type 1} → statement M
+receive_spec =
     tie.close
     (tie.spec
     returns

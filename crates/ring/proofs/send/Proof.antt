@@ -63,8 +63,8 @@ returns-3 c =
     of-twelve _ _ _ c.before.before.before.before.before.before.before.before.if1.false
     (sent-to-full _ _ _ c.before.before.before.place-from.ensures _ _ c.before.before.if2.false c.before.next_place.ensures c.lost-after.ensures)
 
-pub send-spec : {M : Type 1} → statement M
-send-spec =
+pub send_spec : {M : Type 1} → statement M
+send_spec =
     tie.close
     (tie.spec
     returns

@@ -24,7 +24,7 @@ returns c =
 returns-2 : tie.Need-returns-2
 returns-2 c = slot-empty _ _ _ c.before.before.requires.1.1 c.if1.false
 
-pub store-slot-spec : {M : Type 1} → statement M
-store-slot-spec =
+pub store_slot_spec : {M : Type 1} → statement M
+store_slot_spec =
     tie.close
     (tie.spec place-from-requires mul-result shared-slice-read-result add-result returns returns-2)

@@ -109,8 +109,8 @@ returns-3 c =
     step.before.before.before.if1.false
     (stepped step _ put.before.before.before.stepped2.given.1))
 
-pub answer-call-spec : {M : Type 1} → statement M
-answer-call-spec =
+pub answer_call_spec : {M : Type 1} → statement M
+answer_call_spec =
     tie.close
     (tie.spec
     returns

@@ -65,8 +65,8 @@ returns-3 c =
     c.before.before.before.before.before.before.before.before.before.before.before.second-at2.ensures
     called.ensures)
 
-pub run-call-spec : {M : Type 1} → statement M
-run-call-spec =
+pub run_call_spec : {M : Type 1} → statement M
+run_call_spec =
     tie.close
     (tie.spec
     second-at-requires

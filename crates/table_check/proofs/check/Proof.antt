@@ -36,8 +36,8 @@ sound c =
     let r = c.before.before in
     code-0 _ (headed r.before.before) (rights-hold r) (search past)
 
-pub check-spec : {M : Type 1} → statement M
-check-spec =
+pub check_spec : {M : Type 1} → statement M
+check_spec =
     tie.close
     (tie.spec
     (λ c κs. tt)

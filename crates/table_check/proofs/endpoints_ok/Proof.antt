@@ -55,8 +55,8 @@ names-tested c =
     let l = b.before.loop in
     c.all-different.ensures ∙ names-decide _ _ _ _ refl l.invariant.2 l.invariant.0 b.loop-test.false
 
-pub endpoints-ok-spec : {M : Type 1} → statement M
-endpoints-ok-spec =
+pub endpoints_ok_spec : {M : Type 1} → statement M
+endpoints_ok_spec =
     tie.close
     (tie.spec
     invariant-loop

@@ -11,5 +11,5 @@ empty c = sym (empty-header _ c.if1.true)
 word : tie.Need-returns-2
 word c = c.header-word-ok.ensures ∙ sym (word-header _ c.before.before.if1.false)
 
-pub header-ok-spec : {M : Type 1} → statement M
-header-ok-spec = tie.close (tie.spec empty (λ c. omega (arith, c.before.if1.false)) (λ c κs. tt) word)
+pub header_ok_spec : {M : Type 1} → statement M
+header_ok_spec = tie.close (tie.spec empty (λ c. omega (arith, c.before.if1.false)) (λ c κs. tt) word)

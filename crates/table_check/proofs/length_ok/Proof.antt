@@ -15,8 +15,8 @@ compared : tie.Need-returns-2
 unfolding length_ok domains endpoints
 compared c = refl
 
-pub length-ok-spec : {M : Type 1} → statement M
-length-ok-spec =
+pub length_ok_spec : {M : Type 1} → statement M
+length_ok_spec =
     tie.close
     (tie.spec
     empty

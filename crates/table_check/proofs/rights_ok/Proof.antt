@@ -34,8 +34,8 @@ returns : tie.Need-returns invariant-loop decreases-loop
 unfolding rights_ok domains
 returns c = scan-end _ _ _ _ c.before.before.loop.invariant.0 c.before.loop-test.false
 
-pub rights-ok-spec : {M : Type 1} → statement M
-rights-ok-spec =
+pub rights_ok_spec : {M : Type 1} → statement M
+rights_ok_spec =
     tie.close
     (tie.spec
     invariant-loop

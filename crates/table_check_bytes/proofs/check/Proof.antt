@@ -46,8 +46,8 @@ sound c =
     code-0 _ (fitting-headed _ f) (rights-hold r) (sym c.before.endpoints-ok.ensures ∙ not-false _ c.if4.false)
     ∙ bytes-words _ f
 
-pub check-spec : {M : Type 1} → statement M
-check-spec =
+pub check_spec : {M : Type 1} → statement M
+check_spec =
     tie.close
     (tie.spec
     (λ c κs. tt)

@@ -16,8 +16,8 @@ returns c =
     ap₂ ◌&&◌ (ap₂ ◌&&◌ (v.before.name-word-ok.ensures ∙ ap name_word_ok v.before.before.nth-word.ensures) w.before.info-word-ok.ensures) (ap₂ ◌&&◌ (ap₂ ◌&&◌ c.before.before.before.waiting-word-ok.ensures (c.before.lost-word-ok.ensures ∙ ap lost_word_ok c.before.before.nth-word4.ensures)) c.slots-ok.ensures)
     ∙ endpoint-words (words_of a.bytes.now) a.start _ _ _ v.nth-word2.ensures w.nth-word3.ensures
 
-pub endpoint-ok-spec : {M : Type 1} → statement M
-endpoint-ok-spec =
+pub endpoint_ok_spec : {M : Type 1} → statement M
+endpoint_ok_spec =
     tie.close
     (tie.spec
     (λ c κs. search rules)

@@ -50,8 +50,8 @@ names-tested c =
     c.all-different.ensures
     ∙ names-decide _ _ _ _ l.invariant.1.endpoints l.invariant.1.most l.invariant.0 b.loop-test.false
 
-pub endpoints-ok-spec : {M : Type 1} → statement M
-endpoints-ok-spec =
+pub endpoints_ok_spec : {M : Type 1} → statement M
+endpoints_ok_spec =
     tie.close
     (tie.spec
     invariant-loop

@@ -13,5 +13,5 @@ word c =
     c.header-word-ok.ensures ∙ ap header_word_ok c.before.nth-word.ensures
     ∙ sym (first-word _ c.before.before.if1.false)
 
-pub header-ok-spec : {M : Type 1} → statement M
-header-ok-spec = tie.close (tie.spec (λ c κs. c.if1.false) (λ c κs. tt) short word)
+pub header_ok_spec : {M : Type 1} → statement M
+header_ok_spec = tie.close (tie.spec (λ c κs. c.if1.false) (λ c κs. tt) short word)

@@ -13,8 +13,8 @@ compared : tie.Need-returns
 unfolding bytes_for domains endpoints
 compared c = rw c.nth-word.ensures
 
-pub length-ok-spec : {M : Type 1} → statement M
-length-ok-spec =
+pub length_ok_spec : {M : Type 1} → statement M
+length_ok_spec =
     tie.close
     (tie.spec
     (λ c κs. header-four _ c.before.requires)

@@ -9,8 +9,8 @@ use Rattle.table_check_bytes.proofs.nth_word.Tie as tie
 returns : tie.Need-returns
 returns c = c.word.ensures ∙ sym (get_d-words_of _ _ (omega (arith, c.before.before.before.before.before.before.requires)))
 
-pub nth-word-spec : {M : Type 1} → statement M
-nth-word-spec =
+pub nth_word_spec : {M : Type 1} → statement M
+nth_word_spec =
     tie.close
     (tie.spec
     (λ c. search rules)

@@ -30,8 +30,8 @@ again c =
 returns : tie.Need-returns invariant-loop decreases-loop
 returns c = scan-end _ _ _ _ c.before.loop.invariant c.loop-test.false
 
-pub slots-ok-spec : {M : Type 1} → statement M
-slots-ok-spec =
+pub slots_ok_spec : {M : Type 1} → statement M
+slots_ok_spec =
     tie.close
     (tie.spec
     invariant-loop

@@ -13,5 +13,5 @@ returns : tie.Need-returns
 unfolding domains
 returns c = ap field_b c.word.ensures
 
-pub domains-spec : {M : Type 1} → statement M
-domains-spec = tie.close (tie.spec word-requires returns)
+pub domains_spec : {M : Type 1} → statement M
+domains_spec = tie.close (tie.spec word-requires returns)

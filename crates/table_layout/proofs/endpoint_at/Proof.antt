@@ -23,5 +23,5 @@ add-result-2 c = omega (arith, square-small c.args.n)
 returns : tie.Need-returns
 returns c = search rules
 
-pub endpoint-at-spec : {M : Type 1} → statement M
-endpoint-at-spec = tie.close (tie.spec cast-few mul-result add-result mul-result-2 add-result-2 returns)
+pub endpoint_at_spec : {M : Type 1} → statement M
+endpoint_at_spec = tie.close (tie.spec cast-few mul-result add-result mul-result-2 add-result-2 returns)

@@ -22,5 +22,5 @@ returns c =
     let a = c.before.before.before.args in
     c.word.ensures ∙ ap (λ (at : ℕ). get_or a.table.now (at + a.i) 0) c.before.endpoint-at.ensures
 
-pub endpoint-word-spec : {M : Type 1} → statement M
-endpoint-word-spec = tie.close (tie.spec endpoint-at-requires add_at word-requires returns)
+pub endpoint_word_spec : {M : Type 1} → statement M
+endpoint_word_spec = tie.close (tie.spec endpoint-at-requires add_at word-requires returns)

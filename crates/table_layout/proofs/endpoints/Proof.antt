@@ -13,5 +13,5 @@ returns : tie.Need-returns
 unfolding endpoints
 returns c = ap field_c c.word.ensures
 
-pub endpoints-spec : {M : Type 1} → statement M
-endpoints-spec = tie.close (tie.spec word-requires returns)
+pub endpoints_spec : {M : Type 1} → statement M
+endpoints_spec = tie.close (tie.spec word-requires returns)

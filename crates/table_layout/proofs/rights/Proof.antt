@@ -18,5 +18,5 @@ returns c =
     let read = c.before in
     ap payload (c.word.ensures ∙ ap (λ (at : ℕ). get_or read.before.before.args.table.now at 0) read.rights-at.ensures)
 
-pub rights-spec : {M : Type 1} → statement M
-rights-spec = tie.close (tie.spec rights-at-requires word-requires returns)
+pub rights_spec : {M : Type 1} → statement M
+rights_spec = tie.close (tie.spec rights-at-requires word-requires returns)

@@ -21,5 +21,5 @@ add-result-2 c = omega (arith, small c)
 returns : tie.Need-returns
 returns c = search rules
 
-pub rights-at-spec : {M : Type 1} → statement M
-rights-at-spec = tie.close (tie.spec mul-result add-result add-result-2 returns)
+pub rights_at_spec : {M : Type 1} → statement M
+rights_at_spec = tie.close (tie.spec mul-result add-result add-result-2 returns)

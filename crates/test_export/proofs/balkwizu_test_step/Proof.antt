@@ -31,5 +31,5 @@ returns c =
     c.before.before.before.before.before.before.before.before.before.before.given.ensures
     called.ensures
 
-pub balkwizu-test-step-spec : {M : Type 1} → statement M
-balkwizu-test-step-spec = tie.close (tie.spec given-requires answer-call-requires same_length same-length-2 same-length-3 returns)
+pub balkwizu_test_step_spec : {M : Type 1} → statement M
+balkwizu_test_step_spec = tie.close (tie.spec given-requires answer-call-requires same_length same-length-2 same-length-3 returns)

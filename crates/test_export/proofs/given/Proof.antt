@@ -12,5 +12,5 @@ returns-2 : tie.Need-returns-2
 unfolding second_given
 returns-2 c = simp (ne_eqb _ 0 c.if1.false)
 
-pub given-spec : {M : Type 1} → statement M
-given-spec = tie.close (tie.spec returns returns-2)
+pub given_spec : {M : Type 1} → statement M
+given_spec = tie.close (tie.spec returns returns-2)

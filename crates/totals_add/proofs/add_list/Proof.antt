@@ -66,8 +66,8 @@ returns-2 c =
       lost_added = added-ran r before-is _ _ _ z (lost-is r before-is) c.add-counts.ensures.lost_added;
     }
 
-pub add-list-spec : {M : Type 1} → statement M
-add-list-spec =
+pub add_list_spec : {M : Type 1} → statement M
+add_list_spec =
     tie.close
     (tie.spec
     waiting-counts-requires

@@ -39,8 +39,8 @@ returns-3 c =
     let show = c.before.before.before.before.before.before.before.before in
     begin-done _ _ _ (size c.before.before.before.before.before.before.before.before.before.before) _ _ _ (ap entered_code c.before.before.before.before.enum_told.given.1) c.before.before.clear.ensures show.show-holders.ensures
 
-pub begin-spec : {M : Type 1} → statement M
-begin-spec =
+pub begin_spec : {M : Type 1} → statement M
+begin_spec =
     tie.close
     (tie.spec
     (λ c κs. search rules)

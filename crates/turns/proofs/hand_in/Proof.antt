@@ -83,8 +83,8 @@ returns-6 c =
     _
     (add.add.ensures.1 ∙ added-there _ _ _ room)
 
-pub hand-in-spec : {M : Type 1} → statement M
-hand-in-spec =
+pub hand_in_spec : {M : Type 1} → statement M
+hand_in_spec =
     tie.close
     (tie.spec
     (λ c κs. search rules)

@@ -11,8 +11,8 @@ returns c = short-first _ _ c.if1.true
 returns-2 : tie.Need-returns-2
 returns-2 c = first-word _ _ (omega (arith, c.before.if1.false))
 
-pub first-of-oldest-spec : {M : Type 1} → statement M
-first-of-oldest-spec =
+pub first_of_oldest_spec : {M : Type 1} → statement M
+first_of_oldest_spec =
     tie.close
     (tie.spec
     (λ c. search rules)

@@ -51,8 +51,8 @@ returns-3 c =
     let there = sym (done call) ∙ not-false _ c.if2.false in
     (sym there, ap (λ (xs : List ℕ). set xs 0 (d call + 1)) (left call) ∙ removed-is (ws call) (d call) (few call) there)
 
-pub remove-spec : {M : Type 1} → statement M
-remove-spec =
+pub remove_spec : {M : Type 1} → statement M
+remove_spec =
     tie.close
     (tie.spec
     (λ c. search rules)

@@ -21,8 +21,8 @@ returns-2 c =
     let whole : at + 17 - at ≡ 17 = omega arith in
     c.second-of-oldest.ensures ∙ ap (λ (k : ℕ). second_of_oldest (take k (drop at a.state.now))) whole
 
-pub second-of-oldest-spec : {M : Type 1} → statement M
-second-of-oldest-spec =
+pub second_of_oldest_spec : {M : Type 1} → statement M
+second_of_oldest_spec =
     tie.close
     (tie.spec
     (λ c. search rules)

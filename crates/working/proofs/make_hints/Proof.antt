@@ -44,8 +44,8 @@ loop-again c = omega arith
 returns : tie.Need-returns invariant-loop decreases-loop
 returns c = search rules
 
-pub make-hints-spec : {M : Type 1} → statement M
-make-hints-spec =
+pub make_hints_spec : {M : Type 1} → statement M
+make_hints_spec =
     tie.close
     (tie.spec
     invariant-loop

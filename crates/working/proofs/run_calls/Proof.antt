@@ -39,8 +39,8 @@ same-length-3 c = c.before.before.before.before.before.before.before.run-on-ring
 returns : tie.Need-returns
 returns c = c.before.before.before.before.before.before.before.run-on-rings.ensures
 
-pub run-calls-spec : {M : Type 1} → statement M
-run-calls-spec =
+pub run_calls_spec : {M : Type 1} → statement M
+run_calls_spec =
     tie.close
     (tie.spec
     endpoints-requires

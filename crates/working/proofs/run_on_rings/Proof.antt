@@ -86,8 +86,8 @@ returns c =
     c.before.before.before.before.before.before.before.store.ensures
     c.before.before.store-rings.ensures
 
-pub run-on-rings-spec : {M : Type 1} → statement M
-run-on-rings-spec =
+pub run_on_rings_spec : {M : Type 1} → statement M
+run_on_rings_spec =
     tie.close
     (tie.spec
     domains-requires

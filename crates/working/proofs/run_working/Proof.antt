@@ -40,8 +40,8 @@ returns-2 c =
     let reported = call.before.before.before.before in
     promise-all-run _ _ _ _ _ reported.before.before.enter.ensures reported.enum_told.given.1 _ _ _ _ call.run-calls.ensures
 
-pub run-working-spec : {M : Type 1} → statement M
-run-working-spec =
+pub run_working_spec : {M : Type 1} → statement M
+run_working_spec =
     tie.close
     (tie.spec
     enter-requires

@@ -42,8 +42,8 @@ returns-2 c =
     test.has-name.ensures
     c.before.if1.false
 
-pub find-by-spec : {M : Type 1} → statement M
-find-by-spec =
+pub find_by_spec : {M : Type 1} → statement M
+find_by_spec =
     tie.close
     (tie.spec
     hint-place-requires

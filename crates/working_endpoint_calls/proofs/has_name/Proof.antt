@@ -19,5 +19,5 @@ returns c = simp (lt-ltb _ _ c.before.if1.true)
 returns-2 : tie.Need-returns-2
 returns-2 c = simp (le-ltb _ _ c.if1.false)
 
-pub has-name-spec : {M : Type 1} → statement M
-has-name-spec = tie.close (tie.spec cast-at mul-result element-copy-out-result returns returns-2)
+pub has_name_spec : {M : Type 1} → statement M
+has_name_spec = tie.close (tie.spec cast-at mul-result element-copy-out-result returns returns-2)

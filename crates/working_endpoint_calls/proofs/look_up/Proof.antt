@@ -65,8 +65,8 @@ returns-3 c =
     refused-answer _ _ _ _ _ _ _
     (ap (λ (f : Found). look_up_places (found_of f)) (sym c.before.enum-told2.given.1) ∙ reached c.before.before.before) c.refusal2.ensures
 
-pub look-up-spec : {M : Type 1} → statement M
-look-up-spec =
+pub look_up_spec : {M : Type 1} → statement M
+look_up_spec =
     tie.close
     (tie.spec
     of-caller-requires

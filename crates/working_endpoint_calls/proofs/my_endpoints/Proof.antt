@@ -40,8 +40,8 @@ returns-2 : tie.Need-returns-2
 unfolding call_numbers access_by
 returns-2 c = listed _ _ _ _ _ _ _ (within _ c.before.before.enum_told.given.1 (c.before.before.before.before.of-caller.ensures _)) c.done.ensures
 
-pub my-endpoints-spec : {M : Type 1} → statement M
-my-endpoints-spec =
+pub my_endpoints_spec : {M : Type 1} → statement M
+my_endpoints_spec =
     tie.close
     (tie.spec
     of-caller-requires

@@ -77,8 +77,8 @@ returns-3 c =
     (ap (λ (r : List ℕ). receive_access a.caller (ring_owner r) (count r) a.e) (lent a.rings.now a.e) ∙ within _ reported.enum_told.given.1 (reported.before.before.of-endpoint.ensures _))
     lend.receive-on.ensures
 
-pub receive-spec : {M : Type 1} → statement M
-receive-spec =
+pub receive_spec : {M : Type 1} → statement M
+receive_spec =
     tie.close
     (tie.spec
     of-endpoint-requires

@@ -62,8 +62,8 @@ returns-2 c =
     let past = s.before.before.before.before.requires in
     queue-received _ _ _ _ _ _ _ _ (sym (passed x _ 19 _ reported (passed x _ 18 _ reported s.receive.ensures)) ∙ reached s) c.done.ensures (nothing-shown _ _ _ past) (nothing-shown _ _ _ past) (not-put _ _ _ past)
 
-pub receive-beyond-spec : {M : Type 1} → statement M
-receive-beyond-spec =
+pub receive_beyond_spec : {M : Type 1} → statement M
+receive_beyond_spec =
     tie.close
     (tie.spec
     mul-start

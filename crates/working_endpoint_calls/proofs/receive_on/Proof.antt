@@ -55,8 +55,8 @@ returns-2 c =
     let got = take.receive2.ensures in
     ring-received _ _ _ _ _ _ _ _ (sym (passed x _ 19 _ reported (passed x _ 18 _ reported s.receive.ensures)) ∙ reached s) c.done.ensures got.message got.lost got.left
 
-pub receive-on-spec : {M : Type 1} → statement M
-receive-on-spec =
+pub receive_on_spec : {M : Type 1} → statement M
+receive_on_spec =
     tie.close
     (tie.spec
     slice-read-count

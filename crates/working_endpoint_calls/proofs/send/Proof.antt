@@ -78,8 +78,8 @@ returns-3 c =
     (ap (λ (r : List ℕ). send_access (held_in a.rows.now a.caller (ring_owner r)) a.e a.message) (lent a.rings.now a.e) ∙ within _ reported.enum_told.given.1 (reported.before.before.of-endpoint.ensures _))
     lend.send-on.ensures
 
-pub send-spec : {M : Type 1} → statement M
-send-spec =
+pub send_spec : {M : Type 1} → statement M
+send_spec =
     tie.close
     (tie.spec
     of-endpoint-requires

@@ -57,8 +57,8 @@ returns-2 c =
     let s = c.before.before in
     queue-sent _ _ _ _ _ _ _ (sym (passed s.send.result _ 17 _ c.before.match.keys2 s.send.ensures) ∙ reached s) c.done.ensures (not-put _ _ _ s.before.before.before.before.requires)
 
-pub send-beyond-spec : {M : Type 1} → statement M
-send-beyond-spec =
+pub send_beyond_spec : {M : Type 1} → statement M
+send_beyond_spec =
     tie.close
     (tie.spec
     mul-word

@@ -56,8 +56,8 @@ returns-2 c =
     let s = put.before.before.before in
     ring-sent _ _ _ _ _ _ _ (sym (passed s.send.result _ 17 _ put.before.before.match.keys2 s.send.ensures) ∙ reached s) c.done.ensures put.send2.ensures
 
-pub send-on-spec : {M : Type 1} → statement M
-send-on-spec =
+pub send_on_spec : {M : Type 1} → statement M
+send_on_spec =
     tie.close
     (tie.spec
     slice-read-info

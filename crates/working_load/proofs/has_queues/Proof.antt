@@ -16,5 +16,5 @@ mul-result c = search rules
 returns-2 : tie.Need-returns-2
 returns-2 c = few-enough _ _ _ _ _ c.before.if1.false c.endpoint-at.ensures
 
-pub has-queues-spec : {M : Type 1} → statement M
-has-queues-spec = tie.close (tie.spec returns endpoint-at-requires mul-result returns-2)
+pub has_queues_spec : {M : Type 1} → statement M
+has_queues_spec = tie.close (tie.spec returns endpoint-at-requires mul-result returns-2)

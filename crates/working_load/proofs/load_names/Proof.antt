@@ -58,8 +58,8 @@ returns c =
     let at = c.before in
     names-filled _ _ _ _ _ at.loop.invariant.0 (omega (arith, at.loop.invariant.1, c.loop-test.false, c.before.before.at_most.ensures))
 
-pub load-names-spec : {M : Type 1} → statement M
-load-names-spec =
+pub load_names_spec : {M : Type 1} → statement M
+load_names_spec =
     tie.close
     (tie.spec
     invariant-loop

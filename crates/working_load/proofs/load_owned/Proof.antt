@@ -73,8 +73,8 @@ returns c =
     let at = c.before in
     gather-end _ _ _ _ _ at.loop.invariant.0 (omega (arith, at.loop.invariant.1, c.loop-test.false, c.before.before.at_most.ensures))
 
-pub load-owned-spec : {M : Type 1} → statement M
-load-owned-spec =
+pub load_owned_spec : {M : Type 1} → statement M
+load_owned_spec =
     tie.close
     (tie.spec
     invariant-loop

@@ -105,8 +105,8 @@ returns-2 c =
     let inv = c.before.loop.invariant in
     taken-all _ _ c.before.before.before.before.before.before.args.table.now c.before.before.before.before.before.before.args.rings.now _ (sym c.before.before.before.has-queues.ensures ∙ not-false _ c.before.before.if1.false) (taking-end _ _ _ _ _ inv.0 (omega arith))
 
-pub load-rings-spec : {M : Type 1} → statement M
-load-rings-spec =
+pub load_rings_spec : {M : Type 1} → statement M
+load_rings_spec =
     tie.close
     (tie.spec
     invariant-loop

@@ -96,8 +96,8 @@ returns-2 c =
     let inv = c.before.loop.invariant in
     out-all _ _ c.before.before.before.before.before.before.args.rings.now c.before.before.before.before.before.before.args.table.now _ (sym c.before.before.before.has-queues.ensures ∙ not-false _ c.before.before.if1.false) (out-end _ _ _ _ _ _ inv.0 (omega arith))
 
-pub store-rings-spec : {M : Type 1} → statement M
-store-rings-spec =
+pub store_rings_spec : {M : Type 1} → statement M
+store_rings_spec =
     tie.close
     (tie.spec
     invariant-loop

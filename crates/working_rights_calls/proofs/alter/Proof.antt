@@ -18,5 +18,5 @@ returns : tie.Need-returns
 unfolding rows_after holders_after
 returns c = (c.before.before.before.before.put.ensures, c.before.before.note.ensures)
 
-pub alter-spec : {M : Type 1} → statement M
-alter-spec = tie.close (tie.spec put-requires note-requires same_length returns)
+pub alter_spec : {M : Type 1} → statement M
+alter_spec = tie.close (tie.spec put-requires note-requires same_length returns)

@@ -77,8 +77,8 @@ returns c =
     let none : at.loop.i ≡ 0 = omega (arith, c.loop-test.false) in
     all-kept 16 (on_target a.rows.now a.holder a.from) _ _ (rw none at at.loop.invariant.1)
 
-pub bits-spec : {M : Type 1} → statement M
-bits-spec =
+pub bits_spec : {M : Type 1} → statement M
+bits_spec =
     tie.close
     (tie.spec
     invariant-loop

@@ -90,8 +90,8 @@ returns-3 c =
     (sym (passed x _ 23 _ done (passed x _ 22 _ done s.grant.ensures)) ∙ reached s)
     (made.adds.ensures ∙ ap (λ (k : ℕ). adds k given) had.held3.ensures)
 
-pub grant-spec : {M : Type 1} → statement M
-grant-spec =
+pub grant_spec : {M : Type 1} → statement M
+grant_spec =
     tie.close
     (tie.spec
     of-grant-requires

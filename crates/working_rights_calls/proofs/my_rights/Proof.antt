@@ -37,8 +37,8 @@ returns-2 : tie.Need-returns-2
 unfolding call_numbers access_by
 returns-2 c = listed _ _ _ _ _ _ _ _ _ (within _ c.before.before.before.enum_told.given.1 (c.before.before.before.before.before.of-caller.ensures _)) c.done.ensures c.before.before.bits.ensures c.before.bits2.ensures
 
-pub my-rights-spec : {M : Type 1} → statement M
-my-rights-spec =
+pub my_rights_spec : {M : Type 1} → statement M
+my_rights_spec =
     tie.close
     (tie.spec
     of-caller-requires

@@ -83,8 +83,8 @@ returns-3 c =
     (sym (passed x _ 22 _ done s.remove.ensures) ∙ reached s)
     (made.without.ensures ∙ ap (λ (k : ℕ). without k given) s.before.held.ensures)
 
-pub remove-spec : {M : Type 1} → statement M
-remove-spec =
+pub remove_spec : {M : Type 1} → statement M
+remove_spec =
     tie.close
     (tie.spec
     of-remove-requires

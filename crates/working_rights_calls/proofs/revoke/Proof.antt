@@ -90,8 +90,8 @@ returns-3 c =
     (sym (passed x _ 23 _ done (passed x _ 22 _ done s.revoke.ensures)) ∙ reached s)
     (made.without.ensures ∙ ap (λ (k : ℕ). without k given) had.held3.ensures)
 
-pub revoke-spec : {M : Type 1} → statement M
-revoke-spec =
+pub revoke_spec : {M : Type 1} → statement M
+revoke_spec =
     tie.close
     (tie.spec
     of-grant-requires

@@ -78,8 +78,8 @@ loop-again c = next c
 returns-2 : tie.Need-returns-2 invariant-loop decreases-loop
 returns-2 c = measured-all c.before.loop.invariant (rw (length-take-le _ _ (enough c.before.before)) c.loop-test.false)
 
-pub measure-spec : {M : Type 1} → statement M
-measure-spec =
+pub measure_spec : {M : Type 1} → statement M
+measure_spec =
     tie.close
     (tie.spec
     invariant-loop

@@ -8,5 +8,5 @@ returns : tie.Need-returns
 unfolding too_long
 returns c = refl
 
-pub too-long-spec : {M : Type 1} → statement M
-too-long-spec = tie.close (tie.spec returns)
+pub too_long_spec : {M : Type 1} → statement M
+too_long_spec = tie.close (tie.spec returns)

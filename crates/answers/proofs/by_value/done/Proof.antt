@@ -12,5 +12,5 @@ returns : tie.Need-returns
 unfolding head_of
 returns c = same_head c.head.ensures
 
-pub done-spec : {M : Type 1} → statement M
-done-spec = tie.close (tie.spec head-requires returns)
+pub done_spec : {M : Type 1} → statement M
+done_spec = tie.close (tie.spec head-requires returns)

@@ -19,5 +19,5 @@ returns c =
     let a = c.before.before.args in
     c.refused.ensures ∙ same_head (ap (λ (h : ℕ). h + number_of a.refusal) c.before.head.ensures ∙ head-code a.first (number_of a.refusal))
 
-pub refusal-spec : {M : Type 1} → statement M
-refusal-spec = tie.close (tie.spec head-requires refused-requires returns)
+pub refusal_spec : {M : Type 1} → statement M
+refusal_spec = tie.close (tie.spec head-requires refused-requires returns)

@@ -41,8 +41,8 @@ returns-2 c =
     (ap (λ (d : _). answer_word (one c.before.before.before.before.args.first) (code d))
     (within _ c.before.enum_told.given.1 (c.before.before.before.of-refused.ensures _)))
 
-pub refuse-spec : {M : Type 1} → statement M
-refuse-spec =
+pub refuse_spec : {M : Type 1} → statement M
+refuse_spec =
     tie.close
     (tie.spec
     of-refused-requires

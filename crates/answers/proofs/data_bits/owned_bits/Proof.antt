@@ -100,8 +100,8 @@ returns c =
     let none : c.before.loop.e ≡ 0 = omega arith in
     all-kept 2 (owns_at a.table.now a.caller) _ _ (rw none at c.before.loop.invariant.1)
 
-pub owned-bits-spec : {M : Type 1} → statement M
-owned-bits-spec =
+pub owned_bits_spec : {M : Type 1} → statement M
+owned_bits_spec =
     tie.close
     (tie.spec
     invariant-loop

@@ -97,8 +97,8 @@ returns c =
     let none : c.before.loop.target - a.low ≡ 0 = omega arith in
     all-kept 16 (rights_on a.table.now a.caller a.low) _ _ (rw none at c.before.loop.invariant.2)
 
-pub rights-bits-spec : {M : Type 1} → statement M
-rights-bits-spec =
+pub rights_bits_spec : {M : Type 1} → statement M
+rights_bits_spec =
     tie.close
     (tie.spec
     invariant-loop

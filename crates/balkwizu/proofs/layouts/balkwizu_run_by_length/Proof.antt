@@ -39,8 +39,8 @@ returns : tie.Need-returns
 returns c =
     run-halves _ _ _ _ _ _ _ _ _ c.before.before.before.before.before.before.before.before.run-by-length.ensures _ _ c.before.code.ensures c.calls.ensures
 
-pub balkwizu-run-by-length-spec : {M : Type 1} → statement M
-balkwizu-run-by-length-spec =
+pub balkwizu_run_by_length_spec : {M : Type 1} → statement M
+balkwizu_run_by_length_spec =
     tie.close
     (tie.spec
     run-by-length-requires

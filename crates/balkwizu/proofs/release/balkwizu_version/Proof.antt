@@ -9,6 +9,6 @@ returns : tie.Need-returns
 unfolding version major minor patch
 returns c = refl
 
-pub balkwizu-version-spec : {M : Type 1} → statement M
-balkwizu-version-spec =
+pub balkwizu_version_spec : {M : Type 1} → statement M
+balkwizu_version_spec =
     tie.close (tie.spec (λ c. search rules) (λ c. search rules) (λ c. search rules) (λ c. search rules) returns)

@@ -11,5 +11,5 @@ returns : tie.Need-returns
 unfolding of_kind unused_fields needs_second
 returns c second = fine _ _ grant _ refl refl
 
-pub grant-spec : {M : Type 1} → statement M
-grant-spec = tie.close (tie.spec returns)
+pub grant_spec : {M : Type 1} → statement M
+grant_spec = tie.close (tie.spec returns)

@@ -29,5 +29,5 @@ unfolding of_kind unused_fields needs_second
 returns-3 c =
     rw c.enum_told.given.1 (no_second _ look_up _ ((no_field _).0 c.before.before.if1.false) refl)
 
-pub look-up-spec : {M : Type 1} → statement M
-look-up-spec = tie.close (tie.spec returns enum-known-second enum_told returns-2 returns-3)
+pub look_up_spec : {M : Type 1} → statement M
+look_up_spec = tie.close (tie.spec returns enum-known-second enum_told returns-2 returns-3)

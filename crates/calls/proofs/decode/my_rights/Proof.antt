@@ -15,5 +15,5 @@ returns-2 : tie.Need-returns-2
 unfolding of_kind unused_fields needs_second
 returns-2 c second = fine _ _ my_rights _ ((no_field _).0 c.if1.false) refl
 
-pub my-rights-spec : {M : Type 1} → statement M
-my-rights-spec = tie.close (tie.spec returns returns-2)
+pub my_rights_spec : {M : Type 1} → statement M
+my_rights_spec = tie.close (tie.spec returns returns-2)

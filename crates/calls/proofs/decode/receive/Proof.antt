@@ -20,5 +20,5 @@ returns-2 : tie.Need-returns-2
 unfolding of_kind unused_fields needs_second
 returns-2 c second = fine _ _ receive _ (omega arith) refl
 
-pub receive-spec : {M : Type 1} → statement M
-receive-spec = tie.close (tie.spec add-if1 returns returns-2)
+pub receive_spec : {M : Type 1} → statement M
+receive_spec = tie.close (tie.spec add-if1 returns returns-2)

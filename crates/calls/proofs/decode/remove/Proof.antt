@@ -16,5 +16,5 @@ returns-2 : tie.Need-returns-2
 unfolding of_kind unused_fields needs_second
 returns-2 c second = fine _ _ remove _ (omega arith) refl
 
-pub remove-spec : {M : Type 1} → statement M
-remove-spec = tie.close (tie.spec returns returns-2)
+pub remove_spec : {M : Type 1} → statement M
+remove_spec = tie.close (tie.spec returns returns-2)

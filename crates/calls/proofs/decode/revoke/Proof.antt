@@ -11,5 +11,5 @@ returns : tie.Need-returns
 unfolding of_kind unused_fields needs_second
 returns c second = fine _ _ revoke _ refl refl
 
-pub revoke-spec : {M : Type 1} → statement M
-revoke-spec = tie.close (tie.spec returns)
+pub revoke_spec : {M : Type 1} → statement M
+revoke_spec = tie.close (tie.spec returns)

@@ -32,5 +32,5 @@ unfolding of_kind unused_fields needs_second
 returns-3 c =
     rw c.enum_told.given.1 (no_second _ send _ (omega arith) refl)
 
-pub send-spec : {M : Type 1} → statement M
-send-spec = tie.close (tie.spec add-if1 returns enum-known-second enum_told returns-2 returns-3)
+pub send_spec : {M : Type 1} → statement M
+send_spec = tie.close (tie.spec add-if1 returns enum-known-second enum_told returns-2 returns-3)

@@ -15,5 +15,5 @@ returns c = sym (ap (λ (b : Bool). cond b 0 1) (sym c.before.make-one-call.ensu
 returns-2 : tie.Need-returns-2
 returns-2 c = sym (ap (λ (b : Bool). cond b 0 1) (sym c.before.make-one-call.ensures ∙ c.if1.false))
 
-pub begun-spec : {M : Type 1} → statement M
-begun-spec = tie.close (tie.spec make-one-call-requires returns returns-2)
+pub begun_spec : {M : Type 1} → statement M
+begun_spec = tie.close (tie.spec make-one-call-requires returns returns-2)

@@ -20,5 +20,5 @@ returns-2 : tie.Need-returns-2
 unfolding pairs
 returns-2 c = simp (ne_eqb _ _ c.if1.false) (sym (and-false (wants_second (kind c.before.args.first))))
 
-pub make-one-call-spec : {M : Type 1} → statement M
-make-one-call-spec = tie.close (tie.spec wants-second-requires returns returns-2)
+pub make_one_call_spec : {M : Type 1} → statement M
+make_one_call_spec = tie.close (tie.spec wants-second-requires returns returns-2)

@@ -59,8 +59,8 @@ returns-4 c =
     let l : start.args.i + 1 < length start.args.list.now = omega arith in
     simp (lt-ltb _ _ l, sym c.before.make-one-call.ensures ∙ c.if3.false)
 
-pub second-at-spec : {M : Type 1} → statement M
-second-at-spec =
+pub second_at_spec : {M : Type 1} → statement M
+second_at_spec =
     tie.close
     (tie.spec
     returns

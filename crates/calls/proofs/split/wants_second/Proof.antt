@@ -13,5 +13,5 @@ returns-2 : tie.Need-returns-2
 unfolding wants_second
 returns-2 c = simp (ne_eqb _ _ c.if1.false)
 
-pub wants-second-spec : {M : Type 1} → statement M
-wants-second-spec = tie.close (tie.spec returns returns-2)
+pub wants_second_spec : {M : Type 1} → statement M
+wants_second_spec = tie.close (tie.spec returns returns-2)

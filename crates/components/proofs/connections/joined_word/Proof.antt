@@ -53,8 +53,8 @@ loop-again c =
 returns : tie.Need-returns invariant-loop decreases-loop
 returns c = gather-end _ _ _ _ c.before.loop.invariant c.loop-test.false
 
-pub joined-word-spec : {M : Type 1} → statement M
-joined-word-spec =
+pub joined_word_spec : {M : Type 1} → statement M
+joined_word_spec =
     tie.close
     (tie.spec
     invariant-loop

@@ -45,8 +45,8 @@ returns : tie.Need-returns invariant-loop decreases-loop
 unfolding link_words
 returns c = fill_end _ _ _ _ c.before.loop.invariant c.loop-test.false
 
-pub joined-words-spec : {M : Type 1} → statement M
-joined-words-spec =
+pub joined_words_spec : {M : Type 1} → statement M
+joined_words_spec =
     tie.close
     (tie.spec
     invariant-loop

@@ -22,7 +22,7 @@ returns c =
     rw (c.before.has-any.ensures, c.has-any2.ensures)
     (joined-read start.args.table.now _ _ _ _ _ start.requires c.before.before.before.rights.ensures c.before.before.rights2.ensures)
 
-pub joins-spec : {M : Type 1} → statement M
-joins-spec =
+pub joins_spec : {M : Type 1} → statement M
+joins_spec =
     tie.close
     (tie.spec rights-requires rights-requires-2 has-any-requires has-any-requires-2 returns)

@@ -32,8 +32,8 @@ returns c =
     let alone = bit_is (omega (arith, start.requires)) c.before.before.before.bit.ensures in
     c.closure.ensures ∙ component-read start.args.table.now _ _ _ _ start.requires.0 words.ensures alone
 
-pub members-spec : {M : Type 1} → statement M
-members-spec =
+pub members_spec : {M : Type 1} → statement M
+members_spec =
     tie.close
     (tie.spec
     joined-words-requires

@@ -18,5 +18,5 @@ bits-within-requires c κs = search rules
 returns-3 : tie.Need-returns-3
 returns-3 c = c.bits-within.ensures ∙ by_bits _ _ c.before.before.if1.false c.before.if2.false
 
-pub askable-spec : {M : Type 1} → statement M
-askable-spec = tie.close (tie.spec returns returns-2 bits-within-requires returns-3)
+pub askable_spec : {M : Type 1} → statement M
+askable_spec = tie.close (tie.spec returns returns-2 bits-within-requires returns-3)

@@ -53,8 +53,8 @@ loop-again c =
 returns-2 : tie.Need-returns-2 invariant-loop decreases-loop
 returns-2 c = within_all _ _ c.before.loop.invariant c.loop-test.false
 
-pub bits-within-spec : {M : Type 1} → statement M
-bits-within-spec =
+pub bits_within_spec : {M : Type 1} → statement M
+bits_within_spec =
     tie.close
     (tie.spec
     invariant-loop

@@ -18,5 +18,5 @@ sub-result c = and_le_l _ _
 returns-2 : tie.Need-returns-2
 returns-2 c = made-cleared _ _ _ _ (bit_is c.before.before.requires c.before.bit.ensures) c.if1.false
 
-pub with-bit-spec : {M : Type 1} → statement M
-with-bit-spec = tie.close (tie.spec bit-requires returns sub-result returns-2)
+pub with_bit_spec : {M : Type 1} → statement M
+with_bit_spec = tie.close (tie.spec bit-requires returns sub-result returns-2)

@@ -83,8 +83,8 @@ returns c =
     let start = c.before.before.before.before.before in
     written-end _ _ _ _ c.before.loop.invariant _ start.requires.0.words c.loop-test.false
 
-pub add-row-spec : {M : Type 1} → statement M
-add-row-spec =
+pub add_row_spec : {M : Type 1} → statement M
+add_row_spec =
     tie.close
     (tie.spec
     invariant-loop

@@ -49,8 +49,8 @@ returns c =
     let start = c.before.before.before.before.before.before.before.before in
     gathered-end _ _ _ _ c.before.loop.invariant start.requires.1 c.loop-test.false
 
-pub fill-rows-spec : {M : Type 1} → statement M
-fill-rows-spec =
+pub fill_rows_spec : {M : Type 1} → statement M
+fill_rows_spec =
     tie.close
     (tie.spec
     invariant-loop

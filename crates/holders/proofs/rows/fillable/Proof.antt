@@ -17,5 +17,5 @@ returns-2 : tie.Need-returns-2
 unfolding room_for
 returns-2 c = rw (le-leb _ 16 c.if1.false)
 
-pub fillable-spec : {M : Type 1} → statement M
-fillable-spec = tie.close (tie.spec returns mul-result returns-2)
+pub fillable_spec : {M : Type 1} → statement M
+fillable_spec = tie.close (tie.spec returns mul-result returns-2)

@@ -32,8 +32,8 @@ returns c =
     let alone = bit_is (omega (arith, start.requires)) c.before.before.before.bit.ensures in
     c.closure.ensures ∙ chained-read start.args.rights.now _ _ _ _ _ words.ensures alone
 
-pub chained-spec : {M : Type 1} → statement M
-chained-spec =
+pub chained_spec : {M : Type 1} → statement M
+chained_spec =
     tie.close
     (tie.spec
     reach-words-requires

@@ -56,8 +56,8 @@ loop-again c =
 returns : tie.Need-returns invariant-loop decreases-loop
 returns c = gather-end _ _ _ _ c.before.loop.invariant c.loop-test.false
 
-pub reach-word-spec : {M : Type 1} → statement M
-reach-word-spec =
+pub reach_word_spec : {M : Type 1} → statement M
+reach_word_spec =
     tie.close
     (tie.spec
     invariant-loop

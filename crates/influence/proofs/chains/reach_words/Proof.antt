@@ -45,8 +45,8 @@ returns : tie.Need-returns invariant-loop decreases-loop
 unfolding link_words
 returns c = fill_end _ _ _ _ c.before.loop.invariant c.loop-test.false
 
-pub reach-words-spec : {M : Type 1} → statement M
-reach-words-spec =
+pub reach_words_spec : {M : Type 1} → statement M
+reach_words_spec =
     tie.close
     (tie.spec
     invariant-loop

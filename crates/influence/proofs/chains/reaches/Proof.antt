@@ -24,7 +24,7 @@ returns c =
     reaches-read start.args.rights.now _ _ _ _ _ _ _ c.before.before.Cell-at.ensures c.before.word.ensures
     (bit_is start.requires c.bit.ensures)
 
-pub reaches-spec : {M : Type 1} → statement M
-reaches-spec =
+pub reaches_spec : {M : Type 1} → statement M
+reaches_spec =
     tie.close
     (tie.spec cell-at-requires word-requires bit-requires div-acts returns)

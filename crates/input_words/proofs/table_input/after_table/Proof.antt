@@ -19,6 +19,6 @@ part-result-end c = search rules
 returns : tie.Need-returns
 returns c = rest_part c.before.before.before.args.bytes.now c.before.table-end.result c.before.table-end.ensures
 
-pub after-table-spec : {M : Type 1} → statement M
-after-table-spec =
+pub after_table_spec : {M : Type 1} → statement M
+after_table_spec =
     tie.close (tie.spec table-end-requires sub-result part-result-start part-result-end returns)

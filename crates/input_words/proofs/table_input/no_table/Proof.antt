@@ -29,7 +29,7 @@ returns-3 : tie.Need-returns-3
 unfolding no_table
 returns-3 c = simp (← c.before.word_at.ensures, le-ltb _ _ c.before.before.if1.false, le-ltb _ _ c.if2.false)
 
-pub no-table-spec : {M : Type 1} → statement M
-no-table-spec =
+pub no_table_spec : {M : Type 1} → statement M
+no_table_spec =
     tie.close
     (tie.spec returns word-at-requires cast-length returns-2 mul-result add-result returns-3)

@@ -31,8 +31,8 @@ returns-2 c =
     rw (table-part c.before.before.before.before.before.before.before.before.before.args.bytes.now end.result end.ensures)
     at c.before.before.fill.ensures
 
-pub read-table-spec : {M : Type 1} → statement M
-read-table-spec =
+pub read_table_spec : {M : Type 1} → statement M
+read_table_spec =
     tie.close
     (tie.spec
     returns

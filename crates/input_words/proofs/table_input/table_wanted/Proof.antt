@@ -43,8 +43,8 @@ returns-4 c =
     simp (← c.before.before.word_at.ensures, le-ltb _ _ c.before.before.before.if1.false, le-ltb _ _ c.before.if2.false)
     (omega arith)
 
-pub table-wanted-spec : {M : Type 1} → statement M
-table-wanted-spec =
+pub table_wanted_spec : {M : Type 1} → statement M
+table_wanted_spec =
     tie.close
     (tie.spec
     sub-result

@@ -39,8 +39,8 @@ returns-2 c p =
     let start = numbers.before.before in
     settled-endpoints _ _ _ _ _ _ _ (within _ tested.enum_told.given.1 (decided _ _ _ _ _ start.requires.1 refl numbers.of-caller.ensures)) c.endpoints-listed.ensures (endpoints-shown _ start.requires.0 _)
 
-pub my-endpoints-spec : {M : Type 1} → statement M
-my-endpoints-spec =
+pub my_endpoints_spec : {M : Type 1} → statement M
+my_endpoints_spec =
     tie.close
     (tie.spec
     of-caller-requires

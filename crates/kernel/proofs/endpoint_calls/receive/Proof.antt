@@ -178,8 +178,8 @@ returns-3 c p =
     (omega (arith, lost-kind at) ∙ ap payload (read at 3 (omega arith)))
     (received-back _ _ start.requires.1.0 _ _ at.endpoint-at.ensures _ fits take.receive2.ensures.1)
 
-pub receive-spec : {M : Type 1} → statement M
-receive-spec =
+pub receive_spec : {M : Type 1} → statement M
+receive_spec =
     tie.close
     (tie.spec
     of-endpoint-requires

@@ -143,8 +143,8 @@ returns-3 c p =
     (sent_back _ _ start.requires.1.0 _ _ at.endpoint-at.ensures _ _
     (may-send-to _ start.requires.0 _ _ (omega (arith, (ranged at).1, start.requires.1.1.0)) start.requires.1.1.1) put.send2.ensures.1)
 
-pub send-spec : {M : Type 1} → statement M
-send-spec =
+pub send_spec : {M : Type 1} → statement M
+send_spec =
     tie.close
     (tie.spec
     of-endpoint-requires

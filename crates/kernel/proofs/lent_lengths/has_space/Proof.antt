@@ -32,5 +32,5 @@ returns-2 c =
     let a = c.before.before.before.args in
     at_most (3 * c.count.result) a.size ∙ ap (λ (k : ℕ). not (ltb a.size (3 * k))) c.count.ensures
 
-pub has-space-spec : {M : Type 1} → statement M
-has-space-spec = tie.close (tie.spec mul-if1 returns count-requires mul-result returns-2)
+pub has_space_spec : {M : Type 1} → statement M
+has_space_spec = tie.close (tie.spec mul-if1 returns count-requires mul-result returns-2)

@@ -15,5 +15,5 @@ cast-result c = search rules
 returns : tie.Need-returns
 returns c = ap (λ (n : ℕ). eqb c.before.before.args.lent n) c.domains.ensures
 
-pub one-a-domain-spec : {M : Type 1} → statement M
-one-a-domain-spec = tie.close (tie.spec domains-requires cast-result returns)
+pub one_a_domain_spec : {M : Type 1} → statement M
+one_a_domain_spec = tie.close (tie.spec domains-requires cast-result returns)

@@ -10,5 +10,5 @@ cast-result : tie.Need-overflow-cast-result
 unfolding domains
 cast-result c = omega (arith, c.domains.ensures)
 
-pub domain-count-spec : {M : Type 1} → statement M
-domain-count-spec = tie.close (tie.spec (λ c κs. search rules) cast-result (λ c. search rules))
+pub domain_count_spec : {M : Type 1} → statement M
+domain_count_spec = tie.close (tie.spec (λ c κs. search rules) cast-result (λ c. search rules))

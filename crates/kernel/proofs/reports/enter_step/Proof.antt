@@ -32,8 +32,8 @@ returns-3 c =
     let a = accepted lent.before in
     sym (step-holders _ _ a ∙ holders-fit _ _ (eqb-true _ _ (sym lent.one-a-domain.ensures ∙ not-false _ c.if1.false)))
 
-pub enter-step-spec : {M : Type 1} → statement M
-enter-step-spec =
+pub enter_step_spec : {M : Type 1} → statement M
+enter_step_spec =
     tie.close
     (tie.spec
     (λ c κs. search rules)

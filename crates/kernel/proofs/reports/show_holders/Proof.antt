@@ -22,8 +22,8 @@ returns-2 c =
     let fit = step-entered _ _ e in
     holders-shown _ _ _ e (filled.fill.ensures ∙ filled-accepted _ _ fit.0 fit.1)
 
-pub show-holders-spec : {M : Type 1} → statement M
-show-holders-spec =
+pub show_holders_spec : {M : Type 1} → statement M
+show_holders_spec =
     tie.close
     (tie.spec
     (λ c κs. search rules)

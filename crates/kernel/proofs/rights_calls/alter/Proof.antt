@@ -41,6 +41,6 @@ returns c =
     let s = at.before.before.before in
     (rights-written _ _ s.requires.1.0 _ _ _ _ at.rights-at.ensures, c.before.before.note.ensures)
 
-pub alter-spec : {M : Type 1} → statement M
-alter-spec =
+pub alter_spec : {M : Type 1} → statement M
+alter_spec =
     tie.close (tie.spec rights-at-requires add-table mul-table slice-write-table note-requires same_length same-length-2 returns)

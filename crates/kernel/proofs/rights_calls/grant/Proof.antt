@@ -125,8 +125,8 @@ returns-3 c =
     granted _ _ _ _ _ c.done.ensures _ _ _ _ _ made.0 made.1 _
     (sym (passed x _ 23 _ reported (passed x _ 22 _ reported s.grant.ensures)) ∙ reached s) (added c.before.before.before.before.before.before.before.before)
 
-pub grant-spec : {M : Type 1} → statement M
-grant-spec =
+pub grant_spec : {M : Type 1} → statement M
+grant_spec =
     tie.close
     (tie.spec
     of-grant-requires

@@ -46,8 +46,8 @@ returns-2 c p =
     in
     settled-rights _ _ _ _ _ _ _ _ (within _ tested.enum_told.given.1 (decided _ _ _ _ _ start.requires.1 refl numbers.of-caller.ensures)) c.rights-listed.ensures (rights-shown _ start.requires.0 _ 0 known) (rights-shown _ start.requires.0 _ 8 known)
 
-pub my-rights-spec : {M : Type 1} → statement M
-my-rights-spec =
+pub my_rights_spec : {M : Type 1} → statement M
+my_rights_spec =
     tie.close
     (tie.spec
     of-caller-requires

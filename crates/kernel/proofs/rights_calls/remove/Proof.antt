@@ -110,8 +110,8 @@ returns-3 c =
     let made = c.before.before.before.before.before.alter.ensures in
     removed _ _ _ _ _ c.done.ensures _ _ _ _ _ made.0 made.1 _ (sym (passed x _ 22 _ reported s.remove.ensures) ∙ reached s) (left_over c.before.before.before.before.before.before.before.before)
 
-pub remove-spec : {M : Type 1} → statement M
-remove-spec =
+pub remove_spec : {M : Type 1} → statement M
+remove_spec =
     tie.close
     (tie.spec
     of-remove-requires

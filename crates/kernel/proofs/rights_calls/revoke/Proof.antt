@@ -125,8 +125,8 @@ returns-3 c =
     revoked _ _ _ _ _ c.done.ensures _ _ _ _ _ made.0 made.1 _
     (sym (passed x _ 23 _ reported (passed x _ 22 _ reported s.revoke.ensures)) ∙ reached s) (left_over c.before.before.before.before.before.before.before.before)
 
-pub revoke-spec : {M : Type 1} → statement M
-revoke-spec =
+pub revoke_spec : {M : Type 1} → statement M
+revoke_spec =
     tie.close
     (tie.spec
     of-grant-requires

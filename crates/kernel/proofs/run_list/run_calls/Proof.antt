@@ -128,8 +128,8 @@ same-length-3 c = c.before.loop.invariant.underway.holders_size ∙ c.before.bef
 returns : tie.Need-returns invariant-loop decreases-loop
 returns c = underway-end c.before.loop.invariant.underway c.loop-test.false
 
-pub run-calls-spec : {M : Type 1} → statement M
-run-calls-spec =
+pub run_calls_spec : {M : Type 1} → statement M
+run_calls_spec =
     tie.close
     (tie.spec
     invariant-loop

@@ -45,8 +45,8 @@ same_length c = omega (arith, c.before.before.loop.invariant.long)
 returns-2 : tie.Need-returns-2 invariant-loop decreases-loop
 returns-2 c = reads-into _ (omega arith) c.before.before.loop.invariant (sym c.before.wanted.ensures ∙ c.if2.false)
 
-pub read-input-spec : {M : Type 1} → statement M
-read-input-spec =
+pub read_input_spec : {M : Type 1} → statement M
+read_input_spec =
     tie.close
     (tie.spec
     invariant-loop

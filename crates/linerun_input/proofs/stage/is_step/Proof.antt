@@ -70,7 +70,7 @@ returns-4 c =
     let wants = asked.before.before.before.if1.false in
     rw c.before.came.ensures (wanted_read _ _ _ wants (sym asked.before.before.asked.ensures ∙ asked.if2.false) within)
 
-pub is-step-spec : {M : Type 1} → statement M
-is-step-spec =
+pub is_step_spec : {M : Type 1} → statement M
+is_step_spec =
     tie.close
     (tie.spec returns asked-requires returns-2 returns-3 came-requires sub-result returns-4)

@@ -35,7 +35,7 @@ returns-2 c =
     c.wanted.ensures ∙ ap (λ (k : ℕ). wanted (take k buffer)) (sub-zero start.args.have) in
     rw (c.before.before.if1.false, asked) refl
 
-pub stage-at-spec : {M : Type 1} → statement M
-stage-at-spec =
+pub stage_at_spec : {M : Type 1} → statement M
+stage_at_spec =
     tie.close
     (tie.spec returns sub-wanted part-wanted-start part-wanted-end wanted-requires returns-2)

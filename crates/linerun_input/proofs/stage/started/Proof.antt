@@ -8,5 +8,5 @@ returns : tie.Need-returns
 unfolding started
 returns c = refl
 
-pub started-spec : {M : Type 1} → statement M
-started-spec = tie.close (tie.spec returns)
+pub started_spec : {M : Type 1} → statement M
+started_spec = tie.close (tie.spec returns)

@@ -57,7 +57,7 @@ returns-2 c =
     let step = sym tested.before.is-step.ensures ∙ not-false _ tested.if1.false in
     rw (step, sym c.before.before.before.came.ensures, sym c.before.before.asked.ensures) c.Stage-at.ensures
 
-pub stepped-spec : {M : Type 1} → statement M
-stepped-spec =
+pub stepped_spec : {M : Type 1} → statement M
+stepped_spec =
     tie.close
     (tie.spec is-step-requires returns came-requires asked-requires add-stage-at stage-at-requires returns-2)

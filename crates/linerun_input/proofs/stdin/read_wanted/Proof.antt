@@ -71,8 +71,8 @@ returns-3 c =
       long = omega arith;
     }
 
-pub read-wanted-spec : {M : Type 1} → statement M
-read-wanted-spec =
+pub read_wanted_spec : {M : Type 1} → statement M
+read_wanted_spec =
     tie.close
     (tie.spec
     returns

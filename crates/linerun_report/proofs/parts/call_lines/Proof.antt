@@ -92,8 +92,8 @@ returns c =
     let all : at-loop.i ≡ c.before.before.before.before.args.to = omega arith in
     (rw all at at-loop.invariant.1, omega arith)
 
-pub call-lines-spec : {M : Type 1} → statement M
-call-lines-spec =
+pub call_lines_spec : {M : Type 1} → statement M
+call_lines_spec =
     tie.close
     (tie.spec
     invariant-loop

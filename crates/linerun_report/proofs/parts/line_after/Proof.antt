@@ -16,7 +16,7 @@ returns-3 : tie.Need-returns-3
 unfolding line_after
 returns-3 c = omega arith
 
-pub line-after-spec : {M : Type 1} → statement M
-line-after-spec =
+pub line_after_spec : {M : Type 1} → statement M
+line_after_spec =
     tie.close
     (tie.spec (λ c. omega arith) returns (λ c. omega arith) returns-2 (λ c. omega arith) returns-3)

@@ -98,8 +98,8 @@ returns-3 c =
       few_bytes lines.result start.args.line start.args.next some lines.ensures.1,
     )
 
-pub put-lines-spec : {M : Type 1} → statement M
-put-lines-spec =
+pub put_lines_spec : {M : Type 1} → statement M
+put_lines_spec =
     tie.close
     (tie.spec
     first-line-requires

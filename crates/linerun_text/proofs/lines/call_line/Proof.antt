@@ -81,8 +81,8 @@ same_length : tie.Need-same-length
 unfolding call_line ascii
 same_length c = writes-length (returns c)
 
-pub call-line-spec : {M : Type 1} → statement M
-call-line-spec =
+pub call_line_spec : {M : Type 1} → statement M
+call_line_spec =
     tie.close
     (tie.spec
     slice-aggregate-put-labelled

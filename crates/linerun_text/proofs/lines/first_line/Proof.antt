@@ -35,8 +35,8 @@ returns c =
     let calls = code.before.before.before.before.before in
     then (then calls.put-labelled.ensures code.put-labelled2.ensures) newline.put.ensures
 
-pub first-line-spec : {M : Type 1} → statement M
-first-line-spec =
+pub first_line_spec : {M : Type 1} → statement M
+first_line_spec =
     tie.close
     (tie.spec
     slice-aggregate-put-labelled

@@ -94,8 +94,8 @@ returns c =
 same_length : tie.Need-same-length invariant-loop decreases-loop
 same_length c = writes-length (returns c).0
 
-pub endpoint-lines-spec : {M : Type 1} → statement M
-endpoint-lines-spec =
+pub endpoint_lines_spec : {M : Type 1} → statement M
+endpoint_lines_spec =
     tie.close
     (tie.spec
     invariant-loop

@@ -9,5 +9,5 @@ code-requires c κs = search rules
 returns : tie.Need-returns
 returns c = rw c.code.ensures
 
-pub counts-spec : {M : Type 1} → statement M
-counts-spec = tie.close (tie.spec code-requires returns)
+pub counts_spec : {M : Type 1} → statement M
+counts_spec = tie.close (tie.spec code-requires returns)

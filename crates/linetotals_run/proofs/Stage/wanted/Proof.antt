@@ -42,8 +42,8 @@ returns-4 c = rw c.before.before.phase2.given.1 c.list-wanted.ensures
 returns-5 : tie.Need-returns-5
 returns-5 c = search rules
 
-pub wanted-spec : {M : Type 1} → statement M
-wanted-spec =
+pub wanted_spec : {M : Type 1} → statement M
+wanted_spec =
     tie.close
     (tie.spec
     enum_told

@@ -30,8 +30,8 @@ returns-2 : tie.Need-returns-2
 unfolding head_read
 returns-2 c = rw (← c.before.before.before.before.before.left_after.ensures, ← c.before.before.before.before.next-list.ensures, c.before.before.next2.given.1) c.at2.ensures
 
-pub head-read-spec : {M : Type 1} → statement M
-head-read-spec =
+pub head_read_spec : {M : Type 1} → statement M
+head_read_spec =
     tie.close
     (tie.spec
     left-after-requires

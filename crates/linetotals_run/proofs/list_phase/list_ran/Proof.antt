@@ -30,6 +30,6 @@ returns-2 c =
     let code = sym c.before.before.before.before.before.code.ensures ∙ c.before.before.before.before.if1.false in
     rw (eq-eqb _ _ code) c.head_read.ensures
 
-pub list-ran-spec : {M : Type 1} → statement M
-list-ran-spec =
+pub list_ran_spec : {M : Type 1} → statement M
+list_ran_spec =
     tie.close (tie.spec code-requires at-requires returns add-t12 head-read-requires returns-2)

@@ -121,8 +121,8 @@ returns-2 c =
     (ap (λ (k : ℕ). take k x.holders) (sub-zero lent.result))
     added.add-list.ensures (rw head at c.list-ran.ensures) part.items-are)
 
-pub list-read-spec : {M : Type 1} → statement M
-list-read-spec =
+pub list_read_spec : {M : Type 1} → statement M
+list_read_spec =
     tie.close
     (tie.spec
     mul-end

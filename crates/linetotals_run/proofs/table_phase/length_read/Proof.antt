@@ -39,8 +39,8 @@ returns-4 : tie.Need-returns-4
 unfolding length_read
 returns-4 c = simp (le-ltb _ _ c.before.before.before.before.if1.false, ← c.before.before.before.word_at.ensures, le-ltb _ _ c.before.before.if2.false, ne_eqb _ _ c.before.if3.false) c.at4.ensures
 
-pub length-read-spec : {M : Type 1} → statement M
-length-read-spec =
+pub length_read_spec : {M : Type 1} → statement M
+length_read_spec =
     tie.close
     (tie.spec
     at-requires

@@ -39,8 +39,8 @@ returns-2 c =
     let code = sym c.before.before.before.before.before.check.ensures ∙ sym c.before.before.before.before.code.ensures ∙ c.before.before.before.if1.false in
     rw (eq-eqb _ _ code, c.before.before.endpoints.ensures, c.before.waiting-counts.ensures, c.new.ensures)
 
-pub table-checked-spec : {M : Type 1} → statement M
-table-checked-spec =
+pub table_checked_spec : {M : Type 1} → statement M
+table_checked_spec =
     tie.close
     (tie.spec
     check-requires

@@ -65,8 +65,8 @@ returns-2 c =
     let table = fills-part few filled in
     (rw (whole, ← table) c.table-checked.ensures, rw whole filled.items-are)
 
-pub table-read-spec : {M : Type 1} → statement M
-table-read-spec =
+pub table_read_spec : {M : Type 1} → statement M
+table_read_spec =
     tie.close
     (tie.spec
     mul-end

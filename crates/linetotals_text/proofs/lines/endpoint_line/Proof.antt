@@ -72,8 +72,8 @@ same_length : tie.Need-same-length
 unfolding endpoint_line ascii
 same_length c = writes-length (returns c)
 
-pub endpoint-line-spec : {M : Type 1} → statement M
-endpoint-line-spec =
+pub endpoint_line_spec : {M : Type 1} → statement M
+endpoint_line_spec =
     tie.close
     (tie.spec
     slice-aggregate-put-labelled

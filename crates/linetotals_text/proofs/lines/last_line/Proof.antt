@@ -35,8 +35,8 @@ returns c =
     let lists = code.before.before.before.before.before in
     then (then lists.put-labelled.ensures code.put-labelled2.ensures) newline.put.ensures
 
-pub last-line-spec : {M : Type 1} → statement M
-last-line-spec =
+pub last_line_spec : {M : Type 1} → statement M
+last_line_spec =
     tie.close
     (tie.spec
     slice-aggregate-put-labelled

@@ -40,8 +40,8 @@ same_length c = c.before.loop.invariant.size
 returns : tie.Need-returns invariant-loop decreases-loop
 returns c = stepping-end _ _ _ _ _ c.before.loop.invariant c.loop-test.false
 
-pub grant-all-spec : {M : Type 1} → statement M
-grant-all-spec =
+pub grant_all_spec : {M : Type 1} → statement M
+grant_all_spec =
     tie.close
     (tie.spec
     invariant-loop

@@ -75,8 +75,8 @@ same_length c = c.before.loop.invariant.size
 returns : tie.Need-returns invariant-loop decreases-loop
 returns c = stepping-end _ _ _ _ _ c.before.loop.invariant c.loop-test.false
 
-pub grant-each-spec : {M : Type 1} → statement M
-grant-each-spec =
+pub grant_each_spec : {M : Type 1} → statement M
+grant_each_spec =
     tie.close
     (tie.spec
     invariant-loop

@@ -70,8 +70,8 @@ returns-2 c =
     let from = c.before.before.before in
     grant-not-done _ _ _ _ _ _ _ from.Cell-at.ensures refl (sym c.before.holds.ensures ∙ c.if1.false)
 
-pub grant-on-spec : {M : Type 1} → statement M
-grant-on-spec =
+pub grant_on_spec : {M : Type 1} → statement M
+grant_on_spec =
     tie.close
     (tie.spec
     cell-at-requires

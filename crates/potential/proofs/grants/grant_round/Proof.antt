@@ -50,8 +50,8 @@ returns : tie.Need-returns invariant-loop decreases-loop
 unfolding round
 returns c = stepping-end _ _ _ _ _ c.before.loop.invariant.0 c.loop-test.false
 
-pub grant-round-spec : {M : Type 1} → statement M
-grant-round-spec =
+pub grant_round_spec : {M : Type 1} → statement M
+grant_round_spec =
     tie.close
     (tie.spec
     invariant-loop

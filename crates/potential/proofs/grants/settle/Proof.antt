@@ -54,8 +54,8 @@ loop-again c =
     let at = round.before.before in
     settling-next _ _ _ _ _ at.loop.invariant _ round.grant-round.ensures _ c.before.sum2.ensures c.if1.false
 
-pub settle-spec : {M : Type 1} → statement M
-settle-spec =
+pub settle_spec : {M : Type 1} → statement M
+settle_spec =
     tie.close
     (tie.spec
     invariant-loop

@@ -11,5 +11,5 @@ shl-result c = search rules
 returns : tie.Need-returns
 returns c = one_bit _ (omega (arith, c.requires))
 
-pub power-spec : {M : Type 1} → statement M
-power-spec = tie.close (tie.spec shl-result returns)
+pub power_spec : {M : Type 1} → statement M
+power_spec = tie.close (tie.spec shl-result returns)

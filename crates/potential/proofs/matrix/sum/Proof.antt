@@ -41,8 +41,8 @@ loop-again c =
 returns : tie.Need-returns invariant-loop decreases-loop
 returns c = summing-end _ _ _ c.before.loop.invariant c.loop-test.false
 
-pub sum-spec : {M : Type 1} → statement M
-sum-spec =
+pub sum_spec : {M : Type 1} → statement M
+sum_spec =
     tie.close
     (tie.spec
     invariant-loop

@@ -18,5 +18,5 @@ add-result c = omega (arith, small c)
 returns : tie.Need-returns
 returns c = search rules
 
-pub cell-at-spec : {M : Type 1} → statement M
-cell-at-spec = tie.close (tie.spec mul-result add-result returns)
+pub cell_at_spec : {M : Type 1} → statement M
+cell_at_spec = tie.close (tie.spec mul-result add-result returns)

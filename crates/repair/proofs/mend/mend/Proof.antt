@@ -29,8 +29,8 @@ mends c =
     let first = second.before.before.before.before in
     both-passes _ _ _ (headed first.before.before) first.mend-rights.ensures second.mend-endpoints.ensures
 
-pub mend-spec : {M : Type 1} → statement M
-mend-spec =
+pub mend_spec : {M : Type 1} → statement M
+mend_spec =
     tie.close
     (tie.spec
     (λ c κs. tt)

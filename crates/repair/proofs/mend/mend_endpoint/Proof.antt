@@ -23,8 +23,8 @@ emptied c =
     let e = c.before.before in
     slots_end _ c.before.loop.invariant c.loop-test.false e.before.before.before.before.requires (sym e.before.queue-ok.ensures ∙ e.if1.false)
 
-pub mend-endpoint-spec : {M : Type 1} → statement M
-mend-endpoint-spec =
+pub mend_endpoint_spec : {M : Type 1} → statement M
+mend_endpoint_spec =
     tie.close
     (tie.spec
     invariant-loop

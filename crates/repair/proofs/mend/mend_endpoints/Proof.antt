@@ -52,8 +52,8 @@ mend-endpoint-requires c κs = lent-twelve c.before.before.loop.invariant.0 (siz
 part_end : tie.Need-slice-bounds-mend-endpoint-end invariant-loop decreases-loop
 part_end c = omega (arith, end-within _ c.loop-test.true c.before.loop.invariant.3, c.before.loop.invariant.0.size)
 
-pub mend-endpoints-spec : {M : Type 1} → statement M
-mend-endpoints-spec =
+pub mend_endpoints_spec : {M : Type 1} → statement M
+mend_endpoints_spec =
     tie.close
     (tie.spec
     invariant-loop

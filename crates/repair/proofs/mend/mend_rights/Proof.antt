@@ -39,8 +39,8 @@ returns c =
     let l = c.before.loop in
     subst (RightsMended _ _) (le_antisymm l.invariant.1 c.loop-test.false) l.invariant.0
 
-pub mend-rights-spec : {M : Type 1} → statement M
-mend-rights-spec =
+pub mend_rights_spec : {M : Type 1} → statement M
+mend_rights_spec =
     tie.close
     (tie.spec
     invariant-loop

@@ -10,5 +10,5 @@ kept c = sym (rights-kept _ (sym c.before.rights-word-ok.ensures ∙ c.if1.true)
 cleared : tie.Need-returns-2
 cleared c = sym (rights-cleared _ (sym c.before.rights-word-ok.ensures ∙ c.if1.false))
 
-pub mended-rights-spec : {M : Type 1} → statement M
-mended-rights-spec = tie.close (tie.spec (λ c κs. tt) kept cleared)
+pub mended_rights_spec : {M : Type 1} → statement M
+mended_rights_spec = tie.close (tie.spec (λ c κs. tt) kept cleared)

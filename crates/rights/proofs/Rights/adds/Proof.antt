@@ -8,5 +8,5 @@ returns : tie.Need-returns
 unfolding adds
 returns c = refl
 
-pub adds-spec : {M : Type 1} → statement M
-adds-spec = tie.close (tie.spec returns)
+pub adds_spec : {M : Type 1} → statement M
+adds_spec = tie.close (tie.spec returns)

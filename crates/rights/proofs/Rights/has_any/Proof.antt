@@ -8,5 +8,5 @@ returns : tie.Need-returns
 unfolding has_any
 returns c = refl
 
-pub has-any-spec : {M : Type 1} → statement M
-has-any-spec = tie.close (tie.spec returns)
+pub has_any_spec : {M : Type 1} → statement M
+has_any_spec = tie.close (tie.spec returns)

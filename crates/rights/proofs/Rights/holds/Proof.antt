@@ -8,5 +8,5 @@ returns : tie.Need-returns
 unfolding holds
 returns c = refl
 
-pub holds-spec : {M : Type 1} → statement M
-holds-spec = tie.close (tie.spec returns)
+pub holds_spec : {M : Type 1} → statement M
+holds_spec = tie.close (tie.spec returns)

@@ -7,5 +7,5 @@ use Rattle.rules.proofs.access.holds_both.Tie as tie
 returns : tie.Need-returns
 returns c = ap₂ ◌&&◌ c.before.holds.ensures c.holds2.ensures
 
-pub holds-both-spec : {M : Type 1} → statement M
-holds-both-spec = tie.close (tie.spec (λ c κs. tt) (λ c κs. tt) returns)
+pub holds_both_spec : {M : Type 1} → statement M
+holds_both_spec = tie.close (tie.spec (λ c κs. tt) (λ c κs. tt) returns)

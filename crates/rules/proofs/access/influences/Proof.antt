@@ -8,5 +8,5 @@ use Rattle.rules.proofs.access.influences.Tie as tie
 returns : tie.Need-returns
 returns c = ap (λ (b : Bool). eqb c.before.args.caller c.before.args.other || b) c.has-any.ensures
 
-pub influences-spec : {M : Type 1} → statement M
-influences-spec = tie.close (tie.spec (λ c κs. tt) returns)
+pub influences_spec : {M : Type 1} → statement M
+influences_spec = tie.close (tie.spec (λ c κs. tt) returns)

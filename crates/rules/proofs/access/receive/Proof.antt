@@ -20,5 +20,5 @@ returns-3 : tie.Need-returns-3
 unfolding decision_of receive_access
 returns-3 c = pass _ 18 _ _ (ap not (eq-eqb _ _ c.before.if1.false)) (pass _ 19 _ _ (ne_eqb _ _ c.if2.false) refl)
 
-pub receive-spec : {M : Type 1} → statement M
-receive-spec = tie.close (tie.spec returns returns-2 returns-3)
+pub receive_spec : {M : Type 1} → statement M
+receive_spec = tie.close (tie.spec returns returns-2 returns-3)

@@ -14,5 +14,5 @@ returns-2 : tie.Need-returns-2
 unfolding decision_of remove_access place
 returns-2 c = rw (sym c.before.holds-both.ensures, c.if1.false)
 
-pub remove-spec : {M : Type 1} → statement M
-remove-spec = tie.close (tie.spec (λ c κs. tt) returns returns-2)
+pub remove_spec : {M : Type 1} → statement M
+remove_spec = tie.close (tie.spec (λ c κs. tt) returns returns-2)

@@ -22,5 +22,5 @@ returns-3 c =
     let past = c.before.before in
     rw (sym past.before.holds.ensures, past.if1.false, sym c.before.influences.ensures, c.if2.false)
 
-pub revoke-spec : {M : Type 1} → statement M
-revoke-spec = tie.close (tie.spec (λ c κs. tt) returns (λ c κs. tt) returns-2 returns-3)
+pub revoke_spec : {M : Type 1} → statement M
+revoke_spec = tie.close (tie.spec (λ c κs. tt) returns (λ c κs. tt) returns-2 returns-3)

@@ -14,5 +14,5 @@ returns-2 : tie.Need-returns-2
 unfolding decision_of send_access place
 returns-2 c = rw (sym c.before.holds.ensures, c.if1.false)
 
-pub send-spec : {M : Type 1} → statement M
-send-spec = tie.close (tie.spec (λ c κs. tt) returns returns-2)
+pub send_spec : {M : Type 1} → statement M
+send_spec = tie.close (tie.spec (λ c κs. tt) returns returns-2)

@@ -7,5 +7,5 @@ returns : tie.Need-returns
 unfolding followed caller_number
 returns c next = c.then.ensures next
 
-pub of-caller-spec : {M : Type 1} → statement M
-of-caller-spec = tie.close (tie.spec (λ c κs. tt) returns)
+pub of_caller_spec : {M : Type 1} → statement M
+of_caller_spec = tie.close (tie.spec (λ c κs. tt) returns)

@@ -8,5 +8,5 @@ returns : tie.Need-returns
 unfolding endpoint_numbers
 returns c next = c.then.ensures next ∙ c.before.of-caller.ensures _
 
-pub of-endpoint-spec : {M : Type 1} → statement M
-of-endpoint-spec = tie.close (tie.spec (λ c κs. tt) (λ c κs. tt) returns)
+pub of_endpoint_spec : {M : Type 1} → statement M
+of_endpoint_spec = tie.close (tie.spec (λ c κs. tt) (λ c κs. tt) returns)

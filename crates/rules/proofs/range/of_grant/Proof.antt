@@ -10,5 +10,5 @@ returns c next =
     let named = c.before.before in
     rw (sym c.before.is_set.ensures) (c.then2.ensures next ∙ named.then.ensures _ ∙ named.before.of-caller.ensures _)
 
-pub of-grant-spec : {M : Type 1} → statement M
-of-grant-spec = tie.close (tie.spec (λ c κs. tt) (λ c κs. tt) (λ c κs. tt) (λ c κs. tt) returns)
+pub of_grant_spec : {M : Type 1} → statement M
+of_grant_spec = tie.close (tie.spec (λ c κs. tt) (λ c κs. tt) (λ c κs. tt) (λ c κs. tt) returns)

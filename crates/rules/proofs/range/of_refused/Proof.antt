@@ -15,5 +15,5 @@ returns-2 c next =
     let late = c.before in
     rw (sym late.before.number.ensures, le-ltb _ _ late.if1.false) (c.of-caller.ensures next)
 
-pub of-refused-spec : {M : Type 1} → statement M
-of-refused-spec = tie.close (tie.spec (λ c κs. tt) returns (λ c κs. tt) returns-2)
+pub of_refused_spec : {M : Type 1} → statement M
+of_refused_spec = tie.close (tie.spec (λ c κs. tt) returns (λ c κs. tt) returns-2)

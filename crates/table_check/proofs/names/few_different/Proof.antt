@@ -32,8 +32,8 @@ returns : tie.Need-returns-2 invariant-loop decreases-loop
 unfolding all_different
 returns c = scan-end _ _ _ _ c.before.loop.invariant c.loop-test.false
 
-pub few-different-spec : {M : Type 1} → statement M
-few-different-spec =
+pub few_different_spec : {M : Type 1} → statement M
+few_different_spec =
     tie.close
     (tie.spec
     invariant-loop

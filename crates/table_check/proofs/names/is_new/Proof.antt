@@ -32,8 +32,8 @@ returns : tie.Need-returns-2 invariant-loop decreases-loop
 unfolding new_at
 returns c = scan-end _ _ _ _ c.before.loop.invariant c.loop-test.false
 
-pub is-new-spec : {M : Type 1} → statement M
-is-new-spec =
+pub is_new_spec : {M : Type 1} → statement M
+is_new_spec =
     tie.close
     (tie.spec
     invariant-loop

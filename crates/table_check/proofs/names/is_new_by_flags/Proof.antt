@@ -11,8 +11,8 @@ unset : tie.Need-returns
 unset c =
     flag-unset _ _ _ c.before.before.before.before.before.requires.0 (rw c.before.before.flag-of.ensures at c.if1.true)
 
-pub is-new-by-flags-spec : {M : Type 1} → statement M
-is-new-by-flags-spec =
+pub is_new_by_flags_spec : {M : Type 1} → statement M
+is_new_by_flags_spec =
     tie.close
     (tie.spec
     (λ c. search rules)

@@ -41,8 +41,8 @@ returns : tie.Need-returns-2 invariant-loop decreases-loop
 unfolding all_different
 returns c = scan-end _ _ _ _ c.before.loop.invariant.0 c.loop-test.false
 
-pub many-different-spec : {M : Type 1} → statement M
-many-different-spec =
+pub many_different_spec : {M : Type 1} → statement M
+many_different_spec =
     tie.close
     (tie.spec
     invariant-loop

@@ -66,8 +66,8 @@ returns c =
     rw c.same-end.ensures
     (both _ _ _ _ _ _ _ _ _ _ _ _ _ _ _ run.run.ensures working.run-working.ensures table answers holders)
 
-pub balkwizu-test-both-ways-spec : {M : Type 1} → statement M
-balkwizu-test-both-ways-spec =
+pub balkwizu_test_both_ways_spec : {M : Type 1} → statement M
+balkwizu_test_both_ways_spec =
     tie.close
     (tie.spec run-requires run-working-requires same-end-requires same_length same-length-2 same-length-3 same-length-4
     same-length-5 same-length-6 returns)

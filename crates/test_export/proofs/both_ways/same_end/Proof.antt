@@ -40,5 +40,5 @@ returns-3 c =
     let other = codes.before in
     rw (eq-eqb _ _ (sym other.before.code.ensures ∙ codes.if1.false ∙ other.code2.ensures), eq-eqb _ _ (sym calls.before.calls.ensures ∙ c.if2.false ∙ calls.calls2.ensures))
 
-pub same-end-spec : {M : Type 1} → statement M
-same-end-spec = tie.close (tie.spec code-requires code-requires-2 returns calls-requires calls-requires-2 returns-2 returns-3)
+pub same_end_spec : {M : Type 1} → statement M
+same_end_spec = tie.close (tie.spec code-requires code-requires-2 returns calls-requires calls-requires-2 returns-2 returns-3)

@@ -10,5 +10,5 @@ returns c =
     let received = c.before.before.before in
     (c.code.ensures ∙ ap done_code received.receive.ensures.0, received.receive.ensures.1)
 
-pub balkwizu-test-receive-spec : {M : Type 1} → statement M
-balkwizu-test-receive-spec = tie.close (tie.spec (λ c κs. tt) (λ c κs. tt) (λ c. search rules) returns)
+pub balkwizu_test_receive_spec : {M : Type 1} → statement M
+balkwizu_test_receive_spec = tie.close (tie.spec (λ c κs. tt) (λ c κs. tt) (λ c. search rules) returns)

@@ -10,5 +10,5 @@ returns c =
     let sent = c.before.before.before in
     (c.code.ensures ∙ ap done_code sent.send.ensures.0, sent.send.ensures.1)
 
-pub balkwizu-test-send-spec : {M : Type 1} → statement M
-balkwizu-test-send-spec = tie.close (tie.spec (λ c κs. tt) (λ c κs. tt) (λ c. search rules) returns)
+pub balkwizu_test_send_spec : {M : Type 1} → statement M
+balkwizu_test_send_spec = tie.close (tie.spec (λ c κs. tt) (λ c κs. tt) (λ c. search rules) returns)

@@ -40,8 +40,8 @@ returns-2 c =
     rw (whole_part 20 spelled.result spelled.new.1.0 spelled.auto.1.0 spelled.ensures.1)
     at c.before.before.put.ensures
 
-pub put-decimal-spec : {M : Type 1} → statement M
-put-decimal-spec =
+pub put_decimal_spec : {M : Type 1} → statement M
+put_decimal_spec =
     tie.close
     (tie.spec
     put-digit-requires

@@ -46,8 +46,8 @@ returns-2 c =
       bytes = sym (overwrite-one given.at (48 + given.x) given.out.now) ∙ ap (λ t. overwrite given.at t given.out.now) (sym digit);
     }
 
-pub put-digit-spec : {M : Type 1} → statement M
-put-digit-spec =
+pub put_digit_spec : {M : Type 1} → statement M
+put_digit_spec =
     tie.close
     (tie.spec
     add-result

@@ -18,5 +18,5 @@ returns : tie.Need-returns
 unfolding labelled
 returns c = then c.before.before.before.before.before.before.put.ensures c.before.before.put-decimal.ensures
 
-pub put-labelled-spec : {M : Type 1} → statement M
-put-labelled-spec = tie.close (tie.spec put-requires put-decimal-requires same_length returns)
+pub put_labelled_spec : {M : Type 1} → statement M
+put_labelled_spec = tie.close (tie.spec put-requires put-decimal-requires same_length returns)

@@ -49,8 +49,8 @@ returns c =
     let none : c.before.loop.rest ≡ 0 = omega arith in
     (omega arith, done c.before.before.args.x c.before.loop.at c.before.loop.digits (rw none at c.before.loop.invariant))
 
-pub spell-spec : {M : Type 1} → statement M
-spell-spec =
+pub spell_spec : {M : Type 1} → statement M
+spell_spec =
     tie.close
     (tie.spec
     invariant-loop

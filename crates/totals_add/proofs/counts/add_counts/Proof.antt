@@ -78,8 +78,8 @@ returns c =
       lost_added = added-words start.args.table.now _ full.losses.result _ _ of-table (lost-at x full.losses.result _ of-table full.losses.ensures.1) c.add-each3.ensures;
     }
 
-pub add-counts-spec : {M : Type 1} → statement M
-add-counts-spec =
+pub add_counts_spec : {M : Type 1} → statement M
+add_counts_spec =
     tie.close
     (tie.spec
     endpoints-requires

@@ -60,8 +60,8 @@ returns c =
     let all : c.before.loop.e ≡ c.before.before.before.args.m = omega arith in
     rw all at c.before.loop.invariant.2
 
-pub add-each-spec : {M : Type 1} → statement M
-add-each-spec =
+pub add_each_spec : {M : Type 1} → statement M
+add_each_spec =
     tie.close
     (tie.spec
     invariant-loop

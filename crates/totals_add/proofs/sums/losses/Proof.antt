@@ -84,8 +84,8 @@ loop-again c =
 returns : tie.Need-returns invariant-loop decreases-loop
 returns c = (c.before.loop.invariant.1, λ e l. c.before.loop.invariant.2 e (omega arith))
 
-pub losses-spec : {M : Type 1} → statement M
-losses-spec =
+pub losses_spec : {M : Type 1} → statement M
+losses_spec =
     tie.close
     (tie.spec
     invariant-loop

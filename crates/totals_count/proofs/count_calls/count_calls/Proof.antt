@@ -158,8 +158,8 @@ returns c =
       received_is = counting-end at-loop.invariant.1 c.loop-test.false;
     }
 
-pub count-calls-spec : {M : Type 1} → statement M
-count-calls-spec =
+pub count_calls_spec : {M : Type 1} → statement M
+count_calls_spec =
     tie.close
     (tie.spec
     invariant-loop

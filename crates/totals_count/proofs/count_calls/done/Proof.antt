@@ -12,5 +12,5 @@ returns-2 c = simp (eq-eqb _ _ c.before.if1.true, ne_eqb _ _ c.if2.false)
 returns-3 : tie.Need-returns-3
 returns-3 c = simp (ne_eqb _ _ c.if1.false)
 
-pub done-spec : {M : Type 1} → statement M
-done-spec = tie.close (tie.spec returns returns-2 returns-3)
+pub done_spec : {M : Type 1} → statement M
+done_spec = tie.close (tie.spec returns returns-2 returns-3)

@@ -67,8 +67,8 @@ returns c =
     let all : at-loop.e ≡ 32 = omega arith in
     sym (take_all 32 at-loop.counts (omega (arith, at-loop.invariant.1))) ∙ rw all at at-loop.invariant.2
 
-pub waiting-counts-spec : {M : Type 1} → statement M
-waiting-counts-spec =
+pub waiting_counts_spec : {M : Type 1} → statement M
+waiting_counts_spec =
     tie.close
     (tie.spec
     invariant-loop

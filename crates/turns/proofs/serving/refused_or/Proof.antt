@@ -18,8 +18,8 @@ returns-2 c =
     let enter = c.before.before in
     sym (then_next _ _ (sym (sym (ap entered_code c.enum_told.given.1) ∙ enter.enter_step.ensures)))
 
-pub refused-or-spec : {M : Type 1} → statement M
-refused-or-spec =
+pub refused_or_spec : {M : Type 1} → statement M
+refused_or_spec =
     tie.close
     (tie.spec
     (λ c κs. search rules)

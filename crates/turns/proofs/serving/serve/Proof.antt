@@ -38,8 +38,8 @@ returns-2 c =
     put.put.ensures
     (stepped step _ put.before.before.before.stepped2.given.1)
 
-pub serve-spec : {M : Type 1} → statement M
-serve-spec =
+pub serve_spec : {M : Type 1} → statement M
+serve_spec =
     tie.close
     (tie.spec
     (λ c κs. search rules)

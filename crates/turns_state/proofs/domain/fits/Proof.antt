@@ -10,8 +10,8 @@ use Rattle.turns_state.proofs.domain.fits.Tie as tie
 returns : tie.Need-returns
 returns c = ap (λ (n : ℕ). eqb c.before.before.args.size (state_length n)) c.domain-count.ensures
 
-pub fits-spec : {M : Type 1} → statement M
-fits-spec =
+pub fits_spec : {M : Type 1} → statement M
+fits_spec =
     tie.close
     (tie.spec
     (λ c κs. search rules)

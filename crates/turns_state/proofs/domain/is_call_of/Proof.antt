@@ -12,5 +12,5 @@ returns-2 : tie.Need-returns-2
 unfolding is_call_of
 returns-2 c = rw (ne_eqb _ _ c.if1.false)
 
-pub is-call-of-spec : {M : Type 1} → statement M
-is-call-of-spec = tie.close (tie.spec returns returns-2)
+pub is_call_of_spec : {M : Type 1} → statement M
+is_call_of_spec = tie.close (tie.spec returns returns-2)

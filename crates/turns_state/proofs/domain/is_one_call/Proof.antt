@@ -26,8 +26,8 @@ returns-3 c =
     ap (eqb (length ws)) (c.width.ensures ∙ ap width_of second.second-of-first.ensures)
     ∙ sym (its-call start.args.domain ws (omega (arith, test.before.before.before.if1.false)) (sym test.before.is-call-of.ensures ∙ not-false _ test.if2.false))
 
-pub is-one-call-spec : {M : Type 1} → statement M
-is-one-call-spec =
+pub is_one_call_spec : {M : Type 1} → statement M
+is_one_call_spec =
     tie.close
     (tie.spec
     returns

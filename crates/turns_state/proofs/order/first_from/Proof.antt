@@ -59,8 +59,8 @@ returns-2 c =
     let all : at.loop.d ≡ a.n = omega (arith, at.loop.invariant.0, c.loop-test.false) in
     sym (ap (or_none a.n) (ap (λ (i : ℕ). first_below i p) (sym all) ∙ at.loop.invariant.1))
 
-pub first-from-spec : {M : Type 1} → statement M
-first-from-spec =
+pub first_from_spec : {M : Type 1} → statement M
+first_from_spec =
     tie.close
     (tie.spec
     invariant-loop

@@ -23,8 +23,8 @@ returns-2 c =
     let s = turns_in a.state.now in
     first.first-from.ensures ∙ one-there a.n s (λ same. c.if1.false (first.first-from.ensures ∙ same))
 
-pub first-waiting-spec : {M : Type 1} → statement M
-first-waiting-spec =
+pub first_waiting_spec : {M : Type 1} → statement M
+first_waiting_spec =
     tie.close
     (tie.spec
     (λ c. omega arith)

@@ -20,8 +20,8 @@ returns c = sym (next-size _ _ c.if1.true) ∙ reported c.before
 returns-2 : tie.Need-returns-2
 returns-2 c = c.first-waiting.ensures ∙ sym (next-waiting _ _ c.before.if1.false) ∙ reported c.before.before
 
-pub next-to-serve-spec : {M : Type 1} → statement M
-next-to-serve-spec =
+pub next_to_serve_spec : {M : Type 1} → statement M
+next_to_serve_spec =
     tie.close
     (tie.spec
     (λ c κs. search rules)

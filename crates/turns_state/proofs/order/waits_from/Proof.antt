@@ -21,8 +21,8 @@ returns-2 c =
     (ap (λ (b : Bool). b && waits s a.d) (le-leb a.place a.d (omega (arith, c.before.if1.false)))
     ∙ waits-word a.state.now a.n a.d start.requires.0 start.requires.1)
 
-pub waits-from-spec : {M : Type 1} → statement M
-waits-from-spec =
+pub waits_from_spec : {M : Type 1} → statement M
+waits_from_spec =
     tie.close
     (tie.spec
     returns

@@ -16,5 +16,5 @@ returns-2 : tie.Need-returns-2
 unfolding dequeuable
 returns-2 c = rw (eq-eqb _ _ c.before.if1.false) (ap (leb c.before.before.before.args.few) c.count.ensures)
 
-pub dequeuable-spec : {M : Type 1} → statement M
-dequeuable-spec = tie.close (tie.spec returns (λ c κs. search rules) returns-2)
+pub dequeuable_spec : {M : Type 1} → statement M
+dequeuable_spec = tie.close (tie.spec returns (λ c κs. search rules) returns-2)

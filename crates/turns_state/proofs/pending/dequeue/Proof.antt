@@ -26,8 +26,8 @@ returns-2 c =
     let h = passed call.before.before in
     (sym h, call.move_down.ensures ∙ dequeued-there _ _ h)
 
-pub dequeue-spec : {M : Type 1} → statement M
-dequeue-spec =
+pub dequeue_spec : {M : Type 1} → statement M
+dequeue_spec =
     tie.close
     (tie.spec
     (λ c κs. search rules)

@@ -21,5 +21,5 @@ unfolding enqueuable
 returns-2 c =
     rw (eq-eqb _ _ c.before.if1.false) (room-left _ _ _ c.count.ensures)
 
-pub enqueuable-spec : {M : Type 1} → statement M
-enqueuable-spec = tie.close (tie.spec returns (λ c κs. search rules) sub-result returns-2)
+pub enqueuable_spec : {M : Type 1} → statement M
+enqueuable_spec = tie.close (tie.spec returns (λ c κs. search rules) sub-result returns-2)

@@ -27,8 +27,8 @@ returns-2 c =
     let h = passed call.before.before in
     (sym h, call.put_last.ensures ∙ enqueued-there _ _ h)
 
-pub enqueue-spec : {M : Type 1} → statement M
-enqueue-spec =
+pub enqueue_spec : {M : Type 1} → statement M
+enqueue_spec =
     tie.close
     (tie.spec
     (λ c κs. search rules)

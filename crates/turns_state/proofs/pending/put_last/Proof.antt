@@ -54,8 +54,8 @@ returns c =
     ∙ ap (λ (k : ℕ). set (paste b (1 + k) ws (length ws)) 0 (k + length ws)) pending
     ∙ enqueue-end b ws (omega arith)
 
-pub put-last-spec : {M : Type 1} → statement M
-put-last-spec =
+pub put_last_spec : {M : Type 1} → statement M
+put_last_spec =
     tie.close
     (tie.spec
     invariant-loop

@@ -31,8 +31,8 @@ returns-2 c =
     c.second-of-first.ensures
     ∙ rw (eq-eqb _ _ counted.before.if1.false) (ap (λ (k : ℕ). second_at (take k (drop 1 b)) 0) few)
 
-pub second-of-oldest-spec : {M : Type 1} → statement M
-second-of-oldest-spec =
+pub second_of_oldest_spec : {M : Type 1} → statement M
+second_of_oldest_spec =
     tie.close
     (tie.spec
     returns

@@ -32,8 +32,8 @@ same-length-6 c = c.before.before.before.before.before.before.run-working.auto.1
 returns-2 : tie.Need-returns-2
 returns-2 c = c.before.before.before.before.before.before.run-working.ensures
 
-pub run-by-length-spec : {M : Type 1} → statement M
-run-by-length-spec =
+pub run_by_length_spec : {M : Type 1} → statement M
+run_by_length_spec =
     tie.close
     (tie.spec
     run-requires

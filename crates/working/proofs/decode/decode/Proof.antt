@@ -58,8 +58,8 @@ returns-10 c = of-kind _ _ c.match.keys2
 returns-11 : tie.Need-returns-11
 returns-11 c = unknown-kind _ _ c.before.if1.false c.if2.true
 
-pub decode-spec : {M : Type 1} → statement M
-decode-spec =
+pub decode_spec : {M : Type 1} → statement M
+decode_spec =
     tie.close
     (tie.spec
     (λ c κs. tt)

@@ -118,8 +118,8 @@ same-length-3 c = (c.before.loop.invariant _ c.before.before.before.before.befor
 returns : tie.Need-returns invariant-loop decreases-loop
 returns c t s = way_end _ c.before.before.before.before.before.before.args.hints.now _ _ _ _ _ (c.before.loop.invariant t s) c.loop-test.false
 
-pub run-list-spec : {M : Type 1} → statement M
-run-list-spec =
+pub run_list_spec : {M : Type 1} → statement M
+run_list_spec =
     tie.close
     (tie.spec
     invariant-loop

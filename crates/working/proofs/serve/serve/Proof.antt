@@ -121,8 +121,8 @@ returns-9 c =
     let x = c.before.before.before.before.before.before in
     here x.call9.given.1 x.before.before.decode.ensures (served-revoke _ _ _ _ _ _ _ _ _ _ _ _ _ _ _ c.before.before.revoke.ensures)
 
-pub serve-spec : {M : Type 1} → statement M
-serve-spec =
+pub serve_spec : {M : Type 1} → statement M
+serve_spec =
     tie.close
     (tie.spec
     decode-requires

@@ -17,8 +17,8 @@ returns-2 c =
     let left = c.before.before.before.before.before.before.if1.false in
     c.row-call.ensures ∙ a-row start.args.rows.now start.args.at (omega arith)
 
-pub call-at-spec : {M : Type 1} → statement M
-call-at-spec =
+pub call_at_spec : {M : Type 1} → statement M
+call_at_spec =
     tie.close
     (tie.spec
     (λ c. search rules)

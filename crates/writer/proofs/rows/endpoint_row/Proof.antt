@@ -27,8 +27,8 @@ returns-4 : tie.Need-returns-4
 unfolding kind_of of_columns
 returns-4 c = of-kind _ _ _ _ _ 0 (none_left c)
 
-pub endpoint-row-spec : {M : Type 1} → statement M
-endpoint-row-spec =
+pub endpoint_row_spec : {M : Type 1} → statement M
+endpoint_row_spec =
     tie.close
     (tie.spec
     (λ c κs. tt)

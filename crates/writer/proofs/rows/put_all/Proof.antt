@@ -35,8 +35,8 @@ loop-holds c = puts-start _ _ c.before.before.requires.0
 returns : tie.Need-returns invariant-loop decreases-loop
 returns c = puts-done c.before.loop.invariant c.loop-test.false
 
-pub put-all-spec : {M : Type 1} → statement M
-put-all-spec =
+pub put_all_spec : {M : Type 1} → statement M
+put_all_spec =
     tie.close
     (tie.spec
     invariant-loop

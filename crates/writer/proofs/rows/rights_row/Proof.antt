@@ -35,8 +35,8 @@ returns-5 c = of-kind _ _ _ _ _ 8 c.match.keys5
 returns-6 : tie.Need-returns-6
 returns-6 c = above _ _ _ _ _ (above-left c)
 
-pub rights-row-spec : {M : Type 1} → statement M
-rights-row-spec =
+pub rights_row_spec : {M : Type 1} → statement M
+rights_row_spec =
     tie.close
     (tie.spec
     (λ c κs. tt)

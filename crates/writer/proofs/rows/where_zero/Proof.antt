@@ -11,5 +11,5 @@ returns-2 : tie.Need-returns-2
 unfolding where_zero
 returns-2 c = rw c.if1.false
 
-pub where-zero-spec : {M : Type 1} → statement M
-where-zero-spec = tie.close (tie.spec returns returns-2)
+pub where_zero_spec : {M : Type 1} → statement M
+where_zero_spec = tie.close (tie.spec returns returns-2)

@@ -44,8 +44,8 @@ returns-3 c =
     let e = wrote.before.before in
     done _ _ _ _ (counted e.before.before.before) (reported e.before ∙ e.if1.false) _ wrote.put_all_lem.ensures
 
-pub write-rows-spec : {M : Type 1} → statement M
-write-rows-spec =
+pub write_rows_spec : {M : Type 1} → statement M
+write_rows_spec =
     tie.close
     (tie.spec
     (λ c κs. tt)

@@ -16,5 +16,5 @@ returns-3 : tie.Need-returns-3
 unfolding followed place
 returns-3 c next = rw (c.before.enum_told.given.1, c.if1.false)
 
-pub then-spec : {M : Type 1} → statement M
-then-spec = tie.close (tie.spec (λ c. c.match.keys1) (λ c. c.match.keys2) returns returns-2 returns-3)
+pub then_spec : {M : Type 1} → statement M
+then_spec = tie.close (tie.spec (λ c. c.match.keys1) (λ c. c.match.keys2) returns returns-2 returns-3)
