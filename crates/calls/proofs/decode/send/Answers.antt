@@ -1,0 +1,23 @@
+-- `decode::send` meets its contract: each `return` is one case of the places 13 and 14.
+-- Assumes nothing.
+use mathlib.Core.Path.{refl}
+use native.Mathlib.Omega.{arith}
+use borrow.Author.Rules.{rules}
+use Rattle.machine.specs.Call.{unused_fields, has_second, second_payload, Kind.send}
+use Rattle.calls.specs.Decode.{needs_second, of_kind}
+use Rattle.calls.proofs.DecodeLaws.{unused, no_second, fine}
+use Rattle.calls.proofs.decode.send.Goals as goal
+
+pub returns-then-a-c-ne0 : goal.returns-then-a-c-ne0
+unfolding of_kind unused_fields
+returns-then-a-c-ne0 c = unused _ _ send _ (λ e. c.if-a-c-ne0.true (omega arith))
+
+pub returns-in-Word : goal.returns-in-Word
+unfolding of_kind unused_fields has_second second_payload needs_second
+returns-in-Word c =
+    rw c.in-Word.is (fine _ _ send _ (omega arith) refl)
+
+pub returns-in-Nothing : goal.returns-in-Nothing
+unfolding of_kind unused_fields needs_second
+returns-in-Nothing c =
+    rw c.in-Nothing.is (no_second _ send _ (omega arith) refl)

@@ -1,0 +1,9 @@
+-- `text::write::put_labelled` meets its contract (`then`). Assumes nothing.
+use Rattle.text.specs.Decimal.{labelled}
+use Rattle.text.proofs.WriteLaws.{then}
+use borrow.Author.Rules.{rules}
+use Rattle.text.proofs.write.put_labelled.Goals as goal
+
+pub returns : goal.returns
+unfolding labelled
+returns c = then c.put-next.ensures c.put_decimal.ensures

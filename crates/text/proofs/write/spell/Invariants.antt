@@ -1,0 +1,11 @@
+-- `text::write::spell` meets its contract: the invariant of its loop is `Spelled`. Assumes nothing.
+use mathlib.Core.Path.{◌≡◌, sym, ◌∙◌}
+use native.Mathlib.Omega.{arith}
+use Rattle.text.proofs.Spelling.{Spelled, start, next, place-before, done}
+use Rattle.text.proofs.write.spell.Given as goal
+
+abbrev pub invariant-loop-rest : goal.invariant-loop-rest
+invariant-loop-rest l = Spelled l.x l.rest l.at l.digits
+
+abbrev pub decreases-loop-rest : goal.decreases-loop-rest
+decreases-loop-rest l = l.rest
