@@ -1,6 +1,8 @@
 // A call's three answer words (document 01, 'The calls'): made of its first word and of plain values, or of what a table says of
 // the caller. Total: accepts arbitrary words as a table. Data that isn't in it is 0, and data of more than 32 bits, which no
 // accepted table has, is cut to 32.
+#![tactic(auto)]
+
 pub mod by_value;
 mod data_bits;
 

@@ -1,5 +1,7 @@
 // The C boundary: the functions that the controller's firmware and the bench link, as target/staticlib/libbalkwizu.a.
 // Every exported name begins with `balkwizu_`. A slice is passed as a pointer and then a length.
+#![tactic(auto)]
+
 mod layouts;
 mod release;
 

@@ -2,6 +2,8 @@
 // separate from the kernel's, so that a firmware without turns doesn't link the step that a turn serves a call by.
 // The state is 1 + 17 n words that the caller lends, where n is the table's count of domains: the place of the turn, then for each
 // domain the count of its pending words, and sixteen words.
+#![tactic(auto)]
+
 mod release;
 mod step;
 

@@ -1,5 +1,7 @@
 // Encodes a call, passed as a value, into the words that it is written in (document 02, (c)): the inverse of crate calls, which
 // decodes words. No table is lent. A call can be written if it isn't a refused one and its fields are within their bits.
+#![tactic(auto)]
+
 ghost use Rattle.std.specs.Prelude.{◌≡◌, true, ◌+◌, ◌<◌, ◌≤◌, length};
 ghost use Rattle.machine.specs.Call.{wants_second};
 ghost use Rattle.writer_theory.specs.Words.{fields_at, fields_of, within_bits, first_word, field_words, fits, encoded_words};

@@ -1,5 +1,7 @@
 // The calls of documents 01 and 02, decoded without a table: what a call asks for, as one choice among its kinds, or its refusal
 // by a place that needs no table (10, 11, 13 and 14). Crate rules puts 12, which needs one, between 11 and 13.
+#![tactic(auto)]
+
 pub mod decode;
 pub mod split;
 

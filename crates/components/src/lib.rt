@@ -1,5 +1,7 @@
 // The connected component of a domain (document 02 (j): its group): all that are connected with it by rights in a table, in
 // either direction. Total: accepts arbitrary words as a table, and any index as a domain.
+#![tactic(auto)]
+
 mod connections;
 
 ghost use Rattle.std.specs.Prelude.{◌≡◌};

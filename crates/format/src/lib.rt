@@ -1,5 +1,7 @@
 // Names for the constants of documents 01 and 02, for the code of the other crates, and no function. Nothing that is believed
 // or proved rests on them: to a proof a name is its value, and where a value is wrong the proofs of what uses it are refused.
+#![tactic(auto)]
+
 pub mod answers;
 pub mod calls;
 pub mod tables;

@@ -1,6 +1,8 @@
 // The holders (document 02 (h)): one bitmap a domain beside a table, in which bit h is set where domain h has a right on that
 // domain. They are computed from a table, kept by noting each change of rights, and asked for all that have a chain of rights to
 // a domain. Total: accepts arbitrary words as a table and as holders.
+#![tactic(auto)]
+
 mod asking;
 mod bits;
 mod rows;

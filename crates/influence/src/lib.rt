@@ -1,5 +1,7 @@
 // Who could ever influence a domain, where only some domains act: every one that some list of their calls could make a source of it.
 // Total: accepts arbitrary words as a table, any word as the set of those that act, and any index as a domain.
+#![tactic(auto)]
+
 mod chains;
 
 ghost use Rattle.std.specs.Prelude.{◌≡◌, ◌*◌, ◌<◌, length};

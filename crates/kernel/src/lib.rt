@@ -1,5 +1,7 @@
 // The kernel: what a call and a list of calls do to a lent table and to the holders kept beside it, and what they answer. A table
 // is checked before any call runs (document 01, 'Where each number is checked'; the holders: document 02, (h)).
+#![tactic(auto)]
+
 mod endpoint_calls;
 mod lent_lengths;
 pub mod reports;

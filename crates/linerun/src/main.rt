@@ -1,6 +1,8 @@
 // The program `linerun`: it reads a table and a list of calls from standard input, and prints the calls' answers as lines on
 // standard output (document 01, 'Into firmware and onto the bench'). Crate linerun_input reads, and crate linerun_report runs what
 // was read and gives the lines. This crate passes the one's result to the other, and writes the lines, part by part.
+#![tactic(auto)]
+
 ghost use Rattle.std.specs.Prelude.{◌≤◌, ◌≡◌, true, false, length, take};
 ghost use Rattle.linerun_input.specs.Stage.{have_of, wanted_of, ended_of, StageAfter};
 ghost use Rattle.linerun_report.specs.Report.{answer_space};

@@ -1,5 +1,7 @@
 // Runs what linerun read, and gives the lines that it prints, part by part: the program without its reading and writing (document
 // 01, 'Into firmware and onto the bench').
+#![tactic(auto)]
+
 mod parts;
 
 ghost use Rattle.std.specs.Prelude.{◌≤◌, min, ◌≡◌, length, take};

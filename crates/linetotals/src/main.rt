@@ -2,6 +2,8 @@
 // over all of them as lines on standard output (document 02 (e), end-of-shift totals). Crate linetotals_input reads, crate
 // linetotals_run says how many bytes are wanted and runs them, and crate linetotals_report makes the lines. This crate passes each
 // result on, and writes the lines.
+#![tactic(auto)]
+
 ghost use Rattle.std.specs.Prelude.{◌≤◌, length};
 ghost use Rattle.input_words.specs.TableInput.{longest_table};
 ghost use Rattle.linetotals_report.specs.Claims.{InputRan};

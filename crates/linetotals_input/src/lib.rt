@@ -1,5 +1,7 @@
 // What linetotals reads: the table, then each list with its length in words before it (document 02 (e), end-of-shift totals).
 // This file decodes the bytes before a list, and says how many of them are wanted. Module stdin reads standard input.
+#![tactic(auto)]
+
 pub mod stdin;
 
 ghost use Rattle.std.specs.Prelude.{◌≡◌};

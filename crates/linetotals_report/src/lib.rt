@@ -1,4 +1,6 @@
 // What linetotals prints after a stage of its reading, as bytes (document 02 (e), end-of-shift totals). Nothing is read here.
+#![tactic(auto)]
+
 mod lines;
 
 ghost use Rattle.std.specs.Prelude.{◌≤◌, min, ◌≡◌, length};

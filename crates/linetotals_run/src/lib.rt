@@ -1,5 +1,7 @@
 // The stages of linetotals' input, which is run as it is read (document 02 (e), end-of-shift totals). A stage says how many bytes
 // are wanted next, and a step goes on from a stage by a reading of so many. One list is held at a time, however many come.
+#![tactic(auto)]
+
 mod list_phase;
 mod table_phase;
 

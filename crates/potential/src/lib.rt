@@ -1,5 +1,7 @@
 // The potential rights, those that could ever come about in a table where only some domains act: n × n sets, holder by holder,
 // in words lent for them. Total: accepts arbitrary words as a table, and any word as the set of those that act.
+#![tactic(auto)]
+
 mod grants;
 mod matrix;
 pub mod places;

@@ -2,6 +2,8 @@
 // document 02, (a) and (d)). Nothing here sees the rest of the table. Both test the words first: other words stay as they are, and
 // the answer is false.
 // A word of kind k that holds p is k × KIND_UNIT + p.
+#![tactic(auto)]
+
 ghost use Rattle.std.specs.Prelude.{◌≡◌, ◌+◌, min};
 ghost use Rattle.machine.specs.Queue.{most_lost, send_with_space, send_to_full, received};
 ghost use Rattle.queue.specs.Queue.{sendable, left_by_send, receivable, left_by_receive, QueueRoom, MayPushOut, MayReceive};

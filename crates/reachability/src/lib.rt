@@ -1,5 +1,7 @@
 // The closure of a set of domains over lent words, for document 02 (h) and (j): bit u of word v says that u has a step to v. A set
 // is a word too, with a bit for each member. Total: accepts arbitrary words and sets.
+#![tactic(auto)]
+
 ghost use Rattle.std.specs.Prelude.{◌≡◌, ◌%◌, ◌^◌};
 ghost use Rattle.reachability.specs.Closure.{widened, closed};
 

@@ -1,6 +1,8 @@
 // The repair of a table from a worn card (document 02 (k)). The table is mended in a copy. Where the check accepts the copy and
 // the lent list has room for what is altered, the words that differ are written into the table, and two words for each into the
 // list: its place and its old content, from which the old table can be restored. A refusal alters nothing.
+#![tactic(auto)]
+
 pub mod mend;
 
 ghost use Rattle.std.specs.Prelude.{◌≡◌, ◌++◌, ◌≤◌, length, drop};

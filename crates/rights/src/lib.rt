@@ -1,5 +1,7 @@
 // The rights that one domain holds on another: a set by value, with a bit for each right (document 01, 'The table').
 // Each method is the machine's definition of the same name.
+#![tactic(auto)]
+
 ghost use Rattle.std.specs.Prelude.{◌≡◌};
 ghost use Rattle.machine.specs.Right.{holds, adds, without, has_any};
 

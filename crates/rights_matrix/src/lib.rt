@@ -1,5 +1,7 @@
 // The rights of up to sixteen domains as sixteen rows of sixteen bytes, by value (document 02 (l)): row h has what the domain h
 // holds, and place g of it the rights on g. The public functions are total: they accept arbitrary words as a table.
+#![tactic(auto)]
+
 ghost use Rattle.std.specs.Prelude.{◌≡◌, cond, ◌%◌, ◌≤◌, ◌<◌, length};
 ghost use Rattle.machine.specs.Below.{words_below};
 ghost use Rattle.machine.specs.Word.{word};

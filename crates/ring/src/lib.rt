@@ -1,5 +1,7 @@
 // A queue as a ring in twelve lent words (document 02 (l)): eight places with a first place and a count, wrapping round, so that a
 // send and a receive move no other message. No function here is passed a table. Words that aren't twelve are left as they are.
+#![tactic(auto)]
+
 ghost use Rattle.std.specs.Prelude.{◌≡◌, ◌+◌, ◌-◌, ◌%◌, length};
 ghost use Rattle.ring_theory.specs.Ring.{first_place, count, place_from, ring_sent, ring_of, stored_slot, stored_queue, of_twelve};
 ghost use Rattle.ring.specs.Received.{Taken};

@@ -1,6 +1,8 @@
 // The conditions of the places 12 and 16 to 23 of a call (document 01, 'Where each number is checked'; document 02, (b), (f) and
 // (i)), by plain values and without a table: those of the indices and rights that a call names (range), and those of what was read
 // for it (access). Each is here once, for code that holds a table in any layout.
+#![tactic(auto)]
+
 pub mod access;
 pub mod range;
 

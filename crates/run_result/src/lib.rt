@@ -1,4 +1,6 @@
 // The result of running a list, with document 01's codes for it ('Where each number is checked').
+#![tactic(auto)]
+
 ghost use Rattle.std.specs.Prelude.{◌≡◌};
 ghost use Rattle.run_result.specs.Entry.{entry_refusal_code, ran_code, ran_calls};
 

@@ -1,5 +1,7 @@
 // The table check, which accepts or refuses a lent table place by place: document 01, 'The table' and 'Where each number is
 // checked'.
+#![tactic(auto)]
+
 use crate::names::all_different;
 use format::KIND_UNIT;
 use format::tables::{ENDPOINT_PLACES, ENDPOINT_WORDS};

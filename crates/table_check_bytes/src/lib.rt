@@ -1,5 +1,7 @@
 // The check of a table's image, which is its words as little-endian bytes (document 01, 'Into firmware and onto the bench').
 // The words are read from the bytes in place. Only the loops are here: every test of a word is in crate table_words.
+#![tactic(auto)]
+
 ghost use Rattle.std.specs.Prelude.{◌≡◌, true, ◌+◌, ◌-◌, ◌*◌, ◌≤◌, eqb, length, get_or, take, drop};
 ghost use Rattle.machine.specs.Below.{all_below};
 ghost use Rattle.machine.specs.Word.{word as table_word};

@@ -1,6 +1,8 @@
 // The places of a table's words, and how they are read (document 01, 'The table'). Each function is total: it accepts
 // arbitrary words as a table, and a word past the end reads as 0. A caller that reads often reads n, the count of domains,
 // once and passes it. n has eight bits in a table's first word, so only eight are used where n is squared.
+#![tactic(auto)]
+
 ghost use Rattle.std.specs.Prelude.{◌≡◌, ◌+◌, ◌%◌, get_or};
 ghost use Rattle.machine.specs.Word.{payload};
 ghost use Rattle.machine.specs.Table.{domains, endpoints, rights_at, endpoint_at};

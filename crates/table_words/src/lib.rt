@@ -1,6 +1,8 @@
 // Tests of each kind of word of a table (document 01, 'The table'). Each is total, and its contract cites the machine's
 // definition for that kind of word. Most return whether the word is valid, and are joined by `&`, which leaves no branch in
 // the loops that call them. `rights_wrong` and `slot_wrong` return the bits that are wrong, for the loops that gather them.
+#![tactic(auto)]
+
 pub mod endpoint;
 
 ghost use Rattle.std.specs.Prelude.{◌≡◌, cond, ◌-◌, eqb, leb};

@@ -1,4 +1,6 @@
 // Adds a list to totals (document 02 (e)): the list is run, and what it counts at each endpoint is added.
+#![tactic(auto)]
+
 mod counts;
 mod sums;
 

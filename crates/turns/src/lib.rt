@@ -1,6 +1,8 @@
 // Turns for calls that domains hand in one by one (document 02 (m)), a layer above the kernel that relies on its contracts alone:
 // those of `kernel::check`, `kernel::step` and the module `kernel::reports`. What is pending and the place of the turn are in
 // 1 + 17 n words that the caller lends (crate turns_state).
+#![tactic(auto)]
+
 mod serving;
 
 ghost use Rattle.std.specs.Prelude.{◌≡◌};

@@ -1,6 +1,8 @@
 // The words that represent what is pending and the place of the turn (document 02 (m)): 1 + 17 n of them, the place first, then
 // seventeen words for each domain, lowest index first (module pending). Total: accepts arbitrary words as a state. A domain whose
 // seventeen words aren't all there has nothing pending and no room.
+#![tactic(auto)]
+
 pub mod domain;
 pub mod order;
 pub mod pending;

@@ -1,6 +1,8 @@
 // The run of a list on a working layout (document 02 (l)): the lent table is loaded once, after the entry's checks, and stored
 // once, at the end. In between no word of it is read or written: the calls run on the rights as rows, the queues as rings, the
 // names and the endpoints owned.
+#![tactic(auto)]
+
 pub mod by_length;
 mod decode;
 mod run_list;

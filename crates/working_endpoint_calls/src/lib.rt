@@ -1,5 +1,7 @@
 // The calls about endpoints on a working state (document 02 (l)). Each checks that the call's fields are in range, then what the
 // state holds. A send and a receive lend the endpoint's ring once. The public functions accept arbitrary values.
+#![tactic(auto)]
+
 ghost use Rattle.std.specs.Prelude.{◌≡◌, ◌&&◌, [], ◌+◌, ◌*◌, ◌%◌, ◌<◌, eqb, ltb, length, get_or};
 ghost use Rattle.machine.specs.Below.{first_below};
 ghost use Rattle.answers.specs.Answer.{answer_words};

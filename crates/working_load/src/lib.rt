@@ -1,5 +1,7 @@
 // Loads a table's endpoints and stores their queues (document 02 (l)): the queues as rings, the names side by side, and for each
 // domain the endpoints that it owns as bits. All functions are total: they accept arbitrary words as a table.
+#![tactic(auto)]
+
 ghost use Rattle.std.specs.Prelude.{◌≡◌, cond, ◌%◌, min, length};
 ghost use Rattle.working_load.specs.Layout.{has_queues, rings_of, stored_queues, names_of, owned_of};
 

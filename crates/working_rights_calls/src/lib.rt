@@ -1,5 +1,7 @@
 // The calls about rights on a working state (document 02 (l)). Each checks that the call's fields are in range, then what the rows
 // hold. One that alters rights writes one place of a row and notes the change in the holders. All accept arbitrary values.
+#![tactic(auto)]
+
 ghost use Rattle.std.specs.Prelude.{◌≡◌, []};
 ghost use Rattle.machine.specs.Machine.{Effect.new_rights};
 ghost use Rattle.answers.specs.Answer.{answer_words};

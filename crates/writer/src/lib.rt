@@ -1,6 +1,8 @@
 // The writer of call lists (document 02, (c)): it takes calls as values and writes words, those that the reader takes past 10,
 // 11, 13 and 14. It is lent no table. It makes two passes: the first finds a call that can't be written and counts the words, and
 // only the second writes words.
+#![tactic(auto)]
+
 pub mod rows;
 
 ghost use Rattle.std.specs.Prelude.{◌≡◌, true, ◌++◌, ◌≤◌, min, length, take, drop};

@@ -7,6 +7,6 @@ use Rattle.table_words.proofs.rights_wrong.Goals as goal
 pub returns : goal.returns
 unfolding rights_wrong
 returns c = record {
-      value = refl;
-      all_rights_value = rights-right _;
-    }
+  value = refl;
+  all_rights_value = rights-right _;
+}

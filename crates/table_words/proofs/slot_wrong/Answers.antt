@@ -5,6 +5,6 @@ use Rattle.table_words.proofs.slot_wrong.Goals as goal
 
 pub returns : goal.returns
 returns c = record {
-      value = slot_is _ _ _ _ c.bits_asked-asked.ensures;
-      result_value = slot-right _ _ _ _ (omega arith) c.bits_asked-asked.ensures;
-    }
+  value = slot_is _ _ _ _ c.bits_asked-asked.ensures;
+  result_value = slot-right _ _ _ _ (omega arith) c.bits_asked-asked.ensures;
+}
