@@ -15,10 +15,9 @@ overflow_add-calls c = omega (arith, c.begun-calls.ensures, one_at_most (pairs c
 
 pub loop-i-preserved : goal.loop-i-preserved
 loop-i-preserved c =
-    let at = c in
-    let list = at.args.list.now in
-    let most = one_at_most (pairs at.loop-i.before (get_or list at.loop-i.i 0)) in
-    let next = counted_next list at.loop-i.calls at.loop-i.before at.loop-i.i (search rules) at.loop-i.invariant.2 in
+    let list = c.args.list.now in
+    let most = one_at_most (pairs c.loop-i.before (get_or list c.loop-i.i 0)) in
+    let next = counted_next list c.loop-i.calls c.loop-i.before c.loop-i.i (search rules) c.loop-i.invariant.2 in
     (omega arith, omega (arith, c.begun-calls.ensures), rw c.begun-calls.ensures next)
 
 pub returns : goal.returns
