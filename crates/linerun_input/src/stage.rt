@@ -6,7 +6,7 @@ use crate::stdin::Got;
 use crate::wanted;
 
 // How many bytes came, how many more are wanted, and whether the input ended before they came.
-#[derive(Drop)]
+#[derive(Clone, Copy)]
 pub struct Input {
     have: usize,
     wanted: usize,

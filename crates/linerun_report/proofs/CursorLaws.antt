@@ -13,7 +13,7 @@ use Rattle.text.specs.Write.{overwrite, Writes}
 use Rattle.text.proofs.WriteLaws.{overwrite-none, writes-length}
 use Rattle.linerun_report.specs.Lines.{all_lines, printed_before, lines_between, part_bytes, line_after, part_from}
 use Rattle.linerun_report.specs.Report.{answer_space, outcome_lines, answered, report}
-use Rattle.linerun_report.specs.Cursor.{calls_of, code_of, line_of, first_of, ended, gives, part_of, advanced, parts_from, PartsAreReport}
+use Rattle.linerun_report.specs.Cursor.{calls_of, code_of, line_of, first_lines, ended, gives, part_of, advanced, parts_from, PartsAreReport}
 use Rattle.linerun_report.specs.declared.Lines.{Lines}
 use Rattle.linerun_report.proofs.LineLaws.{at-number, lines_join, all-printed}
 use Rattle.linerun_report.proofs.ReportLaws.{answered-few, answers-lent}
@@ -74,10 +74,10 @@ parts_join (suc most) l answers space few lent fits within enough =
         ∙ later
 
 pub parts-are-report : PartsAreReport
-unfolding report outcome_lines first_of printed_before
+unfolding report outcome_lines first_lines printed_before
 parts-are-report bytes space most fits enough =
     let o = answered bytes answer_space in
-    parts_join most (first_of o) o.answers space (answered-few bytes answer_space) (answers-lent bytes answer_space) fits (omega arith)
+    parts_join most (first_lines o) o.answers space (answered-few bytes answer_space) (answers-lent bytes answer_space) fits (omega arith)
     (omega (arith, answered-few bytes answer_space))
     ∙ sym (all-printed o.calls o.code o.answers)
 

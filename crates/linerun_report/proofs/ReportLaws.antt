@@ -27,7 +27,7 @@ use Rattle.linerun_input.specs.Input.{list_words_read, list_of, left_over, unrea
 use Rattle.linerun_input.proofs.InputLaws.{no-left-over, list_of-more}
 use Rattle.linerun_report.specs.Lines.{all_lines}
 use Rattle.linerun_report.specs.Report.{answer_space, holders_space, outcome_lines, answered, report, NothingFollows, EveryWordsReported, Follows}
-use Rattle.linerun_report.specs.Cursor.{calls_of, code_of, first_of, Prints}
+use Rattle.linerun_report.specs.Cursor.{calls_of, code_of, first_lines, Prints}
 use Rattle.linerun_report.specs.declared.Lines.{Lines}
 
 pub answered-unreadable : (bytes space : List ℕ) → unreadable bytes ≡ true → answered bytes space ≡ refusal 7 [] space []
@@ -39,8 +39,8 @@ pub answered-ran : (bytes : List ℕ) {table list space holders : List ℕ} {cod
     → unreadable bytes ≡ false
     → table ≡ table_of bytes → list ≡ list_of bytes → holders ≡ holders_space (table_of bytes)
     → RunPromise table list space holders code calls answers end kept → k ≡ calls → c ≡ code
-    → (record { calls = k; code = c; line = 0; given = 0 } ≡ first_of (answered bytes space)) × (answers ≡ (answered bytes space).answers)
-unfolding answered first_of
+    → (record { calls = k; code = c; line = 0; given = 0 } ≡ first_lines (answered bytes space)) × (answers ≡ (answered bytes space).answers)
+unfolding answered first_lines
 answered-ran bytes e t l h p same-calls same_code =
     let q = rw (t, l, h) at p in
     let calls_are = same-calls ∙ q.same_calls in
@@ -131,8 +131,8 @@ words-reported t ws given words short =
 
 -- so what is printed for the bytes read is the whole input's report
 pub prints : (bytes : List ℕ) (input_ended : Bool) {l : Lines} {answers : List ℕ} → Reads bytes input_ended
-    → l ≡ first_of (answered bytes answer_space) → answers ≡ (answered bytes answer_space).answers → Prints bytes input_ended l answers
-unfolding first_of report outcome_lines
+    → l ≡ first_lines (answered bytes answer_space) → answers ≡ (answered bytes answer_space).answers → Prints bytes input_ended l answers
+unfolding first_lines report outcome_lines
 prints bytes input_ended {l} {answers} reads cursor left =
     let is : all_lines (calls_of l) (code_of l) answers ≡ report bytes = rw (cursor, left) refl in
     record {

@@ -20,8 +20,8 @@ abbrev pub given_of : Lines → ℕ
 given_of l = l.given
 
 -- the cursor before the first line of an outcome
-unfoldable pub first_of : Outcome → Lines
-first_of o = record { calls = o.calls; code = o.code; line = 0; given = 0 }
+unfoldable pub first_lines : Outcome → Lines
+first_lines o = record { calls = o.calls; code = o.code; line = 0; given = 0 }
 
 -- all lines were given
 unfoldable pub ended : Lines → Bool
@@ -55,7 +55,7 @@ parts_from (suc most) l answers space =
 -- The parts from line 0 on concatenate to the report, where there is space for the longest part. There are no more parts than lines.
 abbrev pub PartsAreReport : Type 0
 PartsAreReport = (bytes : List ℕ) (space most : ℕ) → part_bytes ≤ space → longest_list < most
-    → parts_from most (first_of (answered bytes answer_space)) (answered bytes answer_space).answers space ≡ report bytes
+    → parts_from most (first_lines (answered bytes answer_space)) (answered bytes answer_space).answers space ≡ report bytes
 
 -- what a cursor will print of the bytes read, where the input ended after them or not: from line 0 on their report, and so that of
 -- the whole input, whatever else is in it

@@ -8,7 +8,7 @@ ghost use Rattle.std.specs.Prelude.{◌≤◌, min, ◌≡◌, length, take};
 ghost use Rattle.machine.specs.Table.{domains};
 ghost use Rattle.text.specs.Write.{overwrite};
 ghost use Rattle.linerun_report.specs.Report.{answered};
-ghost use Rattle.linerun_report.specs.Cursor.{given_of, first_of, ended, gives, part_of, advanced};
+ghost use Rattle.linerun_report.specs.Cursor.{given_of, first_lines, ended, gives, part_of, advanced};
 
 use format::calls::LONGEST_LIST;
 use format::tables::{DOMAIN_PLACES, LONGEST_TABLE};
@@ -54,7 +54,7 @@ fn holders_lent(table: &[u32]) -> usize
 
 // Runs what was read. Returns the cursor before the first line, and leaves the calls' answers in the lent words.
 pub fn answer(bytes: &[u8], answers: &mut [u32]) -> Lines
-    ensures value { result ≡ first_of (answered bytes.now answers.old) }
+    ensures value { result ≡ first_lines (answered bytes.now answers.old) }
     ensures answers_after { answers.new ≡ (answered bytes.now answers.old).answers }
 {
     if unreadable(bytes) {

@@ -9,7 +9,7 @@ use Rattle.machine.specs.Entry.{Outcome}
 use Rattle.linerun_input.specs.Stage.{have_of, ended_of}
 use Rattle.linerun_input.proofs.StageLaws.{all_read}
 use Rattle.linerun_report.specs.Report.{answered}
-use Rattle.linerun_report.specs.Cursor.{first_of}
+use Rattle.linerun_report.specs.Cursor.{first_lines}
 use Rattle.linerun_report.proofs.ReportLaws.{prints}
 use Rattle.linerun.proofs.answer_input.Statement.{statement}
 use Rattle.linerun.proofs.answer_input.Tie as tie
@@ -42,7 +42,7 @@ returns c =
     ap (λ (k : ℕ). take k start.args.buffer.now) (sub-zero have.result ∙ have.ensures) in
     let bytes = take (have_of input) start.args.buffer.now in
     let same = ap (λ (b : List ℕ). answered b start.args.answers.now) is_read ∙ ap (answered bytes) start.requires.1.1 in
-    prints bytes (ended_of input) (all_read start.requires.1.0.0 start.requires.1.0.1) (was-run.ensures.0 ∙ ap first_of same)
+    prints bytes (ended_of input) (all_read start.requires.1.0.0 start.requires.1.0.1) (was-run.ensures.0 ∙ ap first_lines same)
     (was-run.ensures.1 ∙ ap (λ (o : Outcome). o.answers) same)
 
 pub answer_input_spec : {M : Type 1} → statement M

@@ -8,7 +8,7 @@ use Rattle.text.proofs.WriteLaws.{fills-part}
 use Rattle.input_words.specs.TableInput.{table_of}
 use Rattle.input_words.proofs.TableLaws.{whole, length-table_of}
 use Rattle.linerun_input.proofs.InputLaws.{readable-whole, list-part}
-use Rattle.linerun_report.specs.Cursor.{first_of}
+use Rattle.linerun_report.specs.Cursor.{first_lines}
 use Rattle.linerun_report.proofs.ReportLaws.{answered-unreadable, answered-ran, lent-part}
 use borrow.Author.Rules.{rules}
 use Rattle.linerun_report.proofs.answer.Statement.{statement}
@@ -18,7 +18,7 @@ unreadable-requires : tie.Need-unreadable-requires
 unreadable-requires c κs = search rules
 
 returns : tie.Need-returns
-unfolding first_of refusal
+unfolding first_lines refusal
 returns c =
     let start = c.before.before.before.before in
     let unread =

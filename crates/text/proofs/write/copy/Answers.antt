@@ -1,9 +1,7 @@
 -- `text::write::copy` meets its contract: after i iterations the first i bytes are written. Assumes nothing.
-use Prim.Native.Nat.{◌-◌, ◌≤◌}
 use mathlib.Core.Path.{◌≡◌, refl, sym}
 use native.Mathlib.Omega.{arith}
-use lib.ListN.{length, take, length-set}
-use Rattle.text.specs.Write.{overwrite}
+use lib.ListN.{length-set}
 use Rattle.text.proofs.WriteLaws.{overwrite-none, write-next}
 use Rattle.text.proofs.write.copy.Goals as goal
 

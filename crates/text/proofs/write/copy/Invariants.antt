@@ -1,10 +1,8 @@
 -- `text::write::copy` meets its contract: after i iterations the first i bytes are written. Assumes nothing.
 use Prim.Native.Nat.{◌-◌, ◌≤◌}
-use mathlib.Core.Path.{◌≡◌, refl, sym}
-use native.Mathlib.Omega.{arith}
-use lib.ListN.{length, take, length-set}
+use mathlib.Core.Path.{◌≡◌}
+use lib.ListN.{length, take}
 use Rattle.text.specs.Write.{overwrite}
-use Rattle.text.proofs.WriteLaws.{overwrite-none, write-next}
 use Rattle.text.proofs.write.copy.Given as goal
 
 abbrev pub invariant-loop-i : goal.invariant-loop-i

@@ -4,7 +4,6 @@ use lib.ListN.{length}
 use mathlib.Core.Path.{sym, ◌∙◌}
 use native.Mathlib.Omega.{arith}
 use Rattle.text.proofs.WriteLaws.{overwrite-past, write-all}
-use borrow.Author.Rules.{rules}
 use Rattle.text.proofs.write.put.Goals as goal
 
 pub returns-then-out-at : goal.returns-then-out-at

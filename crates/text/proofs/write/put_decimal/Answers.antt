@@ -1,6 +1,5 @@
 -- `text::write::put_decimal` meets its contract: one digit at once, or the digits that `spell` left. Assumes nothing.
 use Rattle.text.proofs.Spelling.{whole_part}
-use borrow.Author.Rules.{rules}
 use Rattle.text.proofs.write.put_decimal.Goals as goal
 
 pub returns-then-x-lt10 : goal.returns-then-x-lt10
@@ -9,5 +8,5 @@ returns-then-x-lt10 c = c.put_digit.ensures
 pub returns : goal.returns
 returns c =
     let spelled = c.spell-first in
-    rw (whole_part 20 spelled.result spelled.new.1.0 spelled.auto.1.0 spelled.ensures.1)
+    rw (whole_part 20 spelled.result spelled.new.digits spelled.auto.digits spelled.ensures.1)
     at c.put.ensures

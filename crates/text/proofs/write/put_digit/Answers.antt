@@ -8,7 +8,6 @@ use Rattle.text.specs.Decimal.{decimal}
 use Rattle.text.specs.Write.{overwrite}
 use Rattle.text.proofs.DigitLaws.{decimal_digit}
 use Rattle.text.proofs.WriteLaws.{overwrite-past, overwrite-one}
-use borrow.Author.Rules.{rules}
 use Rattle.text.proofs.write.put_digit.Goals as goal
 
 pub returns-then-out-at : goal.returns-then-out-at

@@ -1,7 +1,6 @@
 -- `text::write::put_labelled` meets its contract (`then`). Assumes nothing.
 use Rattle.text.specs.Decimal.{labelled}
 use Rattle.text.proofs.WriteLaws.{then}
-use borrow.Author.Rules.{rules}
 use Rattle.text.proofs.write.put_labelled.Goals as goal
 
 pub returns : goal.returns

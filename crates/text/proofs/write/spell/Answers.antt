@@ -1,7 +1,7 @@
 -- `text::write::spell` meets its contract: the invariant of its loop is `Spelled`. Assumes nothing.
 use mathlib.Core.Path.{◌≡◌, sym, ◌∙◌}
 use native.Mathlib.Omega.{arith}
-use Rattle.text.proofs.Spelling.{Spelled, start, next, place-before, done}
+use Rattle.text.proofs.Spelling.{start, next, place-before, done}
 use Rattle.text.proofs.write.spell.Goals as goal
 
 pub overflow_cast-digits : goal.overflow_cast-digits

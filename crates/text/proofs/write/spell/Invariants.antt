@@ -1,7 +1,5 @@
 -- `text::write::spell` meets its contract: the invariant of its loop is `Spelled`. Assumes nothing.
-use mathlib.Core.Path.{◌≡◌, sym, ◌∙◌}
-use native.Mathlib.Omega.{arith}
-use Rattle.text.proofs.Spelling.{Spelled, start, next, place-before, done}
+use Rattle.text.proofs.Spelling.{Spelled}
 use Rattle.text.proofs.write.spell.Given as goal
 
 abbrev pub invariant-loop-rest : goal.invariant-loop-rest
