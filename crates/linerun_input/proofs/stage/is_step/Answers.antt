@@ -1,8 +1,7 @@
 -- `stage::is_step` meets its contract: each return rewrites by the tests that led there. Assumes nothing.
 use Prim.Native.Nat.{ℕ, ◌+◌, ◌-◌, ◌<◌, ◌≤◌}
-use mathlib.Core.Path.{◌≡◌, refl, sym, ap, ◌∙◌}
-use mathlib.Core.Bool.{Bool, true, false, ◌&&◌, and-false}
-use borrow.Author.Rules.{rules}
+use mathlib.Core.Path.{◌≡◌, refl, sym, ◌∙◌}
+use mathlib.Core.Bool.{Bool, true, false, and-false}
 use borrow.Author.Tests.{lt-ltb, ne_eqb, eq-eqb, lt-leb, le-leb, leb-true, leb-false}
 use native.Mathlib.Nat.{pos_of_ne-zero}
 use native.Mathlib.Omega.{arith}
@@ -12,8 +11,7 @@ use mathlib.Core.List.{List}
 use Rattle.linerun_input.specs.Stage.{asked_of, came_of, have_of, wanted_of, is_step}
 use Rattle.linerun_input.specs.declared.stdin.Got.{Got}
 use Rattle.linerun_input.specs.declared.stage.Input.{Input}
-use Rattle.linerun_input.proofs.stage.is_step.Statement.{statement}
-use Rattle.linerun_input.proofs.stage.is_step.Tie as tie
+use Rattle.linerun_input.proofs.stage.is_step.Goals as goal
 
 -- what came fits after the bytes before it
 fits : (have came long : ℕ) → have ≤ long → leb came (long - have) ≡ leb (have + came) long
@@ -45,32 +43,18 @@ module _ (s : Input) (g : Got) (buffer : List ℕ) where
   wanted_read some asked within =
       simp (lt-ltb _ _ (pos_of_ne-zero some), eq-eqb _ _ asked) (fits (have_of s) (came_of g) (length buffer) within)
 
-returns : tie.Need-returns
-returns c = nothing-wanted _ _ _ c.if1.true
+pub returns-then-input-eq0 : goal.returns-then-input-eq0
+returns-then-input-eq0 c = nothing-wanted _ _ _ c.if-input-eq0.true
 
-asked-requires : tie.Need-asked-requires
-asked-requires c κs = search rules
+pub returns-then-asked-input : goal.returns-then-asked-input
+returns-then-asked-input c = other-asked _ _ _ (λ e. c.if-asked-input.true (c.asked.ensures ∙ e))
 
-returns-2 : tie.Need-returns-2
-returns-2 c = other-asked _ _ _ (λ e. c.if2.true (c.before.before.asked.ensures ∙ e))
+pub returns-then-buffer-input : goal.returns-then-buffer-input
+returns-then-buffer-input c = past_the_end _ _ _ c.if-buffer-input.true
 
-returns-3 : tie.Need-returns-3
-returns-3 c = past_the_end _ _ _ c.if3.true
-
-came-requires : tie.Need-came-requires
-came-requires c κs = search rules
-
-sub-result : tie.Need-overflow-sub-result
-sub-result c = search rules
-
-returns-4 : tie.Need-returns-4
-returns-4 c =
-    let within = c.before.before.if3.false in
-    let asked = c.before.before.before.before in
-    let wants = asked.before.before.before.if1.false in
-    rw c.before.came.ensures (wanted_read _ _ _ wants (sym asked.before.before.asked.ensures ∙ asked.if2.false) within)
-
-pub is_step_spec : {M : Type 1} → statement M
-is_step_spec =
-    tie.close
-    (tie.spec returns asked-requires returns-2 returns-3 came-requires sub-result returns-4)
+pub returns : goal.returns
+returns c =
+    let within = c.if-buffer-input.false in
+    let asked = c in
+    let wants = asked.if-input-eq0.false in
+    rw c.came.ensures (wanted_read _ _ _ wants (sym asked.asked.ensures ∙ asked.if-asked-input.false) within)
