@@ -1,5 +1,4 @@
 -- `run` meets its contract: it is refused at its entry, or the calls run. Assumes nothing.
-use borrow.Author.Rules.{rules}
 use Rattle.kernel.proofs.Entries.{may-run, promise-entered, promise-all-run}
 use Rattle.kernel.proofs.run.Goals as goal
 

@@ -8,7 +8,6 @@ use native.Mathlib.Nat.{add-zero}
 use native.Mathlib.Omega.{arith}
 use lib.Dec.{eqb}
 use lib.ListN.{length, get_or}
-use borrow.Author.Rules.{rules}
 use borrow.Author.Tests.{eq-eqb, ne_eqb}
 use Rattle.machine.specs.Below.{first_below}
 use Rattle.machine.specs.Table.{endpoint}
@@ -27,18 +26,24 @@ pub loop-e-init : goal.loop-e-init
 loop-e-init c = at_first _ _
 
 pub offset_bounds-table-at : goal.offset_bounds-table-at
-offset_bounds-table-at c = omega (arith, (let the_there : c.endpoint_at-at.result + 12 ≤ length c.args.table.now = let s = c in
-    let from = c.loop-e.invariant in
-    endpoint-in _ s.requires.accepted _ s.requires.n_value _ _ _ s.requires.m_value
-    (omega (arith, from.least, from.most, c.loop-e-test.true))
-    c.endpoint_at-at.ensures in the_there))
+offset_bounds-table-at c = omega (
+  arith,
+  (let the_there : c.endpoint_at-at.result + 12 ≤ length c.args.table.now = let s = c in
+      let from = c.loop-e.invariant in
+      endpoint-in _ s.requires.accepted _ s.requires.n_value _ _ _ s.requires.m_value
+      (omega (arith, from.least, from.most, c.loop-e-test.true))
+      c.endpoint_at-at.ensures in the_there),
+)
 
 pub bounds-table-at : goal.bounds-table-at
-bounds-table-at c = omega (arith, (let the_there : c.endpoint_at-at.result + 12 ≤ length c.args.table.now = let s = c in
-    let from = c.loop-e.invariant in
-    endpoint-in _ s.requires.accepted _ s.requires.n_value _ _ _ s.requires.m_value
-    (omega (arith, from.least, from.most, c.loop-e-test.true))
-    c.endpoint_at-at.ensures in the_there))
+bounds-table-at c = omega (
+  arith,
+  (let the_there : c.endpoint_at-at.result + 12 ≤ length c.args.table.now = let s = c in
+      let from = c.loop-e.invariant in
+      endpoint-in _ s.requires.accepted _ s.requires.n_value _ _ _ s.requires.m_value
+      (omega (arith, from.least, from.most, c.loop-e-test.true))
+      c.endpoint_at-at.ensures in the_there),
+)
 
 pub loop-e-smaller-then-word-name : goal.loop-e-smaller-then-word-name
 loop-e-smaller-then-word-name c = omega arith

@@ -1,6 +1,5 @@
 -- `endpoint_calls::my_endpoints` meets its contract: 12, or the endpoints, all of which are in the table. Assumes nothing.
 use mathlib.Core.Path.{refl}
-use borrow.Author.Rules.{rules}
 use Rattle.rules.specs.Range.{call_numbers}
 use Rattle.rules.specs.Access.{access_by}
 use Rattle.rules.proofs.Guards.{outside, within}

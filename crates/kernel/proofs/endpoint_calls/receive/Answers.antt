@@ -4,7 +4,6 @@ use mathlib.Core.Path.{◌≡◌, sym, ap, ap₂, ◌∙◌}
 use Prim.Native.Nat.{ℕ, ◌+◌, ◌%◌, ◌≤◌, ◌<◌}
 use native.Mathlib.Omega.{arith}
 use lib.ListN.{length, get_or}
-use borrow.Author.Rules.{rules}
 use borrow.Author.Tests.{eqb-false}
 use Rattle.machine.specs.Word.{kind, field_b, payload}
 use Rattle.machine.specs.Table.{endpoint, domains, endpoint_at}
@@ -35,40 +34,58 @@ read : (t : List ℕ) (n : ℕ) → n ≡ domains t → (e at : ℕ) → at ≡ 
 read t n is e at from j l = ap (λ (k : ℕ). get_or t (k + j) 0) from ∙ endpoint-read t n is e j l
 
 pub overflow_add-info : goal.overflow_add-info
-overflow_add-info c = omega (arith, (let the_there : c.endpoint_at-start.result + 12 ≤ length c.args.table.now = let s = c in
-    endpoint-in _ s.requires.accepted _ s.requires.n_value _ _ _ s.requires.m_value
-    (in-endpoint _ c.in_default.is _ _ _ _ c.of_endpoint-range.ensures).1
-    c.endpoint_at-start.ensures in the_there))
+overflow_add-info c = omega (
+  arith,
+  (let the_there : c.endpoint_at-start.result + 12 ≤ length c.args.table.now = let s = c in
+      endpoint-in _ s.requires.accepted _ s.requires.n_value _ _ _ s.requires.m_value
+      (in-endpoint _ c.in_default.is _ _ _ _ c.of_endpoint-range.ensures).1
+      c.endpoint_at-start.ensures in the_there),
+)
 
 pub offset_bounds-table-start : goal.offset_bounds-table-start
-offset_bounds-table-start c = omega (arith, (let the_there : c.endpoint_at-start.result + 12 ≤ length c.args.table.now = let s = c in
-    endpoint-in _ s.requires.accepted _ s.requires.n_value _ _ _ s.requires.m_value
-    (in-endpoint _ c.in_default.is _ _ _ _ c.of_endpoint-range.ensures).1
-    c.endpoint_at-start.ensures in the_there))
+offset_bounds-table-start c = omega (
+  arith,
+  (let the_there : c.endpoint_at-start.result + 12 ≤ length c.args.table.now = let s = c in
+      endpoint-in _ s.requires.accepted _ s.requires.n_value _ _ _ s.requires.m_value
+      (in-endpoint _ c.in_default.is _ _ _ _ c.of_endpoint-range.ensures).1
+      c.endpoint_at-start.ensures in the_there),
+)
 
 pub bounds-table-start : goal.bounds-table-start
-bounds-table-start c = omega (arith, (let the_there : c.endpoint_at-start.result + 12 ≤ length c.args.table.now = let s = c in
-    endpoint-in _ s.requires.accepted _ s.requires.n_value _ _ _ s.requires.m_value
-    (in-endpoint _ c.in_default.is _ _ _ _ c.of_endpoint-range.ensures).1
-    c.endpoint_at-start.ensures in the_there))
+bounds-table-start c = omega (
+  arith,
+  (let the_there : c.endpoint_at-start.result + 12 ≤ length c.args.table.now = let s = c in
+      endpoint-in _ s.requires.accepted _ s.requires.n_value _ _ _ s.requires.m_value
+      (in-endpoint _ c.in_default.is _ _ _ _ c.of_endpoint-range.ensures).1
+      c.endpoint_at-start.ensures in the_there),
+)
 
 pub overflow_add-count : goal.overflow_add-count
-overflow_add-count c = omega (arith, (let the_there : c.endpoint_at-start.result + 12 ≤ length c.args.table.now = let s = c in
-    endpoint-in _ s.requires.accepted _ s.requires.n_value _ _ _ s.requires.m_value
-    (in-endpoint _ c.in_default.is _ _ _ _ c.of_endpoint-range.ensures).1
-    c.endpoint_at-start.ensures in the_there))
+overflow_add-count c = omega (
+  arith,
+  (let the_there : c.endpoint_at-start.result + 12 ≤ length c.args.table.now = let s = c in
+      endpoint-in _ s.requires.accepted _ s.requires.n_value _ _ _ s.requires.m_value
+      (in-endpoint _ c.in_default.is _ _ _ _ c.of_endpoint-range.ensures).1
+      c.endpoint_at-start.ensures in the_there),
+)
 
 pub offset_bounds-table-start-2 : goal.offset_bounds-table-start-2
-offset_bounds-table-start-2 c = omega (arith, (let the_there : c.endpoint_at-start.result + 12 ≤ length c.args.table.now = let s = c in
-    endpoint-in _ s.requires.accepted _ s.requires.n_value _ _ _ s.requires.m_value
-    (in-endpoint _ c.in_default.is _ _ _ _ c.of_endpoint-range.ensures).1
-    c.endpoint_at-start.ensures in the_there))
+offset_bounds-table-start-2 c = omega (
+  arith,
+  (let the_there : c.endpoint_at-start.result + 12 ≤ length c.args.table.now = let s = c in
+      endpoint-in _ s.requires.accepted _ s.requires.n_value _ _ _ s.requires.m_value
+      (in-endpoint _ c.in_default.is _ _ _ _ c.of_endpoint-range.ensures).1
+      c.endpoint_at-start.ensures in the_there),
+)
 
 pub bounds-table-start-2 : goal.bounds-table-start-2
-bounds-table-start-2 c = omega (arith, (let the_there : c.endpoint_at-start.result + 12 ≤ length c.args.table.now = let s = c in
-    endpoint-in _ s.requires.accepted _ s.requires.n_value _ _ _ s.requires.m_value
-    (in-endpoint _ c.in_default.is _ _ _ _ c.of_endpoint-range.ensures).1
-    c.endpoint_at-start.ensures in the_there))
+bounds-table-start-2 c = omega (
+  arith,
+  (let the_there : c.endpoint_at-start.result + 12 ≤ length c.args.table.now = let s = c in
+      endpoint-in _ s.requires.accepted _ s.requires.n_value _ _ _ s.requires.m_value
+      (in-endpoint _ c.in_default.is _ _ _ _ c.of_endpoint-range.ensures).1
+      c.endpoint_at-start.ensures in the_there),
+)
 
 pub returns-in-Refused : goal.returns-in-Refused
 unfolding decision_of call_numbers access_by owner waiting
@@ -81,52 +98,76 @@ returns-in-Refused c p =
     ∙ within _ at.in_default.is (decided _ _ _ _ _ s.requires.n_value s.requires.m_value at.of_endpoint-range.ensures) in the_reached)) c.refusal-in-Refused.ensures
 
 pub overflow_add-message : goal.overflow_add-message
-overflow_add-message c = omega (arith, (let the_there : c.endpoint_at-start.result + 12 ≤ length c.args.table.now = let s = c in
-    endpoint-in _ s.requires.accepted _ s.requires.n_value _ _ _ s.requires.m_value
-    (in-endpoint _ c.in_default.is _ _ _ _ c.of_endpoint-range.ensures).1
-    c.endpoint_at-start.ensures in the_there))
+overflow_add-message c = omega (
+  arith,
+  (let the_there : c.endpoint_at-start.result + 12 ≤ length c.args.table.now = let s = c in
+      endpoint-in _ s.requires.accepted _ s.requires.n_value _ _ _ s.requires.m_value
+      (in-endpoint _ c.in_default.is _ _ _ _ c.of_endpoint-range.ensures).1
+      c.endpoint_at-start.ensures in the_there),
+)
 
 pub offset_bounds-table-start-3 : goal.offset_bounds-table-start-3
-offset_bounds-table-start-3 c = omega (arith, (let the_there : c.endpoint_at-start.result + 12 ≤ length c.args.table.now = let s = c in
-    endpoint-in _ s.requires.accepted _ s.requires.n_value _ _ _ s.requires.m_value
-    (in-endpoint _ c.in_default.is _ _ _ _ c.of_endpoint-range.ensures).1
-    c.endpoint_at-start.ensures in the_there))
+offset_bounds-table-start-3 c = omega (
+  arith,
+  (let the_there : c.endpoint_at-start.result + 12 ≤ length c.args.table.now = let s = c in
+      endpoint-in _ s.requires.accepted _ s.requires.n_value _ _ _ s.requires.m_value
+      (in-endpoint _ c.in_default.is _ _ _ _ c.of_endpoint-range.ensures).1
+      c.endpoint_at-start.ensures in the_there),
+)
 
 pub bounds-table-start-3 : goal.bounds-table-start-3
-bounds-table-start-3 c = omega (arith, (let the_there : c.endpoint_at-start.result + 12 ≤ length c.args.table.now = let s = c in
-    endpoint-in _ s.requires.accepted _ s.requires.n_value _ _ _ s.requires.m_value
-    (in-endpoint _ c.in_default.is _ _ _ _ c.of_endpoint-range.ensures).1
-    c.endpoint_at-start.ensures in the_there))
+bounds-table-start-3 c = omega (
+  arith,
+  (let the_there : c.endpoint_at-start.result + 12 ≤ length c.args.table.now = let s = c in
+      endpoint-in _ s.requires.accepted _ s.requires.n_value _ _ _ s.requires.m_value
+      (in-endpoint _ c.in_default.is _ _ _ _ c.of_endpoint-range.ensures).1
+      c.endpoint_at-start.ensures in the_there),
+)
 
 pub overflow_add-lost : goal.overflow_add-lost
-overflow_add-lost c = omega (arith, (let the_there : c.endpoint_at-start.result + 12 ≤ length c.args.table.now = let s = c in
-    endpoint-in _ s.requires.accepted _ s.requires.n_value _ _ _ s.requires.m_value
-    (in-endpoint _ c.in_default.is _ _ _ _ c.of_endpoint-range.ensures).1
-    c.endpoint_at-start.ensures in the_there))
+overflow_add-lost c = omega (
+  arith,
+  (let the_there : c.endpoint_at-start.result + 12 ≤ length c.args.table.now = let s = c in
+      endpoint-in _ s.requires.accepted _ s.requires.n_value _ _ _ s.requires.m_value
+      (in-endpoint _ c.in_default.is _ _ _ _ c.of_endpoint-range.ensures).1
+      c.endpoint_at-start.ensures in the_there),
+)
 
 pub offset_bounds-table-start-4 : goal.offset_bounds-table-start-4
-offset_bounds-table-start-4 c = omega (arith, (let the_there : c.endpoint_at-start.result + 12 ≤ length c.args.table.now = let s = c in
-    endpoint-in _ s.requires.accepted _ s.requires.n_value _ _ _ s.requires.m_value
-    (in-endpoint _ c.in_default.is _ _ _ _ c.of_endpoint-range.ensures).1
-    c.endpoint_at-start.ensures in the_there))
+offset_bounds-table-start-4 c = omega (
+  arith,
+  (let the_there : c.endpoint_at-start.result + 12 ≤ length c.args.table.now = let s = c in
+      endpoint-in _ s.requires.accepted _ s.requires.n_value _ _ _ s.requires.m_value
+      (in-endpoint _ c.in_default.is _ _ _ _ c.of_endpoint-range.ensures).1
+      c.endpoint_at-start.ensures in the_there),
+)
 
 pub bounds-table-start-4 : goal.bounds-table-start-4
-bounds-table-start-4 c = omega (arith, (let the_there : c.endpoint_at-start.result + 12 ≤ length c.args.table.now = let s = c in
-    endpoint-in _ s.requires.accepted _ s.requires.n_value _ _ _ s.requires.m_value
-    (in-endpoint _ c.in_default.is _ _ _ _ c.of_endpoint-range.ensures).1
-    c.endpoint_at-start.ensures in the_there))
+bounds-table-start-4 c = omega (
+  arith,
+  (let the_there : c.endpoint_at-start.result + 12 ≤ length c.args.table.now = let s = c in
+      endpoint-in _ s.requires.accepted _ s.requires.n_value _ _ _ s.requires.m_value
+      (in-endpoint _ c.in_default.is _ _ _ _ c.of_endpoint-range.ensures).1
+      c.endpoint_at-start.ensures in the_there),
+)
 
 pub overflow_add-end : goal.overflow_add-end
-overflow_add-end c = omega (arith, (let the_there : c.endpoint_at-start.result + 12 ≤ length c.args.table.now = let s = c in
-    endpoint-in _ s.requires.accepted _ s.requires.n_value _ _ _ s.requires.m_value
-    (in-endpoint _ c.in_default.is _ _ _ _ c.of_endpoint-range.ensures).1
-    c.endpoint_at-start.ensures in the_there))
+overflow_add-end c = omega (
+  arith,
+  (let the_there : c.endpoint_at-start.result + 12 ≤ length c.args.table.now = let s = c in
+      endpoint-in _ s.requires.accepted _ s.requires.n_value _ _ _ s.requires.m_value
+      (in-endpoint _ c.in_default.is _ _ _ _ c.of_endpoint-range.ensures).1
+      c.endpoint_at-start.ensures in the_there),
+)
 
 pub offset_bounds-table-start-5 : goal.offset_bounds-table-start-5
-offset_bounds-table-start-5 c = omega (arith, (let the_there : c.endpoint_at-start.result + 12 ≤ length c.args.table.now = let s = c in
-    endpoint-in _ s.requires.accepted _ s.requires.n_value _ _ _ s.requires.m_value
-    (in-endpoint _ c.in_default.is _ _ _ _ c.of_endpoint-range.ensures).1
-    c.endpoint_at-start.ensures in the_there))
+offset_bounds-table-start-5 c = omega (
+  arith,
+  (let the_there : c.endpoint_at-start.result + 12 ≤ length c.args.table.now = let s = c in
+      endpoint-in _ s.requires.accepted _ s.requires.n_value _ _ _ s.requires.m_value
+      (in-endpoint _ c.in_default.is _ _ _ _ c.of_endpoint-range.ensures).1
+      c.endpoint_at-start.ensures in the_there),
+)
 
 pub slice_bounds-receive-end : goal.slice_bounds-receive-end
 slice_bounds-receive-end c = (let the_there : c.endpoint_at-start.result + 12 ≤ length c.args.table.now = let s = c in
@@ -135,10 +176,13 @@ slice_bounds-receive-end c = (let the_there : c.endpoint_at-start.result + 12 �
     c.endpoint_at-start.ensures in the_there)
 
 pub overflow_sub-lost : goal.overflow_sub-lost
-overflow_sub-lost c = omega (arith, (let the_lost_kind : kind (get_or c.args.table.now (c.endpoint_at-start.result + 3) 0) ≡ 6 = let s = c in
-    lost-in _ s.requires.accepted _ s.requires.n_value _ _ _ s.requires.m_value
-    (in-endpoint _ c.in_default.is _ _ _ _ c.of_endpoint-range.ensures).1
-    (read _ _ c.requires.n_value _ _ c.endpoint_at-start.ensures 3 (omega arith)) in the_lost_kind))
+overflow_sub-lost c = omega (
+  arith,
+  (let the_lost_kind : kind (get_or c.args.table.now (c.endpoint_at-start.result + 3) 0) ≡ 6 = let s = c in
+      lost-in _ s.requires.accepted _ s.requires.n_value _ _ _ s.requires.m_value
+      (in-endpoint _ c.in_default.is _ _ _ _ c.of_endpoint-range.ensures).1
+      (read _ _ c.requires.n_value _ _ c.endpoint_at-start.ensures 3 (omega arith)) in the_lost_kind),
+)
 
 pub returns : goal.returns
 unfolding receive_access oldest lost waiting call_numbers access_by owner
@@ -154,8 +198,11 @@ returns c p =
     ∙ ap₂ (λ (o k : ℕ). receive_access a.caller o k a.e) (ap field_b (read _ _ c.requires.n_value _ _ c.endpoint_at-start.ensures 1 (omega arith))) (ap payload (read _ _ c.requires.n_value _ _ c.endpoint_at-start.ensures 2 (omega arith)))
     ∙ within _ c.in_default.is (decided _ _ _ _ _ c.requires.n_value c.requires.m_value c.of_endpoint-range.ensures) in the_reached)) c.done.ensures
     (ap payload (read _ _ c.requires.n_value _ _ c.endpoint_at-start.ensures 4 (omega arith)))
-    (omega (arith, (let the_lost_kind : kind (get_or c.args.table.now (c.endpoint_at-start.result + 3) 0) ≡ 6 = let c = c in
-    lost-in _ c.requires.accepted _ c.requires.n_value _ _ _ c.requires.m_value
-    (in-endpoint _ c.in_default.is _ _ _ _ c.of_endpoint-range.ensures).1
-    (read _ _ c.requires.n_value _ _ c.endpoint_at-start.ensures 3 (omega arith)) in the_lost_kind)) ∙ ap payload (read _ _ c.requires.n_value _ _ c.endpoint_at-start.ensures 3 (omega arith)))
+    (omega (
+      arith,
+      (let the_lost_kind : kind (get_or c.args.table.now (c.endpoint_at-start.result + 3) 0) ≡ 6 = let c = c in
+          lost-in _ c.requires.accepted _ c.requires.n_value _ _ _ c.requires.m_value
+          (in-endpoint _ c.in_default.is _ _ _ _ c.of_endpoint-range.ensures).1
+          (read _ _ c.requires.n_value _ _ c.endpoint_at-start.ensures 3 (omega arith)) in the_lost_kind),
+    ) ∙ ap payload (read _ _ c.requires.n_value _ _ c.endpoint_at-start.ensures 3 (omega arith)))
     (received-back _ _ c.requires.n_value _ _ c.endpoint_at-start.ensures _ fits c.receive.ensures.q_after)

@@ -3,7 +3,6 @@ use mathlib.Core.Path.{◌≡◌, sym, ap, ◌∙◌}
 use Prim.Native.Nat.{ℕ, ◌+◌, ◌≤◌, ◌<◌}
 use native.Mathlib.Omega.{arith}
 use lib.ListN.{length, get_or}
-use borrow.Author.Rules.{rules}
 use Rattle.machine.specs.Word.{field_b}
 use Rattle.machine.specs.Table.{rights, endpoint}
 use Rattle.machine.specs.Queue.{owner}
@@ -29,16 +28,25 @@ returns-in-Outside c p =
     settled-refused _ _ _ _ _ _ (outside _ c.in-Outside.is (decided _ _ _ _ _ c.requires.n_value c.requires.m_value c.of_endpoint-range.ensures)) c.refusal.ensures
 
 pub overflow_add-info : goal.overflow_add-info
-overflow_add-info c = omega (arith, (let the_there : c.endpoint_at-start.result + 12 ≤ length c.args.table.now = let s = c in
-    endpoint-in _ s.requires.accepted _ s.requires.n_value _ _ _ s.requires.m_value ((let the_ranged : let a = c.args in (a.caller < a.n) × (a.e < a.m) = in-endpoint _ c.in_default.is _ _ _ _ c.of_endpoint-range.ensures in the_ranged)).1 c.endpoint_at-start.ensures in the_there))
+overflow_add-info c = omega (
+  arith,
+  (let the_there : c.endpoint_at-start.result + 12 ≤ length c.args.table.now = let s = c in
+      endpoint-in _ s.requires.accepted _ s.requires.n_value _ _ _ s.requires.m_value ((let the_ranged : let a = c.args in (a.caller < a.n) × (a.e < a.m) = in-endpoint _ c.in_default.is _ _ _ _ c.of_endpoint-range.ensures in the_ranged)).1 c.endpoint_at-start.ensures in the_there),
+)
 
 pub offset_bounds-table-start : goal.offset_bounds-table-start
-offset_bounds-table-start c = omega (arith, (let the_there : c.endpoint_at-start.result + 12 ≤ length c.args.table.now = let s = c in
-    endpoint-in _ s.requires.accepted _ s.requires.n_value _ _ _ s.requires.m_value ((let the_ranged : let a = c.args in (a.caller < a.n) × (a.e < a.m) = in-endpoint _ c.in_default.is _ _ _ _ c.of_endpoint-range.ensures in the_ranged)).1 c.endpoint_at-start.ensures in the_there))
+offset_bounds-table-start c = omega (
+  arith,
+  (let the_there : c.endpoint_at-start.result + 12 ≤ length c.args.table.now = let s = c in
+      endpoint-in _ s.requires.accepted _ s.requires.n_value _ _ _ s.requires.m_value ((let the_ranged : let a = c.args in (a.caller < a.n) × (a.e < a.m) = in-endpoint _ c.in_default.is _ _ _ _ c.of_endpoint-range.ensures in the_ranged)).1 c.endpoint_at-start.ensures in the_there),
+)
 
 pub bounds-table-start : goal.bounds-table-start
-bounds-table-start c = omega (arith, (let the_there : c.endpoint_at-start.result + 12 ≤ length c.args.table.now = let s = c in
-    endpoint-in _ s.requires.accepted _ s.requires.n_value _ _ _ s.requires.m_value ((let the_ranged : let a = c.args in (a.caller < a.n) × (a.e < a.m) = in-endpoint _ c.in_default.is _ _ _ _ c.of_endpoint-range.ensures in the_ranged)).1 c.endpoint_at-start.ensures in the_there))
+bounds-table-start c = omega (
+  arith,
+  (let the_there : c.endpoint_at-start.result + 12 ≤ length c.args.table.now = let s = c in
+      endpoint-in _ s.requires.accepted _ s.requires.n_value _ _ _ s.requires.m_value ((let the_ranged : let a = c.args in (a.caller < a.n) × (a.e < a.m) = in-endpoint _ c.in_default.is _ _ _ _ c.of_endpoint-range.ensures in the_ranged)).1 c.endpoint_at-start.ensures in the_there),
+)
 
 pub held-mine-requires : goal.held-mine-requires
 held-mine-requires c =
@@ -47,7 +55,7 @@ held-mine-requires c =
       n_value = c.requires.n_value;
       holder_lt_n = ((let the_ranged : let a = c.args in (a.caller < a.n) × (a.e < a.m) = in-endpoint _ c.in_default.is _ _ _ _ c.of_endpoint-range.ensures in the_ranged)).0;
       target_lt_n = owner-in _ c.requires.accepted _ c.requires.n_value _ _ _ c.requires.m_value ((let the_ranged : let a = c.args in (a.caller < a.n) × (a.e < a.m) = in-endpoint _ c.in_default.is _ _ _ _ c.of_endpoint-range.ensures in the_ranged)).1 ((let the_owned : let a = c.args in field_b (get_or a.table.now (c.endpoint_at-start.result + 1) 0) ≡ owner (endpoint a.table.now a.e) = let c = c in
-    owner-is _ _ c.requires.n_value _ (ap (λ (k : ℕ). get_or c.args.table.now (k + 1) 0) c.endpoint_at-start.ensures) in the_owned));
+          owner-is _ _ c.requires.n_value _ (ap (λ (k : ℕ). get_or c.args.table.now (k + 1) 0) c.endpoint_at-start.ensures) in the_owned));
     }
 
 pub returns-in-Refused : goal.returns-in-Refused
@@ -62,12 +70,18 @@ returns-in-Refused c p =
     ∙ within _ at.in_default.is (decided _ _ _ _ _ s.requires.n_value s.requires.m_value at.of_endpoint-range.ensures) in the_reached)) c.refusal-in-Refused.ensures
 
 pub overflow_add-end : goal.overflow_add-end
-overflow_add-end c = omega (arith, (let the_there : c.endpoint_at-start.result + 12 ≤ length c.args.table.now = let s = c in
-    endpoint-in _ s.requires.accepted _ s.requires.n_value _ _ _ s.requires.m_value ((let the_ranged : let a = c.args in (a.caller < a.n) × (a.e < a.m) = in-endpoint _ c.in_default.is _ _ _ _ c.of_endpoint-range.ensures in the_ranged)).1 c.endpoint_at-start.ensures in the_there))
+overflow_add-end c = omega (
+  arith,
+  (let the_there : c.endpoint_at-start.result + 12 ≤ length c.args.table.now = let s = c in
+      endpoint-in _ s.requires.accepted _ s.requires.n_value _ _ _ s.requires.m_value ((let the_ranged : let a = c.args in (a.caller < a.n) × (a.e < a.m) = in-endpoint _ c.in_default.is _ _ _ _ c.of_endpoint-range.ensures in the_ranged)).1 c.endpoint_at-start.ensures in the_there),
+)
 
 pub offset_bounds-table-start-2 : goal.offset_bounds-table-start-2
-offset_bounds-table-start-2 c = omega (arith, (let the_there : c.endpoint_at-start.result + 12 ≤ length c.args.table.now = let s = c in
-    endpoint-in _ s.requires.accepted _ s.requires.n_value _ _ _ s.requires.m_value ((let the_ranged : let a = c.args in (a.caller < a.n) × (a.e < a.m) = in-endpoint _ c.in_default.is _ _ _ _ c.of_endpoint-range.ensures in the_ranged)).1 c.endpoint_at-start.ensures in the_there))
+offset_bounds-table-start-2 c = omega (
+  arith,
+  (let the_there : c.endpoint_at-start.result + 12 ≤ length c.args.table.now = let s = c in
+      endpoint-in _ s.requires.accepted _ s.requires.n_value _ _ _ s.requires.m_value ((let the_ranged : let a = c.args in (a.caller < a.n) × (a.e < a.m) = in-endpoint _ c.in_default.is _ _ _ _ c.of_endpoint-range.ensures in the_ranged)).1 c.endpoint_at-start.ensures in the_there),
+)
 
 pub slice_bounds-send-end : goal.slice_bounds-send-end
 slice_bounds-send-end c = (let the_there : c.endpoint_at-start.result + 12 ≤ length c.args.table.now = let s = c in

@@ -2,7 +2,6 @@
 use mathlib.Core.Path.{ap}
 use Prim.Native.Nat.{ℕ}
 use lib.Dec.{eqb}
-use borrow.Author.Rules.{rules}
 use Rattle.kernel.proofs.lent_lengths.one_a_domain.Goals as goal
 
 pub returns : goal.returns

@@ -1,7 +1,5 @@
 -- `reports::domain_count` meets its contract: n is eight bits of a word. Assumes nothing.
 use native.Mathlib.Omega.{arith}
-use borrow.Author.Rules.{rules}
-use Rattle.machine.specs.Word.{field_b}
 use Rattle.machine.specs.Table.{domains}
 use Rattle.kernel.proofs.reports.domain_count.Goals as goal
 

@@ -1,7 +1,6 @@
 -- `reports::enter_step` meets its contract: the table is refused, or the holders are, or neither. Assumes nothing.
 use mathlib.Core.Path.{◌≡◌, sym, ap, ◌∙◌}
-use borrow.Author.Rules.{rules}
-use borrow.Author.Tests.{eqb-true, eqb-false, not-true, not-false}
+use borrow.Author.Tests.{eqb-true, eqb-false}
 use Rattle.machine.specs.Check.{table_code}
 use Rattle.machine.proofs.Promise.{holders-fit, holders-unfit}
 use Rattle.table_check.specs.Checked.{checked_code}

@@ -1,7 +1,5 @@
 -- `reports::show_holders` meets its contract: the entry refuses, or the holders are computed. Assumes nothing.
-use mathlib.Core.Path.{◌≡◌, refl, sym, ap, ◌∙◌}
-use borrow.Author.Rules.{rules}
-use lib.ListN.{length}
+use mathlib.Core.Path.{sym, ap, ◌∙◌}
 use Rattle.holders.proofs.Filled.{filled-accepted}
 use Rattle.kernel.specs.Entered.{entered_code}
 use Rattle.kernel.proofs.Entries.{holders-refused, step-entered, holders-shown}

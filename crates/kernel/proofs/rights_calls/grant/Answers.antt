@@ -1,7 +1,6 @@
 -- `rights_calls::grant` meets its contract: refused by a range test, refused by what was read, or done. Assumes nothing.
 use mathlib.Core.Path.{◌≡◌, refl, sym, ap, ap₂, ◌∙◌}
 use Prim.Native.Nat.{ℕ, ◌<◌, ◌≤◌}
-use borrow.Author.Rules.{rules}
 use Rattle.machine.specs.Right.{adds}
 use Rattle.machine.specs.Table.{rights}
 use Rattle.calls.specs.Decide.{decide_call}

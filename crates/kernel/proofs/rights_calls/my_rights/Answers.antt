@@ -2,7 +2,6 @@
 use mathlib.Core.Path.{refl}
 use Prim.Native.Nat.{◌<◌}
 use native.Mathlib.Omega.{arith}
-use borrow.Author.Rules.{rules}
 use Rattle.machine.specs.Table.{domains}
 use Rattle.rules.specs.Range.{call_numbers}
 use Rattle.rules.specs.Access.{access_by}

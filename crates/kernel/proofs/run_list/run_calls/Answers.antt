@@ -1,6 +1,6 @@
 -- `run_list::run_calls` meets its contract: the loop's invariant is a run under way (proofs/RunInvariant). Assumes nothing.
 use mathlib.Core.Path.{◌∙◌}
-use Prim.Native.Nat.{◌+◌, ◌*◌, ◌-◌, ◌≤◌}
+use Prim.Native.Nat.{◌+◌, ◌*◌, ◌≤◌}
 use native.Mathlib.Omega.{arith}
 use lib.ListN.{length}
 use borrow.Author.Rules.{rules}
@@ -9,7 +9,7 @@ use Rattle.holders.proofs.Filled.{filled-accepted}
 use Rattle.calls.proofs.SplitAt.{split_at, wide}
 use Rattle.answers.proofs.Space.{lent_back}
 use Rattle.kernel.proofs.RunInvariant.{underway-start, room, underway-end}
-use Rattle.kernel.proofs.OutcomeLaws.{OnItsWay, way_next}
+use Rattle.kernel.proofs.OutcomeLaws.{way_next}
 use Rattle.kernel.proofs.run_list.run_calls.Goals as goal
 
 pub loop-i-init : goal.loop-i-init
@@ -22,9 +22,13 @@ loop-i-init c =
     }
 
 pub overflow_add-i : goal.overflow_add-i
-overflow_add-i c = omega (arith, (let the_next_place : let at = c in (at.loop-i.i + c.width-i.result ≤ length at.args.list.now) × (1 ≤ c.width-i.result) = let second = c in
-    let at = second in
-    (rw (c.width-i.ensures, second.second_at-second.ensures) (split_at at.args.list.now at.loop-i.i second.loop-i-test.true).within, omega (arith, c.width-i.ensures, wide second.second_at-second.result)) in the_next_place), c.requires.list_len_bound)
+overflow_add-i c = omega (
+  arith,
+  (let the_next_place : let at = c in (at.loop-i.i + c.width-i.result ≤ length at.args.list.now) × (1 ≤ c.width-i.result) = let second = c in
+      let at = second in
+      (rw (c.width-i.ensures, second.second_at-second.ensures) (split_at at.args.list.now at.loop-i.i second.loop-i-test.true).within, omega (arith, c.width-i.ensures, wide second.second_at-second.result)) in the_next_place),
+  c.requires.list_len_bound,
+)
 
 pub serve-words-requires : goal.serve-words-requires
 serve-words-requires c =
@@ -36,28 +40,43 @@ serve-words-requires c =
     }
 
 pub overflow_mul-at : goal.overflow_mul-at
-overflow_mul-at c = omega (arith, (let the_few : c.loop-i.calls ≤ 4096 = let start = c in
-    omega (arith, c.loop-i.invariant.underway.running.count, split-few start.args.list.now, start.requires.list_len_bound) in the_few))
+overflow_mul-at c = omega (
+  arith,
+  (let the_few : c.loop-i.calls ≤ 4096 = let start = c in
+      omega (arith, c.loop-i.invariant.underway.running.count, split-few start.args.list.now, start.requires.list_len_bound) in the_few),
+)
 
 pub overflow_add-end : goal.overflow_add-end
-overflow_add-end c = omega (arith, (let the_few : c.loop-i.calls ≤ 4096 = let start = c in
-    omega (arith, c.loop-i.invariant.underway.running.count, split-few start.args.list.now, start.requires.list_len_bound) in the_few))
+overflow_add-end c = omega (
+  arith,
+  (let the_few : c.loop-i.calls ≤ 4096 = let start = c in
+      omega (arith, c.loop-i.invariant.underway.running.count, split-few start.args.list.now, start.requires.list_len_bound) in the_few),
+)
 
 pub offset_bounds-answers-at : goal.offset_bounds-answers-at
-offset_bounds-answers-at c = omega (arith, (let the_few : c.loop-i.calls ≤ 4096 = let start = c in
-    omega (arith, c.loop-i.invariant.underway.running.count, split-few start.args.list.now, start.requires.list_len_bound) in the_few))
+offset_bounds-answers-at c = omega (
+  arith,
+  (let the_few : c.loop-i.calls ≤ 4096 = let start = c in
+      omega (arith, c.loop-i.invariant.underway.running.count, split-few start.args.list.now, start.requires.list_len_bound) in the_few),
+)
 
 pub slice_bounds-put-end : goal.slice_bounds-put-end
 slice_bounds-put-end c = (let the_next_room : 3 * c.loop-i.calls + 3 ≤ length c.loop-i.answers = room c.loop-i.invariant.underway c.loop-i-test.true c.requires.list_in_bounds in the_next_room)
 
 pub overflow_add-calls : goal.overflow_add-calls
-overflow_add-calls c = omega (arith, (let the_few : c.loop-i.calls ≤ 4096 = let start = c in
-    omega (arith, c.loop-i.invariant.underway.running.count, split-few start.args.list.now, start.requires.list_len_bound) in the_few))
+overflow_add-calls c = omega (
+  arith,
+  (let the_few : c.loop-i.calls ≤ 4096 = let start = c in
+      omega (arith, c.loop-i.invariant.underway.running.count, split-few start.args.list.now, start.requires.list_len_bound) in the_few),
+)
 
 pub loop-i-smaller : goal.loop-i-smaller
-loop-i-smaller c = omega (arith, (let the_next_place : let at = c in (at.loop-i.i + c.width-i.result ≤ length at.args.list.now) × (1 ≤ c.width-i.result) = let second = c in
-    let at = second in
-    (rw (c.width-i.ensures, second.second_at-second.ensures) (split_at at.args.list.now at.loop-i.i second.loop-i-test.true).within, omega (arith, c.width-i.ensures, wide second.second_at-second.result)) in the_next_place))
+loop-i-smaller c = omega (
+  arith,
+  (let the_next_place : let at = c in (at.loop-i.i + c.width-i.result ≤ length at.args.list.now) × (1 ≤ c.width-i.result) = let second = c in
+      let at = second in
+      (rw (c.width-i.ensures, second.second_at-second.ensures) (split_at at.args.list.now at.loop-i.i second.loop-i-test.true).within, omega (arith, c.width-i.ensures, wide second.second_at-second.result)) in the_next_place),
+)
 
 pub loop-i-preserved : goal.loop-i-preserved
 loop-i-preserved c =

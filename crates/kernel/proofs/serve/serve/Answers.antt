@@ -1,5 +1,4 @@
 -- `serve::serve` meets its contract: what holds of the call's variant holds of the call. Assumes nothing.
-use borrow.Author.Rules.{rules}
 use Rattle.kernel.proofs.Fits.{message-fits}
 use Rattle.kernel.proofs.Outcomes.{settled-unread}
 use Rattle.kernel.proofs.OutcomeLaws.{here}
