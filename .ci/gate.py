@@ -11,9 +11,10 @@ import pathlib
 import re
 import sys
 
-LISTED = re.compile(r"^(\w+):(.*)$", re.M)
+LISTED = re.compile(r"^(\w+)((?: staticlib)?):(.*)$", re.M)
 FAULT = re.compile(r"fault: (\S+) in (\S+(?:, \S+)*)")
 REFUSED_BY = "refused by: "
+USE = re.compile(r"^(?:pub )?use ((?:\w+::)*)(\w+|\{[^{}]*\})(?: as (\w+))?;", re.M)
 
 
 def texts(*kinds):
@@ -25,7 +26,20 @@ def texts(*kinds):
 def cited(listed):
     """The crates of crates.txt in their order, each with those that it cites."""
     lines = "\n".join(line.split("#")[0].rstrip() for line in listed.splitlines())
-    return {name: crates.split() for name, crates in LISTED.findall(lines)}
+    return {name: crates.split() for name, _, crates in LISTED.findall(lines)}
+
+
+def static(root):
+    """The crates that archives for C are made of."""
+    return [name for name, kind, _ in LISTED.findall((root / "crates.txt").read_text(encoding="utf-8")) if kind]
+
+
+def uses(code):
+    """What the `use` lines of a source bring in, as (path, the name that it has there); one line may name several in braces."""
+    for parents, names, alias in USE.findall(code):
+        for name in filter(None, map(str.strip, names.strip("{}").split(","))):
+            first, _, other = name.partition(" as ")
+            yield parents + first, other or alias or first.split("::")[-1]
 
 
 def reasons(path):

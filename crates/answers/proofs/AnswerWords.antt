@@ -3,14 +3,14 @@ use mathlib.Core.Path.{◌≡◌, sym, ap, ap₂, ◌∙◌}
 use mathlib.Core.Bool.{Bool, true, false, cond}
 use mathlib.Core.List.{List, [], ◌∷◌}
 use Prim.Native.Nat.{ℕ, ◌+◌, ◌*◌, ◌-◌, ◌%◌, ◌^◌, ◌<◌, ◌≤◌}
-use native.Mathlib.Nat.{add-zero, le_refl, mod-eq_of_lt, div-add-mod'}
+use native.Mathlib.Nat.{add-zero, le_refl, div-add-mod'}
 use native.Mathlib.Decide.{ℕ_discrete}
 use native.Mathlib.Omega.{arith}
 use lib.Arith.{mod-mul}
 use lib.Dec.{eqb, ltb, lit<}
 use lib.ListN.{length}
 use borrow.Author.Tests.{lt-ltb, le-ltb, le-leb, lt-leb, ne_eqb}
-use Rattle.machine.specs.Word.{kind, payload, caller}
+use Rattle.machine.specs.Word.{kind, caller}
 use Rattle.machine.specs.Table.{domains, endpoints, rights_at, endpoint_at, rights, endpoint}
 use Rattle.machine.specs.Queue.{owner}
 use Rattle.machine.specs.Call.{first, Call.one}

@@ -21,7 +21,7 @@ use format::calls::{CALLER_UNIT, KIND_SECOND};
 use table_layout::{domains, endpoint_at, endpoints, rights_at};
 
 // A call's three answer words.
-#[derive(Drop)]
+#[derive(Clone, Copy)]
 pub struct Answer {
     pub head: u32,
     pub first: u32,

@@ -9,7 +9,7 @@ ghost use Rattle.std.specs.Prelude.{◌≡◌};
 ghost use Rattle.calls.specs.Number.{number_of};
 
 // Why a call is refused, named by what is wrong.
-#[derive(Drop)]
+#[derive(Clone, Copy)]
 pub enum Refusal {
     Stray, // 10
     UnknownKind, // 11
@@ -30,7 +30,7 @@ pub enum Refusal {
 // A decoded call: its caller and the fields that its kind uses, as found. A refused one has its caller for place 12 alone, which
 // comes before 13 and 14. A stray has no caller, and the 0 in its place is never read. The answer's kind and caller come from
 // the call's first word.
-#[derive(Drop)]
+#[derive(Clone, Copy)]
 pub enum Call {
     LookUp {
         caller: u32,

@@ -8,7 +8,7 @@ use format::KIND_UNIT;
 use format::calls::{KIND_LOOK_UP, KIND_SECOND, KIND_SEND};
 
 // A call's second word, if it has one.
-#[derive(Drop)]
+#[derive(Clone, Copy)]
 pub enum Second {
     Nothing,
     Word(u32),

@@ -2,7 +2,7 @@
 use mathlib.Core.Path.{◌≡◌, refl, sym, ap, ◌∙◌}
 use mathlib.Core.Bool.{Bool, true, false, cond, false≢true}
 use mathlib.Core.List.{List}
-use Prim.Native.Nat.{ℕ, ◌+◌, ◌*◌, ◌/◌, ◌%◌, ◌^◌, ◌<◌, ◌≤◌}
+use Prim.Native.Nat.{ℕ, ◌+◌, ◌/◌, ◌%◌, ◌^◌, ◌<◌, ◌≤◌}
 use native.Mathlib.Decide.{dec_lt}
 use native.Mathlib.Nat.{div-eq_of_lt, lt_of_lt_of_le, one-mul}
 use native.Mathlib.Omega.{arith}
@@ -15,7 +15,7 @@ use Rattle.machine.proofs.Bools.{cond-elim}
 use Rattle.machine.proofs.Below.{all-at, all_of}
 use Rattle.reachability.proofs.Bits.{some-bit}
 use Rattle.holders_theory.specs.Asked.{bits_within, askable, ask_code, asked}
-use Rattle.holders_theory.specs.Claims.{AskCode, EveryAskCode}
+use Rattle.holders_theory.specs.Claims.{EveryAskCode}
 use Rattle.holders_theory.proofs.Reported.{by_bits, askable-parts}
 
 -- a word below 2 ^ n has no bit from n on

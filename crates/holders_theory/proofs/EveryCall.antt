@@ -8,7 +8,7 @@ use native.Mathlib.Decide.{dec_lt}
 use native.Mathlib.Omega.{arith}
 use lib.ListN.{length, take, length-take}
 use Rattle.machine.specs.Call.{Call, Call.one, Call.two, pairs, split, words_of}
-use Rattle.machine.specs.Entry.{longest_list, entry_code, ran, Runs}
+use Rattle.machine.specs.Entry.{ran, Runs}
 use Rattle.machine.proofs.Split.{split-two, split_one}
 use Rattle.machine.proofs.Promise.{runs-accepted, runs-short, code-space, code-holders, entry-ran, entry-code}
 use Rattle.holders_theory.specs.Noted.{first_words}

@@ -1,15 +1,12 @@
 -- Laws of one bit of a word: set or cleared, it alone is altered (specs/Noted). Assumes nothing.
 use mathlib.Core.Path.{◌≡◌, sym, ap, ap₂, ◌∙◌}
-use mathlib.Core.Bool.{Bool, true, false, cond, not, ◌&&◌, or-false, or-true, and-true, and-false, false≢true}
+use mathlib.Core.Bool.{Bool, true, false, cond, not, ◌&&◌, or-false, or-true, and-true, and-false}
 use mathlib.Core.Logic.{⊎_elim}
-use Prim.Native.Nat.{ℕ, suc, ◌+◌, ◌-◌, ◌/◌, ◌%◌, ◌^◌, ◌<◌}
+use Prim.Native.Nat.{ℕ, suc, ◌+◌, ◌-◌, ◌^◌, ◌<◌}
 use native.Mathlib.Decide.{dec_lt}
 use native.Mathlib.Nat.{one-mul}
 use native.Mathlib.Omega.{arith}
-use borrow.Author.Tests.{eqb-true, eqb-false}
-use lib.Arith.{bin_ind}
 use lib.Bits.{bit_and, bit_or, or_zero_r, or_shifted_r}
-use lib.Dec.{eqb}
 use Rattle.machine.specs.Below.{sum_below, bits_below, has_bit}
 use Rattle.machine.specs.Right.{without}
 use Rattle.machine.proofs.Bools.{either}

@@ -1,12 +1,12 @@
 -- An input that begins with the bytes of a table gives that table, and what follows it. Assumes nothing.
-use Prim.Native.Nat.{ℕ, ◌+◌, ◌*◌, ◌≤◌, ◌<◌, ◌^◌}
-use mathlib.Core.Path.{◌≡◌, refl, sym, ap, ◌∙◌}
-use mathlib.Core.List.{List, [], ◌∷◌, ◌++◌}
+use Prim.Native.Nat.{ℕ, ◌+◌, ◌*◌, ◌<◌, ◌^◌}
+use mathlib.Core.Path.{◌≡◌, refl, ap, ◌∙◌}
+use mathlib.Core.List.{List, ◌∷◌, ◌++◌}
 use native.Mathlib.Omega.{arith}
 use lib.ListN.{length, take, drop, length-append}
 use lib.Seq.{take_all, drop_at}
 use Rattle.input_words.specs.Bytes.{word_at, words_of, bytes_of, AllWords}
-use Rattle.input_words.specs.TableInput.{table_end, table_length, table_of, after_table, with_length, TableWords}
+use Rattle.input_words.specs.TableInput.{table_length, table_of, after_table, with_length, TableWords}
 use Rattle.input_words.proofs.WordLaws.{word-of-bytes, words_of-bytes_of, length-bytes_of, take-words_of-append}
 use Rattle.input_words.proofs.TableLaws.{Whole}
 

@@ -16,7 +16,6 @@ use Rattle.machine.specs.Below.{has_bit}
 use Rattle.machine.specs.Right.{adds}
 use Rattle.machine.proofs.Bools.{either}
 use Rattle.machine.proofs.Right.{holds-bit, holds-adds}
-use Rattle.machine.proofs.Table.{equal-either}
 
 pub bit-or : (a b u : ℕ) → has_bit (bit_or a b) u ≡ (has_bit a u || has_bit b u)
 unfolding has_bit adds

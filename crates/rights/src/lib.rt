@@ -5,7 +5,7 @@
 ghost use Rattle.std.specs.Prelude.{◌≡◌};
 ghost use Rattle.machine.specs.Right.{holds, adds, without, has_any};
 
-#[derive(Drop)]
+#[derive(Clone, Copy)]
 pub struct Rights {
     pub bits: u32,
 }

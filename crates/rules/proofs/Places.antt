@@ -5,7 +5,6 @@ use mathlib.Core.List.{List}
 use Prim.Native.Nat.{ℕ}
 use Rattle.machine.specs.Table.{domains, endpoints, rights, endpoint}
 use Rattle.machine.specs.Queue.{owner, waiting}
-use Rattle.machine.specs.Machine as machine
 use Rattle.machine.specs.Guards as guards
 use Rattle.machine.specs.Machine.{Decision, may_send, named}
 use Rattle.machine.specs.Influence.{influences, reaches}

@@ -11,7 +11,7 @@ use calls::Refusal;
 use rights::Rights;
 
 // The endpoint that has a name, or nothing, which place 15 refuses.
-#[derive(Drop)]
+#[derive(Clone, Copy)]
 pub enum Found {
     At(u32),
     Nothing,

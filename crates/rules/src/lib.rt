@@ -9,7 +9,7 @@ pub mod range;
 use calls::Refusal;
 
 // The decision on a call by what was read for it: a refusal, or its row with the values that it needs.
-#[derive(Drop)]
+#[derive(Clone, Copy)]
 pub enum Decision {
     Refused(Refusal),
     Sends {

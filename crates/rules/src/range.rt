@@ -12,7 +12,7 @@ use calls::Refusal;
 use rights::Rights;
 
 // The result of the tests: every index and set of rights is within its range, or the refusal for the first that isn't.
-#[derive(Drop)]
+#[derive(Clone, Copy)]
 pub enum Range {
     Within,
     Outside(Refusal),

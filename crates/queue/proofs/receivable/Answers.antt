@@ -1,5 +1,4 @@
 -- `receivable` is the specification's `receivable`. Assumes nothing.
-use borrow.Author.Rules.{rules}
 use borrow.Author.Tests.{eq-eqb, ne_eqb}
 use Rattle.machine.specs.Queue.{waiting}
 use Rattle.queue.specs.Queue.{receivable}

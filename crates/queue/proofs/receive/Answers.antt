@@ -1,7 +1,6 @@
 -- `receive` meets its contract: words that pass the test meet the precondition of `take_oldest`. Assumes nothing.
-use borrow.Author.Tests.{not-true, not-false}
 use mathlib.Core.Bool.{true, false}
-use mathlib.Core.Path.{◌≡◌, refl, sym, ◌∙◌}
+use mathlib.Core.Path.{◌≡◌, sym, ◌∙◌}
 use Rattle.queue.specs.Queue.{receivable}
 use Rattle.queue.proofs.Laws.{may-receive, not-received, received-there}
 use Rattle.queue.proofs.receive.Goals as goal

@@ -1,8 +1,7 @@
 -- `send` meets its contract: once the test is passed, the waiting count and the capacity are the machine's `has_space`.
 -- Assumes nothing.
-use borrow.Author.Tests.{not-true, not-false}
 use mathlib.Core.Bool.{true, false}
-use mathlib.Core.Path.{◌≡◌, refl, sym, ◌∙◌}
+use mathlib.Core.Path.{◌≡◌, sym, ◌∙◌}
 use native.Mathlib.Omega.{arith}
 use Rattle.machine.specs.Queue.{waiting, capacity}
 use Rattle.queue.specs.Queue.{sendable}

@@ -1,5 +1,4 @@
 -- `send_with_space` meets its contract, word by word. Assumes nothing.
-use borrow.Author.Rules.{rules}
 use mathlib.Core.Path.{refl}
 use native.Mathlib.Omega.{arith}
 use Rattle.machine.specs.Queue.{waiting, send_with_space}

@@ -1,5 +1,4 @@
 -- `sendable` is the specification's `sendable`. Assumes nothing.
-use borrow.Author.Rules.{rules}
 use borrow.Author.Tests.{eq-eqb, ne_eqb}
 use Rattle.machine.specs.Queue.{capacity, waiting}
 use Rattle.queue.specs.Queue.{sendable}

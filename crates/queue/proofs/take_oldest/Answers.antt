@@ -2,9 +2,9 @@
 -- are as they came. Assumes nothing.
 use mathlib.Core.Path.{◌≡◌, sym, ap, ◌∙◌}
 use mathlib.Core.List.{List}
-use Prim.Native.Nat.{ℕ, ◌+◌, ◌-◌, ◌≤◌}
+use Prim.Native.Nat.{ℕ, ◌+◌, ◌-◌}
 use native.Mathlib.Omega.{arith}
-use lib.ListN.{length, get_or, drop, set, length-set}
+use lib.ListN.{get_or, drop, set, length-set}
 use lib.Seq.{paste-zero}
 use Rattle.machine.specs.Word.{word}
 use Rattle.machine.specs.Queue.{waiting, empty_slot}
@@ -33,51 +33,67 @@ returns c =
     ∙ moved-end q₀ pre.some (omega arith)
 
 pub bounds-q-2 : goal.bounds-q-2
+unfolding waiting
 bounds-q-2 c = omega arith
 
 pub overflow_sub-left : goal.overflow_sub-left
+unfolding waiting
 overflow_sub-left c = omega arith
 
 pub overflow_cast-last : goal.overflow_cast-last
+unfolding waiting
 overflow_cast-last c = omega arith
 
 pub overflow_add-q : goal.overflow_add-q
+unfolding waiting
 overflow_add-q c = omega arith
 
 pub offset_bounds-q-i : goal.offset_bounds-q-i
+unfolding waiting
 offset_bounds-q-i c = omega arith
 
 pub bounds-q-i : goal.bounds-q-i
+unfolding waiting
 bounds-q-i c = omega arith
 
 pub overflow_add-q-in-loop-i : goal.overflow_add-q-in-loop-i
+unfolding waiting
 overflow_add-q-in-loop-i c = omega arith
 
 pub offset_bounds-q-i-in-loop-i : goal.offset_bounds-q-i-in-loop-i
+unfolding waiting
 offset_bounds-q-i-in-loop-i c = omega arith
 
 pub bounds-q-i-in-loop-i : goal.bounds-q-i-in-loop-i
+unfolding waiting
 bounds-q-i-in-loop-i c = omega arith
 
 pub overflow_add-i : goal.overflow_add-i
+unfolding waiting
 overflow_add-i c = omega arith
 
 pub loop-i-smaller : goal.loop-i-smaller
+unfolding waiting
 loop-i-smaller c = omega arith
 
 pub overflow_add-q-2 : goal.overflow_add-q-2
+unfolding waiting
 overflow_add-q-2 c = omega arith
 
 pub offset_bounds-q-last : goal.offset_bounds-q-last
+unfolding waiting
 offset_bounds-q-last c = omega arith
 
 pub bounds-q-last : goal.bounds-q-last
+unfolding waiting
 bounds-q-last c = omega arith
 
 pub overflow_add-q-3 : goal.overflow_add-q-3
+unfolding waiting
 overflow_add-q-3 c = omega arith
 
 pub bounds-q-2-2 : goal.bounds-q-2-2
+unfolding waiting
 bounds-q-2-2 c = simp length-set (omega arith)
 
 pub shape_of-q : goal.shape_of-q

@@ -1,14 +1,9 @@
 -- `take_oldest` meets its contract. The loop's invariant: the messages passed have moved up, and the rest of the words
 -- are as they came. Assumes nothing.
-use mathlib.Core.Path.{◌≡◌, sym, ap, ◌∙◌}
-use mathlib.Core.List.{List}
-use Prim.Native.Nat.{ℕ, ◌+◌, ◌-◌, ◌≤◌}
-use native.Mathlib.Omega.{arith}
-use lib.ListN.{length, get_or, drop, set, length-set}
-use lib.Seq.{paste-zero}
-use Rattle.machine.specs.Word.{word}
-use Rattle.machine.specs.Queue.{waiting, empty_slot}
-use Rattle.queue.proofs.Received.{moved, moved_more, moved-end}
+use mathlib.Core.Path.{◌≡◌}
+use Prim.Native.Nat.{◌-◌, ◌≤◌}
+use lib.ListN.{length}
+use Rattle.queue.proofs.Received.{moved}
 use Rattle.queue.proofs.take_oldest.Given as goal
 
 abbrev pub invariant-loop-i : goal.invariant-loop-i

@@ -1,10 +1,7 @@
 -- `reachability::closure` meets its contract: a round that adds nobody ends it, and so do as many rounds as there are words.
 -- Assumes nothing.
-use Prim.Native.Nat.{◌-◌}
 use mathlib.Core.Path.{sym, ◌∙◌}
-use borrow.Author.Rules.{rules}
-use lib.ListN.{length}
-use Rattle.reachability.proofs.Loops.{Closing, closing-start, closing-still, closing-next, closing_end}
+use Rattle.reachability.proofs.Loops.{closing-start, closing-still, closing-next, closing_end}
 use Rattle.reachability.proofs.closure.Goals as goal
 
 pub loop-round-init : goal.loop-round-init

@@ -1,9 +1,7 @@
 -- `reachability::widen` meets its contract: each iteration joins word v where v is a member. Assumes nothing.
 use Prim.Native.Nat.{◌-◌}
-use mathlib.Core.Logic.{⊎_elim}
-use borrow.Author.Rules.{rules}
 use lib.ListN.{length}
-use Rattle.reachability.proofs.Loops.{Widening, widening-start, widening-member, widening-other, widening-end}
+use Rattle.reachability.proofs.Loops.{Widening}
 use Rattle.reachability.proofs.widen.Given as goal
 
 abbrev pub invariant-loop-v : goal.invariant-loop-v

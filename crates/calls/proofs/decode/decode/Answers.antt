@@ -1,12 +1,13 @@
 -- `decode::decode` meets its contract: each arm is one case of the kind.
 -- Assumes nothing.
 use Prim.Native.Nat.{◌/◌}
+use native.Mathlib.Omega.{arith}
 use mathlib.Core.Path.{◌≡◌, ◌∙◌}
-use mathlib.Core.Logic.{inl, inr, ⊎_elim}
 use Rattle.machine.specs.Call.{kind_of}
 use Rattle.calls.specs.Decode.{of_kind}
-use Rattle.calls.proofs.DecodeLaws.{of-kind, unknown-kind, eight-left}
+use Rattle.calls.proofs.DecodeLaws.{of-kind, unknown-kind}
 use Rattle.calls.proofs.decode.decode.Goals as goal
+use Rattle.calls.proofs.decode.decode.Goals.{in_default-via-then-kind-lt9, in_default-via-else-kind-lt9+else-kind-lt15}
 
 pub returns-in-15 : goal.returns-in-15
 unfolding of_kind kind_of
@@ -42,8 +43,14 @@ returns-in-7 c = c.remove.ensures _ ∙ of-kind _ _ c.in-7.is
 
 pub returns-in_default : goal.returns-in_default
 unfolding kind_of
-returns-in_default c = c.revoke.ensures _ ∙ of-kind _ _ ((let the_eight : c.args.first / 268435456 ≡ 8 = eight-left c.args.first c.ranges.first.fits c.in_default-1.rest
-    (⊎_elim (λ w. inl w.taken) (λ w. inr w.1.left) c.in_default.branch) in the_eight))
+returns-in_default c =
+    let the_eight : c.args.first / 268435456 ≡ 8 =
+    elim c.in_default.branch [
+      | in_default-via-then-kind-lt9 w ↦ omega (arith, c.ranges.first.fits)
+      | in_default-via-else-kind-lt9+else-kind-lt15 w ↦ omega (arith, c.ranges.first.fits)
+    ]
+    in
+    c.revoke.ensures _ ∙ of-kind _ _ the_eight
 
 pub returns-in-0 : goal.returns-in-0
 unfolding of_kind kind_of

@@ -1,7 +1,6 @@
 -- `decode::look_up` meets its contract: each `return` is one case of the places 13 and 14.
 -- Assumes nothing.
 use mathlib.Core.Path.{refl}
-use borrow.Author.Rules.{rules}
 use Rattle.machine.specs.Call.{unused_fields, has_second, second_payload, Kind.look_up}
 use Rattle.calls.specs.Decode.{needs_second, of_kind}
 use Rattle.calls.proofs.DecodeLaws.{no_field, unused, no_second, fine}

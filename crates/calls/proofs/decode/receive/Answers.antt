@@ -2,7 +2,6 @@
 -- Assumes nothing.
 use mathlib.Core.Path.{refl}
 use native.Mathlib.Omega.{arith}
-use borrow.Author.Rules.{rules}
 use Rattle.machine.specs.Call.{unused_fields, Kind.receive}
 use Rattle.calls.specs.Decode.{needs_second, of_kind}
 use Rattle.calls.proofs.DecodeLaws.{unused, fine}

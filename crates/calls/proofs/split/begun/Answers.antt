@@ -2,7 +2,6 @@
 -- Assumes nothing.
 use mathlib.Core.Path.{◌∙◌, sym, ap}
 use mathlib.Core.Bool.{Bool, cond}
-use borrow.Author.Rules.{rules}
 use Rattle.calls.proofs.split.begun.Goals as goal
 
 pub returns-then-make_one_call : goal.returns-then-make_one_call

@@ -1,6 +1,5 @@
 -- `split::make_one_call` meets its contract: the two tests are those of `pairs`, in the other order.
 -- Assumes nothing.
-use borrow.Author.Rules.{rules}
 use borrow.Author.Tests.{eq-eqb, ne_eqb}
 use mathlib.Core.Path.{◌∙◌, sym}
 use mathlib.Core.Bool.{and-true, and-false}

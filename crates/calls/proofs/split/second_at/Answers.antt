@@ -3,7 +3,6 @@
 use Prim.Native.Nat.{◌+◌, ◌<◌, ◌≤◌}
 use mathlib.Core.Path.{◌∙◌, sym}
 use native.Mathlib.Omega.{arith}
-use borrow.Author.Rules.{rules}
 use borrow.Author.Tests.{lt-ltb, le-ltb}
 use lib.ListN.{length}
 use Rattle.calls.specs.Split.{second_at}
@@ -26,13 +25,11 @@ returns-then-list-i-eq1 c =
 pub returns-then-make_one_call : goal.returns-then-make_one_call
 unfolding second_at
 returns-then-make_one_call c =
-    let start = c in
-    let l : start.args.i + 1 < length start.args.list.now = omega arith in
+    let l : c.args.i + 1 < length c.args.list.now = omega arith in
     simp (lt-ltb _ _ l, sym c.make_one_call.ensures ∙ c.if-make_one_call.true)
 
 pub returns-else-make_one_call : goal.returns-else-make_one_call
 unfolding second_at
 returns-else-make_one_call c =
-    let start = c in
-    let l : start.args.i + 1 < length start.args.list.now = omega arith in
+    let l : c.args.i + 1 < length c.args.list.now = omega arith in
     simp (lt-ltb _ _ l, sym c.make_one_call.ensures ∙ c.if-make_one_call.false)
