@@ -11,7 +11,7 @@ import pathlib
 import re
 import sys
 
-LISTED = re.compile(r"^(\w+)(?: staticlib)?:(.*)$", re.M)
+LISTED = re.compile(r"^(\w+)((?: staticlib)?):(.*)$", re.M)
 FAULT = re.compile(r"fault: (\S+) in (\S+(?:, \S+)*)")
 REFUSED_BY = "refused by: "
 USE = re.compile(r"^(?:pub )?use ((?:\w+::)*)(\w+|\{[^{}]*\})(?: as (\w+))?;", re.M)
@@ -26,7 +26,12 @@ def texts(*kinds):
 def cited(listed):
     """The crates of crates.txt in their order, each with those that it cites."""
     lines = "\n".join(line.split("#")[0].rstrip() for line in listed.splitlines())
-    return {name: crates.split() for name, crates in LISTED.findall(lines)}
+    return {name: crates.split() for name, _, crates in LISTED.findall(lines)}
+
+
+def static(root):
+    """The crates that archives for C are made of."""
+    return [name for name, kind, _ in LISTED.findall((root / "crates.txt").read_text(encoding="utf-8")) if kind]
 
 
 def uses(code):

@@ -126,7 +126,7 @@ impl Archive {
         }
         let package = PathBuf::from(env::var("CARGO_MANIFEST_DIR")?);
         let repository = package.parent().ok_or("the package is in no folder")?;
-        Ok(repository.join(format!("target/staticlib/lib{}.a", self.name)))
+        Ok(repository.join(format!("crates/{0}/out/lib{0}.a", self.name)))
     }
 }
 

@@ -19,8 +19,8 @@ reported difference, and none may be reported as one that is right when it is tr
     python3 bench/planted_faults.py NAME...    some of them
 
 The copy and its build stand under build/planted. The kernel is the archive
-target/staticlib/libbalkwizu.a, or the one that BALKWIZU_ARCHIVE names; its turns, its
-step and its queue are libbalkwizu_turns.a and libtest_export.a beside it, or what
+crates/balkwizu/out/libbalkwizu.a, or the one that BALKWIZU_ARCHIVE names; its turns,
+its step and its queue are those of the crates balkwizu_turns and test_export, or what
 BALKWIZU_TURNS_ARCHIVE and BALKWIZU_TEST_ARCHIVE name.
 """
 
@@ -33,9 +33,9 @@ sys.path.insert(0, str(Path(__file__).resolve().parent.parent / "reference"))
 from edits import ROOT, Copy, Wrong, edit_files, run, try_all  # noqa: E402
 
 ARCHIVES = {
-    "BALKWIZU_ARCHIVE": "libbalkwizu.a",
-    "BALKWIZU_TURNS_ARCHIVE": "libbalkwizu_turns.a",
-    "BALKWIZU_TEST_ARCHIVE": "libtest_export.a",
+    "BALKWIZU_ARCHIVE": "balkwizu",
+    "BALKWIZU_TURNS_ARCHIVE": "balkwizu_turns",
+    "BALKWIZU_TEST_ARCHIVE": "test_export",
 }
 FUZZ = "fuzz --seed 20 --cases 10000 --table-checks 10000 --lists 0".split()
 WORKING = "fuzz --seed 20 --cases 500 --table-checks 0 --kernel balkwizu-working".split()
@@ -202,8 +202,9 @@ def main():
     paths = [path for path in edit_files(wanted) if wanted or not unseen(path)]
     if not wanted and len(paths) < LEAST:
         sys.exit(f"only {len(paths)} faults: there must be {LEAST}")
-    for name, archive in ARCHIVES.items():
-        named = os.environ.get(name, ROOT / "target" / "staticlib" / archive)
+    for name, crate in ARCHIVES.items():
+        archive = ROOT / "crates" / crate / "out" / f"lib{crate}.a"
+        named = os.environ.get(name, archive)
         os.environ[name] = str(Path(named).absolute())
     try_all(paths, prepare(), make, check_unedited, reported)
 

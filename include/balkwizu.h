@@ -5,9 +5,9 @@
  * The functions are proved code, in the archives libbalkwizu.a and libbalkwizu_turns.a
  * (in a release in lib/); a list below has the functions of each. Link one archive or
  * both, at any address. They allocate nothing, and call nothing of the C library but
- * memcpy, memmove and memset. In the sources `rt staticlib balkwizu` and `rt staticlib
- * balkwizu_turns` make them for x86-64, in target/staticlib; firmware/targets/archive makes
- * them from the same proved code for the processors of firmware/targets/targets.txt.
+ * memcpy, memmove and memset. In the sources `firmware/make-archive balkwizu
+ * balkwizu_turns` makes them for x86-64, in the crates' folders out/; firmware/targets/archive
+ * makes them from the same proved code for the processors of firmware/targets/targets.txt.
  *
  * No function keeps anything from one call to the next, so they may be called at the
  * same time on different words.

@@ -1,8 +1,8 @@
 //! Links the proved archives that the firmware links, and says for reports the hashes of the
 //! kernel's, what it says of its own logic, and what the kit at hand says of itself.
 //!
-//! The archives are target/staticlib/libbalkwizu.a and libbalkwizu_turns.a of the
-//! repository, or the files that BALKWIZU_ARCHIVE and BALKWIZU_TURNS_ARCHIVE name. The
+//! The archives are crates/NAME/out/libNAME.a of the repository, of balkwizu and
+//! balkwizu_turns, or the files that BALKWIZU_ARCHIVE and BALKWIZU_TURNS_ARCHIVE name. The
 //! programs then call the kernel by that name, since nobody knows here whether it is the
 //! proved one. An archive of the kit shows its exported functions alone, so several can be
 //! linked into one program.
@@ -114,7 +114,7 @@ fn link(out: &Path, wanted: &Archive) -> Result<Vec<u8>, Box<dyn Error>> {
     let (name, shown) = (wanted.name, path.display());
     let bytes = fs::read(&path).map_err(|why| {
         let made = wanted.made();
-        format!("no archive {shown} ({why}): `rt staticlib {name}` makes {made}")
+        format!("no archive {shown} ({why}): `firmware/make-archive {name}` makes {made}")
     })?;
     if has(&bytes, FOR_TESTS) {
         return Err(format!("{shown} has functions for tests: it isn't for the firmware").into());
@@ -162,7 +162,7 @@ fn has(archive: &[u8], name: &str) -> bool {
 impl Archive {
     /// Where it is made in the repository.
     fn made(&self) -> String {
-        format!("target/staticlib/lib{}.a", self.name)
+        format!("crates/{0}/out/lib{0}.a", self.name)
     }
 
     /// The file that is linked: the one that is named, or the repository's own.

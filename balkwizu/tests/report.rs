@@ -87,7 +87,7 @@ fn the_archive_is_identified_as_in_a_controller_s_program() {
         .parent()
         .expect("the repository");
     let identify = Command::new(repository.join("firmware/identify"))
-        .arg(repository.join("target/staticlib/libbalkwizu.a"))
+        .arg(repository.join("crates/balkwizu/out/libbalkwizu.a"))
         .output();
     let printed = String::from_utf8(identify.expect("it starts").stdout).expect("a text");
     let hash = printed.split(' ').next().expect("a hash");

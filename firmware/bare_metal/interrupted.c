@@ -6,7 +6,7 @@
  * metal does that uses the same stack and saves the general registers alone.
  *
  * Result and lent words must be those of the same call without an interrupt. With the
- * archive of firmware/bare_metal/archive they are. With that of rt staticlib they are
+ * archive of firmware/bare_metal/archive they are. With that of make-archive they are
  * not, which shows that this program can tell; `interrupted stack` and `interrupted
  * registers` overwrite one of the two alone, and `interrupted nothing` neither: it counts
  * the instructions.

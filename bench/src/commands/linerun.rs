@@ -21,7 +21,7 @@ pub const HELP: &str = "\
 bench linerun PROGRAM [--cases N] [--seed S] [--from K] [--time T]
 bench linerun PROGRAM --speed [--rounds N]
 
-Runs PROGRAM, as target/bin/linerun, on random inputs and compares every byte
+Runs PROGRAM, as crates/linerun/out/linerun, on random inputs and compares every byte
 that it prints with what the reference prints: lists that run, tables that are
 refused, inputs that are cut short, that have bytes left over, and that are too
 long. Before these come fixed ones: the worked example cut after each byte,

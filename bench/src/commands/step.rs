@@ -30,7 +30,7 @@ as STOPPED.
 From 5,000 lists on, a code that no call met is a failure too, and so is a
 second word of either sort that was never given.
 
-The step is in the archive of the crate test_export (`rt staticlib
+The step is in the archive of the crate test_export (`firmware/make-archive
 test_export`), which the program is built with where it is there.
 
 Exit status: 0 nothing differs, and everything was met where that is asked; 1
@@ -48,7 +48,7 @@ pub const STEPS: Drawn = Drawn {
 /// The command: whether nothing differs.
 pub fn command(line: &[OsString]) -> Result<bool, String> {
     let step = PROVED_STEP.ok_or(
-        "this program was built without the step: `rt staticlib test_export`, then build it again",
+        "this program was built without the step: `firmware/make-archive test_export`, then build it again",
     )?;
     STEPS.command(line, |draws, met| try_steps(step, draws, met))
 }

@@ -10,7 +10,7 @@ use lib.Dec.{lit≤}
 use lib.ListN.{length, take, drop, length-append, length-take, length-drop}
 use Rattle.machine.proofs.Bools.{or-none-left}
 use Rattle.input_words.specs.Bytes.{words_of}
-use Rattle.input_words.specs.TableInput.{table_end, no_table, after_table, table_wanted}
+use Rattle.input_words.specs.TableInput.{table_end, no_table, after_table}
 use Rattle.text.specs.Write.{Fills}
 use Rattle.text.proofs.WriteLaws.{fills-cut, fills-part}
 use Rattle.input_words.proofs.WordLaws.{take-words_of-append}

@@ -2,13 +2,16 @@
 -- Assumes nothing.
 use Prim.Native.Nat.{ℕ, ◌+◌, ◌-◌, ◌≤◌, ◌<◌}
 use mathlib.Core.Path.{◌≡◌, refl, sym, ap, subst, ◌∙◌}
-use mathlib.Core.Bool.{Bool, true, false, cond, true≢false, false≢true}
-use mathlib.Core.List.{List, [], ◌++◌, append_assoc}
+use mathlib.Core.Bool.{Bool, true, false, cond, false≢true}
+use mathlib.Core.List.{List, ◌++◌, append_assoc}
 use borrow.Author.Tests.{lt-ltb, le-ltb, ltb-true, ltb-false, eq-eqb, le-leb}
 use native.Mathlib.Omega.{arith}
 use lib.Dec.{ltb}
 use lib.ListN.{length, take, drop, length-append, length-drop}
 use lib.Seq.{length-take-le, take-append_seam}
+use Rattle.std.specs.Prelude.{Option}
+use Rattle.std.specs.Io.KnownBytes.{Consumes}
+use Rattle.std.proofs.KnownBytes.{Consumes-trans}
 use Rattle.input_words.specs.TableInput.{no_table, table_wanted}
 use Rattle.input_words.proofs.Needed.{needed-none, needed-more, stored}
 use Rattle.linerun_input.specs.Input.{wanted, most_input, Reads}
@@ -127,15 +130,25 @@ module _ (before after : List ℕ) (s : Input) (g : Got) (r : Reached before s) 
   have-is : have_of (stepped s g after) ≡ have_of s + came_of g
   have-is = next.all ∙ length-append (take (have_of s) before) part ∙ omega (arith, long, part-long)
 
+  -- the bytes of the next stage are those of this one, and then those that came
+  bytes-next : take (have_of (stepped s g after)) after ≡ take (have_of s) before ++ take (came_of g) (drop (have_of s) after)
+  unfolding part
+  bytes-next = ap (λ (k : ℕ). take k after) have-is ∙ stored before after (have_of s) (came_of g) read.front
+
+  -- so what a reader gave up to this stage, and then what it gave in this read, is what it gave up to the next
+  pub given-next : (a b c : Option (List ℕ)) → Consumes a b (take (have_of s) before)
+      → Consumes b c (take (came_of g) (drop have after)) → Consumes a c (take (have_of (stepped s g after)) after)
+  given-next a b c front now =
+      subst (Consumes a c) (sym bytes-next)
+      (Consumes-trans a b c _ _ front (subst (λ (k : ℕ). Consumes b c (take (came_of g) (drop k after))) is-have now))
+
   pub reached-next : Reached after (stepped s g after)
   unfolding part
   reached-next =
       record {
         long = omega (arith, read.long, r.long);
         within = omega (arith, have-is, space, read.came-few, asked);
-        stage =
-            subst (λ (l : List ℕ). StageAfter l (stepped s g after))
-            (sym (ap (λ (k : ℕ). take k after) have-is ∙ stored before after (have_of s) (came_of g) read.front)) next;
+        stage = subst (λ (l : List ℕ). StageAfter l (stepped s g after)) (sym bytes-next) next;
       }
 
   ended_is : ended_of (stepped s g after) ≡ ltb (came_of g) (asked_of g)

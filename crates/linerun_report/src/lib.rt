@@ -24,7 +24,7 @@ pub const PART_BYTES: usize = parts::PART_BYTES;
 
 // A cursor over the lines that are to be printed: the count of calls and the code, the next line, and how many bytes the part that
 // was given last has. Only `answer` makes one, and only `next` moves it.
-#[derive(Drop)]
+#[derive(Clone, Copy)]
 pub struct Lines {
     calls: usize,
     code: u32,

@@ -12,7 +12,7 @@ use format::calls::LONGEST_LIST;
 use input_words::words::word_at;
 
 // What comes next: the lists end, with a code that is 0 at the input's end, or a list follows, with its count of words.
-#[derive(Drop)]
+#[derive(Clone, Copy)]
 pub enum Next {
     Ends(u32),
     Words(u32),

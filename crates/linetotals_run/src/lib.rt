@@ -22,7 +22,7 @@ const MOST_LISTS: usize = 65536;
 
 // What the next bytes are: the table's length word; its words, so many; the first list's length word; a list's words, so many, and
 // the bytes before the next list. Or nothing more is wanted, and a code ended the reading.
-#[derive(Drop)]
+#[derive(Clone, Copy)]
 pub enum Phase {
     TableLength,
     TableWords(u32),
@@ -48,7 +48,7 @@ impl Phase {
 
 // A stage: what the next bytes are; of an accepted table its count of words and of endpoints; how many lists ran; how many messages
 // waited at each endpoint at the start; and the totals so far.
-#[derive(Drop)]
+#[derive(Clone, Copy)]
 pub struct Stage {
     phase: Phase,
     words: usize,
@@ -59,7 +59,7 @@ pub struct Stage {
 }
 
 // What a stage says, for what is printed: the code is the one that ended the reading.
-#[derive(Drop)]
+#[derive(Clone, Copy)]
 pub struct Counts {
     pub words: usize,
     pub endpoints: usize,

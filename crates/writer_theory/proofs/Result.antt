@@ -1,10 +1,9 @@
 -- The result in one number (specs/Result): its rows, that two results that say the same are the same, and which result says
 -- which outcome. Assumes nothing.
 use Prim.Native.Nat.{ℕ, ◌+◌, ◌≤◌}
-use mathlib.Core.Path.{◌≡◌, refl, sym, ◌∙◌}
-use native.Mathlib.Decide.{dec_le}
+use mathlib.Core.Path.{◌≡◌, refl}
 use native.Mathlib.Omega.{arith}
-use borrow.Author.Tests.{le-leb, lt-leb, ne_eqb, eqb-false}
+use borrow.Author.Tests.{le-leb, lt-leb, ne_eqb}
 use Rattle.writer_theory.specs.Result.{result_code, result_number, EveryResult}
 
 pub every-result : EveryResult

@@ -7,7 +7,4 @@ use Rattle.linerun_text.proofs.lines.first_line.Goals as goal
 pub returns : goal.returns
 unfolding first_line ascii
 returns c =
-    let newline = c in
-    let code = newline in
-    let calls = code in
-    then (then calls.put_labelled-calls_end.ensures code.put_labelled-code_end.ensures) newline.put.ensures
+    then (then c.put_labelled-calls_end.ensures c.put_labelled-code_end.ensures) c.put.ensures

@@ -7,7 +7,4 @@ use Rattle.linetotals_text.proofs.lines.last_line.Goals as goal
 pub returns : goal.returns
 unfolding last_line ascii
 returns c =
-    let newline = c in
-    let code = newline in
-    let lists = code in
-    then (then lists.put_labelled-lists_end.ensures code.put_labelled-code_end.ensures) newline.put.ensures
+    then (then c.put_labelled-lists_end.ensures c.put_labelled-code_end.ensures) c.put.ensures
