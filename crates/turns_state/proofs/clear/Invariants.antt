@@ -1,12 +1,8 @@
 -- `clear` meets its contract. The loop's invariant: the words passed are 0, and the rest are as they were. Assumes nothing.
-use mathlib.Core.Path.{◌≡◌, refl, sym, ap, ap₂, ◌∙◌}
-use mathlib.Core.List.{List, ◌++◌, append-nil}
-use Prim.Native.Nat.{ℕ, ◌+◌, ◌-◌, ◌≤◌}
-use native.Mathlib.Nat.{zero-add}
-use native.Mathlib.Numerals.{add-one}
-use native.Mathlib.Omega.{arith}
-use lib.ListN.{length, drop, set, replicate, length-set, length-replicate, get_or-replicate}
-use lib.Seq.{take_all, drop-length, paste, paste-suc}
+use mathlib.Core.Path.{◌≡◌}
+use Prim.Native.Nat.{◌-◌, ◌≤◌}
+use lib.ListN.{length, replicate}
+use lib.Seq.{paste}
 use Rattle.turns_state.proofs.clear.Given as goal
 
 abbrev pub invariant-loop-i : goal.invariant-loop-i

@@ -1,6 +1,5 @@
 -- `first_of_oldest` meets its contract. Assumes nothing.
 use native.Mathlib.Omega.{arith}
-use borrow.Author.Rules.{rules}
 use Rattle.turns_state.proofs.Blocks.{short-first, first-word}
 use Rattle.turns_state.proofs.first_of_oldest.Goals as goal
 

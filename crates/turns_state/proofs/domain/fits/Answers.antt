@@ -1,7 +1,6 @@
 -- `domain::fits` meets its contract. Assumes nothing.
 use mathlib.Core.Path.{ap}
 use Prim.Native.Nat.{ℕ}
-use borrow.Author.Rules.{rules}
 use lib.Dec.{eqb}
 use Rattle.turns_state.specs.State.{state_length}
 use Rattle.turns_state.proofs.domain.fits.Goals as goal

@@ -1,8 +1,6 @@
 -- `domain::is_one_call` meets its contract: the first word's caller, and no word after the call that it begins. Assumes nothing.
 use mathlib.Core.Path.{sym, ap, ◌∙◌}
 use native.Mathlib.Omega.{arith}
-use borrow.Author.Rules.{rules}
-use borrow.Author.Tests.{not-true, not-false}
 use lib.Dec.{eqb}
 use lib.ListN.{length}
 use Rattle.calls.specs.Split.{width_of}

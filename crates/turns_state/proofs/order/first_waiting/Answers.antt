@@ -1,7 +1,6 @@
 -- `order::first_waiting` meets its contract: from the place of the turn on, and then from 0. Assumes nothing.
 use mathlib.Core.Path.{sym, ◌∙◌}
 use native.Mathlib.Omega.{arith}
-use borrow.Author.Rules.{rules}
 use Rattle.turns_state.specs.State.{turns_in}
 use Rattle.turns_state.proofs.Next.{none-there, one-there}
 use Rattle.turns_state.proofs.order.first_waiting.Goals as goal

@@ -1,7 +1,6 @@
 -- `order::next_to_serve` meets its contract. Assumes nothing.
 use mathlib.Core.Path.{◌≡◌, sym, ap, ◌∙◌}
 use Prim.Native.Nat.{ℕ}
-use borrow.Author.Rules.{rules}
 use Rattle.machine.specs.Table.{domains}
 use Rattle.turns_state.specs.State.{next_to_serve}
 use Rattle.turns_state.proofs.Next.{next-size, next-waiting}

@@ -1,6 +1,5 @@
 -- `dequeuable` is the specification's `dequeuable`. Assumes nothing.
 use mathlib.Core.Path.{ap}
-use borrow.Author.Rules.{rules}
 use borrow.Author.Tests.{eq-eqb, ne_eqb}
 use lib.Dec.{leb}
 use Rattle.turns_state.specs.Pending.{dequeuable}

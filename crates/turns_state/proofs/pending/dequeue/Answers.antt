@@ -1,8 +1,6 @@
 -- `dequeue` meets its contract: words that pass the test meet the precondition of `move_down`. Assumes nothing.
 use mathlib.Core.Path.{◌≡◌, sym, ◌∙◌}
 use mathlib.Core.Bool.{true, false}
-use borrow.Author.Rules.{rules}
-use borrow.Author.Tests.{not-true, not-false}
 use Rattle.turns_state.specs.Pending.{dequeuable}
 use Rattle.turns_state.proofs.Laws.{may-dequeue, not-dequeued, dequeued-there}
 use Rattle.turns_state.proofs.pending.dequeue.Goals as goal

@@ -1,7 +1,5 @@
 -- `enqueuable` is the specification's `enqueuable`. Assumes nothing.
-use Prim.Native.Nat.{◌-◌}
 use native.Mathlib.Omega.{arith}
-use borrow.Author.Rules.{rules}
 use borrow.Author.Tests.{eq-eqb, ne_eqb}
 use Rattle.turns_state.specs.Pending.{enqueuable}
 use Rattle.turns_state.proofs.Laws.{count_most, room-left}

@@ -1,8 +1,6 @@
 -- `enqueue` meets its contract: words that pass the test meet the precondition of `put_last`. Assumes nothing.
 use mathlib.Core.Path.{◌≡◌, sym, ◌∙◌}
 use mathlib.Core.Bool.{true, false}
-use borrow.Author.Rules.{rules}
-use borrow.Author.Tests.{not-true, not-false}
 use lib.ListN.{length}
 use Rattle.turns_state.specs.Pending.{enqueuable}
 use Rattle.turns_state.proofs.Laws.{may-enqueue, not-enqueued, enqueued-there}

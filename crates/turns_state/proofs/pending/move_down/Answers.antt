@@ -2,10 +2,9 @@
 -- they were. Assumes nothing.
 use mathlib.Core.Path.{◌≡◌, ap, ap₂, ◌∙◌}
 use mathlib.Core.List.{List}
-use Prim.Native.Nat.{ℕ, ◌+◌, ◌-◌, ◌≤◌}
+use Prim.Native.Nat.{ℕ, ◌+◌, ◌-◌}
 use native.Mathlib.Omega.{arith}
-use borrow.Author.Rules.{rules}
-use lib.ListN.{length, get_or, drop, set, length-set}
+use lib.ListN.{get_or, drop, set, length-set}
 use lib.Seq.{paste-zero}
 use Rattle.turns_state.specs.Pending.{count}
 use Rattle.turns_state.proofs.Laws.{count_most, moved, moved_more, dequeue-end}

@@ -1,14 +1,9 @@
 -- `move_down` meets its contract. The loop's invariant: the words passed have moved to the front, and the rest of the words are as
 -- they were. Assumes nothing.
-use mathlib.Core.Path.{◌≡◌, ap, ap₂, ◌∙◌}
-use mathlib.Core.List.{List}
-use Prim.Native.Nat.{ℕ, ◌+◌, ◌-◌, ◌≤◌}
-use native.Mathlib.Omega.{arith}
-use borrow.Author.Rules.{rules}
-use lib.ListN.{length, get_or, drop, set, length-set}
-use lib.Seq.{paste-zero}
-use Rattle.turns_state.specs.Pending.{count}
-use Rattle.turns_state.proofs.Laws.{count_most, moved, moved_more, dequeue-end}
+use mathlib.Core.Path.{◌≡◌}
+use Prim.Native.Nat.{◌+◌, ◌-◌, ◌≤◌}
+use lib.ListN.{length}
+use Rattle.turns_state.proofs.Laws.{moved}
 use Rattle.turns_state.proofs.pending.move_down.Given as goal
 
 abbrev pub invariant-loop-i : goal.invariant-loop-i

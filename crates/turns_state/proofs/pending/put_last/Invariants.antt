@@ -1,15 +1,9 @@
 -- `put_last` meets its contract. The loop's invariant: the words passed are after those that were pending, and the rest of the
 -- words are as they were. Assumes nothing.
-use mathlib.Core.Path.{◌≡◌, sym, ap, ◌∙◌}
-use mathlib.Core.List.{List}
-use Prim.Native.Nat.{ℕ, ◌+◌, ◌-◌, ◌≤◌}
-use native.Mathlib.Numerals.{add-one}
-use native.Mathlib.Omega.{arith}
-use borrow.Author.Rules.{rules}
-use lib.ListN.{length, get_or, set, length-set}
-use lib.Seq.{paste, paste-zero, paste-suc}
-use Rattle.turns_state.specs.Pending.{count}
-use Rattle.turns_state.proofs.Laws.{enqueue-end}
+use mathlib.Core.Path.{◌≡◌}
+use Prim.Native.Nat.{◌+◌, ◌-◌, ◌≤◌}
+use lib.ListN.{length}
+use lib.Seq.{paste}
 use Rattle.turns_state.proofs.pending.put_last.Given as goal
 
 abbrev pub invariant-loop-i : goal.invariant-loop-i
