@@ -1,7 +1,6 @@
 -- The holders that a step left say who reaches a domain in the table that it left (specs/AskedAfterStep). Assumes nothing.
 use Prim.Native.Nat.{ℕ}
-use mathlib.Core.Path.{◌≡◌, refl, sym, ap, ◌∙◌}
-use mathlib.Core.Bool.{cond}
+use mathlib.Core.Path.{◌≡◌, refl, sym}
 use mathlib.Core.List.{List}
 use native.Mathlib.Omega.{arith}
 use lib.Dec.{eqb}
@@ -9,7 +8,6 @@ use lib.ListN.{length}
 use Rattle.machine.specs.Check.{table_code}
 use Rattle.machine.specs.Machine.{step}
 use Rattle.machine.specs.Holders.{holders_of}
-use Rattle.machine.specs.Entry.{holders_code}
 use Rattle.machine.proofs.Bools.{cond-elim}
 use Rattle.machine.proofs.Step.{stays-accepted}
 use Rattle.holders_theory.proofs.Reported.{asked-now}

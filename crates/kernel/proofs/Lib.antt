@@ -9,3 +9,4 @@ pub mod OutcomeLaws
 pub mod LastToFirst
 pub mod AskedAfterStep
 pub mod StepIsRun
+mod Done

@@ -1,23 +1,20 @@
 -- A step is a run of one call (specs/StepIsRun). Assumes nothing.
 use Prim.Native.Nat.{ℕ, ◌≤◌}
 use mathlib.Core.Path.{◌≡◌, refl, sym, ap, ◌∙◌}
-use mathlib.Core.Bool.{Bool, true, false, cond}
+use mathlib.Core.Bool.{Bool, true, false}
 use mathlib.Core.List.{List, [], ◌∷◌, ◌++◌}
 use native.Mathlib.Omega.{arith}
 use borrow.Author.Tests.{eqb-true, eqb-false, le-ltb}
 use lib.Dec.{eqb}
 use lib.ListN.{length, drop}
-use Rattle.machine.specs.Check.{table_code}
 use Rattle.machine.specs.Call.{Call, split, words_of, Call.one, Call.two}
 use Rattle.machine.specs.Machine.{step, answer, answer_to}
 use Rattle.machine.specs.Run as machine
-use Rattle.machine.specs.Entry.{longest_list, holders_code, space_code, entry_code, refusal, ran, entry}
+use Rattle.machine.specs.Entry.{longest_list, space_code, entry_code, refusal, ran, entry}
 use Rattle.machine.specs.Holders.{holders_of}
-use Rattle.machine.specs.Promise.{RunPromise}
 use Rattle.machine.proofs.Promise.{entry-ran, entry-refused, entry-code}
 use Rattle.machine.proofs.WordClaims.{split-keeps-words}
-use Rattle.kernel.specs.Step.{step_code, step_words, step_entry_code, StepPromise}
-use Rattle.kernel.specs.declared.Stepped.{Stepped}
+use Rattle.kernel.specs.Step.{step_code, step_words, step_entry_code}
 use Rattle.kernel.specs.StepIsRun.{StepIsRun}
 
 module _ (t ws space holders : List ℕ) (c : Call) (is : split ws ≡ c ∷ []) (three : 3 ≤ length space) where

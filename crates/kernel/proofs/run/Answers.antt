@@ -1,0 +1,15 @@
+-- `run` meets its contract: it is refused at its entry, or the calls run. Assumes nothing.
+use Rattle.kernel.proofs.Entries.{may-run, promise-entered, promise-all-run}
+use Rattle.kernel.proofs.run.Goals as goal
+
+pub returns-in-Refused : goal.returns-in-Refused
+returns-in-Refused c = promise-entered _ _ _ _ _ _ c.enter-entered.ensures c.in-Refused.is
+
+pub run_calls-calls-requires : goal.run_calls-calls-requires
+run_calls-calls-requires c =
+    let may = may-run _ _ _ _ _ c.enter-entered.ensures c.in_default.is in
+    record { accepted = may.0; list_len_bound = may.1.0; list_in_bounds = may.1.1.0; holders_len = may.1.1.1 }
+
+pub returns : goal.returns
+returns c =
+    promise-all-run _ _ _ _ _ c.enter-entered.ensures c.in_default.is _ _ _ _ c.run_calls-calls.ensures
