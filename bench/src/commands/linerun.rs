@@ -21,10 +21,10 @@ pub const HELP: &str = "\
 bench linerun PROGRAM [--cases N] [--seed S] [--from K] [--time T]
 bench linerun PROGRAM --speed [--rounds N]
 
-Runs PROGRAM, as crates/linerun/out/linerun, on random inputs and compares every byte
-that it prints with what the reference prints: lists that run, tables that are
-refused, inputs that are cut short, that have bytes left over, and that are too
-long. Before these come fixed ones: the worked example cut after each byte,
+Runs PROGRAM, as crates/linerun/out/linerun, on random inputs and compares every
+byte that it prints with what the reference prints: lists that run, tables that
+are refused, inputs that are cut short, that have bytes left over, and that are
+too long. Before these come fixed ones: the worked example cut after each byte,
 bytes of every value left over after lists of many lengths, and length words
 with each bit turned. Some are given byte by byte or in odd parts. Where the
 answer is due before the end, at a length word above 641 and at list word 4,097,

@@ -29,8 +29,9 @@ count with other slots than empty ones after it, a send with space, to a full
 queue and with the lost count at its top, and words that each of the two leaves
 as they are.
 
-The functions are in the archive of the crate test_export (`firmware/make-archive
-test_export`), which the program is built with where it is there.
+The functions are in the archive of the crate test_export
+(`firmware/make-archive test_export`), which the program is built with where it
+is there.
 
 Exit status: 0 nothing differs, and everything was met where that is asked; 1
 otherwise; 2 bad usage, or a program built without the queue's functions.
@@ -47,8 +48,8 @@ pub const QUEUES: Drawn = Drawn {
 /// The command: whether nothing differs.
 pub fn command(line: &[OsString]) -> Result<bool, String> {
     let queue = PROVED_QUEUE.ok_or(
-        "this program was built without the queue's functions: `firmware/make-archive test_export`, \
-         then build it again",
+        "this program was built without the queue's functions: \
+         `firmware/make-archive test_export`, then build it again",
     )?;
     QUEUES.command(line, |draws, met| try_queues(&queue, draws, met))
 }

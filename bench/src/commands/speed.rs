@@ -61,9 +61,9 @@ and the answers are reset before each run of a list, outside the timed part; by
 length and growth the table is passed on from list to list and reset before each
 turn of a kernel. Every kernel's runs are first compared with the reference. The
 plain C checks words as the bytes that they are in memory; the proved check of
-words is in an archive of its own (`firmware/make-archive test_check_export`), which the
-program is built with where it is there, and its rows are left out where it
-isn't.
+words is in an archive of its own (`firmware/make-archive test_check_export`),
+which the program is built with where it is there, and its rows are left out
+where it isn't.
 
 Runs that are merged must be of one program, processor, seed and number of
 rounds, and made at different times.

@@ -48,7 +48,8 @@ pub const STEPS: Drawn = Drawn {
 /// The command: whether nothing differs.
 pub fn command(line: &[OsString]) -> Result<bool, String> {
     let step = PROVED_STEP.ok_or(
-        "this program was built without the step: `firmware/make-archive test_export`, then build it again",
+        "this program was built without the step: `firmware/make-archive test_export`, \
+         then build it again",
     )?;
     STEPS.command(line, |draws, met| try_steps(step, draws, met))
 }

@@ -15,9 +15,10 @@ pub const HELP: &str = "\
 bench totals PROGRAM [--cases N] [--seed S] [--from K] [--time T]
 bench totals PROGRAM --speed [--lists N] [--rounds N]
 
-With PROGRAM, runs it, as crates/linetotals/out/linetotals, on random inputs and compares
-every byte that it prints with what the reference prints: lists that run one
-after another, tables and lists that are refused, inputs that are cut short.
+With PROGRAM, runs it, as crates/linetotals/out/linetotals, on random inputs and
+compares every byte that it prints with what the reference prints: lists that
+run one after another, tables and lists that are refused, inputs that are cut
+short.
 Some are given byte by byte or in odd parts. Where what is printed is due before
 the end (a refused table, a length word above 4,096, a byte after the 65,536th
 list) the pipe is held open there: the sheet must come all the same. The first

@@ -1,4 +1,4 @@
-// The C boundary: the functions that the controller's firmware and the bench link, as target/staticlib/libbalkwizu.a.
+// The C boundary: the functions that the controller's firmware and the bench link, as the archive out/libbalkwizu.a of this crate.
 // Every exported name begins with `balkwizu_`. A slice is passed as a pointer and then a length.
 #![tactic(auto)]
 

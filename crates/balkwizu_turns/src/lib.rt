@@ -1,4 +1,4 @@
-// Calls handed in one by one and served by turns (document 02 (m)), for C, as target/staticlib/libbalkwizu_turns.a. The archive is
+// Calls handed in one by one and served by turns (document 02 (m)), for C, as the archive out/libbalkwizu_turns.a of this crate. It is
 // separate from the kernel's, so that a firmware without turns doesn't link the step that a turn serves a call by.
 // The state is 1 + 17 n words that the caller lends, where n is the table's count of domains: the place of the turn, then for each
 // domain the count of its pending words, and sixteen words.

@@ -12,7 +12,7 @@ use table_check::{Checked, TableRefusal, check};
 use table_layout::domains;
 
 // The answer about a domain's component.
-#[derive(Drop)]
+#[derive(Clone, Copy)]
 pub enum Component {
     // the members, a bit for each
     Of(u32),

@@ -46,7 +46,7 @@ pub fn note(holders: &mut [u32], holder: u32, target: u32, rights: u32)
 }
 
 // The answer to who can reach a domain.
-#[derive(Drop)]
+#[derive(Clone, Copy)]
 pub enum Asked {
     // the domains with a chain of rights to it, a bit for each, the domain itself among them
     Reach(u32),

@@ -15,7 +15,7 @@ use table_check::{Checked, TableRefusal, check};
 use table_layout::domains;
 
 // The answer about those that could influence a domain.
-#[derive(Drop)]
+#[derive(Clone, Copy)]
 pub enum Influence {
     // all of them, a bit for each
     Of(u32),

@@ -31,7 +31,7 @@ use table_check::Checked;
 use table_layout::{domains, endpoints};
 
 // The result of one call by itself: it is refused at the entry, or answered.
-#[derive(Drop)]
+#[derive(Clone, Copy)]
 pub enum Stepped {
     Refused(EntryRefusal),
     Answered(Answer),
@@ -65,7 +65,7 @@ pub fn step(table: &mut [u32], first: u32, second: Second, holders: &mut [u32]) 
 }
 
 // The result of a run's entry: it is refused, or its calls may run.
-#[derive(Drop)]
+#[derive(Clone, Copy)]
 pub enum Entered {
     Refused(EntryRefusal),
     Runs,

@@ -4,15 +4,16 @@
 #![tactic(auto)]
 
 ghost use Rattle.std.specs.Prelude.{◌≤◌, ◌≡◌, true, false, length, take};
+ghost use Rattle.std.specs.Io.KnownBytes.{Appends};
 ghost use Rattle.linerun_input.specs.Stage.{have_of, wanted_of, ended_of, StageAfter};
-ghost use Rattle.linerun_report.specs.Report.{answer_space};
-ghost use Rattle.linerun_report.specs.Cursor.{calls_of, code_of, ended, Prints};
+ghost use Rattle.linerun_report.specs.Report.{answer_space, report};
+ghost use Rattle.linerun_report.specs.Cursor.{calls_of, code_of, given_of, ended, Prints};
 
 use format::answers::MOST_ANSWER_WORDS;
-use libc::{STDERR_FILENO, STDOUT_FILENO};
 use linerun_input::reading::{MOST_INPUT, read_input};
 use linerun_input::stage::Input;
 use linerun_report::{Lines, PART_BYTES, answer, next, part};
+use std::io::Write;
 
 // Runs what was read, and returns the cursor before the first line. Precondition: nothing more is wanted, and the words lent for the
 // answers are as the definition has them.
@@ -27,42 +28,64 @@ fn answer_input(buffer: &[u8], input: Input, answers: &mut [u32]) -> Lines
 }
 
 // Writes the part that was given last, unless one before it could not be written, and returns whether all were.
-fn write_part(lines: Lines, out: &[u8], before: bool) -> bool
-    ensures { before ≡ false → result ≡ false }
+fn write_part<W: Write>(writer: &mut W, lines: Lines, out: &[u8], before: bool) -> bool
+    ensures unwritten { before ≡ false → result ≡ false }
+    ensures written { result ≡ true
+        → Appends (W.contents writer.old) (W.contents writer.new) (take (given_of lines) out.now) }
 {
     if !before {
         return false;
     }
-    io::write_all(STDOUT_FILENO, part(lines, out))
+    writer.write_all(part(lines, out)).is_ok()
 }
 
-// Writes the lines of the cursor, part by part until all were given, and returns the cursor after them. A program has no exit status
-// to give, so parts that can't be written are reported on standard error, and no part is written after one. Precondition: the lines
-// are the report of the bytes that were read, which nothing more is wanted after.
-fn write_lines(buffer: &[u8], input: Input, first: Lines, answers: &[u32]) -> Lines
+// What writing the lines left: the cursor after them, and whether all could be written.
+struct Written {
+    lines: Lines,
+    all: bool,
+}
+
+// Writes the lines of the cursor, part by part until all were given, and returns the cursor after them and whether all were written.
+// No part is written after one that can't be. Where the writer's bytes are known and all were written, the report of the bytes that
+// were read is what they grew by. Precondition: the lines are that report, which nothing more is wanted after.
+fn write_lines<W: Write>(
+    writer: &mut W,
+    buffer: &[u8],
+    input: Input,
+    first: Lines,
+    answers: &[u32],
+) -> Written
     requires stage_after { StageAfter (take (have_of input) buffer.now) input × (wanted_of input ≡ 0) }
     requires prints { Prints (take (have_of input) buffer.now) (ended_of input) first answers.now }
-    ensures { (ended result ≡ true) × (calls_of result ≡ calls_of first) × (code_of result ≡ code_of first) }
+    ensures given { (ended result.lines ≡ true)
+        × (calls_of result.lines ≡ calls_of first)
+        × (code_of result.lines ≡ code_of first) }
+    ensures written { result.all ≡ true
+        → Appends (W.contents writer.old) (W.contents writer.new) (report (take (have_of input) buffer.now)) }
 {
     let mut out = [0u8; PART_BYTES];
     let mut lines = first;
     let mut written = true;
     while !lines.ended() {
         lines = next(lines, answers, &mut out);
-        written = write_part(lines, &out, written);
+        written = write_part(writer, lines, &out, written);
     }
-    if !written {
-        io::write_all(STDERR_FILENO, b"linerun: not all lines could be written\n");
+    Written {
+        lines,
+        all: written,
     }
-    lines
 }
 
-// Reads standard input, runs it, and writes its lines to standard output.
-fn main() {
+// Reads standard input, runs it, and writes its lines to standard output. The exit status is 0 in any case, so lines that can't be
+// written are reported on standard error.
+fn main(rt: HostRuntime) {
     let mut buffer = [0u8; MOST_INPUT];
-    let input = read_input(&mut buffer);
+    let input = read_input(&mut rt.stdin(), &mut buffer);
     // three words for each call of the longest list
     let mut answers = [0u32; MOST_ANSWER_WORDS];
     let lines = answer_input(&buffer, input, &mut answers);
-    write_lines(&buffer, input, lines, &answers);
+    let written = write_lines(&mut rt.stdout(), &buffer, input, lines, &answers);
+    if !written.all {
+        let _ = rt.stderr().write_all(b"linerun: not all lines could be written\n");
+    }
 }

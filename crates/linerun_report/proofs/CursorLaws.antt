@@ -6,14 +6,14 @@ use mathlib.Core.List.{List, [], ◌++◌, append_assoc, append-nil}
 use borrow.Author.Tests.{ltb-true, ltb-false, le-leb, leb-true}
 use native.Mathlib.Omega.{arith}
 use lib.Dec.{leb}
-use lib.ListN.{length}
+use lib.ListN.{length, take}
 use Rattle.machine.specs.Entry.{longest_list}
 use Rattle.machine.proofs.Bools.{and_left, and_right}
 use Rattle.text.specs.Write.{overwrite, Writes}
-use Rattle.text.proofs.WriteLaws.{overwrite-none, writes-length}
+use Rattle.text.proofs.WriteLaws.{length-overwrite, overwrite-none, writes-length, fills-front}
 use Rattle.linerun_report.specs.Lines.{all_lines, printed_before, lines_between, part_bytes, line_after, part_from}
 use Rattle.linerun_report.specs.Report.{answer_space, outcome_lines, answered, report}
-use Rattle.linerun_report.specs.Cursor.{calls_of, code_of, line_of, first_lines, ended, gives, part_of, advanced, parts_from, PartsAreReport}
+use Rattle.linerun_report.specs.Cursor.{calls_of, code_of, line_of, given_of, first_lines, ended, gives, part_of, advanced, parts_from, PartsAreReport}
 use Rattle.linerun_report.specs.declared.Lines.{Lines}
 use Rattle.linerun_report.proofs.LineLaws.{at-number, lines_join, all-printed}
 use Rattle.linerun_report.proofs.ReportLaws.{answered-few, answers-lent}
@@ -142,3 +142,48 @@ module _ {first l next : Lines} {answers : List ℕ} {space : ℕ} (g : Going fi
   fewer-left more =
       let place = line-is l answers space (part-given l answers space g.few g.lent g.fits) in
       rw is (omega (arith, place, ltb-false (calls_of l) (line_of l) more))
+
+  pub next-within : line_of next ≤ calls_of next + 1
+  unfolding line_after advanced
+  next-within = rw is (omega (arith, line-is l answers space (part-given l answers space g.few g.lent g.fits)))
+
+  -- a part continues what was printed before it
+  pub printed-next : ended l ≡ false
+      → printed_before (calls_of l) (code_of l) answers (line_of l) ++ part_of l answers space
+      ≡ printed_before (calls_of next) (code_of next) answers (line_of next)
+  unfolding ended advanced
+  printed-next more =
+      let given = part-given l answers space g.few g.lent g.fits in
+      let before = printed_before (calls_of l) (code_of l) answers in
+      rw is
+      (ap (λ (p : List ℕ). before (line_of l) ++ p) (part-is l answers space given)
+      ∙ part-joins (calls_of l) (code_of l) answers (line_of l) (ltb-false (calls_of l) (line_of l) more)
+      ∙ at-number before _ _ (sym (line-is l answers space given)))
+
+-- the part that was given is at the buffer's front
+pub part-in-front : (l next : Lines) (answers out left : List ℕ) → next ≡ advanced l answers (length out)
+    → left ≡ overwrite 0 (part_of l answers (length out)) out → given_of next ≤ length left
+    → take (given_of next) left ≡ part_of l answers (length out)
+unfolding advanced
+part-in-front l next answers out left is stored fits =
+    let part = part_of l answers (length out) in
+    let long : given_of next ≡ length part = ap given_of is in
+    let room : length left ≡ length out = ap length stored ∙ length-overwrite 0 part out in
+    let front = fills-front {items = part} {buffer = out} {count = given_of next} {left = left}
+    (omega arith) (record { count-is = omega arith; items-are = stored }) in
+    front.1
+
+-- where all lines were given, all are printed
+pub all-given : (first l : Lines) (answers : List ℕ) (space : ℕ) → Going first answers space l → ended l ≡ true → line_of l ≤ calls_of l + 1
+    → printed_before (calls_of l) (code_of l) answers (line_of l) ≡ all_lines (calls_of first) (code_of first) answers
+unfolding ended
+all-given first l answers space g over within =
+    at-number (printed_before (calls_of l) (code_of l) answers) (line_of l) (calls_of l + 1) (omega (arith, ltb-true (calls_of l) (line_of l) over))
+    ∙ sym (all-printed (calls_of l) (code_of l) answers)
+    ∙ ap (λ (k : ℕ). all_lines k (code_of l) answers) g.same-calls
+    ∙ ap (λ (k : ℕ). all_lines (calls_of first) k answers) g.same_code
+
+-- before the first line nothing is printed
+pub none-printed : (l : Lines) (answers : List ℕ) → line_of l ≡ 0 → printed_before (calls_of l) (code_of l) answers (line_of l) ≡ []
+unfolding printed_before
+none-printed l answers start = at-number (printed_before (calls_of l) (code_of l) answers) (line_of l) 0 start

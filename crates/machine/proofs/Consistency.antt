@@ -15,7 +15,7 @@ use Rattle.machine.specs.Queue.{name, owner, waiting, lost, oldest}
 use Rattle.machine.specs.Check.{Accepted}
 use Rattle.machine.specs.Call.{Call, Kind, first, call_kind, second_payload}
 use Rattle.machine.specs.Call.{Kind.look_up, Kind.send, Kind.receive, Kind.my_endpoints, Kind.my_rights, Kind.grant, Kind.remove, Kind.revoke}
-use Rattle.machine.specs.Machine.{Decision, Decision.refused, may_send, named, decide, owned_bits, rights_bits, code, data_words, answer_word, answer_to, answer}
+use Rattle.machine.specs.Machine.{Decision, may_send, named, decide, owned_bits, rights_bits, code, data_words, answer_word, answer_to, answer}
 use Rattle.machine.specs.Guards.{place, look_up_places, send_places, receive_places, rights_places, grant_places, revoke_places, remove_places, framed, places}
 use Rattle.machine.specs.Influence.{reaches, influences}
 use Rattle.machine.specs.SameParts.{SameFrame, SamePart}

@@ -2,7 +2,7 @@
 -- have then shown (specs/Machine). Whatever is proved of every call is proved through this one law.
 -- Assumes nothing.
 use mathlib.Core.Path.{◌≡◌, refl}
-use mathlib.Core.Bool.{Bool, true, false, not, ◌&&◌}
+use mathlib.Core.Bool.{Bool, true, false, ◌&&◌}
 use mathlib.Core.List.{List}
 use mathlib.Core.Option.{Option, none, some}
 use Prim.Native.Nat.{ℕ, ◌<◌, ◌≤◌}
@@ -14,7 +14,7 @@ use Rattle.machine.specs.Right.{GRANT, REMOVE, REVOKE, all_rights, is_set, holds
 use Rattle.machine.specs.Table.{domains, endpoints, rights, endpoint}
 use Rattle.machine.specs.Queue.{owner, waiting}
 use Rattle.machine.specs.Call.{Call, Kind, first, call_kind, caller_of, second_payload}
-use Rattle.machine.specs.Call.{Kind.look_up, Kind.send, Kind.receive, Kind.my_endpoints, Kind.my_rights, Kind.grant, Kind.remove, Kind.revoke, Kind.stray, Kind.unknown}
+use Rattle.machine.specs.Call.{Kind.look_up, Kind.send, Kind.receive, Kind.my_endpoints, Kind.my_rights, Kind.grant, Kind.remove, Kind.revoke}
 use Rattle.machine.specs.Machine.{Decision, may_send, named, decide}
 use Rattle.machine.specs.Guards.{place, look_up_places, send_places, receive_places, rights_places, grant_places, revoke_places, remove_places, framed, places}
 use Rattle.machine.specs.Machine.{Decision.refused, Decision.looked_up, Decision.sends, Decision.receives, Decision.lists_endpoints, Decision.lists_rights, Decision.grants, Decision.removes, Decision.revokes}

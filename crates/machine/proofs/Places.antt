@@ -2,15 +2,13 @@
 -- specs/Guards).
 -- Assumes nothing.
 use mathlib.Core.Path.{◌≡◌, refl}
-use mathlib.Core.Bool.{Bool, true, false, cond, not, ◌&&◌, ◌||◌}
+use mathlib.Core.Bool.{cond}
 use mathlib.Core.List.{List}
 use mathlib.Core.Option.{Option, none, some}
 use Prim.Native.Nat.{ℕ}
-use lib.Dec.{eqb}
 use Rattle.machine.specs.Word.{kind}
-use Rattle.machine.specs.Call.{Call, Kind, first, kind_number, one_of, kind_of, call_kind, wants_second, second_payload}
-use Rattle.machine.specs.Call.{Kind.look_up, Kind.send, Kind.receive, Kind.my_endpoints, Kind.my_rights, Kind.grant, Kind.remove, Kind.revoke, Kind.stray, Kind.unknown}
-use Rattle.machine.specs.Machine.{Decision, Decision.refused, Decision.looked_up, is_none, or_zero, named, places_of, first_refusal, row_of, decide}
+use Rattle.machine.specs.Call.{Call, first, kind_number, one_of, kind_of, call_kind, wants_second, second_payload}
+use Rattle.machine.specs.Machine.{Decision.refused, Decision.looked_up, is_none, or_zero, named, places_of, first_refusal, row_of, decide}
 use Rattle.machine.specs.Guards.{place, look_up_places, send_places, receive_places, rights_places, grant_places, revoke_places, remove_places, framed, places}
 use Rattle.machine.proofs.KindCases.{kind-elim}
 

@@ -5,7 +5,7 @@ use Prim.Native.Nat.{ℕ, ◌*◌}
 use lib.ListN.{length, take, drop}
 use lib.Seq.{drop-append_seam}
 use Rattle.machine.specs.Call.{Call}
-use Rattle.machine.specs.Machine.{Decision.refused, decide, step, code, data_words, answer_word, answer_to, answer}
+use Rattle.machine.specs.Machine.{Decision.refused, decide, code, data_words, answer_word, answer_to, answer}
 use Rattle.machine.specs.Run.{run, answers}
 use Rattle.machine.specs.RunClaims.{RefusedHere}
 use Rattle.machine.specs.MachineClaims.{EveryRunRefusalChangesNothing}

@@ -1,6 +1,6 @@
 -- A call is its one or two words and nothing else. Here are the split of a list into calls, the kinds of call, and what the
 -- places 13 and 14 test, which need no table (document 01, 'The calls' and 'Where each number is checked').
-use Rattle.std.specs.Prelude.{ℕ, Bool, true, false, cond, not, ◌&&◌, ◌||◌, List, [], ◌∷◌, eqb}
+use Rattle.std.specs.Prelude.{ℕ, Bool, true, false, cond, ◌&&◌, ◌||◌, List, [], ◌∷◌, eqb}
 use Rattle.std.proofs.Math.Option.{Option, none, some}
 use Rattle.machine.specs.Word.{kind, payload, caller, field_a, field_b, field_c}
 

@@ -1,7 +1,7 @@
 -- What the fourth line of the checklist counts, and the messages of a queue in their order.
 -- Sent and received are determined by calls and their answers alone, three words for each call and perhaps others after them.
 -- Which sends found the queue full, and what left it by its front, is determined by the run's tables.
-use Rattle.std.specs.Prelude.{ℕ, ◌+◌, Bool, true, false, cond, not, ◌&&◌, List, [], ◌∷◌, map, get_or, take, drop, eqb}
+use Rattle.std.specs.Prelude.{ℕ, ◌+◌, Bool, cond, not, ◌&&◌, List, [], ◌∷◌, map, get_or, take, drop, eqb}
 use Rattle.machine.specs.Word.{payload, field_b, answer_code}
 use Rattle.machine.specs.Table.{endpoint}
 use Rattle.machine.specs.Queue.{waiting, oldest, has_space}

@@ -15,7 +15,7 @@ use table_check::{Checked, TableRefusal, check};
 use table_layout::domains;
 
 // The answer about the potential rights.
-#[derive(Drop)]
+#[derive(Clone, Copy)]
 pub enum Potential {
     // 0: the lent words have them
     Computed,

@@ -16,7 +16,7 @@ use format::tables::LONGEST_TABLE;
 use table_check::check;
 
 // The outcome of a repair.
-#[derive(Drop)]
+#[derive(Clone, Copy)]
 pub enum Repaired {
     // 0: this count of words is altered
     Done(usize),

@@ -46,7 +46,7 @@ pub fn send(ring: &mut [u32], message: u32)
 }
 
 // What a receive returns: the oldest message and the lost count.
-#[derive(Drop)]
+#[derive(Clone, Copy)]
 pub struct Received {
     pub message: u32,
     pub lost: u32,

@@ -7,7 +7,7 @@ ghost use Rattle.run_result.specs.Entry.{entry_refusal_code, ran_code, ran_calls
 use table_check::TableRefusal;
 
 // Why a list doesn't run.
-#[derive(Drop)]
+#[derive(Clone, Copy)]
 pub enum EntryRefusal {
     ListTooLong, // 1
     BadTable(TableRefusal), // 2 to 5
@@ -30,7 +30,7 @@ impl EntryRefusal {
 }
 
 // The result of running a list: a refusal at the entry, or the count of calls that ran.
-#[derive(Drop)]
+#[derive(Clone, Copy)]
 pub enum Ran {
     Refused(EntryRefusal),
     Done(usize),

@@ -16,7 +16,7 @@ ghost use Rattle.machine.specs.Check.{header_ok, length_ok, rights_ok, endpoints
 ghost use Rattle.table_check.specs.Checked.{refusal_code, checked_code, Headed};
 
 // What is wrong with a refused table: the place of document 01 that refuses it.
-#[derive(Drop)]
+#[derive(Clone, Copy)]
 pub enum TableRefusal {
     // 2: the table is empty, or word 0 breaks its layout
     BadHeader,
@@ -43,7 +43,7 @@ impl TableRefusal {
 }
 
 // The result of the check.
-#[derive(Drop)]
+#[derive(Clone, Copy)]
 pub enum Checked {
     Sound,
     Refused(TableRefusal),

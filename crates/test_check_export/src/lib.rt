@@ -1,5 +1,5 @@
 // The check of a table's words as a C function, for the bench only: no header declares it and the archive for the firmware doesn't
-// have it (`rt staticlib test_check_export` makes an archive of its own). Every run begins with this check. Here it is measured by
+// have it (`firmware/make-archive test_check_export` makes an archive of its own). Every run begins with this check. Here it is measured by
 // itself, beside the check of bytes.
 #![tactic(auto)]
 

@@ -1,5 +1,5 @@
 // The public step as a C function, for the bench only: no header declares it and the archive for the firmware doesn't have it
-// (`rt staticlib test_export` makes an archive of its own). With it `kernel::step` is run beside the reference implementation.
+// (`firmware/make-archive test_export` makes an archive of its own). With it `kernel::step` is run beside the reference implementation.
 #![tactic(auto)]
 
 pub mod both_ways;

@@ -1,5 +1,5 @@
 // A send and a receive on arbitrary words as C functions, for the bench only: no header declares them and the archive for the
-// firmware doesn't have them (`rt staticlib test_export` makes an archive of its own). With them the queue's functions are run on
+// firmware doesn't have them (`firmware/make-archive test_export` makes an archive of its own). With them the queue's functions are run on
 // words that no check accepts.
 ghost use Rattle.std.specs.Prelude.{◌≡◌};
 ghost use Rattle.queue.specs.Queue.{sendable, left_by_send, receivable, left_by_receive};

@@ -19,7 +19,7 @@ use turns_state::order::next_to_serve;
 use turns_state::{add, clear};
 
 // Why words that are handed in are refused.
-#[derive(Drop)]
+#[derive(Clone, Copy)]
 pub enum HandInRefusal {
     BadTable(TableRefusal), // 2 to 5
     UnknownDomain, // 35
@@ -44,7 +44,7 @@ impl HandInRefusal {
 }
 
 // The outcome of handing in.
-#[derive(Drop)]
+#[derive(Clone, Copy)]
 pub enum HandedIn {
     Refused(HandInRefusal),
     Pending,
@@ -63,7 +63,7 @@ impl HandedIn {
 }
 
 // Why a beginning or a turn is refused.
-#[derive(Drop)]
+#[derive(Clone, Copy)]
 pub enum TurnRefusal {
     Entry(EntryRefusal), // 2 to 6
     BadTurns, // 99, which no paper uses: the state isn't 1 + 17 n words
@@ -82,7 +82,7 @@ impl TurnRefusal {
 }
 
 // The outcome of a beginning.
-#[derive(Drop)]
+#[derive(Clone, Copy)]
 pub enum Begun {
     Refused(TurnRefusal),
     Ready,
@@ -101,7 +101,7 @@ impl Begun {
 }
 
 // The outcome of a turn.
-#[derive(Drop)]
+#[derive(Clone, Copy)]
 pub enum Turned {
     Refused(TurnRefusal),
     Idle,

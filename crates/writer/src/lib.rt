@@ -16,7 +16,7 @@ use calls::Call;
 use format::calls::LONGEST_LIST;
 
 // The result of writing.
-#[derive(Drop)]
+#[derive(Clone, Copy)]
 pub enum Written {
     // 0: so many words are written
     Done(usize),
@@ -51,7 +51,7 @@ impl Written {
 }
 
 // What the first pass finds in some calls.
-#[derive(Drop)]
+#[derive(Clone, Copy)]
 pub enum Measured {
     // the calls are so many words
     Words(usize),

@@ -1,0 +1,20 @@
+-- `slots_ok`: no bit is gathered where the slots passed are valid. Assumes nothing.
+use Prim.Native.Nat.{◌+◌, ◌-◌}
+use mathlib.Core.Path.{ap, ◌∙◌}
+use native.Mathlib.Omega.{arith}
+use borrow.Author.Rules.{rules}
+use lib.Dec.{eqb}
+use lib.ListN.{get_or}
+use Rattle.machine.specs.Word.{word}
+use Rattle.machine.specs.Check.{slot_word_ok}
+use Rattle.table_words.proofs.Wrong.{none-gathered}
+use Rattle.table_words.proofs.Scan.{Scanned, scan-start, scan-next, scan-end}
+use Rattle.input_words.specs.Bytes.{words_of}
+use Rattle.table_check_bytes.proofs.slots_ok.Given as goal
+
+abbrev pub invariant-loop-i : goal.invariant-loop-i
+invariant-loop-i l =
+    Scanned (λ j. slot_word_ok (l.waiting - word 5 0) j (get_or (words_of l.bytes) (l.start + j) 0)) 8 (eqb l.wrong 0) l.i
+
+abbrev pub decreases-loop-i : goal.decreases-loop-i
+decreases-loop-i l = 8 - l.i

@@ -1,0 +1,32 @@
+-- `order::waits_from` meets its contract: a domain waits where its count isn't zero. Assumes nothing.
+use mathlib.Core.Path.{sym, ap, ◌∙◌}
+use mathlib.Core.Bool.{Bool, ◌&&◌}
+use native.Mathlib.Omega.{arith}
+use borrow.Author.Tests.{le-leb, lt-leb}
+use Rattle.turns_state.specs.State.{turns_in}
+use Rattle.turns_theory.specs.Turns.{waits}
+use Rattle.turns_state.proofs.Blocks.{waits-word}
+use Rattle.turns_state.proofs.order.waits_from.Goals as goal
+
+pub returns-then-d-place : goal.returns-then-d-place
+returns-then-d-place c = rw (lt-leb _ _ c.if-d-place.true)
+
+pub returns : goal.returns
+returns c =
+    let a = c.args in
+    let s = turns_in a.state.now in
+    sym
+    (ap (λ (b : Bool). b && waits s a.d) (le-leb a.place a.d (omega (arith, c.if-d-place.false)))
+    ∙ waits-word a.state.now a.n a.d c.requires.state_len c.requires.d_lt_n)
+
+pub overflow_mul-result : goal.overflow_mul-result
+overflow_mul-result c = omega arith
+
+pub overflow_add-result : goal.overflow_add-result
+overflow_add-result c = omega arith
+
+pub offset_bounds-state-d : goal.offset_bounds-state-d
+offset_bounds-state-d c = omega arith
+
+pub bounds-state-d : goal.bounds-state-d
+bounds-state-d c = omega arith
