@@ -3,8 +3,7 @@ use mathlib.Core.Path.{◌≡◌, refl, sym, ap, ◌∙◌}
 use mathlib.Core.Bool.{true}
 use Prim.Native.Nat.{◌<◌}
 use native.Mathlib.Omega.{arith}
-use borrow.Author.Rules.{rules}
-use borrow.Author.Tests.{eqb-true, not-true, not-false}
+use borrow.Author.Tests.{eqb-true}
 use lib.ListN.{length}
 use Rattle.machine.specs.Table.{domains}
 use Rattle.machine.specs.Check.{Accepted}
@@ -19,50 +18,40 @@ use Rattle.turns.proofs.hand_in.Goals as goal
 
 pub returns-in-Refused : goal.returns-in-Refused
 returns-in-Refused c =
-    let check = c in
-    let code = sym (ap checked_code c.in-Refused.is) ∙ check.check-checked.ensures in
+    let code = sym (ap checked_code c.in-Refused.is) ∙ c.check-checked.ensures in
     let bad = table-some c.in-Refused.refusal in
     hand-in-refused _ _ _ _ _ (hands-table _ _ _ _ _ code bad) bad _ refl
 
 pub returns-then-n-domain : goal.returns-then-n-domain
 returns-then-n-domain c =
-    let number = c in
     hand-in-refused _ _ _ _ _
-    (hands-domain _ _ _ _ ((let the_accepted : Accepted number.args.table.now = sym (sym (ap checked_code number.in_default.is) ∙ number.check-checked.ensures) in the_accepted)) (omega (arith, number.domain_count-n.ensures, c.if-n-domain.true)))
+    (hands-domain _ _ _ _ ((let the_accepted : Accepted c.args.table.now = sym (sym (ap checked_code c.in_default.is) ∙ c.check-checked.ensures) in the_accepted)) (omega (arith, c.domain_count-n.ensures, c.if-n-domain.true)))
     (λ z. omega arith) _ refl
 
 pub returns-then-not-is_one_call : goal.returns-then-not-is_one_call
 returns-then-not-is_one_call c =
-    let test = c in
     hand-in-refused _ _ _ _ _
-    (hands-call _ _ _ _ ((let the_accepted : Accepted test.args.table.now = sym (sym (ap checked_code test.in_default.is) ∙ test.check-checked.ensures) in the_accepted)) ((let the_below : (let a = test.args in a.domain < domains a.table.now) = omega (arith, test.domain_count-n.ensures, test.if-n-domain.false) in the_below)) (sym c.is_one_call.ensures ∙ c.if-not-is_one_call.true))
+    (hands-call _ _ _ _ ((let the_accepted : Accepted c.args.table.now = sym (sym (ap checked_code c.in_default.is) ∙ c.check-checked.ensures) in the_accepted)) ((let the_below : (let a = c.args in a.domain < domains a.table.now) = omega (arith, c.domain_count-n.ensures, c.if-n-domain.false) in the_below)) (sym c.is_one_call.ensures ∙ c.if-not-is_one_call.true))
     (λ z. omega arith) _ refl
 
 pub returns-then-not-fits : goal.returns-then-not-fits
 returns-then-not-fits c =
-    let test = c in
     hand-in-refused _ _ _ _ _
-    (hands-size _ _ _ _ ((let the_accepted : Accepted test.args.table.now = sym (sym (ap checked_code test.in_default.is) ∙ test.check-checked.ensures) in the_accepted)) ((let the_below : (let a = test.args in a.domain < domains a.table.now) = omega (arith, test.domain_count-n.ensures, test.if-n-domain.false) in the_below)) ((let the_one : (let a = test.args in is_one_of a.domain (split a.words.now) ≡ true) = sym test.is_one_call.ensures ∙ test.if-not-is_one_call.false in the_one)) (sym c.fits2.ensures ∙ c.if-not-fits.true))
+    (hands-size _ _ _ _ ((let the_accepted : Accepted c.args.table.now = sym (sym (ap checked_code c.in_default.is) ∙ c.check-checked.ensures) in the_accepted)) ((let the_below : (let a = c.args in a.domain < domains a.table.now) = omega (arith, c.domain_count-n.ensures, c.if-n-domain.false) in the_below)) ((let the_one : (let a = c.args in is_one_of a.domain (split a.words.now) ≡ true) = sym c.is_one_call.ensures ∙ c.if-not-is_one_call.false in the_one)) (sym c.fits.ensures ∙ c.if-not-fits.true))
     (λ z. omega arith) _ refl
 
 pub returns-then-not-add : goal.returns-then-not-add
 returns-then-not-add c =
-    let add = c in
-    let test = add in
-    let reported = test in
-    let full = sym add.add.ensures.value ∙ c.if-not-add.true in
+    let full = sym c.add.ensures.value ∙ c.if-not-add.true in
     hand-in-refused _ _ _ _ _
-    (hands-room _ _ _ _ ((let the_accepted : Accepted reported.args.table.now = sym (sym (ap checked_code reported.in_default.is) ∙ reported.check-checked.ensures) in the_accepted)) ((let the_below : (let a = test.args in a.domain < domains a.table.now) = omega (arith, test.domain_count-n.ensures, test.if-n-domain.false) in the_below)) ((let the_one : (let a = test.args in is_one_of a.domain (split a.words.now) ≡ true) = sym test.is_one_call.ensures ∙ test.if-not-is_one_call.false in the_one)) ((let the_size : (let a = test.args in length a.state.now ≡ state_length (domains a.table.now)) = eqb-true _ _ (sym test.fits2.ensures ∙ test.if-not-fits.false) in the_size)) full)
+    (hands-room _ _ _ _ ((let the_accepted : Accepted c.args.table.now = sym (sym (ap checked_code c.in_default.is) ∙ c.check-checked.ensures) in the_accepted)) ((let the_below : (let a = c.args in a.domain < domains a.table.now) = omega (arith, c.domain_count-n.ensures, c.if-n-domain.false) in the_below)) ((let the_one : (let a = c.args in is_one_of a.domain (split a.words.now) ≡ true) = sym c.is_one_call.ensures ∙ c.if-not-is_one_call.false in the_one)) ((let the_size : (let a = c.args in length a.state.now ≡ state_length (domains a.table.now)) = eqb-true _ _ (sym c.fits.ensures ∙ c.if-not-fits.false) in the_size)) full)
     (λ z. omega arith) _
-    (add.add.ensures.state_after ∙ added_none _ _ _ full)
+    (c.add.ensures.state_after ∙ added_none _ _ _ full)
 
 pub returns : goal.returns
 returns c =
-    let add = c in
-    let test = add in
-    let reported = test in
-    let room = sym add.add.ensures.value ∙ c.if-not-add.false in
+    let room = sym c.add.ensures.value ∙ c.if-not-add.false in
     hand-in-done _ _ _ _
-    (hands-fine _ _ _ _ ((let the_accepted : Accepted reported.args.table.now = sym (sym (ap checked_code reported.in_default.is) ∙ reported.check-checked.ensures) in the_accepted)) ((let the_below : (let a = test.args in a.domain < domains a.table.now) = omega (arith, test.domain_count-n.ensures, test.if-n-domain.false) in the_below)) ((let the_one : (let a = test.args in is_one_of a.domain (split a.words.now) ≡ true) = sym test.is_one_call.ensures ∙ test.if-not-is_one_call.false in the_one)) ((let the_size : (let a = test.args in length a.state.now ≡ state_length (domains a.table.now)) = eqb-true _ _ (sym test.fits2.ensures ∙ test.if-not-fits.false) in the_size)) room)
+    (hands-fine _ _ _ _ ((let the_accepted : Accepted c.args.table.now = sym (sym (ap checked_code c.in_default.is) ∙ c.check-checked.ensures) in the_accepted)) ((let the_below : (let a = c.args in a.domain < domains a.table.now) = omega (arith, c.domain_count-n.ensures, c.if-n-domain.false) in the_below)) ((let the_one : (let a = c.args in is_one_of a.domain (split a.words.now) ≡ true) = sym c.is_one_call.ensures ∙ c.if-not-is_one_call.false in the_one)) ((let the_size : (let a = c.args in length a.state.now ≡ state_length (domains a.table.now)) = eqb-true _ _ (sym c.fits.ensures ∙ c.if-not-fits.false) in the_size)) room)
     _
-    (add.add.ensures.state_after ∙ added-there _ _ _ room)
+    (c.add.ensures.state_after ∙ added-there _ _ _ room)

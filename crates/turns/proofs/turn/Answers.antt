@@ -3,8 +3,7 @@
 use mathlib.Core.Path.{◌≡◌, sym, ◌∙◌}
 use mathlib.Core.Option.{some}
 use native.Mathlib.Omega.{arith}
-use borrow.Author.Rules.{rules}
-use borrow.Author.Tests.{eqb-true, eqb-false, not-true, not-false}
+use borrow.Author.Tests.{eqb-true, eqb-false}
 use lib.ListN.{length}
 use Rattle.machine.specs.Table.{domains}
 use Rattle.turns_theory.specs.Turns.{first_waiting}
@@ -15,23 +14,24 @@ use Rattle.turns.proofs.turn.Goals as goal
 
 pub returns-then-not-fits : goal.returns-then-not-fits
 returns-then-not-fits c =
-    let test = c in
-    unfit-turn _ _ _ _ _ (eqb-false _ _ (sym test.fits2.ensures ∙ test.if-not-fits.true)) c.refused_or-refusal.ensures
+    unfit-turn _ _ _ _ _ (eqb-false _ _ (sym c.fits.ensures ∙ c.if-not-fits.true)) c.refused_or-refusal.ensures
 
 pub returns-then-next-n : goal.returns-then-next-n
 returns-then-next-n c =
-    let test = c in
-    let count = c in
-    idle-turn _ _ _ _ _ _ ((let the_size : (let a = c.args in length a.state.now ≡ state_length (domains a.table.now)) = eqb-true _ _ (sym c.fits2.ensures ∙ c.if-not-fits.false) in the_size))
-    (sym count.domain_count-n.ensures ∙ sym test.if-next-n.true ∙ test.next_to_serve-next.ensures)
+    idle-turn _ _ _ _ _ _ ((let the_size : (let a = c.args in length a.state.now ≡ state_length (domains a.table.now)) = eqb-true _ _ (sym c.fits.ensures ∙ c.if-not-fits.false) in the_size))
+    (sym c.domain_count-n.ensures ∙ sym c.if-next-n.true ∙ c.next_to_serve-next.ensures)
     c.idle.ensures.result_value c.idle.ensures.result_value_2
 
 pub returns-then-answer-lt3 : goal.returns-then-answer-lt3
 returns-then-answer-lt3 c =
-    no-space-turn ((let the_size : (let a = c.args in length a.state.now ≡ state_length (domains a.table.now)) = eqb-true _ _ (sym c.fits2.ensures ∙ c.if-not-fits.false) in the_size)) ((let the_next : (let a = c.args in first_waiting (domains a.table.now) (turns_in a.state.now) ≡ some c.next_to_serve-next.result) = let count = c in
+    no-space-turn ((let the_size : (let a = c.args in length a.state.now ≡ state_length (domains a.table.now)) = eqb-true _ _ (sym c.fits.ensures ∙ c.if-not-fits.false) in the_size)) ((let the_next : (let a = c.args in first_waiting (domains a.table.now) (turns_in a.state.now) ≡ some c.next_to_serve-next.result) = let count = c in
     (next-may _ _ _ c.next_to_serve-next.ensures (λ same. c.if-next-n.false (same ∙ sym count.domain_count-n.ensures))).1 in the_next)) _ _ c.if-answer-lt3.true c.refused_or-refusal-then-answer-lt3.ensures
 
 pub serve-requires : goal.serve-requires
 serve-requires c =
-    record { size = (let the_size : (let a = c.args in length a.state.now ≡ state_length (domains a.table.now)) = eqb-true _ _ (sym c.fits2.ensures ∙ c.if-not-fits.false) in the_size); next = (let the_next : (let a = c.args in first_waiting (domains a.table.now) (turns_in a.state.now) ≡ some c.next_to_serve-next.result) = let count = c in
-    (next-may _ _ _ c.next_to_serve-next.ensures (λ same. c.if-next-n.false (same ∙ sym count.domain_count-n.ensures))).1 in the_next); room = omega (arith, c.if-answer-lt3.false) }
+    record {
+      size = (let the_size : (let a = c.args in length a.state.now ≡ state_length (domains a.table.now)) = eqb-true _ _ (sym c.fits.ensures ∙ c.if-not-fits.false) in the_size);
+      next = (let the_next : (let a = c.args in first_waiting (domains a.table.now) (turns_in a.state.now) ≡ some c.next_to_serve-next.result) = let count = c in
+          (next-may _ _ _ c.next_to_serve-next.ensures (λ same. c.if-next-n.false (same ∙ sym count.domain_count-n.ensures))).1 in the_next);
+      room = omega (arith, c.if-answer-lt3.false);
+    }

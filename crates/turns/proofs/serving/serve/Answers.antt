@@ -1,8 +1,12 @@
 -- `serving::serve` meets its contract: the step gets the turn's call, and what it promises is what the turn does. Assumes nothing.
+use mathlib.Core.List.{List}
+use Prim.Native.Nat.{ℕ}
 use mathlib.Core.Path.{◌≡◌, ap, ap₂, subst₂, ◌∙◌}
-use borrow.Author.Rules.{rules}
 use Rattle.machine.specs.Call.{Call}
 use Rattle.calls.specs.Split.{call_of, width_of}
+use Rattle.calls.specs.declared.split.Second.{Second}
+use Rattle.turns_state.specs.Pending.{second_of_oldest}
+use Rattle.turns_state.specs.State.{block, first_of_oldest}
 use Rattle.kernel.specs.Step.{StepPromise}
 use Rattle.kernel.specs.declared.Stepped.{Stepped}
 use Rattle.turns_state.proofs.Oldest.{oldest-call}
@@ -10,29 +14,24 @@ use Rattle.turns.proofs.Serves.{serve-refused, serve-answered}
 use Rattle.turns.proofs.serving.serve.Goals as goal
 
 -- what the step promises of its outcome, for the turn's call
-stepped : (c : tie.After-step) (s : Stepped) → c.step-stepped.result ≡ s → (let a = c.args in StepPromise a.table.now (oldest-call a.state.now a.domain) a.holders.now s c.step-stepped.new.0 c.step-stepped.new.1.1.1.0)
-stepped c s is =
-    let a = c.args in
-    subst₂ (λ (call : Call) (s : Stepped). StepPromise a.table.now call a.holders.now s c.step-stepped.new.0 c.step-stepped.new.1.1.1.0)
-    (ap₂ call_of c.first_of_oldest-first.ensures c.second_of_oldest-second.ensures)
-    is
-    c.step-stepped.ensures
+stepped : (t ws holders : List ℕ) (d f : ℕ) (v : Second) (r s : Stepped) (t' kept : List ℕ)
+    → f ≡ first_of_oldest (block ws d)
+    → v ≡ second_of_oldest (block ws d)
+    → StepPromise t (call_of f v) holders r t' kept
+    → r ≡ s
+    → StepPromise t (oldest-call ws d) holders s t' kept
+stepped t ws holders d f v r s t' kept first second promised is =
+    subst₂ (λ (call : Call) (x : Stepped). StepPromise t call holders x t' kept) (ap₂ call_of first second) is promised
 
 pub returns-in-Refused : goal.returns-in-Refused
 returns-in-Refused c =
-    let step = c in
-    let start = step in
-    serve-refused start.requires start.args.holders.now _ _ _ (stepped step _ c.in-Refused.is)
+    serve-refused c.requires c.args.holders.now _ _ _
+    (stepped _ _ _ _ _ _ _ _ _ _ c.first_of_oldest-first.ensures c.second_of_oldest-second.ensures c.step-stepped.ensures c.in-Refused.is)
 
 pub returns-in-Answered : goal.returns-in-Answered
 returns-in-Answered c =
-    let remove = c in
-    let width = remove in
-    let put = width in
-    let step = put in
-    let start = step in
-    serve-answered start.requires start.args.holders.now _ _ _ _ _ _
-    (width.width-few.ensures ∙ ap width_of step.second_of_oldest-second.ensures)
-    remove.remove.ensures.state_after
-    put.put.ensures
-    (stepped step _ put.in-Answered.is)
+    serve-answered c.requires c.args.holders.now _ _ _ _ _ _
+    (c.width-few.ensures ∙ ap width_of c.second_of_oldest-second.ensures)
+    c.remove.ensures.state_after
+    c.put.ensures
+    (stepped _ _ _ _ _ _ _ _ _ _ c.first_of_oldest-first.ensures c.second_of_oldest-second.ensures c.step-stepped.ensures c.in-Answered.is)
