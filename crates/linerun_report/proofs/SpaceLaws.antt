@@ -6,7 +6,7 @@ use mathlib.Core.List.{List, [], ◌++◌}
 use borrow.Author.Tests.{le-ltb, ltb-false}
 use native.Mathlib.Omega.{arith}
 use lib.Dec.{eqb, ltb}
-use lib.ListN.{length, get_or, drop, replicate, length-replicate, get_or-append}
+use lib.ListN.{length, drop, length-replicate, get_or-append}
 use Rattle.machine.specs.Call.{split}
 use Rattle.machine.specs.Run.{answers}
 use Rattle.machine.specs.Check.{table_code}

@@ -1,6 +1,6 @@
 -- What `linerun` prints, part by part: a cursor over its lines gives the next part and goes on after it. Only a run makes a cursor,
 -- before its first line (document 01, 'Into firmware and onto the bench').
-use Rattle.std.specs.Prelude.{ℕ, zero, suc, ◌*◌, ◌≤◌, ◌<◌, ◌≡◌, Bool, true, cond, ◌&&◌, List, [], ◌++◌, ltb, leb, length}
+use Rattle.std.specs.Prelude.{ℕ, zero, suc, ◌*◌, ◌≤◌, ◌<◌, ◌≡◌, Bool, cond, ◌&&◌, List, [], ◌++◌, ltb, leb, length}
 use Rattle.machine.specs.Entry.{Outcome, longest_list}
 use Rattle.linerun_report.specs.Lines.{all_lines, part_bytes, line_after, part_from}
 use Rattle.linerun_report.specs.Report.{answer_space, answered, report, Follows}
