@@ -5,9 +5,9 @@ use mathlib.Core.Path.{◌≡◌, sym, ap, ◌∙◌}
 use mathlib.Core.List.{List, [], ◌∷◌}
 use native.Mathlib.Omega.{arith}
 use borrow.Author.Tests.{lt-ltb, le-ltb, eq-eqb, ne_eqb}
-use lib.ListN.{length, get_or, drop, drop_of_length-le}
+use lib.ListN.{length, drop, drop_of_length-le}
 use Rattle.machine.specs.Call.{split}
-use Rattle.calls.specs.Split.{call_of, second_at, width_of}
+use Rattle.calls.specs.Split.{second_at, width_of}
 use Rattle.calls.proofs.SplitAt as splits
 use Rattle.kernel.specs.Step.{step_entry_code}
 use Rattle.single_call.specs.Single.{single_code, SingleCall, call_in, call_code, CallOfWords}

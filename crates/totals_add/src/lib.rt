@@ -14,7 +14,7 @@ use totals_count::waiting::waiting_counts;
 use working::by_length::run_by_length;
 
 // Totals in 64 bits, for as many endpoints as a table can have: sends answered 0, messages received, messages lost.
-#[derive(Drop)]
+#[derive(Clone, Copy)]
 pub struct Tally {
     pub sent: [u64; 32],
     pub received: [u64; 32],
@@ -35,7 +35,7 @@ impl Tally {
 }
 
 // The outcome of a list's run, and the totals with what it counts.
-#[derive(Drop)]
+#[derive(Clone, Copy)]
 pub struct Added {
     pub ran: Ran,
     pub tally: Tally,

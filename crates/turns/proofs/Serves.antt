@@ -4,7 +4,7 @@ use mathlib.Core.Path.{◌≡◌, refl, sym, ap, ◌∙◌}
 use mathlib.Core.Bool.{Bool, true, false, cond}
 use mathlib.Core.List.{List, [], ◌++◌}
 use mathlib.Core.Option.{some}
-use Prim.Native.Nat.{ℕ, ◌<◌, ◌≤◌}
+use Prim.Native.Nat.{ℕ, ◌<◌}
 use native.Mathlib.Omega.{arith}
 use borrow.Author.Tests.{eqb-true, eqb-false, eq-eqb, ne_eqb, le-ltb}
 use lib.Dec.{eqb}
@@ -26,7 +26,7 @@ use Rattle.turns_state.specs.State.{state_length, block, turns_in, turn_in, stat
 use Rattle.turns_state.proofs.Next.{next-none, next-waiting}
 use Rattle.turns_state.proofs.Oldest.{oldest-call, oldest-turn, oldest-left}
 use Rattle.turns.specs.Codes.{bad_turns, then_code}
-use Rattle.turns.specs.Promise.{turn_code_on_state, served_by, space_after, turn_made, turn_outcome, TurnWords, TurnPromise, words, outcome, MayServe}
+use Rattle.turns.specs.Promise.{turn_code_on_state, served_by, space_after, turn_made, turn_outcome, TurnPromise, words, outcome, MayServe}
 use Rattle.turns.proofs.Codes.{then_some, turn-unfit, turn-idle-code, turn-space, turn-serves}
 use Rattle.turns.proofs.Outcomes.{entry-some}
 

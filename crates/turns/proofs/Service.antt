@@ -3,13 +3,12 @@
 use mathlib.Core.Path.{◌≡◌, refl, sym, ap, ap₂, subst, ◌∙◌}
 use mathlib.Core.Bool.{Bool, true, false, cond, true≢false}
 use mathlib.Core.List.{List, [], ◌∷◌, ◌++◌, map}
-use Prim.Native.Nat.{ℕ, zero, suc, ◌+◌, ◌*◌, ◌<◌, ◌≤◌, min}
+use Prim.Native.Nat.{ℕ, zero, suc, ◌<◌, ◌≤◌}
 use native.Mathlib.Omega.{arith}
 use borrow.Author.Tests.{eqb-true, eq-eqb}
 use lib.Dec.{eqb}
 use lib.ListN.{length, get_or, take, drop, length-take}
 use lib.Seq.{take_at}
-use Rattle.machine.specs.Table.{domains}
 use Rattle.machine.specs.Call.{Call}
 use Rattle.machine.specs.Machine.{answer}
 use Rattle.machine.specs.Holders.{holders_of}
@@ -20,7 +19,7 @@ use Rattle.turns_theory.specs.Claims.{ServedWithin}
 use Rattle.turns_theory.proofs.InTime.{served-in-time, every-call-served-in-time, all-served-in-time}
 use Rattle.turns_state.specs.Pending.{count, pending_in}
 use Rattle.turns_state.specs.State.{block, turns_in, turn_in}
-use Rattle.turns.specs.Promise.{BeginPromise, HandInPromise, TurnWords, TurnOutcome, TurnPromise, code_of, served_by, space_after, turn_made, words}
+use Rattle.turns.specs.Promise.{TurnWords, TurnOutcome, TurnPromise, code_of, served_by, space_after, turn_made, words}
 use Rattle.turns.specs.WordHistory.{WordEvent, AllAsPromised, table_left, state_left, turn_done, turn_given, event_of, table_at, state_at, turns_done, turns_given, ServedInHistory, PendingIn, ServedInTimeByWords, EveryCallServedByWords, AllServedByWords, holders_left, holders_at, AllLentKept, HoldersThroughout, WordEvent.hands_in, WordEvent.turns}
 use Rattle.turns.proofs.WordHistory.{made-outcome, refused-outcome, outcome-code, every-word-history}
 

@@ -1,7 +1,7 @@
 -- `table_check_bytes::check` returns `bytes_code`: each place is tested once, in the order of document 01. Assumes nothing.
 use mathlib.Core.Path.{◌≡◌, sym, ◌∙◌}
 use mathlib.Core.Bool.{true}
-use borrow.Author.Tests.{eqb-true, not-true, not-false}
+use borrow.Author.Tests.{eqb-true}
 use Rattle.machine.specs.Check.{header_ok, rights_ok}
 use Rattle.table_check.proofs.Places.{code-0, code-4, code-5}
 use Rattle.input_words.specs.Bytes.{words_of}

@@ -1,7 +1,6 @@
 -- `endpoint_ok` is the machine's `endpoint_ok` of twelve words at their places. Assumes nothing.
 use mathlib.Core.Path.{ap, ap₂, ◌∙◌}
 use mathlib.Core.Bool.{◌&&◌}
-use borrow.Author.Rules.{rules}
 use Rattle.machine.specs.Check.{name_word_ok, lost_word_ok}
 use Rattle.input_words.specs.Bytes.{words_of}
 use Rattle.table_check_bytes.proofs.Words.{endpoint-words}

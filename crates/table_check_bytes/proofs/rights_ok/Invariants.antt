@@ -1,19 +1,12 @@
 -- `rights_ok` is the machine's `rights_ok` of the words: rights alone are gathered where the words passed are valid. Assumes
 -- nothing.
 use Prim.Native.Nat.{◌+◌, ◌-◌, ◌*◌, ◌≤◌}
-use mathlib.Core.Path.{ap, ◌∙◌}
-use native.Mathlib.Omega.{arith}
-use borrow.Author.Count.{falls}
 use lib.Dec.{leb}
 use lib.ListN.{get_or, length}
 use Rattle.machine.specs.Right.{all_rights}
-use Rattle.machine.specs.Table.{domains}
-use Rattle.machine.specs.Check.{rights_word_ok, rights_ok}
-use Rattle.table_words.proofs.Wrong.{rights-gathered}
-use Rattle.table_check.proofs.Bounds.{count_fits, rights-fits, rights-next-fits}
-use Rattle.table_words.proofs.Scan.{Scanned, scan-start, scan-next, scan-end}
+use Rattle.machine.specs.Check.{rights_word_ok}
+use Rattle.table_words.proofs.Scan.{Scanned}
 use Rattle.input_words.specs.Bytes.{words_of}
-use Rattle.table_check_bytes.proofs.Places.{header-four, fitting-counted}
 use Rattle.table_check_bytes.proofs.rights_ok.Given as goal
 
 abbrev pub invariant-loop-i : goal.invariant-loop-i

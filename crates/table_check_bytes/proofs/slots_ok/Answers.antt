@@ -1,15 +1,9 @@
 -- `slots_ok`: no bit is gathered where the slots passed are valid. Assumes nothing.
-use Prim.Native.Nat.{◌+◌, ◌-◌}
 use mathlib.Core.Path.{ap, ◌∙◌}
 use native.Mathlib.Omega.{arith}
-use borrow.Author.Rules.{rules}
-use lib.Dec.{eqb}
-use lib.ListN.{get_or}
-use Rattle.machine.specs.Word.{word}
 use Rattle.machine.specs.Check.{slot_word_ok}
 use Rattle.table_words.proofs.Wrong.{none-gathered}
-use Rattle.table_words.proofs.Scan.{Scanned, scan-start, scan-next, scan-end}
-use Rattle.input_words.specs.Bytes.{words_of}
+use Rattle.table_words.proofs.Scan.{scan-start, scan-next, scan-end}
 use Rattle.table_check_bytes.proofs.slots_ok.Goals as goal
 
 pub loop-i-preserved : goal.loop-i-preserved
