@@ -2,7 +2,6 @@
 -- worked example is first, then come the sections of document 01 and the requests of document 02, in this order but for a few
 -- headings of our own. A field's type is the claim as its crate states it. What is claimed of the words that a function leaves is in
 -- its contract.
-use Rattle.std.specs.Prelude.{[], ◌∷◌}
 use Rattle.codes_theory.specs.Claims as codes-theory-claims
 use Rattle.holders_theory.specs.Claims as holders-theory-claims
 use Rattle.holders_theory.specs.Examples as holders-theory-examples
