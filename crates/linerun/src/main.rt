@@ -40,6 +40,7 @@ fn write_part<W: Write>(writer: &mut W, lines: Lines, out: &[u8], before: bool) 
 }
 
 // What writing the lines left: the cursor after them, and whether all could be written.
+#[derive(Clone, Copy)]
 struct Written {
     lines: Lines,
     all: bool,
@@ -86,6 +87,8 @@ fn main(rt: HostRuntime) {
     let lines = answer_input(&buffer, input, &mut answers);
     let written = write_lines(&mut rt.stdout(), &buffer, input, lines, &answers);
     if !written.all {
-        let _ = rt.stderr().write_all(b"linerun: not all lines could be written\n");
+        let _ = rt
+            .stderr()
+            .write_all(b"linerun: not all lines could be written\n");
     }
 }

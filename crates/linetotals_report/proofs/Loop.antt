@@ -126,7 +126,7 @@ pub record On (first x : State) : Type 0 where
   pub in_order : InOrder first parts
   pub is : x ≡ read_on first parts
 
-pub on-start : (x : State) → On x x
+unfoldable pub on-start : (x : State) → On x x
 unfolding InOrder read_on
 on-start x = record { parts = []; in_order = tt; is = refl }
 
@@ -160,7 +160,7 @@ module _ (table list answers holders : List ℕ) (space : Space (first_state tab
     state-is : record { stage = r; table = table'; list = list'; answers = answers'; holders = holders' } ≡ stepped x (take count input)
     state-is = same-state (step_on x want count input) left ∙ is-step
 
-    pub on-next : On (first_state table list answers holders) (record { stage = r; table = table'; list = list'; answers = answers'; holders = holders' })
+    unfoldable pub on-next : On (first_state table list answers holders) (record { stage = r; table = table'; list = list'; answers = answers'; holders = holders' })
     on-next =
         let most : length (take count input) ≤ wanted_at x.stage = omega (arith, length-take count input, own, few) in
         record {
@@ -175,7 +175,7 @@ module _ (table list answers holders : List ℕ) (space : Space (first_state tab
         rw (ap (λ (y : State). y.stage) state-is) (below x reached.bytes (take count input) x.stage.phase reached.represents.at some)
 
 -- where nothing more is wanted, the input was run
-pub input-ran : (table list answers holders : List ℕ) → Space (first_state table list answers holders) → (x : State) → On (first_state table list answers holders) x
+unfoldable pub input-ran : (table list answers holders : List ℕ) → Space (first_state table list answers holders) → (x : State) → On (first_state table list answers holders) x
     → wanted_at x.stage ≡ 0 → InputRan table x.stage x.table
 input-ran table list answers holders space x on over =
     record {

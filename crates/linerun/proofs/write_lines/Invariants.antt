@@ -6,8 +6,8 @@ use Rattle.linerun_report.specs.Lines.{printed_before}
 use Rattle.linerun_report.proofs.CursorLaws.{Going, lines_left}
 use Rattle.linerun.proofs.write_lines.Given as goal
 
-abbrev pub invariant-loop-lines : goal.invariant-loop-lines
-invariant-loop-lines g l =
+abbrev pub invariant-loop-out : goal.invariant-loop-out
+invariant-loop-out g l =
     record {
       room : length l.out ≡ 16924;
       going : Going l.fn.first l.answers 16924 l.lines;
@@ -17,5 +17,5 @@ invariant-loop-lines g l =
           (printed_before (calls_of l.lines) (code_of l.lines) l.answers (line_of l.lines));
     }
 
-abbrev pub decreases-loop-lines : goal.decreases-loop-lines
-decreases-loop-lines g l = lines_left l.lines
+abbrev pub decreases-loop-out : goal.decreases-loop-out
+decreases-loop-out g l = lines_left l.lines

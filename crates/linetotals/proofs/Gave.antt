@@ -1,0 +1,47 @@
+-- What a reader gave, part by part, as the parts that a loop took: together they are the reader's next bytes. Assumes nothing.
+use Prim.Native.Nat.{ℕ, ◌≤◌, ◌<◌}
+use mathlib.Core.Path.{◌≡◌, sym, ap, subst, ◌∙◌}
+use mathlib.Core.List.{List, [], ◌∷◌, ◌++◌, append_assoc, append-nil}
+use lib.ListN.{length, take}
+use Rattle.std.specs.Prelude.{Option}
+use Rattle.std.specs.Io.KnownBytes.{Consumes}
+use Rattle.std.proofs.KnownBytes.{Consumes-nil, Consumes-trans}
+use Rattle.linetotals_run.specs.Stage.{wanted_at}
+use Rattle.linetotals_run.specs.Step.{State, step_on, Left}
+use Rattle.linetotals_run.specs.declared.Stage.{Stage}
+use Rattle.linetotals_report.specs.Claims.{first_state, Space, joined, InputRan}
+use Rattle.linetotals_report.proofs.Loop.{On, on-start, on-next, input-ran}
+
+joined-more : (parts : List (List ℕ)) (part : List ℕ) → joined (parts ++ (part ∷ [])) ≡ joined parts ++ part
+unfolding joined
+joined-more [] part = append-nil part
+joined-more (first ∷ parts) part = ap (λ l. first ++ l) (joined-more parts part) ∙ sym (append_assoc first (joined parts) part)
+
+-- the parts led from the first state to this one, and the reader gave just them
+pub record Gave (first : State) (before after : Option (List ℕ)) (x : State) : Type 0 where
+  pub on : On first x
+  pub bytes : Consumes before after (joined on.parts)
+
+pub gave-start : (x : State) (before : Option (List ℕ)) → Gave x before before x
+unfolding on-start joined
+gave-start x before = record { on = on-start x; bytes = Consumes-nil before }
+
+module _ (table list answers holders : List ℕ) (space : Space (first_state table list answers holders)) (x : State)
+    (before after : Option (List ℕ)) (gave : Gave (first_state table list answers holders) before after x) where
+  -- one reading more, of as many bytes as were wanted
+  pub gave-next : (some : 0 < wanted_at x.stage) (want count : ℕ) (input : List ℕ) (own : want ≡ wanted_at x.stage) (few : count ≤ want)
+      (came : count ≤ length input) {r : Stage} {table' list' answers' holders' : List ℕ}
+      (left : Left (step_on x want count input) r table' list' answers' holders') (later : Option (List ℕ)) → Consumes after later (take count input)
+      → Gave (first_state table list answers holders) before later
+      (record { stage = r; table = table'; list = list'; answers = answers'; holders = holders' })
+  unfolding on-next
+  gave-next some want count input own few came left later now =
+      record {
+        on = on-next table list answers holders space x gave.on some want count input own few came left;
+        bytes = subst (Consumes before later) (sym (joined-more gave.on.parts (take count input))) (Consumes-trans before after later _ _ gave.bytes now);
+      }
+
+  -- where nothing more is wanted, the input was run
+  pub gave-ran : wanted_at x.stage ≡ 0 → (ran : InputRan table x.stage x.table) × Consumes before after (joined ran.parts)
+  unfolding input-ran
+  gave-ran over = (input-ran table list answers holders space x gave.on over, gave.bytes)
