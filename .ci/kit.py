@@ -81,8 +81,12 @@ def words(root, crate, jobs=1):
 
 
 def rattle(command, folder):
-    """Runs a command of the prover in a folder; its status and what it said."""
-    ran = subprocess.run([place() / "bin/rattle", *command], cwd=folder, capture_output=True, text=True, errors="replace", stdin=subprocess.DEVNULL)
+    """Runs a command of the prover in a folder, once more where a signal ended it, most likely for memory; its status and what it said."""
+    how = {"cwd": folder, "capture_output": True, "text": True, "errors": "replace", "stdin": subprocess.DEVNULL}
+    for _ in range(2):
+        ran = subprocess.run([place() / "bin/rattle", *command], **how)
+        if ran.returncode >= 0:
+            break
     return ran.returncode, ran.stdout + ran.stderr
 
 

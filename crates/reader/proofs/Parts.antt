@@ -13,7 +13,7 @@ pub front-and-more : (a k n : ℕ) (xs ys : List ℕ) → a ≤ length xs → n 
 front-and-more a k n xs ys within few =
     let all = put_mid a k xs ys in
     sym (
-      take-add a n all
-      ∙ ap (λ l. l ++ take n (drop a all)) (take_put a k xs ys within)
-      ∙ ap (λ l. take a xs ++ l) (part_stored a k n xs ys within few)
+    take-add a n all
+    ∙ ap (λ l. l ++ take n (drop a all)) (take_put a k xs ys within)
+    ∙ ap (λ l. take a xs ++ l) (part_stored a k n xs ys within few)
     )

@@ -124,4 +124,3 @@ returns-in-Over c =
     in
     step-on x _ _ _ is-taken _ c.in-Over.is
     (record { stage_is = refl; table_is = refl; list_is = refl; answers_are = refl; holders_are = refl })
-

@@ -9,8 +9,8 @@ loop-i-init c = counted_start _ _
 pub loop-i-preserved : goal.loop-i-preserved
 loop-i-preserved c =
     elim c.if-old-i.branch [
-    | then-old-i w ↦ rw w.count-is (counted-differs c.loop-i.invariant c.loop-i-test.true w.if-old-i.true)
-    | else-old-i w ↦ rw w.count-is (counted_same c.loop-i.invariant c.loop-i-test.true w.if-old-i.false)
+      | then-old-i w ↦ rw w.count-is (counted-differs c.loop-i.invariant c.loop-i-test.true w.if-old-i.true)
+      | else-old-i w ↦ rw w.count-is (counted_same c.loop-i.invariant c.loop-i-test.true w.if-old-i.false)
     ]
 
 pub returns : goal.returns

@@ -36,7 +36,7 @@ offset_bounds-list-at-then-old-new c = omega (arith, few c.loop-i.invariant c.lo
 pub bounds-list-at-then-old-new : goal.bounds-list-at-then-old-new
 bounds-list-at-then-old-new c =
     let room =
-        pair_fits c.loop-i.invariant c.requires.len (inside c.loop-i.invariant c.loop-i-test.true) c.if-old-new.true c.requires.in_bounds in
+    pair_fits c.loop-i.invariant c.requires.len (inside c.loop-i.invariant c.loop-i-test.true) c.if-old-new.true c.requires.in_bounds in
     simp length-set (omega (arith, room))
 
 pub overflow_add-at : goal.overflow_add-at
@@ -46,12 +46,12 @@ pub loop-i-preserved : goal.loop-i-preserved
 loop-i-preserved c =
     let place = inside c.loop-i.invariant c.loop-i-test.true in
     elim c.if-old-new.branch [
-    | then-old-new w ↦ replacing-differs c.loop-i.invariant c.requires.len place w.if-old-new.true c.requires.in_bounds _ _ _ w.table-is w.list-is w.at-is
-    | else-old-new w ↦ replacing-same c.loop-i.invariant c.requires.len place w.if-old-new.false _ _ _ w.table-is w.list-is w.at-is
+      | then-old-new w ↦ replacing-differs c.loop-i.invariant c.requires.len place w.if-old-new.true c.requires.in_bounds _ _ _ w.table-is w.list-is w.at-is
+      | else-old-new w ↦ replacing-same c.loop-i.invariant c.requires.len place w.if-old-new.false _ _ _ w.table-is w.list-is w.at-is
     ]
 
 pub returns : goal.returns
 returns c =
     let ends =
-        replacing-end c.loop-i.invariant c.requires.len (omega (arith, c.loop-i-test.false, c.loop-i.invariant.copied.size)) in
+    replacing-end c.loop-i.invariant c.requires.len (omega (arith, c.loop-i-test.false, c.loop-i.invariant.copied.size)) in
     record { table_after = ends.0; list_after = ends.1 }

@@ -26,7 +26,7 @@ unfolding first_place count
 loop-i-init c = (fill_start _ _ _ (simp length-set c.if-q-ne-ENDPOINT_WORDS.false) refl, refl, refl)
 
 pub store_slot-requires : goal.store_slot-requires
-store_slot-requires c = record { ring_len = c.if-ring-ne-ENDPOINT_WORDS.false; first_value = c.loop-i.invariant.1; waits_value = c.loop-i.invariant.2; }
+store_slot-requires c = record { ring_len = c.if-ring-ne-ENDPOINT_WORDS.false; first_value = c.loop-i.invariant.1; waits_value = c.loop-i.invariant.2 }
 
 pub bounds-q-slot : goal.bounds-q-slot
 bounds-q-slot c = omega (arith, c.loop-i.invariant.0.twelve)

@@ -63,9 +63,12 @@ pub loop-e-preserved : goal.loop-e-preserved
 loop-e-preserved c =
     let call = c in
     let at = call in
-    let inv = at.loop-e.invariant in
-    (taken_next _ _ _ _ _ inv.0 at.loop-e-test.true ((let the_still : HasQueues (at.args.n % 256) at.args.m (length at.args.table.now) (length at.loop-e.rings) = let inv = at.loop-e.invariant in
-    record { few = inv.1.few; there = inv.1.there; twelve = inv.0.size } in the_still)) _ at.endpoint_at-start.ensures _ call.load.ensures, inv.1, omega arith)
+    let inv = at.loop-e.invariant in (
+      taken_next _ _ _ _ _ inv.0 at.loop-e-test.true ((let the_still : HasQueues (at.args.n % 256) at.args.m (length at.args.table.now) (length at.loop-e.rings) = let inv = at.loop-e.invariant in
+          record { few = inv.1.few; there = inv.1.there; twelve = inv.0.size } in the_still)) _ at.endpoint_at-start.ensures _ call.load.ensures,
+      inv.1,
+      omega arith,
+    )
 
 pub shape_of-rings : goal.shape_of-rings
 shape_of-rings c = c.loop-e.invariant.0.size ∙ sym c.loop-e.invariant.1.twelve

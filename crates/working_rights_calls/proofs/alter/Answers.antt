@@ -7,6 +7,6 @@ use Rattle.working_rights_calls.proofs.alter.Goals as goal
 pub returns : goal.returns
 unfolding rows_after holders_after
 returns c = record {
-      rows_after = c.put.ensures;
-      holders_after = c.note.ensures;
-    }
+  rows_after = c.put.ensures;
+  holders_after = c.note.ensures;
+}

@@ -35,8 +35,12 @@ bounds-sent-e c = omega arith
 pub overflow_add-sent : goal.overflow_add-sent
 overflow_add-sent c =
     let at-loop = c.loop-i in
-    omega (arith, (let the_sent_adds : let args = c.args in let at-loop = c.loop-i in c.done.result ≡ adds_at args.list.now args.answers.now at-loop.at at-loop.i 2 = let first = get_or c.args.list.now c.loop-i.i 0 in
-    c.done.ensures ∙ ap (λ (a : ℕ). one first a 2) c.word-answer.ensures in the_sent_adds), counted-few 2 sends-are c.loop-i-test.true at-loop.invariant.0 c.if-e-lt-ENDPOINT_PLACES.true)
+    omega (
+      arith,
+      (let the_sent_adds : let args = c.args in let at-loop = c.loop-i in c.done.result ≡ adds_at args.list.now args.answers.now at-loop.at at-loop.i 2 = let first = get_or c.args.list.now c.loop-i.i 0 in
+          c.done.ensures ∙ ap (λ (a : ℕ). one first a 2) c.word-answer.ensures in the_sent_adds),
+      counted-few 2 sends-are c.loop-i-test.true at-loop.invariant.0 c.if-e-lt-ENDPOINT_PLACES.true,
+    )
 
 pub bounds-sent-e-then-e-lt-ENDPOINT_PLACES : goal.bounds-sent-e-then-e-lt-ENDPOINT_PLACES
 bounds-sent-e-then-e-lt-ENDPOINT_PLACES c = omega arith
@@ -50,8 +54,12 @@ bounds-received-e c = omega arith
 pub overflow_add-received : goal.overflow_add-received
 overflow_add-received c =
     let at-loop = c.loop-i in
-    omega (arith, (let the_received_adds : let args = c.args in let at-loop = c.loop-i in c.done-then-e-lt-ENDPOINT_PLACES.result ≡ adds_at args.list.now args.answers.now at-loop.at at-loop.i 3 = let first = get_or c.args.list.now c.loop-i.i 0 in
-    c.done-then-e-lt-ENDPOINT_PLACES.ensures ∙ ap (λ (a : ℕ). one first a 3) c.word-answer.ensures in the_received_adds), counted-few 3 receives-are c.loop-i-test.true at-loop.invariant.1 c.if-e-lt-ENDPOINT_PLACES.true)
+    omega (
+      arith,
+      (let the_received_adds : let args = c.args in let at-loop = c.loop-i in c.done-then-e-lt-ENDPOINT_PLACES.result ≡ adds_at args.list.now args.answers.now at-loop.at at-loop.i 3 = let first = get_or c.args.list.now c.loop-i.i 0 in
+          c.done-then-e-lt-ENDPOINT_PLACES.ensures ∙ ap (λ (a : ℕ). one first a 3) c.word-answer.ensures in the_received_adds),
+      counted-few 3 receives-are c.loop-i-test.true at-loop.invariant.1 c.if-e-lt-ENDPOINT_PLACES.true,
+    )
 
 pub bounds-received-e-then-e-lt-ENDPOINT_PLACES : goal.bounds-received-e-then-e-lt-ENDPOINT_PLACES
 bounds-received-e-then-e-lt-ENDPOINT_PLACES c = omega arith
@@ -60,20 +68,26 @@ pub overflow_add-at : goal.overflow_add-at
 overflow_add-at c = omega arith
 
 pub overflow_add-i : goal.overflow_add-i
-overflow_add-i c = omega (arith, (let the_next_place : let list = c.args.list.now in let i = c.loop-i.i in (i + c.width-i.result ≤ length list) × (1 ≤ c.width-i.result) = let second = c.second_at in
-    let list = c.args.list.now in
-    let i = c.loop-i.i in
-    let cut = splits.split_at list i c.loop-i-test.true in
-    let wide : c.width-i.result ≡ width_of (second_at list i) = c.width-i.ensures ∙ ap width_of second.ensures in
-    (omega (arith, cut.within, wide), omega (arith, wide, splits.wide (second_at list i))) in the_next_place))
+overflow_add-i c = omega (
+  arith,
+  (let the_next_place : let list = c.args.list.now in let i = c.loop-i.i in (i + c.width-i.result ≤ length list) × (1 ≤ c.width-i.result) = let second = c.second_at in
+      let list = c.args.list.now in
+      let i = c.loop-i.i in
+      let cut = splits.split_at list i c.loop-i-test.true in
+      let wide : c.width-i.result ≡ width_of (second_at list i) = c.width-i.ensures ∙ ap width_of second.ensures in
+      (omega (arith, cut.within, wide), omega (arith, wide, splits.wide (second_at list i))) in the_next_place),
+)
 
 pub loop-i-smaller : goal.loop-i-smaller
-loop-i-smaller c = omega (arith, (let the_next_place : let list = c.args.list.now in let i = c.loop-i.i in (i + c.width-i.result ≤ length list) × (1 ≤ c.width-i.result) = let second = c.second_at in
-    let list = c.args.list.now in
-    let i = c.loop-i.i in
-    let cut = splits.split_at list i c.loop-i-test.true in
-    let wide : c.width-i.result ≡ width_of (second_at list i) = c.width-i.ensures ∙ ap width_of second.ensures in
-    (omega (arith, cut.within, wide), omega (arith, wide, splits.wide (second_at list i))) in the_next_place))
+loop-i-smaller c = omega (
+  arith,
+  (let the_next_place : let list = c.args.list.now in let i = c.loop-i.i in (i + c.width-i.result ≤ length list) × (1 ≤ c.width-i.result) = let second = c.second_at in
+      let list = c.args.list.now in
+      let i = c.loop-i.i in
+      let cut = splits.split_at list i c.loop-i-test.true in
+      let wide : c.width-i.result ≡ width_of (second_at list i) = c.width-i.ensures ∙ ap width_of second.ensures in
+      (omega (arith, cut.within, wide), omega (arith, wide, splits.wide (second_at list i))) in the_next_place),
+)
 
 pub loop-i-preserved : goal.loop-i-preserved
 loop-i-preserved c =

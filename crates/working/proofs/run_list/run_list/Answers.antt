@@ -19,8 +19,7 @@ loop-i-init c t s = way-start _ c.args.hints.now _ _ t s
 
 pub overflow_add-i : goal.overflow_add-i
 overflow_add-i c =
-    let next_place : (c.loop-i.i + c.width-i.result ≤ length c.args.list.now) × (1 ≤ c.width-i.result) =
-    (
+    let next_place : (c.loop-i.i + c.width-i.result ≤ length c.args.list.now) × (1 ≤ c.width-i.result) = (
       rw (c.width-i.ensures, c.second_at-second.ensures) (split_at c.args.list.now c.loop-i.i c.loop-i-test.true).within,
       omega (arith, c.width-i.ensures, wide c.second_at-second.result),
     )
@@ -57,8 +56,7 @@ overflow_add-calls c =
 
 pub loop-i-smaller : goal.loop-i-smaller
 loop-i-smaller c =
-    let next_place : (c.loop-i.i + c.width-i.result ≤ length c.args.list.now) × (1 ≤ c.width-i.result) =
-    (
+    let next_place : (c.loop-i.i + c.width-i.result ≤ length c.args.list.now) × (1 ≤ c.width-i.result) = (
       rw (c.width-i.ensures, c.second_at-second.ensures) (split_at c.args.list.now c.loop-i.i c.loop-i-test.true).within,
       omega (arith, c.width-i.ensures, wide c.second_at-second.result),
     )

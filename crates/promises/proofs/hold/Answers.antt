@@ -95,10 +95,9 @@ use Rattle.writer_theory.proofs.Result as writer-theory-result-proofs
 use Rattle.writer_theory.proofs.RowExamples as writer-theory-row-examples-proofs
 use Rattle.writer_theory.proofs.Rows as writer-theory-rows-proofs
 use Rattle.writer_theory.proofs.Writing as writer-theory-writing-proofs
-use Rattle.promises.proofs.hold.Statement.{statement}
-use Rattle.promises.proofs.hold.Tie as tie
+use Rattle.promises.proofs.hold.Goals as goal
 
-returns : tie.Need-returns
+pub returns : goal.returns
 returns c =
     record {
       D-rows = machine-examples-proofs.every-row;
@@ -350,6 +349,3 @@ returns c =
       M-begin-rows = turns-examples-proofs.every-begin-row;
       M-turn-rows = turns-examples-proofs.every-turn-row;
     }
-
-pub hold_spec : {M : Type 1} → statement M
-hold_spec = tie.close (tie.spec returns)
