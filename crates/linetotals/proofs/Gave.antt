@@ -2,11 +2,13 @@
 use Prim.Native.Nat.{ℕ, ◌≤◌, ◌<◌}
 use mathlib.Core.Path.{◌≡◌, sym, ap, subst, ◌∙◌}
 use mathlib.Core.List.{List, [], ◌∷◌, ◌++◌, append_assoc, append-nil}
+use native.Mathlib.Omega.{arith}
 use lib.ListN.{length, take}
 use Rattle.std.specs.Prelude.{Option}
 use Rattle.std.specs.Io.KnownBytes.{Consumes}
 use Rattle.std.proofs.KnownBytes.{Consumes-nil, Consumes-trans}
-use Rattle.linetotals_run.specs.Stage.{wanted_at}
+use Rattle.input_words.specs.TableInput.{longest_table}
+use Rattle.linetotals_run.specs.Stage.{wanted_at, first_stage}
 use Rattle.linetotals_run.specs.Step.{State, step_on, Left}
 use Rattle.linetotals_run.specs.declared.Stage.{Stage}
 use Rattle.linetotals_report.specs.Claims.{first_state, Space, joined, InputRan}
@@ -25,6 +27,22 @@ pub record Gave (first : State) (before after : Option (List ℕ)) (x : State) :
 pub gave-start : (x : State) (before : Option (List ℕ)) → Gave x before before x
 unfolding on-start joined
 gave-start x before = record { on = on-start x; bytes = Consumes-nil before }
+
+-- before anything is read
+pub gave-first : (table list answers holders : List ℕ) (s : Stage) (before : Option (List ℕ)) → s ≡ first_stage
+    → Gave (first_state table list answers holders) before before
+    (record { stage = s; table = table; list = list; answers = answers; holders = holders })
+gave-first table list answers holders s before e =
+    subst
+    (λ (at : Stage).
+    Gave (first_state table list answers holders) before before
+    (record { stage = at; table = table; list = list; answers = answers; holders = holders }))
+    (sym e) (gave-start (first_state table list answers holders) before)
+
+-- lent words of these lengths are space enough
+pub space-of : (table list answers holders : List ℕ) → longest_table ≤ length table → length list ≡ 4096 → length answers ≡ 12288 → length holders ≡ 16
+    → Space (first_state table list answers holders)
+space-of table list answers holders t l a h = record { table = t; list = omega arith; answers = omega arith; holders = omega arith }
 
 module _ (table list answers holders : List ℕ) (space : Space (first_state table list answers holders)) (x : State)
     (before after : Option (List ℕ)) (gave : Gave (first_state table list answers holders) before after x) where

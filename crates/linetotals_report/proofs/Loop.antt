@@ -157,7 +157,7 @@ module _ (table list answers holders : List ℕ) (space : Space (first_state tab
         let fits = (fits-at x.stage.phase reached.bytes x reached.represents.space reached.represents.at).1 in
         simp (eq-eqb want (wanted_at x.stage) own, le-leb count (length input) came, fits)
 
-    state-is : record { stage = r; table = table'; list = list'; answers = answers'; holders = holders' } ≡ stepped x (take count input)
+    pub state-is : record { stage = r; table = table'; list = list'; answers = answers'; holders = holders' } ≡ stepped x (take count input)
     state-is = same-state (step_on x want count input) left ∙ is-step
 
     unfoldable pub on-next : On (first_state table list answers holders) (record { stage = r; table = table'; list = list'; answers = answers'; holders = holders' })
