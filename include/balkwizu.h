@@ -155,7 +155,7 @@ constexpr size_t balkwizu_count(Element (&)[Number]) noexcept
  *     balkwizu_table_check: general and xmm registers, aligned stack
  *     balkwizu_version: general registers
  *     balkwizu_who_reaches: general registers
- *     balkwizu_write: general registers, unmarked jumps
+ *     balkwizu_write: general and xmm registers, aligned stack, unmarked jumps
  *   libbalkwizu_turns.a
  *     balkwizu_hand_in: general and xmm registers, aligned stack
  *     balkwizu_step: general and xmm registers, aligned stack, unmarked jumps
@@ -164,8 +164,8 @@ constexpr size_t balkwizu_count(Element (&)[Number]) noexcept
  *     balkwizu_turns_version: general registers
  */
 #define BALKWIZU_RUN_STACK_BYTES 1280
-#define BALKWIZU_RUN_WORKING_STACK_BYTES 5632
-#define BALKWIZU_RUN_BY_LENGTH_STACK_BYTES 5632
+#define BALKWIZU_RUN_WORKING_STACK_BYTES 6912
+#define BALKWIZU_RUN_BY_LENGTH_STACK_BYTES 6912
 #define BALKWIZU_TABLE_CHECK_STACK_BYTES 1024
 #define BALKWIZU_COMPONENT_STACK_BYTES 1024
 #define BALKWIZU_REPAIR_STACK_BYTES 4096
