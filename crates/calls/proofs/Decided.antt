@@ -5,6 +5,7 @@ use mathlib.Core.Path.{◌≡◌, refl, sym}
 use mathlib.Core.Bool.{Bool, true, false, cond, not, ◌&&◌, ◌||◌}
 use mathlib.Core.List.{List}
 use lib.Dec.{eqb}
+use Rattle.std.specs.Prelude.{Option}
 use Rattle.machine.specs.Word.{kind, caller}
 use Rattle.machine.specs.Call.{Kind, call_kind, kind_of, all_zero, unused_fields, wants_second, has_second}
 use Rattle.machine.specs.Call.{Kind.look_up, Kind.send, Kind.receive, Kind.my_endpoints, Kind.my_rights, Kind.grant, Kind.remove, Kind.revoke, Kind.stray, Kind.unknown}
@@ -17,7 +18,6 @@ use Rattle.calls.specs.Decide.{known_caller, refused_call, decide_call}
 use Rattle.calls.specs.declared.Call.{Call}
 use Rattle.calls.specs.declared.Call.TheVariants.{Refused}
 use Rattle.calls.specs.declared.Refusal.TheVariants.{UnusedField, NoSecondWord}
-use Rattle.calls.specs.declared.split.Second.{Second}
 use Rattle.calls.proofs.SplitAt.{first_of}
 
 -- a kind of call wants a second word exactly if a word of that kind does
@@ -45,7 +45,7 @@ wants-second n = go (eqb n 1) (eqb n 2) (eqb n 3) (eqb n 4) (eqb n 5) (eqb n 6) 
     go false false false false false false false false true = refl
     go false false false false false false false false false = refl
 
-module _ (t : List ℕ) (w : ℕ) (s : Second) where
+module _ (t : List ℕ) (w : ℕ) (s : Option ℕ) where
   -- 12 comes before 13 and 14, whatever these two find
   framed-whole : (k : Kind) (next : Decision) (call : Call)
       → wants_second (kind w) ≡ needs_second k
@@ -80,6 +80,6 @@ module _ (t : List ℕ) (w : ℕ) (s : Second) where
   by_kind remove wants = rw (first_of w s) (framed-whole remove _ _ wants refl)
   by_kind revoke wants = rw (first_of w s) (framed-whole revoke _ _ wants refl)
 
-pub decided : (t : List ℕ) (w : ℕ) (s : Second) → decide t (call_of w s) ≡ decide_call t (decoded w s)
+pub decided : (t : List ℕ) (w : ℕ) (s : Option ℕ) → decide t (call_of w s) ≡ decide_call t (decoded w s)
 unfolding call_kind decoded
 decided t w s = rw (decide-places t (call_of w s), first_of w s) (by_kind t w s (kind_of (kind w)) (wants-second (kind w)))

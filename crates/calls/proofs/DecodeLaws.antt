@@ -9,6 +9,7 @@ use native.Mathlib.Omega.{arith}
 use lib.Arith.{mod-mul}
 use lib.Dec.{eqb, lit<}
 use borrow.Author.Tests.{eqb-true, eqb-false, eq-eqb, ne_eqb}
+use Rattle.std.specs.Prelude.{Option, None}
 use Rattle.machine.specs.Word.{kind, caller, field_a, field_b, field_c}
 use Rattle.machine.specs.Call.{Kind, kind_of, unused_fields, all_zero, has_second}
 use Rattle.calls.specs.Decode.{needs_second, whole, of_kind, decoded}
@@ -16,8 +17,6 @@ use Rattle.calls.specs.Split.{call_of}
 use Rattle.calls.specs.declared.Call.{Call}
 use Rattle.calls.specs.declared.Call.TheVariants.{Refused}
 use Rattle.calls.specs.declared.Refusal.TheVariants.{UnknownKind, UnusedField, NoSecondWord}
-use Rattle.calls.specs.declared.split.Second.{Second}
-use Rattle.calls.specs.declared.split.Second.TheVariants.{Nothing}
 
 abbrev pub total : List ℕ → ℕ
 total [] = 0
@@ -49,7 +48,7 @@ pub no_field : (w : ℕ) → (w % 4194304 ≡ 0) ↔ (total (field_a w ∷ field
 no_field w = digits (w % 4194304) (field_a w) (field_b w) (field_c w) (low_bits w)
 
 -- the result of the places 13 and 14: 13 refuses, neither does, or 14 does
-module _ (w : ℕ) (s : Second) (k : Kind) (next : Call) where
+module _ (w : ℕ) (s : Option ℕ) (k : Kind) (next : Call) where
   pub unused : (total (unused_fields k w) ≡ 0 → ⊥) → Refused (caller w) UnusedField ≡ whole w s k next
   unfolding whole
   unused h = rw (all-zero, ne_eqb _ _ h)
@@ -63,17 +62,17 @@ module _ (w : ℕ) (s : Second) (k : Kind) (next : Call) where
 pub no_second : (w : ℕ) (k : Kind) (next : Call)
     → total (unused_fields k w) ≡ 0
     → needs_second k ≡ true
-    → Refused (caller w) NoSecondWord ≡ whole w Nothing k next
+    → Refused (caller w) NoSecondWord ≡ whole w None k next
 unfolding whole has_second
 no_second w k next h wants = rw (all-zero, eq-eqb _ _ h, wants)
 
 -- a call is decoded by its kind
-pub of-kind : {n : ℕ} (w : ℕ) (s : Second) → kind w ≡ n → of_kind w s (kind_of n) ≡ decoded w s
+pub of-kind : {n : ℕ} (w : ℕ) (s : Option ℕ) → kind w ≡ n → of_kind w s (kind_of n) ≡ decoded w s
 unfolding decoded
 of-kind w s is = ap (λ (k : ℕ). of_kind w s (kind_of k)) (sym is)
 
 -- kinds 9 to 14 are unknown
-pub unknown-kind : (w : ℕ) (s : Second) → 9 ≤ kind w → kind w < 15 → Refused (caller w) UnknownKind ≡ decoded w s
+pub unknown-kind : (w : ℕ) (s : Option ℕ) → 9 ≤ kind w → kind w < 15 → Refused (caller w) UnknownKind ≡ decoded w s
 unfolding decoded of_kind kind_of
 unknown-kind w s low high =
     let differs : (k : ℕ) → (kind w ≡ k → ⊥) → eqb (kind w) k ≡ false = ne_eqb (kind w) in

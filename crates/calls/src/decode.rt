@@ -1,13 +1,11 @@
 // The decoding of a call, kind by kind (document 01, 'The calls'): the fields that it uses, once those that it doesn't use are
 // zero (13) and its second word, if it wants one, is there (14). A, B and C are bits 21–16, 15–8 and 7–0 of the first word. All
 // three are zero if bits 21–0 are, and two of them are if their sum is.
-ghost use Rattle.std.specs.Prelude.{◌≡◌};
+ghost use Rattle.std.specs.Prelude.{◌≡◌, ℕ, Option};
 ghost use Rattle.machine.specs.Call.{Kind.look_up, Kind.send, Kind.receive, Kind.my_endpoints};
 ghost use Rattle.machine.specs.Call.{Kind.my_rights, Kind.grant, Kind.remove, Kind.revoke};
-ghost use Rattle.calls.specs.declared.split.Second.{Second as AnySecond};
 ghost use Rattle.calls.specs.Decode.{of_kind, decoded};
 
-use crate::split::Second;
 use crate::{Call, Refusal};
 use format::KIND_UNIT;
 use format::calls::{
@@ -16,7 +14,7 @@ use format::calls::{
 };
 
 // Returns the look up that the words ask for, or its refusal by 13 or 14.
-pub fn look_up(first: u32, second: Second) -> Call
+pub fn look_up(first: u32, second: Option<u32>) -> Call
     ensures { result ≡ of_kind first second look_up }
 {
     let caller = first / CALLER_UNIT % 64;
@@ -27,11 +25,11 @@ pub fn look_up(first: u32, second: Second) -> Call
         };
     }
     match second {
-        Second::Word(word) => Call::LookUp {
+        Some(word) => Call::LookUp {
             caller,
             name: word % KIND_UNIT,
         },
-        Second::Nothing => Call::Refused {
+        None => Call::Refused {
             caller,
             refusal: Refusal::NoSecondWord,
         },
@@ -39,7 +37,7 @@ pub fn look_up(first: u32, second: Second) -> Call
 }
 
 // Returns the send that the words ask for, or its refusal by 13 or 14.
-pub fn send(first: u32, second: Second) -> Call
+pub fn send(first: u32, second: Option<u32>) -> Call
     ensures { result ≡ of_kind first second send }
 {
     let caller = first / CALLER_UNIT % 64;
@@ -53,12 +51,12 @@ pub fn send(first: u32, second: Second) -> Call
         };
     }
     match second {
-        Second::Word(word) => Call::Send {
+        Some(word) => Call::Send {
             caller,
             endpoint,
             message: word % KIND_UNIT,
         },
-        Second::Nothing => Call::Refused {
+        None => Call::Refused {
             caller,
             refusal: Refusal::NoSecondWord,
         },
@@ -68,7 +66,7 @@ pub fn send(first: u32, second: Second) -> Call
 // Returns the receive that the word asks for, or its refusal by 13. This kind and those below want no second word: a call of one
 // of them decodes to the same, whatever the second word is.
 pub fn receive(first: u32) -> Call
-    ensures { (second : AnySecond) → result ≡ of_kind first second receive }
+    ensures { (second : Option ℕ) → result ≡ of_kind first second receive }
 {
     let caller = first / CALLER_UNIT % 64;
     let a = first / A_UNIT % 64;
@@ -85,7 +83,7 @@ pub fn receive(first: u32) -> Call
 
 // Returns the call for the caller's endpoints that the word asks for, or its refusal by 13.
 pub fn my_endpoints(first: u32) -> Call
-    ensures { (second : AnySecond) → result ≡ of_kind first second my_endpoints }
+    ensures { (second : Option ℕ) → result ≡ of_kind first second my_endpoints }
 {
     let caller = first / CALLER_UNIT % 64;
     if first % CALLER_UNIT != 0 {
@@ -99,7 +97,7 @@ pub fn my_endpoints(first: u32) -> Call
 
 // Returns the call for the caller's rights that the word asks for, or its refusal by 13.
 pub fn my_rights(first: u32) -> Call
-    ensures { (second : AnySecond) → result ≡ of_kind first second my_rights }
+    ensures { (second : Option ℕ) → result ≡ of_kind first second my_rights }
 {
     let caller = first / CALLER_UNIT % 64;
     if first % CALLER_UNIT != 0 {
@@ -113,7 +111,7 @@ pub fn my_rights(first: u32) -> Call
 
 // Returns the grant that the word asks for. It uses every field, so nothing refuses it here.
 pub fn grant(first: u32) -> Call
-    ensures { (second : AnySecond) → result ≡ of_kind first second grant }
+    ensures { (second : Option ℕ) → result ≡ of_kind first second grant }
 {
     Call::Grant {
         caller: first / CALLER_UNIT % 64,
@@ -125,7 +123,7 @@ pub fn grant(first: u32) -> Call
 
 // Returns the remove that the word asks for, or its refusal by 13.
 pub fn remove(first: u32) -> Call
-    ensures { (second : AnySecond) → result ≡ of_kind first second remove }
+    ensures { (second : Option ℕ) → result ≡ of_kind first second remove }
 {
     let caller = first / CALLER_UNIT % 64;
     let target = first / A_UNIT % 64;
@@ -146,7 +144,7 @@ pub fn remove(first: u32) -> Call
 
 // Returns the revoke that the word asks for. It uses every field, so nothing refuses it here.
 pub fn revoke(first: u32) -> Call
-    ensures { (second : AnySecond) → result ≡ of_kind first second revoke }
+    ensures { (second : Option ℕ) → result ≡ of_kind first second revoke }
 {
     Call::Revoke {
         caller: first / CALLER_UNIT % 64,
@@ -158,7 +156,7 @@ pub fn revoke(first: u32) -> Call
 
 // Returns the decoded call of a first word and, if there is one, a second, or its refusal by 10, 11, 13 or 14. Total: accepts
 // arbitrary words, of which the words of a split list are a special case.
-pub fn decode(first: u32, second: Second) -> Call
+pub fn decode(first: u32, second: Option<u32>) -> Call
     ensures { result ≡ decoded first second }
 {
     let kind = first / KIND_UNIT;

@@ -5,11 +5,12 @@
 pub mod decode;
 pub mod split;
 
-ghost use Rattle.std.specs.Prelude.{◌≡◌};
 ghost use Rattle.calls.specs.Number.{number_of};
 
+use result_code::Coded;
+
 // Why a call is refused, named by what is wrong.
-#[derive(Clone, Copy)]
+#[derive(Clone, Copy, Debug, PartialEq, Eq)]
 pub enum Refusal {
     Stray, // 10
     UnknownKind, // 11
@@ -27,10 +28,34 @@ pub enum Refusal {
     NoInfluence, // 23
 }
 
+impl Coded for Refusal {
+    ghost code_of = { number_of };
+
+    // Returns the paper's code of the refusal.
+    fn code(self) -> u32 {
+        match self {
+            Refusal::Stray => 10,
+            Refusal::UnknownKind => 11,
+            Refusal::UnknownCaller => 12,
+            Refusal::UnusedField => 13,
+            Refusal::NoSecondWord => 14,
+            Refusal::NoSuchName => 15,
+            Refusal::NoSuchEndpoint => 16,
+            Refusal::MayNotSend => 17,
+            Refusal::NotOwner => 18,
+            Refusal::NothingWaiting => 19,
+            Refusal::NoSuchDomain => 20,
+            Refusal::BadRights => 21,
+            Refusal::LacksRight => 22,
+            Refusal::NoInfluence => 23,
+        }
+    }
+}
+
 // A decoded call: its caller and the fields that its kind uses, as found. A refused one has its caller for place 12 alone, which
 // comes before 13 and 14. A stray has no caller, and the 0 in its place is never read. The answer's kind and caller come from
 // the call's first word.
-#[derive(Clone, Copy)]
+#[derive(Clone, Copy, Debug, PartialEq, Eq)]
 pub enum Call {
     LookUp {
         caller: u32,
@@ -72,26 +97,4 @@ pub enum Call {
         caller: u32,
         refusal: Refusal,
     },
-}
-
-// Returns the paper's code of a refusal.
-pub fn number(refusal: Refusal) -> u32
-    ensures { result ≡ number_of refusal }
-{
-    match refusal {
-        Refusal::Stray => 10,
-        Refusal::UnknownKind => 11,
-        Refusal::UnknownCaller => 12,
-        Refusal::UnusedField => 13,
-        Refusal::NoSecondWord => 14,
-        Refusal::NoSuchName => 15,
-        Refusal::NoSuchEndpoint => 16,
-        Refusal::MayNotSend => 17,
-        Refusal::NotOwner => 18,
-        Refusal::NothingWaiting => 19,
-        Refusal::NoSuchDomain => 20,
-        Refusal::BadRights => 21,
-        Refusal::LacksRight => 22,
-        Refusal::NoInfluence => 23,
-    }
 }

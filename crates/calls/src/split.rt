@@ -7,14 +7,8 @@ ghost use Rattle.calls.specs.Split.{second_at, width_of};
 use format::KIND_UNIT;
 use format::calls::{KIND_LOOK_UP, KIND_SECOND, KIND_SEND};
 
-// A call's second word, if it has one.
-#[derive(Clone, Copy)]
-pub enum Second {
-    Nothing,
-    Word(u32),
-}
-
 // Returns whether a kind wants a second word: kinds 1 and 2 do.
+#[tactic(auto, unfolding(machine::specs::Call::wants_second))]
 fn wants_second(kind: u32) -> bool
     ensures { result ≡ wants_second kind }
 {
@@ -22,6 +16,7 @@ fn wants_second(kind: u32) -> bool
 }
 
 // Returns whether the words first and next, one directly after the other, make one call of both.
+#[tactic(auto, unfolding(machine::specs::Call::pairs))]
 pub fn make_one_call(first: u32, next: u32) -> bool
     ensures { result ≡ pairs first next }
 {
@@ -57,29 +52,22 @@ pub fn count(list: &[u32]) -> usize
 }
 
 // Returns the second word of the call that begins at index i of a list, if it has one. Past the list's end there is none.
-pub fn second_at(list: &[u32], i: usize) -> Second
+#[tactic(auto, unfolding(crate::specs::Split::second_at))]
+pub fn second_at(list: &[u32], i: usize) -> Option<u32>
     ensures { result ≡ second_at list.now i }
 {
-    if list.len() <= i {
-        return Second::Nothing;
-    }
-    if list.len() - i == 1 {
-        return Second::Nothing;
-    }
-    let next = list[i + 1];
-    if make_one_call(list[i], next) {
-        Second::Word(next)
-    } else {
-        Second::Nothing
+    match list.get(i..)? {
+        [first, next, ..] if make_one_call(*first, *next) => Some(*next),
+        _ => None,
     }
 }
 
 // Returns how many words a call has.
-pub fn width(second: Second) -> usize
+pub fn width(second: Option<u32>) -> usize
     ensures { result ≡ width_of second }
 {
     match second {
-        Second::Nothing => 1,
-        Second::Word(_) => 2,
+        None => 1,
+        Some(_) => 2,
     }
 }

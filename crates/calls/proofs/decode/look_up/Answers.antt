@@ -10,13 +10,13 @@ pub returns-then-first-ne0 : goal.returns-then-first-ne0
 unfolding of_kind unused_fields
 returns-then-first-ne0 c = unused _ _ look_up _ (λ e. c.if-first-ne0.true ((no_field _).1 e))
 
-pub returns-in-Word : goal.returns-in-Word
+pub returns-in-Some : goal.returns-in-Some
 unfolding of_kind unused_fields has_second second_payload needs_second
-returns-in-Word c =
-    rw c.in-Word.is
+returns-in-Some c =
+    rw c.in-Some.is
     (fine _ _ look_up _ ((no_field _).0 c.if-first-ne0.false) refl)
 
-pub returns-in-Nothing : goal.returns-in-Nothing
+pub returns-in-None : goal.returns-in-None
 unfolding of_kind unused_fields needs_second
-returns-in-Nothing c =
-    rw c.in-Nothing.is (no_second _ look_up _ ((no_field _).0 c.if-first-ne0.false) refl)
+returns-in-None c =
+    rw c.in-None.is (no_second _ look_up _ ((no_field _).0 c.if-first-ne0.false) refl)

@@ -11,12 +11,12 @@ pub returns-then-a-c-ne0 : goal.returns-then-a-c-ne0
 unfolding of_kind unused_fields
 returns-then-a-c-ne0 c = unused _ _ send _ (λ e. c.if-a-c-ne0.true (omega arith))
 
-pub returns-in-Word : goal.returns-in-Word
+pub returns-in-Some : goal.returns-in-Some
 unfolding of_kind unused_fields has_second second_payload needs_second
-returns-in-Word c =
-    rw c.in-Word.is (fine _ _ send _ (omega arith) refl)
+returns-in-Some c =
+    rw c.in-Some.is (fine _ _ send _ (omega arith) refl)
 
-pub returns-in-Nothing : goal.returns-in-Nothing
+pub returns-in-None : goal.returns-in-None
 unfolding of_kind unused_fields needs_second
-returns-in-Nothing c =
-    rw c.in-Nothing.is (no_second _ send _ (omega arith) refl)
+returns-in-None c =
+    rw c.in-None.is (no_second _ send _ (omega arith) refl)
