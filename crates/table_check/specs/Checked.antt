@@ -1,10 +1,9 @@
 -- Document 01's code for each result of the check: 0, or the code of the first place that refuses.
-use Rattle.std.specs.Prelude.{ℕ, ◌≡◌, true, List}
+use Rattle.std.specs.Prelude.{ℕ, ◌≡◌, true, List, ⊤, Result}
+use Rattle.result_code.specs.Code.{result_code}
 use Rattle.machine.specs.Check.{header_ok, length_ok}
 use Rattle.table_check.specs.declared.TableRefusal.{TableRefusal}
 use Rattle.table_check.specs.declared.TableRefusal.TheVariants.{BadHeader, BadLength, BadRights, BadEndpoint}
-use Rattle.table_check.specs.declared.Checked.{Checked}
-use Rattle.table_check.specs.declared.Checked.TheVariants.{Sound, Refused}
 
 -- a refusal's code
 abbrev pub refusal_code : TableRefusal → ℕ
@@ -14,9 +13,8 @@ refusal_code BadRights = 4
 refusal_code BadEndpoint = 5
 
 -- the code of the check's result
-abbrev pub checked_code : Checked → ℕ
-checked_code Sound = 0
-checked_code (Refused r) = refusal_code r
+abbrev pub checked_code : Result ⊤ TableRefusal → ℕ
+checked_code r = result_code refusal_code r
 
 -- the precondition of the tests after the first two places: the places 2 and 3 don't refuse the table
 pub record Headed (t : List ℕ) : Type 0 where

@@ -5,18 +5,19 @@
 use crate::names::all_different;
 use format::KIND_UNIT;
 use format::tables::{ENDPOINT_PLACES, ENDPOINT_WORDS};
+use result_code::Coded;
 use rights::Rights;
 use table_words::endpoint::endpoint_ok;
 use table_words::{header_word_ok, rights_wrong};
 
 pub mod names;
 
-ghost use Rattle.std.specs.Prelude.{◌≡◌};
+ghost use Rattle.std.specs.Prelude.{◌≡◌, Result};
 ghost use Rattle.machine.specs.Check.{header_ok, length_ok, rights_ok, endpoints_ok, table_code};
 ghost use Rattle.table_check.specs.Checked.{refusal_code, checked_code, Headed};
 
 // What is wrong with a refused table: the place of document 01 that refuses it.
-#[derive(Clone, Copy)]
+#[derive(Clone, Copy, Debug, PartialEq, Eq)]
 pub enum TableRefusal {
     // 2: the table is empty, or word 0 breaks its layout
     BadHeader,
@@ -28,35 +29,16 @@ pub enum TableRefusal {
     BadEndpoint,
 }
 
-impl TableRefusal {
+impl Coded for TableRefusal {
+    ghost code_of = { refusal_code };
+
     // Returns document 01's code for the refusal.
-    pub fn code(self) -> u32
-        ensures { result ≡ refusal_code self }
-    {
+    fn code(self) -> u32 {
         match self {
             TableRefusal::BadHeader => 2,
             TableRefusal::BadLength => 3,
             TableRefusal::BadRights => 4,
             TableRefusal::BadEndpoint => 5,
-        }
-    }
-}
-
-// The result of the check.
-#[derive(Clone, Copy)]
-pub enum Checked {
-    Sound,
-    Refused(TableRefusal),
-}
-
-impl Checked {
-    // Returns document 01's code for the result: 0 where no place refuses.
-    pub fn code(self) -> u32
-        ensures { result ≡ checked_code self }
-    {
-        match self {
-            Checked::Sound => 0,
-            Checked::Refused(refusal) => refusal.code(),
         }
     }
 }
@@ -128,20 +110,21 @@ fn endpoints_ok(table: &[u32]) -> bool
 }
 
 // Checks a table by the places 2 to 5 of document 01. The first that fails decides. No word is written.
-pub fn check(table: &[u32]) -> Checked
+#[tactic(auto, unfolding(machine::specs::Check::table_code))]
+pub fn check(table: &[u32]) -> Result<(), TableRefusal>
     ensures { checked_code result ≡ table_code table.now }
 {
     if !header_ok(table) {
-        return Checked::Refused(TableRefusal::BadHeader);
+        return Err(TableRefusal::BadHeader);
     }
     if !length_ok(table) {
-        return Checked::Refused(TableRefusal::BadLength);
+        return Err(TableRefusal::BadLength);
     }
     if !rights_ok(table) {
-        return Checked::Refused(TableRefusal::BadRights);
+        return Err(TableRefusal::BadRights);
     }
     if !endpoints_ok(table) {
-        return Checked::Refused(TableRefusal::BadEndpoint);
+        return Err(TableRefusal::BadEndpoint);
     }
-    Checked::Sound
+    Ok(())
 }

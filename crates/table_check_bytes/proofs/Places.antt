@@ -6,7 +6,7 @@ use mathlib.Core.List.{List}
 use Prim.Native.Nat.{ℕ, ◌+◌, ◌*◌, ◌/◌, ◌%◌, ◌<◌, ◌≤◌}
 use native.Mathlib.Nat.{pos_of_ne-zero}
 use native.Mathlib.Omega.{arith}
-use borrow.Author.Tests.{le-ltb, eq-eqb, eqb-false, not-true}
+use borrow.Author.Tests.{le-ltb, eq-eqb, eqb-true, eqb-false, not-true}
 use lib.Dec.{eqb, ltb}
 use lib.ListN.{length, get_or, take, drop}
 use Rattle.machine.specs.Table as table
@@ -88,6 +88,13 @@ module _ (b : List ℕ) where
   pub bytes-3 : header_ok (words_of b) ≡ true → eqb (length b) (bytes_for (words_of b)) ≡ false → 3 ≡ bytes_code b
   unfolding bytes_code
   bytes-3 h n = rw (le-ltb (length b) 4 (header-four h), h, n)
+
+  -- where the first word is valid, and the length: as tests
+  pub four_bytes : header_ok (words_of b) ≡ true → ltb (length b) 4 ≡ false
+  four_bytes h = le-ltb (length b) 4 (header-four h)
+
+  pub words_fit : header_ok (words_of b) ≡ true → eqb (length b) (bytes_for (words_of b)) ≡ true → length_ok (words_of b) ≡ true
+  words_fit h e = (fitting-headed (record { header = h; size = eqb-true _ _ e })).size
 
   -- of a valid length: the words decide
   pub bytes-words : Fitting b → table_code (words_of b) ≡ bytes_code b

@@ -2,7 +2,7 @@
 // The words are read from the bytes in place. Only the loops are here: every test of a word is in crate table_words.
 #![tactic(auto)]
 
-ghost use Rattle.std.specs.Prelude.{◌≡◌, true, ◌+◌, ◌-◌, ◌*◌, ◌≤◌, eqb, length, get_or, take, drop};
+ghost use Rattle.std.specs.Prelude.{◌≡◌, true, ◌+◌, ◌-◌, ◌*◌, ◌≤◌, eqb, length, get_or, take, drop, Result};
 ghost use Rattle.machine.specs.Below.{all_below};
 ghost use Rattle.machine.specs.Word.{word as table_word};
 ghost use Rattle.machine.specs.Check.{slot_word_ok, endpoint_ok, header_ok, rights_ok, endpoints_ok};
@@ -14,8 +14,8 @@ use format::KIND_UNIT;
 use format::tables::{ENDPOINT_PLACES, ENDPOINT_WORDS, SLOTS};
 use input_words::words::word;
 use rights::Rights;
+use table_check::TableRefusal;
 use table_check::names::all_different;
-use table_check::{Checked, TableRefusal};
 use table_words::{
     header_word_ok, info_word_ok, lost_word_ok, name_word_ok, rights_wrong, slot_wrong,
     waiting_word_ok,
@@ -127,20 +127,21 @@ fn endpoints_ok(bytes: &[u8]) -> bool
 }
 
 // Checks a table in bytes by the places 2 to 5 of document 01. The first that fails decides.
-pub fn check(bytes: &[u8]) -> Checked
+#[tactic(auto, using(crate::proofs::Places::four_bytes, crate::proofs::Places::words_fit), unfolding(machine::specs::Check::table_code, crate::specs::Bytes::bytes_code))]
+pub fn check(bytes: &[u8]) -> Result<(), TableRefusal>
     ensures { checked_code result ≡ bytes_code bytes.now }
 {
     if !header_ok(bytes) {
-        return Checked::Refused(TableRefusal::BadHeader);
+        return Err(TableRefusal::BadHeader);
     }
     if !length_ok(bytes) {
-        return Checked::Refused(TableRefusal::BadLength);
+        return Err(TableRefusal::BadLength);
     }
     if !rights_ok(bytes) {
-        return Checked::Refused(TableRefusal::BadRights);
+        return Err(TableRefusal::BadRights);
     }
     if !endpoints_ok(bytes) {
-        return Checked::Refused(TableRefusal::BadEndpoint);
+        return Err(TableRefusal::BadEndpoint);
     }
-    Checked::Sound
+    Ok(())
 }
