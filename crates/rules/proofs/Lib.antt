@@ -1,5 +1,4 @@
 -- Laws that the proofs of several functions cite.
-pub mod Guards
 pub mod Passed
 pub mod Places
 pub mod Readings

@@ -11,7 +11,8 @@ use Rattle.machine.specs.Influence.{influences, reaches}
 use Rattle.calls.specs.Decide.{known_caller, refused_call, decide_call}
 use Rattle.calls.specs.declared.Call.{Call}
 use Rattle.calls.specs.declared.Call.TheVariants.{LookUp, Send, Receive, MyEndpoints, MyRights, Grant, Remove, Revoke, Refused}
-use Rattle.rules.specs.declared.range.Range.{Range}
+use Rattle.std.specs.Prelude.{Result, ⊤}
+use Rattle.calls.specs.declared.Refusal.{Refusal}
 use Rattle.rules.specs.Range.{followed, caller_number, refused_numbers, endpoint_numbers, grant_numbers, remove_numbers, call_numbers}
 use Rattle.rules.specs.Access.{send_access, receive_access, grant_access, revoke_access, remove_access, Reading, access_by, decided_by}
 
@@ -38,7 +39,7 @@ decide-places t (Remove u g r) = refl
 decide-places t (Revoke u g h r) = refl
 
 -- so the range tests by the table's n and m, followed by the tests of what the table holds, give the machine's decision
-pub decided : (t : List ℕ) (n m : ℕ) (call : Call) (r : Range)
+pub decided : (t : List ℕ) (n m : ℕ) (call : Call) (r : Result ⊤ Refusal)
     → n ≡ domains t
     → m ≡ endpoints t
     → ((next : Decision) → followed r next ≡ call_numbers n m call next)

@@ -1,6 +1,7 @@
 -- The places that test what was read for a call, by plain values (15, 17, 18, 19, 22 and 23), and the decision on a call by these
 -- and by its range tests (document 01, 'Where each number is checked').
-use Rattle.std.specs.Prelude.{ℕ, not, ◌&&◌, ◌||◌, eqb}
+use Rattle.std.specs.Prelude as std
+use Rattle.std.specs.Prelude.{ℕ, Some, None, not, ◌&&◌, ◌||◌, eqb}
 use Rattle.std.proofs.Math.Option.{Option, none, some}
 use Rattle.machine.specs.Right.{SEND, GRANT, REMOVE, REVOKE, holds, has_any}
 use Rattle.machine.specs.Machine.{Decision}
@@ -10,13 +11,11 @@ use Rattle.calls.specs.Number.{number_of}
 use Rattle.calls.specs.declared.Call.{Call}
 use Rattle.calls.specs.declared.Call.TheVariants.{LookUp, Send, Receive, MyEndpoints, MyRights, Grant, Remove, Revoke, Refused}
 use Rattle.rules.specs.Range.{call_numbers}
-use Rattle.rules.specs.declared.access.Found.{Found}
-use Rattle.rules.specs.declared.access.Found.TheVariants.{At, Nothing}
 
 -- the endpoint that was found for a name
-unfoldable pub found_of : Found → Option ℕ
-found_of (At e) = some e
-found_of Nothing = none
+unfoldable pub found_of : std.Option ℕ → Option ℕ
+found_of (Some e) = some e
+found_of None = none
 
 -- place 17: a message is sent to the endpoint e by one that holds the rights s on its owner
 unfoldable pub send_access : ℕ → ℕ → ℕ → Decision

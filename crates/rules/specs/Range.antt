@@ -1,6 +1,6 @@
 -- The range tests: the places that test the indices and rights that a call names, by n and m alone: 12, 16, 20 and 21
 -- (document 01, 'Where each number is checked').
-use Rattle.std.specs.Prelude.{ℕ, cond, not, ◌&&◌, ltb}
+use Rattle.std.specs.Prelude.{ℕ, Result, Ok, Err, ⊤, cond, not, ◌&&◌, ltb}
 use Rattle.machine.specs.Right.{is_set}
 use Rattle.machine.specs.Machine.{Decision, Decision.refused}
 use Rattle.machine.specs.Guards.{place}
@@ -8,13 +8,11 @@ use Rattle.calls.specs.Number.{number_of}
 use Rattle.calls.specs.declared.Refusal.{Refusal}
 use Rattle.calls.specs.declared.Call.{Call}
 use Rattle.calls.specs.declared.Call.TheVariants.{LookUp, Send, Receive, MyEndpoints, MyRights, Grant, Remove, Revoke, Refused}
-use Rattle.rules.specs.declared.range.Range.{Range}
-use Rattle.rules.specs.declared.range.Range.TheVariants.{Within, Outside}
 
 -- the refusal by the tests, or what comes next where none failed
-unfoldable pub followed : Range → Decision → Decision
-followed Within next = next
-followed (Outside r) next = refused (number_of r)
+abbrev pub followed : Result ⊤ Refusal → Decision → Decision
+followed (Ok x) next = next
+followed (Err r) next = refused (number_of r)
 
 -- place 12: the caller u
 unfoldable pub caller_number : ℕ → ℕ → Decision → Decision

@@ -10,35 +10,29 @@ use crate::Decision;
 use calls::Refusal;
 use rights::Rights;
 
-// The endpoint that has a name, or nothing, which place 15 refuses.
-#[derive(Clone, Copy)]
-pub enum Found {
-    At(u32),
-    Nothing,
-}
-
 // Returns the decision on a send by place 17. `held` has the caller's rights on the endpoint's owner.
-pub fn send(held: Rights, endpoint: u32, message: u32) -> Decision
+#[tactic(auto, unfolding(crate::specs::Access::send_access, machine::specs::Guards::place))]
+pub fn send(held: Rights, endpoint: u32, message: u32) -> Result<Decision, Refusal>
     ensures { decision_of result ≡ send_access held.bits endpoint message }
 {
-    let holds = held.holds(Rights::SEND);
-    if !holds {
-        return Decision::Refused(Refusal::MayNotSend);
+    if !held.holds(Rights::SEND) {
+        return Err(Refusal::MayNotSend);
     }
-    Decision::Sends { endpoint, message }
+    Ok(Decision::Sends { endpoint, message })
 }
 
 // Returns the decision on a receive by places 18 and 19. `waiting` is how many messages wait.
-pub fn receive(caller: u32, owner: u32, waiting: u32, endpoint: u32) -> Decision
+#[tactic(auto, unfolding(crate::specs::Access::receive_access, machine::specs::Guards::place))]
+pub fn receive(caller: u32, owner: u32, waiting: u32, endpoint: u32) -> Result<Decision, Refusal>
     ensures { decision_of result ≡ receive_access caller owner waiting endpoint }
 {
     if owner != caller {
-        return Decision::Refused(Refusal::NotOwner);
+        return Err(Refusal::NotOwner);
     }
     if waiting == 0 {
-        return Decision::Refused(Refusal::NothingWaiting);
+        return Err(Refusal::NothingWaiting);
     }
-    Decision::Receives { endpoint }
+    Ok(Decision::Receives { endpoint })
 }
 
 // Returns whether the right that a call needs is held, and so are all rights that the call names.
@@ -60,6 +54,7 @@ fn influences(caller: u32, other: u32, toward: Rights) -> bool
 
 // Returns the decision on a grant by places 22 and 23. `held` has the caller's rights on the target, `toward` those on the
 // recipient.
+#[tactic(auto, unfolding(crate::specs::Access::grant_access, machine::specs::Guards::place))]
 pub fn grant(
     caller: u32,
     target: u32,
@@ -67,26 +62,25 @@ pub fn grant(
     rights: u32,
     held: Rights,
     toward: Rights,
-) -> Decision
+) -> Result<Decision, Refusal>
     ensures { decision_of result ≡ grant_access caller target recipient rights held.bits toward.bits }
 {
-    let holds = holds_both(held, Rights::GRANT, rights);
-    if !holds {
-        return Decision::Refused(Refusal::LacksRight);
+    if !holds_both(held, Rights::GRANT, rights) {
+        return Err(Refusal::LacksRight);
     }
-    let near = influences(caller, recipient, toward);
-    if !near {
-        return Decision::Refused(Refusal::NoInfluence);
+    if !influences(caller, recipient, toward) {
+        return Err(Refusal::NoInfluence);
     }
-    Decision::Grants {
+    Ok(Decision::Grants {
         target,
         recipient,
         rights,
-    }
+    })
 }
 
 // Returns the decision on a revoke by places 22 and 23. `held` has the caller's rights on the target, `toward` those on the
 // holder. The holder's own rights are not read.
+#[tactic(auto, unfolding(crate::specs::Access::revoke_access, machine::specs::Guards::place))]
 pub fn revoke(
     caller: u32,
     target: u32,
@@ -94,35 +88,33 @@ pub fn revoke(
     rights: u32,
     held: Rights,
     toward: Rights,
-) -> Decision
+) -> Result<Decision, Refusal>
     ensures { decision_of result ≡ revoke_access caller target holder rights held.bits toward.bits }
 {
-    let holds = held.holds(Rights::REVOKE);
-    if !holds {
-        return Decision::Refused(Refusal::LacksRight);
+    if !held.holds(Rights::REVOKE) {
+        return Err(Refusal::LacksRight);
     }
-    let near = influences(caller, holder, toward);
-    if !near {
-        return Decision::Refused(Refusal::NoInfluence);
+    if !influences(caller, holder, toward) {
+        return Err(Refusal::NoInfluence);
     }
-    Decision::Revokes {
+    Ok(Decision::Revokes {
         target,
         holder,
         rights,
-    }
+    })
 }
 
 // Returns the decision on a remove by place 22. `held` has the caller's rights on the target.
-pub fn remove(caller: u32, target: u32, rights: u32, held: Rights) -> Decision
+#[tactic(auto, unfolding(crate::specs::Access::remove_access, machine::specs::Guards::place))]
+pub fn remove(caller: u32, target: u32, rights: u32, held: Rights) -> Result<Decision, Refusal>
     ensures { decision_of result ≡ remove_access caller target rights held.bits }
 {
-    let holds = holds_both(held, Rights::REMOVE, rights);
-    if !holds {
-        return Decision::Refused(Refusal::LacksRight);
+    if !holds_both(held, Rights::REMOVE, rights) {
+        return Err(Refusal::LacksRight);
     }
-    Decision::Removes {
+    Ok(Decision::Removes {
         target,
         caller,
         rights,
-    }
+    })
 }

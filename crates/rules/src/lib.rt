@@ -6,12 +6,9 @@
 pub mod access;
 pub mod range;
 
-use calls::Refusal;
-
-// The decision on a call by what was read for it: a refusal, or its row with the values that it needs.
-#[derive(Clone, Copy)]
+// The decision on a call that nothing refuses: its row with the values that it needs.
+#[derive(Clone, Copy, Debug, PartialEq, Eq)]
 pub enum Decision {
-    Refused(Refusal),
     Sends {
         endpoint: u32,
         message: u32,
