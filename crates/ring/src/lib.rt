@@ -1,13 +1,15 @@
 // A queue as a ring in twelve lent words (document 02 (l)): eight places with a first place and a count, wrapping round, so that a
 // send and a receive move no other message. No function here is passed a table. Words that aren't twelve are left as they are.
-#![tactic(auto)]
+// Takes slices and not arrays of twelve: the words are parts of memory lent through the C interface, and what is done with another
+// length is promised too.
+#![tactic(auto, unfolding(ring_theory::specs::Ring::of_twelve, ring_theory::specs::Ring::ring_sent, ring_theory::specs::Ring::ring_take, ring_theory::specs::Ring::put_last, ring_theory::specs::Ring::first_place, ring_theory::specs::Ring::count, ring_theory::specs::Ring::lost_count, ring_theory::specs::Ring::info, ring_theory::specs::Ring::ring_capacity, ring_theory::specs::Ring::message_at, ring_theory::specs::Ring::stored_slot))]
 
 ghost use Rattle.std.specs.Prelude.{◌≡◌, ◌+◌, ◌-◌, ◌%◌, length};
 ghost use Rattle.ring_theory.specs.Ring.{first_place, count, place_from, ring_sent, ring_of, stored_slot, stored_queue, of_twelve};
 ghost use Rattle.ring.specs.Received.{Taken};
 
 use format::KIND_UNIT;
-use format::tables::{EMPTY_SLOT, ENDPOINT_WORDS, NONE_LOST, NONE_WAITING, SLOT_PLACES, SLOTS};
+use format::tables::{EMPTY_SLOT, ENDPOINT_WORDS, NONE_LOST, NONE_WAITING, SLOTS};
 use queue::lost_after;
 
 // Returns the index of the word of the i-th place from a first place on, wrapping round.
@@ -46,20 +48,10 @@ pub fn send(ring: &mut [u32], message: u32)
 }
 
 // What a receive returns: the oldest message and the lost count.
-#[derive(Clone, Copy)]
+#[derive(Clone, Copy, Debug, PartialEq, Eq)]
 pub struct Received {
     pub message: u32,
     pub lost: u32,
-}
-
-// Returns the count less 1, and 0 for 0.
-fn one_less(count: u32) -> u32
-    ensures { result ≡ count - 1 }
-{
-    if count == 0 {
-        return 0;
-    }
-    count - 1
 }
 
 // Removes the oldest message and returns it with the lost count. An empty ring yields the word at its first place, and its count
@@ -79,7 +71,7 @@ pub fn receive(ring: &mut [u32]) -> Received
     let at = place_from(oldest, 0);
     let message = ring[at];
     ring[0] = next_place(oldest);
-    ring[1] = one_less(count);
+    ring[1] = count.saturating_sub(1);
     Received { message, lost }
 }
 
@@ -98,18 +90,16 @@ pub fn load(q: &[u32], ring: &mut [u32])
     ring[1] = q[2] % KIND_UNIT;
     ring[2] = q[3] % KIND_UNIT;
     ring[3] = q[1];
-    let mut i: usize = 0;
-    while i < SLOT_PLACES {
-        ring[4 + i] = q[4 + i] % KIND_UNIT;
-        i += 1;
+    for (i, slot) in q[4..].iter().enumerate() {
+        ring[4 + i] = slot % KIND_UNIT;
     }
 }
 
 // Returns slot i of the endpoint that a ring is stored to.
 fn store_slot(ring: &[u32], first: u32, waits: u32, i: u32) -> u32
-    requires ring_len { length ring.now ≡ 12 }
-    requires first_value { first ≡ first_place ring.now }
-    requires waits_value { waits ≡ count ring.now }
+    requires twelve { length ring.now ≡ 12 }
+    requires first_of_ring { first ≡ first_place ring.now }
+    requires count_of_ring { waits ≡ count ring.now }
     ensures { result ≡ stored_slot ring.now i }
 {
     if i < waits {
@@ -135,10 +125,7 @@ pub fn store(ring: &[u32], q: &mut [u32])
     let count = ring[1];
     q[2] = NONE_WAITING + count % KIND_UNIT;
     q[3] = NONE_LOST + ring[2] % KIND_UNIT;
-    let mut i: u32 = 0;
-    while i < SLOTS {
-        let slot = 4 + i as usize;
-        q[slot] = store_slot(ring, first, count, i);
-        i += 1;
+    for i in 0..SLOTS {
+        q[4 + i as usize] = store_slot(ring, first, count, i);
     }
 }
