@@ -15,9 +15,11 @@ use Rattle.std.proofs.KnownBytes.{Consumes-trans}
 use Rattle.input_words.specs.TableInput.{no_table, table_wanted}
 use Rattle.input_words.proofs.Needed.{needed-none, needed-more, stored}
 use Rattle.linerun_input.specs.Input.{wanted, most_input, Reads}
-use Rattle.linerun_input.specs.Stage.{asked_of, came_of, have_of, wanted_of, ended_of, ReadAt, ReadInto}
+use Rattle.reader.specs.Read.{asked_of, came_of, ReadAt}
+use Rattle.reader.proofs.Asked.{asks-all}
+use Rattle.linerun_input.specs.Stage.{have_of, wanted_of, ended_of, ReadInto}
 use Rattle.linerun_input.specs.Stage.{started, stage_at, is_step, stepped, StageAfter, EveryStart, EveryStep}
-use Rattle.linerun_input.specs.declared.stdin.Got.{Got}
+use Rattle.reader.specs.declared.Got.{Got}
 use Rattle.linerun_input.specs.declared.stage.Input.{Input}
 use Rattle.linerun_input.proofs.InputLaws.{wanted-within, still-wanted}
 
@@ -109,7 +111,7 @@ module _ (before after : List ℕ) (s : Input) (g : Got) (r : Reached before s) 
       omega (arith, wanted-within (take (have_of s) before) (omega (arith, long, r.within)), still-wants a more, long)
 
   asked : asked_of g ≡ wanted_of s
-  asked = read.asked_is ∙ ap (λ (b : Bool). cond b (wanted_of s) 0) (le-leb (have_of s + wanted_of s) (length before) (omega (arith, space, r.long)))
+  asked = asks-all read (omega (arith, space, r.long))
 
   fits : have_of s + came_of g ≤ length after
   fits = omega (arith, space, read.came-few, asked, read.long, r.long)

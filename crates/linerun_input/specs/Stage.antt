@@ -2,15 +2,9 @@
 -- read gave, and the stage that says how many bytes are wanted next. A stage goes on by what was read and by nothing else.
 use Rattle.std.specs.Prelude.{ℕ, ◌+◌, ◌≤◌, ◌<◌, ◌≡◌, Bool, true, false, cond, ◌&&◌, List, [], ◌++◌, eqb, ltb, leb, length, take, drop}
 use Rattle.linerun_input.specs.Input.{wanted, most_input, Needed}
-use Rattle.linerun_input.specs.declared.stdin.Got.{Got}
+use Rattle.reader.specs.Read.{asked_of, came_of}
+use Rattle.reader.specs.declared.Got.{Got}
 use Rattle.linerun_input.specs.declared.stage.Input.{Input}
-
--- what one read gave: how many bytes it asked for, and how many came
-abbrev pub asked_of : Got → ℕ
-asked_of g = g.asked
-
-abbrev pub came_of : Got → ℕ
-came_of g = g.came
 
 -- a stage: how many bytes came, how many more are wanted, and whether the input ended before they came
 abbrev pub have_of : Input → ℕ
@@ -21,15 +15,6 @@ wanted_of s = s.wanted
 
 abbrev pub ended_of : Input → Bool
 ended_of s = s.ended
-
--- What a read of `want` bytes into a buffer from the index `have` on leaves. It asks for just these, and for none where they don't
--- fit. The buffer before and after their place stays as it was.
-pub record ReadAt (have want : ℕ) (before : List ℕ) (g : Got) (after : List ℕ) : Type 0 where
-  pub asked_is : asked_of g ≡ cond (leb (have + want) (length before)) want 0
-  pub came-few : came_of g ≤ asked_of g
-  pub front : take have after ≡ take have before
-  pub rest : drop (have + asked_of g) after ≡ drop (have + asked_of g) before
-  pub long : length after ≡ length before
 
 -- the stage before anything is read: the length word is wanted
 unfoldable pub started : Input

@@ -1,11 +1,10 @@
 // What linerun reads: the table, then the list's words up to word 4,097 (document 01, 'Into firmware and onto the bench').
-// This file says which input code 7 refuses and how many more bytes are wanted. Module stdin reads, module stage says how far the
-// reading is, and module reading goes from one stage to the next until nothing more is wanted.
+// This file says which input code 7 refuses and how many more bytes are wanted. Module stage says how far the reading is, and module
+// reading goes from one stage to the next, by reads of crate reader, until nothing more is wanted.
 #![tactic(auto)]
 
 pub mod reading;
 pub mod stage;
-pub mod stdin;
 
 ghost use Rattle.std.specs.Prelude.{◌≡◌};
 ghost use Rattle.linerun_input.specs.Input.{unreadable, wanted};

@@ -5,9 +5,9 @@ ghost use Rattle.std.specs.Io.KnownBytes.{Consumes};
 ghost use Rattle.linerun_input.specs.Stage.{have_of, ReadInto};
 
 use crate::stage::{Input, started, stepped};
-use crate::stdin::read_wanted;
 use format::calls::LONGEST_LIST;
 use format::tables::LONGEST_TABLE;
+use reader::read_wanted;
 use std::io::Read;
 
 // The most bytes that are read: the length word, 641 table words and 4,097 list words.

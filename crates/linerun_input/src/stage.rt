@@ -2,8 +2,8 @@
 ghost use Rattle.std.specs.Prelude.{◌+◌, ◌≤◌, ◌≡◌, length};
 ghost use Rattle.linerun_input.specs.Stage.{have_of, wanted_of, ended_of, started, stage_at, is_step, stepped};
 
-use crate::stdin::Got;
 use crate::wanted;
+use reader::Got;
 
 // How many bytes came, how many more are wanted, and whether the input ended before they came.
 #[derive(Clone, Copy)]

@@ -1,5 +1,5 @@
 // The program `linetotals`: it reads a table and lists of calls from standard input, and prints the totals of the table's endpoints
-// over all of them as lines on standard output (document 02 (e), end-of-shift totals). Crate linetotals_input reads, crate
+// over all of them as lines on standard output (document 02 (e), end-of-shift totals). Crate reader reads, crate
 // linetotals_run says how many bytes are wanted and runs them, and crate linetotals_report makes the lines. This crate passes each
 // result on, and writes the lines.
 #![tactic(auto)]
@@ -13,9 +13,10 @@ ghost use Rattle.linetotals_report.specs.Report.{stage_lines};
 use format::answers::MOST_ANSWER_WORDS;
 use format::calls::LONGEST_LIST;
 use format::tables::{DOMAIN_PLACES, LONGEST_TABLE};
-use linetotals_input::stdin::{MOST_READ, read_wanted};
+use linetotals_input::MOST_READ;
 use linetotals_report::report;
 use linetotals_run::{Stage, step};
+use reader::read_wanted;
 use std::io::{Read, Write};
 
 // At most 146 bytes in the line of each of 32 endpoints and 43 in the last.
@@ -36,7 +37,7 @@ fn run_input<R: Read>(reader: &mut R, table: &mut [u32]) -> Stage
     let mut holders = [0u32; DOMAIN_PLACES];
     let mut stage = Stage::new();
     while stage.wanted() != 0 {
-        let got = read_wanted(reader, &mut input, stage.wanted());
+        let got = read_wanted(reader, &mut input, 0, stage.wanted());
         stage = step(
             stage,
             got,

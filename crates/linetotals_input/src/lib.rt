@@ -1,8 +1,6 @@
 // What linetotals reads: the table, then each list with its length in words before it (document 02 (e), end-of-shift totals).
-// This file decodes the bytes before a list, and says how many of them are wanted. Module stdin reads standard input.
+// Decodes the bytes before a list, and says how many of them are wanted.
 #![tactic(auto)]
-
-pub mod stdin;
 
 ghost use Rattle.std.specs.Prelude.{◌≡◌};
 ghost use Rattle.linetotals_input.specs.Input.{head_wanted};
@@ -10,6 +8,9 @@ ghost use Rattle.linetotals_input.specs.Next.{next_of};
 
 use format::calls::LONGEST_LIST;
 use input_words::words::word_at;
+
+// The most bytes that are wanted at once: those of a list of 4,096 words and a length word.
+pub const MOST_READ: usize = 4 * (LONGEST_LIST + 1);
 
 // What comes next: the lists end, with a code that is 0 at the input's end, or a list follows, with its count of words.
 #[derive(Clone, Copy)]

@@ -7,14 +7,14 @@ mod table_phase;
 
 ghost use Rattle.std.specs.Prelude.{◌+◌, ◌-◌, ◌*◌, ◌≡◌};
 ghost use Rattle.linetotals_input.specs.Input.{most_lists, head_wanted};
-ghost use Rattle.linetotals_input.specs.Read.{want_of, count_of};
 ghost use Rattle.linetotals_run.specs.Stage.{phase_code, wanted_at, first_stage, in_phase, counts_at};
+ghost use Rattle.reader.specs.Read.{asked_of, came_of};
 ghost use Rattle.linetotals_run.specs.Step.{phase_fits, takes, step_on, Left};
 
 use linetotals_input::head_wanted;
-use linetotals_input::stdin::Got;
 use list_phase::{head_read, list_read};
 use table_phase::{length_read, table_read};
+use reader::Got;
 use totals_add::Tally;
 
 // The most lists that there may be.
@@ -181,12 +181,12 @@ fn fits(stage: Stage, table: &[u32], list: &[u32]) -> bool
 
 // Returns whether the stage takes a reading: it wanted so many bytes, the input has those that came, and there is space.
 fn takes(stage: Stage, got: Got, input: &[u8], table: &[u32], list: &[u32]) -> bool
-    ensures { result ≡ takes stage (want_of got) (count_of got) input.now table.now list.now }
+    ensures { result ≡ takes stage (asked_of got) (came_of got) input.now table.now list.now }
 {
-    if got.want() != stage.wanted() {
+    if got.asked() != stage.wanted() {
         return false;
     }
-    if input.len() < got.count() {
+    if input.len() < got.came() {
         return false;
     }
     fits(stage, table, list)
@@ -210,13 +210,13 @@ pub fn step(
           list = list.old;
           answers = answers.old;
           holders = holders.old;
-        }) (want_of got) (count_of got) input.now)
+        }) (asked_of got) (came_of got) input.now)
         result table.new list.new answers.new holders.new }
 {
     if !takes(stage, got, input, table, list) {
         return stage;
     }
-    let count = got.count();
+    let count = got.came();
     let phase = stage.phase;
     match phase {
         Phase::TableLength => length_read(stage, &input[0..count]),

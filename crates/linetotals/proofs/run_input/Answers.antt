@@ -3,7 +3,8 @@ use Prim.Native.Nat.{◌≤◌, ◌<◌}
 use mathlib.Core.Path.{◌≡◌, refl, sym, ◌∙◌}
 use native.Mathlib.Omega.{arith}
 use lib.ListN.{length}
-use Rattle.linetotals_input.specs.Read.{want_of, count_of}
+use Rattle.reader.specs.Read.{asked_of, came_of}
+use Rattle.reader.proofs.Asked.{asks-all}
 use Rattle.linetotals_run.specs.Stage.{wanted_at}
 use Rattle.linetotals_run.specs.Step.{State}
 use Rattle.linetotals_report.proofs.Loop.{wanted-few, nearer}
@@ -30,10 +31,10 @@ loop-input-smaller g c =
     let x : State = record { stage = at_loop.stage; table = at_loop.table; list = at_loop.list; answers = at_loop.answers; holders = at_loop.holders } in
     let some : 0 < wanted_at at_loop.stage = omega (arith, c.loop-input-test.true, c.wanted.ensures) in
     let few = wanted-few _ _ _ _ known.space x known.gave.on in
-    let own : want_of read.result ≡ wanted_at at_loop.stage =
-    read.ensures.read.wanted (omega (arith, c.wanted-in-loop-input.ensures, few, known.input_long)) ∙ c.wanted-in-loop-input.ensures in
-    let came : count_of read.result ≤ length read.new.input = omega (arith, read.ensures.read.few, own, few, read.auto.input, known.input_long) in
-    nearer _ _ _ _ known.space x known.gave.on some _ _ _ own read.ensures.read.few came c.step-stage.ensures
+    let own : asked_of read.result ≡ wanted_at at_loop.stage =
+    asks-all read.ensures.read (omega (arith, c.wanted-in-loop-input.ensures, few, known.input_long)) ∙ c.wanted-in-loop-input.ensures in
+    let came : came_of read.result ≤ length read.new.buffer = omega (arith, read.ensures.read.came-few, own, few, read.auto.buffer, known.input_long) in
+    nearer _ _ _ _ known.space x known.gave.on some _ _ _ own read.ensures.read.came-few came c.step-stage.ensures
 
 pub loop-input-preserved : goal.loop-input-preserved
 loop-input-preserved g c =
@@ -43,15 +44,15 @@ loop-input-preserved g c =
     let x : State = record { stage = at_loop.stage; table = at_loop.table; list = at_loop.list; answers = at_loop.answers; holders = at_loop.holders } in
     let some : 0 < wanted_at at_loop.stage = omega (arith, c.loop-input-test.true, c.wanted.ensures) in
     let few = wanted-few _ _ _ _ known.space x known.gave.on in
-    let own : want_of read.result ≡ wanted_at at_loop.stage =
-    read.ensures.read.wanted (omega (arith, c.wanted-in-loop-input.ensures, few, known.input_long)) ∙ c.wanted-in-loop-input.ensures in
-    let came : count_of read.result ≤ length read.new.input = omega (arith, read.ensures.read.few, own, few, read.auto.input, known.input_long) in
+    let own : asked_of read.result ≡ wanted_at at_loop.stage =
+    asks-all read.ensures.read (omega (arith, c.wanted-in-loop-input.ensures, few, known.input_long)) ∙ c.wanted-in-loop-input.ensures in
+    let came : came_of read.result ≤ length read.new.buffer = omega (arith, read.ensures.read.came-few, own, few, read.auto.buffer, known.input_long) in
     record {
       gave =
-          gave-next _ _ _ _ known.space x _ _ known.gave some _ _ _ own read.ensures.read.few came c.step-stage.ensures _ read.ensures.next;
+          gave-next _ _ _ _ known.space x _ _ known.gave some _ _ _ own read.ensures.read.came-few came c.step-stage.ensures _ read.ensures.next;
       space = known.space;
       table_long = omega (arith, c.step-stage.auto.table, known.table_long);
-      input_long = omega (arith, read.auto.input, known.input_long);
+      input_long = omega (arith, read.auto.buffer, known.input_long);
       list_long = omega (arith, c.step-stage.auto.list, known.list_long);
       answers_long = omega (arith, c.step-stage.auto.answers, known.answers_long);
       holders_long = omega (arith, c.step-stage.auto.holders, known.holders_long);

@@ -5,7 +5,7 @@ use mathlib.Core.Bool.{true}
 use native.Mathlib.Nat.{sub-zero}
 use native.Mathlib.Omega.{arith}
 use borrow.Author.Tests.{not-true, not-false}
-use Rattle.linetotals_input.specs.Read.{want_of, count_of}
+use Rattle.reader.specs.Read.{asked_of, came_of}
 use Rattle.linetotals_run.specs.Step.{State, takes}
 use Rattle.linetotals_run.proofs.StepLaws.{Taken, taken, table_fits, list-fits, not_taken, step-on}
 use borrow.Author.Rules.{rules}
@@ -20,46 +20,46 @@ returns-then-not-takes c =
 
 pub slice_bounds-length_read-end : goal.slice_bounds-length_read-end
 slice_bounds-length_read-end c =
-    let is-taken : takes c.args.stage (want_of c.args.got) (count_of c.args.got) c.args.input.now c.args.table.now c.args.list.now ≡ true =
+    let is-taken : takes c.args.stage (asked_of c.args.got) (came_of c.args.got) c.args.input.now c.args.table.now c.args.list.now ≡ true =
     sym c.takes.ensures ∙ c.if-not-takes.false
     in
     let came = taken _ _ _ _ _ _ is-taken in
-    omega (arith, c.count-count.ensures, came.came)
+    omega (arith, c.came-count.ensures, came.came)
 
 pub slice_bounds-table_read-end : goal.slice_bounds-table_read-end
 slice_bounds-table_read-end c =
-    let is-taken : takes c.args.stage (want_of c.args.got) (count_of c.args.got) c.args.input.now c.args.table.now c.args.list.now ≡ true =
+    let is-taken : takes c.args.stage (asked_of c.args.got) (came_of c.args.got) c.args.input.now c.args.table.now c.args.list.now ≡ true =
     sym c.takes.ensures ∙ c.if-not-takes.false
     in
     let came = taken _ _ _ _ _ _ is-taken in
-    omega (arith, c.count-count.ensures, came.came)
+    omega (arith, c.came-count.ensures, came.came)
 
 pub table_read-requires : goal.table_read-requires
 table_read-requires c =
-    let is-taken : takes c.args.stage (want_of c.args.got) (count_of c.args.got) c.args.input.now c.args.table.now c.args.list.now ≡ true =
+    let is-taken : takes c.args.stage (asked_of c.args.got) (came_of c.args.got) c.args.input.now c.args.table.now c.args.list.now ≡ true =
     sym c.takes.ensures ∙ c.if-not-takes.false
     in
     table_fits _ _ _ _ _ _ c.in-TableWords.is (taken _ _ _ _ _ _ is-taken).fits
 
 pub slice_bounds-head_read-end : goal.slice_bounds-head_read-end
 slice_bounds-head_read-end c =
-    let is-taken : takes c.args.stage (want_of c.args.got) (count_of c.args.got) c.args.input.now c.args.table.now c.args.list.now ≡ true =
+    let is-taken : takes c.args.stage (asked_of c.args.got) (came_of c.args.got) c.args.input.now c.args.table.now c.args.list.now ≡ true =
     sym c.takes.ensures ∙ c.if-not-takes.false
     in
     let came = taken _ _ _ _ _ _ is-taken in
-    omega (arith, c.count-count.ensures, came.came)
+    omega (arith, c.came-count.ensures, came.came)
 
 pub slice_bounds-list_read-end : goal.slice_bounds-list_read-end
 slice_bounds-list_read-end c =
-    let is-taken : takes c.args.stage (want_of c.args.got) (count_of c.args.got) c.args.input.now c.args.table.now c.args.list.now ≡ true =
+    let is-taken : takes c.args.stage (asked_of c.args.got) (came_of c.args.got) c.args.input.now c.args.table.now c.args.list.now ≡ true =
     sym c.takes.ensures ∙ c.if-not-takes.false
     in
     let came = taken _ _ _ _ _ _ is-taken in
-    omega (arith, c.count-count.ensures, came.came)
+    omega (arith, c.came-count.ensures, came.came)
 
 pub list_read-requires : goal.list_read-requires
 list_read-requires c =
-    let is-taken : takes c.args.stage (want_of c.args.got) (count_of c.args.got) c.args.input.now c.args.table.now c.args.list.now ≡ true =
+    let is-taken : takes c.args.stage (asked_of c.args.got) (came_of c.args.got) c.args.input.now c.args.table.now c.args.list.now ≡ true =
     sym c.takes.ensures ∙ c.if-not-takes.false
     in
     list-fits _ _ _ _ _ _ c.in-ListWords.is (taken _ _ _ _ _ _ is-taken).fits
@@ -69,24 +69,24 @@ returns-in-TableLength c =
     let x : State =
     record { stage = c.args.stage; table = c.args.table.now; list = c.args.list.now; answers = c.args.answers.now; holders = c.args.holders.now }
     in
-    let is-taken : takes c.args.stage (want_of c.args.got) (count_of c.args.got) c.args.input.now c.args.table.now c.args.list.now ≡ true =
+    let is-taken : takes c.args.stage (asked_of c.args.got) (came_of c.args.got) c.args.input.now c.args.table.now c.args.list.now ≡ true =
     sym c.takes.ensures ∙ c.if-not-takes.false
     in
     step-on x _ _ _ is-taken _ c.in-TableLength.is
-    (record { stage_is = rw (sub-zero c.count-count.result, c.count-count.ensures) at c.length_read.ensures; table_is = refl; list_is = refl; answers_are = refl; holders_are = refl })
+    (record { stage_is = rw (sub-zero c.came-count.result, c.came-count.ensures) at c.length_read.ensures; table_is = refl; list_is = refl; answers_are = refl; holders_are = refl })
 
 pub returns-in-TableWords : goal.returns-in-TableWords
 returns-in-TableWords c =
     let x : State =
     record { stage = c.args.stage; table = c.args.table.now; list = c.args.list.now; answers = c.args.answers.now; holders = c.args.holders.now }
     in
-    let is-taken : takes c.args.stage (want_of c.args.got) (count_of c.args.got) c.args.input.now c.args.table.now c.args.list.now ≡ true =
+    let is-taken : takes c.args.stage (asked_of c.args.got) (came_of c.args.got) c.args.input.now c.args.table.now c.args.list.now ≡ true =
     sym c.takes.ensures ∙ c.if-not-takes.false
     in
     step-on x _ _ _ is-taken _ c.in-TableWords.is
     (record {
-      stage_is = rw (sub-zero c.count-count.result, c.count-count.ensures) at c.table_read.ensures.value;
-      table_is = rw (sub-zero c.count-count.result, c.count-count.ensures) at c.table_read.ensures.table_after;
+      stage_is = rw (sub-zero c.came-count.result, c.came-count.ensures) at c.table_read.ensures.value;
+      table_is = rw (sub-zero c.came-count.result, c.came-count.ensures) at c.table_read.ensures.table_after;
       list_is = refl;
       answers_are = refl;
       holders_are = refl;
@@ -97,29 +97,29 @@ returns-in-FirstLength c =
     let x : State =
     record { stage = c.args.stage; table = c.args.table.now; list = c.args.list.now; answers = c.args.answers.now; holders = c.args.holders.now }
     in
-    let is-taken : takes c.args.stage (want_of c.args.got) (count_of c.args.got) c.args.input.now c.args.table.now c.args.list.now ≡ true =
+    let is-taken : takes c.args.stage (asked_of c.args.got) (came_of c.args.got) c.args.input.now c.args.table.now c.args.list.now ≡ true =
     sym c.takes.ensures ∙ c.if-not-takes.false
     in
     step-on x _ _ _ is-taken _ c.in-FirstLength.is
-    (record { stage_is = rw (sub-zero c.count-count.result, c.count-count.ensures) at c.head_read.ensures; table_is = refl; list_is = refl; answers_are = refl; holders_are = refl })
+    (record { stage_is = rw (sub-zero c.came-count.result, c.came-count.ensures) at c.head_read.ensures; table_is = refl; list_is = refl; answers_are = refl; holders_are = refl })
 
 pub returns-in-ListWords : goal.returns-in-ListWords
 returns-in-ListWords c =
     let x : State =
     record { stage = c.args.stage; table = c.args.table.now; list = c.args.list.now; answers = c.args.answers.now; holders = c.args.holders.now }
     in
-    let is-taken : takes c.args.stage (want_of c.args.got) (count_of c.args.got) c.args.input.now c.args.table.now c.args.list.now ≡ true =
+    let is-taken : takes c.args.stage (asked_of c.args.got) (came_of c.args.got) c.args.input.now c.args.table.now c.args.list.now ≡ true =
     sym c.takes.ensures ∙ c.if-not-takes.false
     in
     step-on x _ _ _ is-taken _ c.in-ListWords.is
-    (rw (sub-zero c.count-count.result, c.count-count.ensures) at c.list_read.ensures)
+    (rw (sub-zero c.came-count.result, c.came-count.ensures) at c.list_read.ensures)
 
 pub returns-in-Over : goal.returns-in-Over
 returns-in-Over c =
     let x : State =
     record { stage = c.args.stage; table = c.args.table.now; list = c.args.list.now; answers = c.args.answers.now; holders = c.args.holders.now }
     in
-    let is-taken : takes c.args.stage (want_of c.args.got) (count_of c.args.got) c.args.input.now c.args.table.now c.args.list.now ≡ true =
+    let is-taken : takes c.args.stage (asked_of c.args.got) (came_of c.args.got) c.args.input.now c.args.table.now c.args.list.now ≡ true =
     sym c.takes.ensures ∙ c.if-not-takes.false
     in
     step-on x _ _ _ is-taken _ c.in-Over.is

@@ -8,8 +8,9 @@ use native.Mathlib.Omega.{arith}
 use lib.Dec.{leb}
 use lib.ListN.{length}
 use mathlib.Core.List.{List}
-use Rattle.linerun_input.specs.Stage.{asked_of, came_of, have_of, wanted_of, is_step}
-use Rattle.linerun_input.specs.declared.stdin.Got.{Got}
+use Rattle.linerun_input.specs.Stage.{have_of, wanted_of, is_step}
+use Rattle.reader.specs.Read.{asked_of, came_of}
+use Rattle.reader.specs.declared.Got.{Got}
 use Rattle.linerun_input.specs.declared.stage.Input.{Input}
 use Rattle.linerun_input.proofs.stage.is_step.Goals as goal
 

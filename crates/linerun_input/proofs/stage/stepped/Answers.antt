@@ -9,8 +9,9 @@ use native.Mathlib.Omega.{arith}
 use lib.Dec.{eqb, ltb, leb}
 use lib.ListN.{length}
 use Rattle.machine.proofs.Bools.{and_right}
-use Rattle.linerun_input.specs.Stage.{asked_of, came_of, have_of, wanted_of, is_step, stepped}
-use Rattle.linerun_input.specs.declared.stdin.Got.{Got}
+use Rattle.linerun_input.specs.Stage.{have_of, wanted_of, is_step, stepped}
+use Rattle.reader.specs.Read.{asked_of, came_of}
+use Rattle.reader.specs.declared.Got.{Got}
 use Rattle.linerun_input.specs.declared.stage.Input.{Input}
 use Rattle.linerun_input.proofs.stage.stepped.Goals as goal
 
