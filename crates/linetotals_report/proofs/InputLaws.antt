@@ -1,15 +1,14 @@
 -- The bytes of a whole table and those after it, as one input: how many are wanted, and the sheet. Assumes nothing.
-use Prim.Native.Nat.{ℕ, ◌-◌, ◌*◌, ◌≤◌, ◌<◌}
+use Prim.Native.Nat.{ℕ, ◌<◌}
 use mathlib.Core.Path.{◌≡◌, refl, ap, ◌∙◌}
 use mathlib.Core.Bool.{Bool, true, false, cond}
-use mathlib.Core.List.{List, [], ◌++◌}
+use mathlib.Core.List.{List, ◌++◌}
 use native.Mathlib.Omega.{arith}
-use borrow.Author.Tests.{eq-eqb, lt-ltb, le-ltb}
+use borrow.Author.Tests.{eq-eqb}
 use lib.Dec.{eqb}
 use lib.ListN.{length, drop_of_length-le}
 use Rattle.machine.specs.Table.{endpoints}
 use Rattle.machine.specs.Check.{table_code, Accepted}
-use Rattle.input_words.specs.Bytes.{word_at}
 use Rattle.input_words.specs.TableInput.{table_end, no_table, table_of, after_table}
 use Rattle.input_words.proofs.TableLaws.{Whole, whole, whole-table, whole-more, table_of-more, after_table-more, still-asks}
 use Rattle.linetotals_text.specs.Lines.{last_line}

@@ -5,12 +5,12 @@ use mathlib.Core.List.{List, [], ◌∷◌, ◌++◌, append_assoc}
 use native.Mathlib.Omega.{arith}
 use lib.ListN.{length, take, drop, length-append, length-take, length-drop}
 use lib.Seq.{length-take-le, take_at}
-use borrow.Author.Tests.{eq-eqb, lt-ltb, le-ltb}
-use Rattle.machine.specs.Table.{domains, endpoints}
+use borrow.Author.Tests.{le-ltb}
+use Rattle.machine.specs.Table.{domains}
 use Rattle.machine.specs.Check.{Accepted}
 use Rattle.machine.specs.Call.{split}
 use Rattle.machine.specs.Run.{run}
-use Rattle.machine.specs.Entry.{Outcome, longest_list, Runs, entry, ran}
+use Rattle.machine.specs.Entry.{Outcome, longest_list, Runs, ran}
 use Rattle.machine.specs.Run as machine
 use Rattle.machine.specs.Holders.{holders_of}
 use Rattle.machine.proofs.Below.{words-length}
@@ -23,24 +23,22 @@ use Rattle.machine.proofs.Promise.{entry-code, entry-ran, code-holders, holders-
 use Rattle.input_words.specs.Bytes.{words_of}
 use Rattle.input_words.specs.TableInput.{table_of}
 use Rattle.input_words.proofs.WordLaws.{length-words_of, take-words_of}
-use Rattle.totals_theory.specs.Totals.{table_after_lists, calls_of}
+use Rattle.totals_theory.specs.Totals.{calls_of}
 use Rattle.totals_theory.proofs.TotalsLaws.{one-run}
 use Rattle.totals_add.specs.declared.Tally.{Tally}
 use Rattle.totals_add.specs.Added.{added_if_run, ListAdded}
 use Rattle.totals_add.specs.Tallied.{Tallied}
 use Rattle.totals_add.proofs.TallyLaws.{every-tally-list-by-list}
-use Rattle.linetotals_input.specs.Input.{most_lists, head_wanted, lists_from, wanted}
+use Rattle.linetotals_input.specs.Input.{most_lists, head_wanted, wanted}
 use Rattle.linetotals_input.specs.Next.{next_of}
 use Rattle.linetotals_input.specs.declared.Next.{Next}
 use Rattle.linetotals_input.specs.declared.Next.TheVariants.{Ends, Words}
-use Rattle.linetotals_input.proofs.ListLoop as loop
 use Rattle.linetotals_input.proofs.ListLoop.{AtHead, Going, GoesOn, goes_on, list-taken, list-short, wanted-now}
 use Rattle.linetotals_run.specs.declared.Phase.{Phase}
 use Rattle.linetotals_run.specs.declared.Phase.TheVariants.{TableLength, TableWords, FirstLength, ListWords, Over}
-use Rattle.linetotals_run.specs.declared.Stage.{Stage}
 use Rattle.linetotals_run.specs.Stage.{wanted_at, in_phase}
 use Rattle.linetotals_run.specs.Step.{State, at_stage, next_phase, head_read, tally_with, counted, list_ran, table_at, entered, list_whole, list_read}
-use Rattle.linetotals_theory.specs.Sheet.{totals_lines, sheet}
+use Rattle.linetotals_theory.specs.Sheet.{sheet}
 use Rattle.linetotals_report.specs.Report.{stage_lines}
 use Rattle.linetotals_report.specs.Claims.{Space}
 use Rattle.linetotals_report.proofs.SheetLaws.{over-lines}

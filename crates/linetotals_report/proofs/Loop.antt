@@ -2,11 +2,11 @@
 -- and is nearer to the end. Assumes nothing.
 use Prim.Native.Nat.{ℕ, ◌+◌, ◌-◌, ◌*◌, ◌≤◌, ◌<◌}
 use mathlib.Core.Path.{◌≡◌, refl, sym, ap, ap₂, ◌∙◌}
-use mathlib.Core.Bool.{Bool, true, false, cond, ◌&&◌}
+use mathlib.Core.Bool.{true}
 use mathlib.Core.List.{List, [], ◌∷◌, ◌++◌}
 use native.Mathlib.Omega.{arith}
 use borrow.Author.Tests.{eq-eqb, lt-ltb, le-leb}
-use lib.Dec.{eqb, ltb, leb}
+use lib.Dec.{eqb, ltb}
 use lib.ListN.{length, take, drop, length-take}
 use Rattle.machine.proofs.Bools.{and_intro, cond-elim}
 use Rattle.machine.specs.Check.{table_code}
@@ -21,11 +21,10 @@ use Rattle.linetotals_input.proofs.ListLaws.{head_few}
 use Rattle.linetotals_run.specs.declared.Phase.{Phase}
 use Rattle.linetotals_run.specs.declared.Phase.TheVariants.{TableLength, TableWords, FirstLength, ListWords, Over}
 use Rattle.linetotals_run.specs.declared.Stage.{Stage}
-use Rattle.linetotals_run.specs.Stage.{phase_wanted, wanted_at, in_phase}
+use Rattle.linetotals_run.specs.Stage.{phase_wanted, wanted_at}
 use Rattle.linetotals_run.specs.Step.{State, length_read, table_checked, table_read, next_phase, head_read, tally_with, counted, list_ran, table_at, entered, list_whole, list_read, phase_read, phase_fits, stepped, takes, step_on, Left}
 use Rattle.linetotals_report.specs.Claims.{first_state, Space, read_on, InOrder, InputRan}
-use Rattle.linetotals_report.proofs.ListStep.{Counted, Listing}
-use Rattle.linetotals_report.proofs.Reading.{Follows, AtPhase, Represents, step, first-represents}
+use Rattle.linetotals_report.proofs.Reading.{AtPhase, Represents, step, first-represents}
 
 -- ---- one part more
 

@@ -1,26 +1,25 @@
 -- Parts of the lengths that were wanted, in order, give the sheet of all of them (specs/Claims: EveryReading): step by step,
 -- what a stage knows holds of the bytes so far. Assumes nothing.
 use Prim.Native.Nat.{ℕ, ◌+◌, ◌-◌, ◌*◌, ◌≤◌, ◌<◌}
-use mathlib.Core.Path.{◌≡◌, refl, sym, ap, subst, ◌∙◌}
-use mathlib.Core.Bool.{Bool, true, false, cond}
+use mathlib.Core.Path.{◌≡◌, refl, sym, ap, ◌∙◌}
+use mathlib.Core.Bool.{Bool, true, false}
 use mathlib.Core.List.{List, [], ◌∷◌, ◌++◌, append-nil, append_assoc}
 use native.Mathlib.Decide.{dec_lt}
 use native.Mathlib.Omega.{arith}
 use borrow.Author.Tests.{eq-eqb, ne_eqb, eqb-true, eqb-false, lt-ltb, le-ltb}
-use lib.Dec.{eqb, ltb}
+use lib.Dec.{eqb}
 use lib.ListN.{length, take, drop, length-append, length-take, length-drop}
 use lib.Seq.{drop_at}
 use Rattle.machine.specs.Table.{endpoints}
-use Rattle.machine.specs.Check.{table_code, Accepted}
+use Rattle.machine.specs.Check.{table_code}
 use Rattle.machine.proofs.Everything.{everything}
 use Rattle.text.specs.Write.{overwrite}
 use Rattle.text.proofs.WriteLaws.{length-overwrite, fills-front}
 use Rattle.input_words.specs.Bytes.{word_at, words_of}
-use Rattle.input_words.specs.TableInput.{longest_table, table_length, table_end, no_table, table_of, table_wanted, NeededBy}
+use Rattle.input_words.specs.TableInput.{longest_table, no_table, table_of, table_wanted}
 use Rattle.input_words.proofs.WordLaws.{length-words_of, take-words_of, word_at-append}
 use Rattle.input_words.proofs.TableLaws.{Whole, whole-table}
 use Rattle.input_words.proofs.Needed.{needed-more}
-use Rattle.totals_add.specs.Added.{no_totals}
 use Rattle.totals_add.proofs.TallyLaws.{every-tally-list-by-list}
 use Rattle.linetotals_text.specs.Lines.{last_line}
 use Rattle.linetotals_input.specs.Input.{most_lists, head_wanted, stopped, Lists, wanted, Needed}

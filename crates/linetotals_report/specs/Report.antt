@@ -1,5 +1,5 @@
 -- What is printed after a stage of the reading (document 02 (e), end-of-shift totals): the lines of what was counted.
-use Rattle.std.specs.Prelude.{ℕ, zero, suc, ◌≤◌, min, List, [], ◌++◌, length, get_or, take}
+use Rattle.std.specs.Prelude.{ℕ, zero, suc, min, List, [], ◌++◌, get_or, take}
 use Rattle.linetotals_text.specs.Lines.{endpoint_line, last_line}
 use Rattle.linetotals_run.specs.declared.Stage.{Stage}
 use Rattle.linetotals_run.specs.Stage.{counts_at}
@@ -19,15 +19,6 @@ unfoldable pub counts_lines : List ℕ → List ℕ → List ℕ → List ℕ �
 counts_lines sent received lost start end zero = []
 counts_lines sent received lost start end (suc k) =
     counts_lines sent received lost start end k ++ counts_line sent received lost start end k
-
--- there are words for m endpoints, and m is at most 32, which is as many as there can be
-pub record Counted (m : ℕ) (sent received lost start end : List ℕ) : Type 0 where
-  pub few : m ≤ 32
-  pub sent_words : m ≤ length sent
-  pub received_words : m ≤ length received
-  pub lost_words : m ≤ length lost
-  pub start_words : m ≤ length start
-  pub end_words : m ≤ length end
 
 -- what is printed after a stage, where the lists left the table at the front of these words
 unfoldable pub stage_lines : Stage → List ℕ → List ℕ

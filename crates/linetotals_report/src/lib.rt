@@ -13,20 +13,6 @@ use linetotals_run::Stage;
 use linetotals_text::lines::last_line;
 use totals_count::waiting::waiting_counts;
 
-// Returns the lower of two.
-fn least(a: usize, b: usize) -> usize
-    ensures { result ≡ min a b }
-{
-    if a < b { a } else { b }
-}
-
-// Returns the same words. A caller learns that there are 32, which is how a slice of them is lent.
-fn sized(words: [u64; 32]) -> [u64; 32]
-    ensures { (result ≡ words) × (length result ≡ 32) }
-{
-    words
-}
-
 // Writes what is printed after a stage and the table that the lists left, from the buffer's front on, and returns how many bytes
 // that is: at most 4,715. A buffer that is too short gets what fits, and the function then returns one past the buffer's length.
 pub fn report(stage: Stage, table: &[u32], out: &mut [u8]) -> usize
@@ -34,18 +20,9 @@ pub fn report(stage: Stage, table: &[u32], out: &mut [u8]) -> usize
     ensures upper_bound { result ≤ most_bytes }
 {
     let counts = stage.counts();
-    let words = least(counts.words, table.len());
+    let words = counts.words.min(table.len());
     let end = waiting_counts(&table[0..words]);
-    let tally = counts.tally;
-    let sends = tally.sent;
-    let receives = tally.received;
-    let losses = tally.lost;
-    let waiting = counts.start;
-    let sent = sized(sends);
-    let received = sized(receives);
-    let lost = sized(losses);
-    let start = sized(waiting);
-    let m = least(counts.endpoints, ENDPOINT_PLACES);
-    let at = endpoint_lines(m, &sent, &received, &lost, &start, &end, out);
+    let m = counts.endpoints.min(ENDPOINT_PLACES);
+    let at = endpoint_lines(m, &counts.tally, &counts.start, &end, out);
     last_line(counts.count, counts.code, out, at)
 }

@@ -32,6 +32,6 @@ pub fn last_line(lists: usize, code: u32, out: &mut [u8], at: usize) -> usize
     ensures { Writes at (last_line lists code) out.old result out.new }
 {
     let lists_end = put_labelled(b"lists ", lists as u64, out, at);
-    let code_end = put_labelled(b" code ", code as u64, out, lists_end);
+    let code_end = put_labelled(b" code ", u64::from(code), out, lists_end);
     put(b"\n", out, code_end)
 }

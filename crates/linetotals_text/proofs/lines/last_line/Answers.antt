@@ -7,4 +7,4 @@ use Rattle.linetotals_text.proofs.lines.last_line.Goals as goal
 pub returns : goal.returns
 unfolding last_line ascii
 returns c =
-    then (then c.put_labelled-lists_end.ensures c.put_labelled-code_end.ensures) c.put.ensures
+    rw (← c.from.ensures) (then (then c.put_labelled-lists_end.ensures c.put_labelled-code_end.ensures) c.put.ensures)
