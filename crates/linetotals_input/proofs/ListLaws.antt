@@ -72,16 +72,6 @@ front (suc left) (b ∷ bytes) = go (dec_lt (length (b ∷ bytes)) 4) (dec_lt lo
 
 -- ---- bytes that follow
 
-pub head-last : (left : ℕ) → left ≡ 0 → head_wanted left ≡ 1
-unfolding head_wanted
-head-last zero e = refl
-head-last (suc left) e = absurd (omega arith)
-
-pub head-other : (left : ℕ) → (left ≡ 0 → ⊥) → head_wanted left ≡ 4
-unfolding head_wanted
-head-other zero n = absurd (n refl)
-head-other (suc left) n = refl
-
 -- one byte at least, and no more than four
 pub head_few : (left : ℕ) → (0 < head_wanted left) × (head_wanted left ≤ 4)
 unfolding head_wanted

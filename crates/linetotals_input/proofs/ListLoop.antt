@@ -11,9 +11,9 @@ use Rattle.input_words.specs.Bytes.{word_at, words_of}
 use Rattle.input_words.proofs.Needed.{needed-more}
 use Rattle.input_words.specs.TableInput.{NeededBy}
 use Rattle.linetotals_input.specs.Input.{most_lists, Lists, stopped, then, head_wanted, lists_from}
-use Rattle.linetotals_input.specs.Next.{next_of}
-use Rattle.linetotals_input.specs.declared.Next.{Next}
-use Rattle.linetotals_input.specs.declared.Next.TheVariants.{Ends, Words}
+use Rattle.std.specs.Prelude.{Option, None, Some, Result, Ok, Err}
+use Rattle.linetotals_input.specs.Next.{list_refusal_code, next_of}
+use Rattle.linetotals_input.specs.declared.ListRefusal.{ListRefusal}
 use Rattle.linetotals_input.proofs.ListLaws.{Front, front, from_list, head_few, from-none, list-cut, list-whole, list-stays, whole-stays, still-wanted}
 use Rattle.linetotals_input.proofs.ListLaws.{Front.none, Front.many, Front.cut_word, Front.long, Front.list}
 
@@ -32,9 +32,10 @@ record Follows (left : ℕ) (bytes : List ℕ) (n : ℕ) : Type 0 where
   is : word_at bytes 0 ≡ n
   short : n ≤ longest_list
 
-abbrev Said : ℕ → List ℕ → Next → Type 0
-Said left bytes (Ends code) = EndsBy left bytes code
-Said left bytes (Words n) = Follows left bytes n
+abbrev Said : ℕ → List ℕ → Result (Option ℕ) ListRefusal → Type 0
+Said left bytes (Ok None) = EndsBy left bytes 0
+Said left bytes (Ok (Some n)) = Follows left bytes n
+Said left bytes (Err r) = EndsBy left bytes (list_refusal_code r)
 
 ends_by : {left : ℕ} {bytes : List ℕ} (code wanted : ℕ) → lists_from left bytes ≡ stopped code wanted → wanted ≡ head_wanted left - length bytes → EndsBy left bytes code
 unfolding stopped
@@ -97,9 +98,10 @@ pub record Over (read : List ℕ) (lists : List (List ℕ)) (code more : ℕ) : 
   pub needed : NeededBy lists_wanted read
 
 -- which of the two it is, by the bytes before a list; `more` is how many of them are still wanted
-abbrev pub GoesOn : List ℕ → List (List ℕ) → ℕ → ℕ → Next → Type 0
-GoesOn read lists left more (Ends code) = Over read lists code more
-GoesOn read lists left more (Words n) = Going read lists (left - 1) n
+abbrev pub GoesOn : List ℕ → List (List ℕ) → ℕ → ℕ → Result (Option ℕ) ListRefusal → Type 0
+GoesOn read lists left more (Ok None) = Over read lists 0 more
+GoesOn read lists left more (Ok (Some n)) = Going read lists (left - 1) n
+GoesOn read lists left more (Err r) = Over read lists (list_refusal_code r) more
 
 -- by the bytes before a list, the lists are over, or one more follows
 module _ {read : List ℕ} {lists : List (List ℕ)} {left : ℕ} {head : List ℕ} (x : AtHead read lists left head) where
@@ -133,12 +135,13 @@ module _ {read : List ℕ} {lists : List (List ℕ)} {left : ℕ} {head : List �
         needed = x.needed;
       }
 
-  pub goes_on : (next : Next) → next ≡ next_of left head → GoesOn read lists left (head_wanted left - length head) next
+  pub goes_on : (next : Result (Option ℕ) ListRefusal) → next ≡ next_of left head → GoesOn read lists left (head_wanted left - length head) next
   goes_on next is = go next (subst (Said left head) (sym is) (said left head))
     where
-      go : (next : Next) → Said left head next → GoesOn read lists left (head_wanted left - length head) next
-      go (Ends code) y = over code y
-      go (Words n) y = going n y
+      go : (next : Result (Option ℕ) ListRefusal) → Said left head next → GoesOn read lists left (head_wanted left - length head) next
+      go (Ok None) y = over 0 y
+      go (Ok (Some n)) y = going n y
+      go (Err r) y = over (list_refusal_code r) y
 
 -- the bytes before the first list
 pub at-start : (head : List ℕ) → length head ≤ head_wanted most_lists → AtHead head [] most_lists head
