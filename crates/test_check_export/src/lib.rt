@@ -6,6 +6,8 @@
 ghost use Rattle.std.specs.Prelude.{◌≡◌};
 ghost use Rattle.machine.specs.Check.{table_code};
 
+use result_code::code;
+
 // Checks arbitrary words as a table and returns 0, or document 01's 2 to 5.
 // C: uint32_t balkwizu_test_check(const uint32_t *table, size_t table_len)
 #[unsafe(no_mangle)]
@@ -13,5 +15,5 @@ pub extern "C" fn balkwizu_test_check(table: &[u32]) -> u32
     ensures { result ≡ table_code table.now }
 {
     let checked = table_check::check(table);
-    checked.code()
+    code(checked)
 }
