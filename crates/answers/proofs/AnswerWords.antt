@@ -1,15 +1,20 @@
 -- The answer words, as the code makes them: the first of the call's first word, the data by digits. Assumes nothing.
-use mathlib.Core.Path.{◌≡◌, sym, ap, ap₂, ◌∙◌}
+use mathlib.Core.Path.{◌≡◌, sym, ap, ◌∙◌}
 use mathlib.Core.Bool.{Bool, true, false, cond}
 use mathlib.Core.List.{List, [], ◌∷◌}
 use Prim.Native.Nat.{ℕ, ◌+◌, ◌*◌, ◌-◌, ◌%◌, ◌^◌, ◌<◌, ◌≤◌}
-use native.Mathlib.Nat.{add-zero, le_refl, div-add-mod'}
+use native.Mathlib.Nat.{add-zero, div-add-mod'}
 use native.Mathlib.Decide.{ℕ_discrete}
 use native.Mathlib.Omega.{arith}
 use lib.Arith.{mod-mul}
 use lib.Dec.{eqb, ltb, lit<}
 use lib.ListN.{length}
 use borrow.Author.Tests.{lt-ltb, le-ltb, le-leb, lt-leb, ne_eqb}
+use Rattle.std.specs.Prelude.{Result, Ok, Err}
+use Rattle.std.specs.Result.{result_unwrap_or}
+use Rattle.result_code.specs.Code.{result_code}
+use Rattle.calls.specs.Number.{number_of}
+use Rattle.calls.specs.declared.Refusal.{Refusal}
 use Rattle.machine.specs.Word.{kind, caller}
 use Rattle.machine.specs.Table.{domains, endpoints, rights_at, endpoint_at, rights, endpoint}
 use Rattle.machine.specs.Queue.{owner}
@@ -18,7 +23,7 @@ use Rattle.machine.specs.Machine.{owned_bits, rights_bits, shown_caller, answer_
 use Rattle.machine.specs.Below.{sum_below}
 use Rattle.machine.proofs.Below.{sum_same}
 use Rattle.table_layout.proofs.Places.{eight-bits}
-use Rattle.answers.specs.Answer.{head_of, has_endpoints, has_row, shown}
+use Rattle.answers.specs.Answer.{answer_of, head_of, has_endpoints, has_row, shown}
 use Rattle.answers.specs.Eight.{Eight}
 use Rattle.answers.proofs.Digits.{digit_sum, digits-end}
 
@@ -26,14 +31,16 @@ use Rattle.answers.proofs.Digits.{digit_sum, digits-end}
 pub same_head : {h k x y : ℕ} → h ≡ k → h ∷ x ∷ y ∷ [] ≡ k ∷ x ∷ y ∷ []
 same_head {h} {k} {x} {y} e = ap (λ (w : ℕ). w ∷ x ∷ y ∷ []) e
 
--- and in the data words at most
-pub same-data : {h x y x' y' : ℕ} → x ≡ x' → y ≡ y' → h ∷ x ∷ y ∷ [] ≡ h ∷ x' ∷ y' ∷ []
-same-data {h} p q = ap₂ (λ (x y : ℕ). h ∷ x ∷ y ∷ []) p q
-
 -- a code is added to the first word without one
 pub head-code : (w n : ℕ) → head_of w + n ≡ answer_word (one w) n
 unfolding head_of answer_word shown_caller first
 head-code w n = ap (λ (x : ℕ). x + n) (add-zero _)
+
+-- a call's answer by its outcome
+pub answered : (w : ℕ) (o : Result (ℕ × ℕ) Refusal)
+    → (head_of w + result_code number_of o) ∷ (result_unwrap_or o (0, 0)).0 ∷ (result_unwrap_or o (0, 0)).1 ∷ [] ≡ answer_of w o
+answered w (Ok (x, y)) = same_head (head-code w 0)
+answered w (Err r) = same_head (head-code w (number_of r))
 
 pub head-stray : (w : ℕ) → kind w ≡ 15 → w - w % 268435456 ≡ head_of w
 unfolding head_of answer_word shown_caller first
@@ -126,7 +133,7 @@ module _ (t : List ℕ) (n : ℕ) (is : n ≡ domains t) (u : ℕ) where
       sym
       (ap (digit_sum 16 (rights_on t u low)) all
       ∙ digits-end 16 (rights_on t u low) count (8 - count)
-      (λ i from less. no-right t u low i (omega (arith, e.all i (omega (arith, e.few)) (omega (arith, e.ordered)), is))))
+      (λ i from less. no-right t u low i (omega (arith, e.all i (omega (arith, e.few)) (omega arith), is))))
 
   pub rights-digit : (low target : ℕ) → low < target → target ≤ n → rights t u (target - 1) ≡ rights_on t u low (target - low - 1)
   rights-digit low target l w =
@@ -135,25 +142,13 @@ module _ (t : List ℕ) (n : ℕ) (is : n ≡ domains t) (u : ℕ) where
       let shown : rights t u (target - 1) ≡ cond (ltb (target - 1) (domains t)) (rights t u (target - 1)) 0 = rw (lt-ltb _ _ there) in
       shown ∙ ap (λ (g : ℕ). cond (ltb g (domains t)) (rights t u g) 0) at
 
--- the targets of a data word: all that there are, or eight
-pub all-targets : (n low : ℕ) → low ≤ n → n ≤ low + 8 → Eight n low n
-all-targets n low some few = record { ordered = some; few = few; within = le_refl n; all = λ i l past. past }
-
-pub eight-targets : (n low : ℕ) → low + 8 ≤ n → Eight n low (low + 8)
-eight-targets n low more =
-    record { ordered = omega arith; few = le_refl (low + 8); within = more; all = λ i l past. absurd (omega (arith, l, past)) }
-
--- among at most eight domains the second data word shows none
-pub rights-none : (t : List ℕ) (u : ℕ) → domains t ≤ 8 → 0 ≡ rights_bits t u 8 % 2 ^ 32
-unfolding rights_bits sum_below
-rights-none t u few = ap (λ (x : ℕ). x % 2 ^ 32) (sym (digits-end 16 (rights_on t u 8) 0 8 (λ i _ _. no-right t u 8 i (omega arith))))
-
 -- what the code keeps of a digit more
-pub bit-more : (acc all : ℕ) → acc ≡ all % 2 ^ 32 → acc % 2147483648 * 2 + 1 ≡ (all * 2 + 1) % 2 ^ 32
-bit-more acc all is = omega (arith, is)
+pub bit-more : (acc all x : ℕ) → x ≤ 1 → acc ≡ all % 2 ^ 32 → acc % 2147483648 * 2 + x ≡ (all * 2 + x) % 2 ^ 32
+bit-more acc all x few is = omega (arith, few, is)
 
-pub no-bit-more : (acc all : ℕ) → acc ≡ all % 2 ^ 32 → acc % 2147483648 * 2 ≡ (all * 2 + 0) % 2 ^ 32
-no-bit-more acc all is = omega (arith, is)
+pub one-bit : (b : Bool) → cond b 1 0 ≤ 1
+one-bit true = omega arith
+one-bit false = omega arith
 
 pub four-more : (acc all x : ℕ) → acc ≡ all % 2 ^ 32 → (acc * 16 + x) % 4294967296 ≡ (all * 16 + x) % 2 ^ 32
 four-more acc all x is = omega (arith, is)

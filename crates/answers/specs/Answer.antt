@@ -1,13 +1,20 @@
 -- A call's three answer words (document 01, 'The calls').
-use Rattle.std.specs.Prelude.{ℕ, ◌%◌, ◌^◌, Bool, cond, List, [], ◌∷◌, ◌++◌, leb, ltb, length, drop}
+use Rattle.std.specs.Prelude.{ℕ, Result, Ok, Err, ◌%◌, ◌^◌, Bool, cond, List, [], ◌∷◌, ◌++◌, leb, ltb, length, drop}
 use Rattle.machine.specs.Table.{domains, endpoints, rights_at, endpoint_at}
 use Rattle.machine.specs.Call.{Call.one}
 use Rattle.machine.specs.Machine.{answer_word}
+use Rattle.calls.specs.Number.{number_of}
+use Rattle.calls.specs.declared.Refusal.{Refusal}
 use Rattle.answers.specs.declared.Answer.{Answer}
 
 -- the words that an answer is
 abbrev pub answer_words : Answer → List ℕ
 answer_words a = a.head ∷ a.first ∷ a.second ∷ []
+
+-- the answer words of a call with the first word w: its data words where it is done, or its refusal's code
+abbrev pub answer_of : ℕ → Result (ℕ × ℕ) Refusal → List ℕ
+answer_of w (Ok (x, y)) = answer_word (one w) 0 ∷ x ∷ y ∷ []
+answer_of w (Err r) = answer_word (one w) (number_of r) ∷ 0 ∷ 0 ∷ []
 
 -- the first answer word of a call with the first word w, without its code
 unfoldable pub head_of : ℕ → ℕ

@@ -1,45 +1,35 @@
 // Answers made of plain values, for code that has read the data in a layout of its own, and the storing of an answer's words
 // (document 01, 'The calls').
-ghost use Rattle.std.specs.Prelude.{◌≡◌, [], ◌∷◌};
-ghost use Rattle.machine.specs.Call.{Call.one};
-ghost use Rattle.machine.specs.Machine.{answer_word, code, Decision.refused};
+ghost use Rattle.std.specs.Prelude.{◌≡◌};
+ghost use Rattle.machine.specs.Machine.{Decision.refused};
 ghost use Rattle.calls.specs.Number.{number_of};
 ghost use Rattle.rules.specs.Range.{refused_numbers};
-ghost use Rattle.answers.specs.Answer.{answer_words, answers_put};
+ghost use Rattle.answers.specs.Answer.{answer_words, answer_of, answers_put};
 
-use crate::{Answer, head, refused};
+use crate::{Answer, head};
 use calls::Refusal;
-use rules::range::{Range, of_refused};
+use result_code::code;
+use rules::range::of_refused;
 
-// Returns the answer to a refused call, which is passed by its first word.
-pub fn refusal(first: u32, refusal: Refusal) -> Answer
-    ensures { answer_words result ≡ answer_word (one first) (number_of refusal) ∷ 0 ∷ 0 ∷ [] }
+// Returns a call's answer: its data words where it is done, or its refusal's code with data words that are 0.
+pub fn answer(first: u32, outcome: Result<(u32, u32), Refusal>) -> Answer
+    ensures { answer_words result ≡ answer_of first outcome }
 {
-    let head = head(first);
-    refused(head, refusal)
-}
-
-// Returns the answer to a call that is refused without a table: 12 may come before its own code.
-pub fn refuse(n: u32, first: u32, caller: u32, number: Refusal) -> Answer
-    ensures { answer_words result
-        ≡ answer_word (one first) (code (refused_numbers n caller number (refused (number_of number)))) ∷ 0 ∷ 0 ∷ [] }
-{
-    let range = of_refused(n, caller, number);
-    if let Range::Outside(refused) = range {
-        return refusal(first, refused);
-    }
-    refusal(first, number)
-}
-
-// Returns the answer to a call that is done, with its data words.
-pub fn done(first: u32, x: u32, y: u32) -> Answer
-    ensures { answer_words result ≡ answer_word (one first) 0 ∷ x ∷ y ∷ [] }
-{
-    let head = head(first);
+    let (x, y) = outcome.unwrap_or((0, 0));
     Answer {
-        head,
+        head: head(first) + code(outcome),
         first: x,
         second: y,
+    }
+}
+
+// Returns the refusal of a call that is refused without a table: 12 may come before its own code.
+pub fn refuse(n: u32, caller: u32, refusal: Refusal) -> Refusal
+    ensures { refused (number_of result) ≡ refused_numbers n caller refusal (refused (number_of refusal)) }
+{
+    match of_refused(n, caller, refusal) {
+        Ok(()) => refusal,
+        Err(unknown) => unknown,
     }
 }
 

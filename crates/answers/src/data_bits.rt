@@ -17,14 +17,10 @@ pub fn owned_bits(table: &[u32], n: u32, m: u32, caller: u32) -> u32
     ensures { result ≡ owned_bits table.now caller % 2 ^ 32 }
 {
     let mut bits = 0;
-    let mut e = m;
-    while 0 < e {
-        e -= 1;
-        bits = bits % 0x8000_0000 * 2;
+    for e in (0..m).rev() {
         let at = endpoint_at(n, e) + 1;
-        if table[at] / 256 % 256 == caller {
-            bits += 1;
-        }
+        let owns = table[at] / 256 % 256 == caller;
+        bits = bits % 0x8000_0000 * 2 + u32::from(owns);
     }
     bits
 }
@@ -37,12 +33,10 @@ pub fn rights_bits(table: &[u32], n: u32, caller: u32, low: u32, high: u32) -> u
     ensures { result ≡ rights_bits table.now caller low % 2 ^ 32 }
 {
     let mut bits = 0;
-    let mut target = high;
-    while low < target {
-        target -= 1;
+    for target in (low..high).rev() {
         let at = rights_at(n, caller, target);
         let held = table[at] % KIND_UNIT;
-        bits = ((bits as u64 * 16 + held as u64) % 0x1_0000_0000) as u32;
+        bits = ((u64::from(bits) * 16 + u64::from(held)) % 0x1_0000_0000) as u32;
     }
     bits
 }

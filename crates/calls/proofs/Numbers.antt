@@ -1,6 +1,8 @@
 -- The codes of the refusals: none is above 23. Assumes nothing.
 use Prim.Native.Nat.{◌≤◌}
 use native.Mathlib.Omega.{arith}
+use Rattle.std.specs.Prelude.{Result, Ok, Err}
+use Rattle.result_code.specs.Code.{result_code}
 use Rattle.calls.specs.Number.{number_of}
 use Rattle.calls.specs.declared.Refusal.{Refusal}
 use Rattle.calls.specs.declared.Refusal.TheVariants.{Stray, UnknownKind, UnknownCaller, UnusedField, NoSecondWord, NoSuchName, NoSuchEndpoint, MayNotSend, NotOwner, NothingWaiting, NoSuchDomain, BadRights, LacksRight, NoInfluence}
@@ -20,3 +22,7 @@ number-most NoSuchDomain = omega arith
 number-most BadRights = omega arith
 number-most LacksRight = omega arith
 number-most NoInfluence = omega arith
+
+pub code-most : {A : Type 0} (o : Result A Refusal) → result_code number_of o ≤ 23
+code-most (Ok x) = omega arith
+code-most (Err r) = number-most r

@@ -1,6 +1,6 @@
 -- `data_bits::rights_bits` meets its contract. The loop's invariant: the rights on the targets from the present one on are found,
 -- as far as they are kept, and those below are still to be found. Assumes nothing.
-use Prim.Native.Nat.{◌-◌, ◌≤◌}
+use Prim.Native.Nat.{◌-◌}
 use Rattle.machine.specs.Machine.{rights_bits}
 use Rattle.answers.proofs.Digits.{Kept}
 use Rattle.answers.proofs.AnswerWords.{rights_on}
@@ -8,7 +8,4 @@ use Rattle.answers.proofs.data_bits.rights_bits.Given as goal
 
 abbrev pub invariant-loop-target : goal.invariant-loop-target
 invariant-loop-target l =
-    (l.low ≤ l.target) × (l.target ≤ l.high) × Kept 16 (rights_on l.table l.caller l.low) (l.target - l.low) l.bits (rights_bits l.table l.caller l.low)
-
-abbrev pub decreases-loop-target : goal.decreases-loop-target
-decreases-loop-target l = l.target
+    Kept 16 (rights_on l.table l.caller l.low) (l.target - l.low) l.bits (rights_bits l.table l.caller l.low)
