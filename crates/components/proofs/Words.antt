@@ -2,9 +2,8 @@
 use mathlib.Core.Path.{◌≡◌}
 use mathlib.Core.Bool.{◌||◌}
 use mathlib.Core.List.{List}
-use Prim.Native.Nat.{ℕ, ◌-◌, ◌^◌}
-use native.Mathlib.Nat.{sub-zero}
-use lib.ListN.{get_or, take, drop}
+use Prim.Native.Nat.{ℕ, ◌^◌}
+use lib.ListN.{get_or, take}
 use Rattle.machine.specs.Word.{payload}
 use Rattle.machine.specs.Right.{has_any}
 use Rattle.machine.specs.Table.{domains, rights_at, rights_word, rights}
@@ -29,6 +28,6 @@ pub component-read :
     → n ≡ domains t
     → take n ws ≡ link_words n (joined t)
     → alone ≡ 2 ^ d
-    → closed (take (n - 0) (drop 0 ws)) alone ≡ component t d
+    → closed (take n ws) alone ≡ component t d
 unfolding component
-component-read t ws n d alone e front one = rw (sub-zero n, front, one, e)
+component-read t ws n d alone e front one = rw (front, one, e)

@@ -2,6 +2,8 @@
 // is a word too, with a bit for each member. Total: accepts arbitrary words and sets.
 #![tactic(auto)]
 
+pub mod steps;
+
 ghost use Rattle.std.specs.Prelude.{◌≡◌, ◌%◌, ◌^◌};
 ghost use Rattle.reachability.specs.Closure.{widened, closed};
 

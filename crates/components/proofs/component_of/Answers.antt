@@ -22,7 +22,7 @@ pub members-found-requires : goal.members-found-requires
 members-found-requires c =
     let n = c.domains-n.ensures in
     let few = (accepted-counts _ ((let the_accepted : Accepted c.args.table.now = sym (sym (ap checked_code c.in_default.is) ∙ c.check-checked.ensures) in the_accepted))).1 in
-    record { n_value = n; n_bound = omega (arith, n, few); domain_lt_n = c.if-n-domain.false }
+    record { domains = n; few = omega (arith, n, few); is_domain = c.if-n-domain.false }
 
 pub returns : goal.returns
 returns c =

@@ -14,7 +14,7 @@ returns-then-code-ne0 c =
 pub chained-set-requires : goal.chained-set-requires
 chained-set-requires c =
     let pre = c.requires in
-    record { n_bound = omega (arith, pre.n_value, (accepted-counts _ pre.accepted).1); domain_lt_n = pre.domain_lt_n }
+    record { few = omega (arith, pre.n_value, (accepted-counts _ pre.accepted).1); is_domain = pre.domain_lt_n }
 
 pub returns : goal.returns
 returns c =

@@ -7,6 +7,5 @@ use Rattle.components.proofs.connections.members.Goals as goal
 
 pub returns : goal.returns
 returns c =
-    let words = c.joined_words-words in
-    let alone = bit_is (omega (arith, c.requires)) c.bit-alone.ensures in
-    c.closure.ensures ∙ component-read c.args.table.now _ _ _ _ c.requires.n_value words.ensures alone
+    let alone = bit_is (omega arith) c.bit.ensures in
+    c.closure.ensures ∙ component-read c.args.table.now _ _ _ _ c.requires.domains c.joined_words-words.ensures alone
