@@ -6,13 +6,12 @@ use Prim.Native.Nat.{ℕ, ◌+◌, ◌-◌, ◌*◌, ◌<◌, ◌≤◌}
 use native.Mathlib.Nat.{mul-le-mul_right, add-sub_cancel_left}
 use native.Mathlib.Decide.{dec_lt}
 use native.Mathlib.Omega.{arith}
-use lib.Dec.{leb, ltb}
-use lib.ListN.{length, get_or, take, drop, replicate, get_or-replicate, length-take}
+use lib.Dec.{ltb}
+use lib.ListN.{length, get_or, take, drop, replicate, get_or-replicate}
 use lib.Seq.{ext_get_or}
-use borrow.Author.Tests.{lt-ltb, le-ltb, leb-true, ltb-true}
+use borrow.Author.Tests.{lt-ltb, le-ltb}
 use Rattle.machine.specs.Below.{words_below}
 use Rattle.machine.specs.Table.{rights_at}
-use Rattle.machine.proofs.Bools.{and_left, and_right}
 use Rattle.rights_matrix_theory.specs.Rows.{rows_below, row_of, rows_of, has_rights}
 use Rattle.rights_matrix_theory.proofs.Rights.{rows-length, rows_at}
 use Rattle.rights_matrix.proofs.Filling.{Filling}
@@ -22,14 +21,6 @@ pub record HasRights (n size : ℕ) : Type 0 where
   pub few : n ≤ 16
   pub there : n * n < size
 
-pub has-rights : (n size : ℕ) → has_rights n size ≡ true → HasRights n size
-unfolding has_rights
-has-rights n size h =
-    record {
-      few = leb-true n 16 (and_left (leb n 16) (ltb (n * n) size) h);
-      there = ltb-true (n * n) size (and_right (leb n 16) (ltb (n * n) size) h);
-    }
-
 -- a holder's rights words are there
 pub row_within : (n size h : ℕ) → HasRights n size → h < n → rights_at n h 0 + n ≤ size
 row_within n size h r l = let up : (h + 1) * n ≤ n * n = mul-le-mul_right n (omega arith) in omega (arith, r.there)
@@ -37,9 +28,6 @@ row_within n size h r l = let up : (h + 1) * n ≤ n * n = mul-le-mul_right n (o
 -- the part that is lent for it
 pub row-part : (t : List ℕ) (n h at : ℕ) → at ≡ rights_at n h 0 → take (at + n - at) (drop at t) ≡ take n (drop (rights_at n h 0) t)
 row-part t n h at is = ap₂ (λ (k a : ℕ). take k (drop a t)) (add-sub_cancel_left at n) is
-
-pub row-short : (t : List ℕ) (n at : ℕ) → n ≤ 16 → length (take (at + n - at) (drop at t)) ≤ 16
-row-short t n at few = omega (arith, length-take (at + n - at) (drop at t))
 
 -- ---- the rows one after the other
 abbrev pub row_at : ℕ → List ℕ → ℕ → List ℕ

@@ -1,37 +1,16 @@
 -- Rows as they are loaded and stored, place by place. Assumes nothing.
 use mathlib.Core.Path.{◌≡◌, sym, ap, ◌∙◌}
-use mathlib.Core.Bool.{false}
 use mathlib.Core.List.{List, []}
-use Prim.Native.Nat.{ℕ, ◌*◌, ◌%◌, ◌<◌, ◌≤◌}
-use native.Mathlib.Nat.{mul-le-mul_right}
+use Prim.Native.Nat.{ℕ, ◌%◌, ◌<◌, ◌≤◌}
 use native.Mathlib.Omega.{arith}
-use mir.Syntax.{w64}
-use mir.Val.{Fits}
-use lib.Dec.{ltb}
 use native.Mathlib.Decide.{dec_lt}
 use lib.ListN.{length, get_or, replicate, get_or-replicate, get_or-eq_default}
 use lib.Seq.{ext_get_or}
-use borrow.Author.Tests.{lt-leb, le-leb}
 use Rattle.machine.specs.Below.{words_below}
 use Rattle.machine.specs.Word.{word}
 use Rattle.machine.proofs.Below.{words-length, words-at}
-use Rattle.rights_matrix_theory.specs.Rows.{held_in, row_of, has_rights}
+use Rattle.rights_matrix_theory.specs.Rows.{held_in, row_of}
 use Rattle.rights_matrix.proofs.Filling.{Filling}
-
--- at most sixteen domains have at most 256 rights words
-pub square : (n : ℕ) → n ≤ 16 → n * n ≤ 256
-square n few = omega (arith, mul-le-mul_right {m = n} {n = 16} n few)
-
-pub square-fits : (n : ℕ) → n ≤ 16 → Fits w64 (n * n)
-square-fits n few = omega (arith, square n few)
-
-pub too_many : (n size : ℕ) → 16 < n → false ≡ has_rights n size
-unfolding has_rights
-too_many n size most = rw (lt-leb n 16 most)
-
-pub few-enough : (n size : ℕ) → n ≤ 16 → ltb (n * n) size ≡ has_rights n size
-unfolding has_rights
-few-enough n size few = rw (le-leb n 16 few)
 
 -- ---- one row
 zeros : (j : ℕ) → ◌≡◌ {A = ℕ} (get_or (replicate 16 0) j 0) 0

@@ -1,6 +1,6 @@
 -- The rows stored to a table's rights words, one row after the other. Assumes nothing.
-use mathlib.Core.Path.{◌≡◌, refl, sym, ap, ap₂, subst, ◌∙◌}
-use mathlib.Core.Bool.{true, false, cond, ◌&&◌}
+use mathlib.Core.Path.{◌≡◌, sym, ap, ap₂, subst, ◌∙◌}
+use mathlib.Core.Bool.{true, cond, ◌&&◌}
 use mathlib.Core.List.{List, ◌++◌}
 use Prim.Native.Nat.{ℕ, zero, suc, ◌+◌, ◌-◌, ◌*◌, ◌/◌, ◌%◌, ◌<◌, ◌≤◌}
 use native.Mathlib.Nat.{add-sub_cancel_left}
@@ -31,9 +31,6 @@ pub record Out (n : ℕ) (rows : List (List ℕ)) (t₀ t : List ℕ) (h : ℕ) 
   pub rest : (j : ℕ) → h * n ≤ j → get_or t (1 + j) 0 ≡ get_or t₀ (1 + j) 0
 
 module _ (n : ℕ) (rows : List (List ℕ)) (t₀ : List ℕ) where
-  pub out-start : Out n rows t₀ t₀ 0
-  out-start = record { size = refl; header = refl; done = λ j l. absurd (omega arith); rest = λ j l. refl }
-
   module _ (t : List ℕ) (h : ℕ) (s : Out n rows t₀ t h) (r : HasRights n (length t₀)) (l : h < n) where
     a : ℕ
     a = rights_at n h 0
@@ -109,9 +106,6 @@ module _ (n : ℕ) (rows : List (List ℕ)) (t₀ : List ℕ) where
           let is : suc j ≡ 1 + j = omega arith in
           ap (λ (i : ℕ). get_or t i 0) is ∙ behind j (dec_lt j (n * n)) ∙ ap f (sym is)
 
--- the table with the rows stored, on either side of the test
-pub out_none : (n : ℕ) (rows : List (List ℕ)) (t : List ℕ) → has_rights n (length t) ≡ false → t ≡ cond (has_rights n (length t)) (stored_rows n rows t) t
-out_none n rows t h = rw h
-
+-- the table with the rows stored, where the test holds
 pub out-all : (n : ℕ) (rows : List (List ℕ)) (t x : List ℕ) → has_rights n (length t) ≡ true → x ≡ stored_rows n rows t → x ≡ cond (has_rights n (length t)) (stored_rows n rows t) t
 out-all n rows t x h e = rw h e
