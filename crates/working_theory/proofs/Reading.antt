@@ -10,6 +10,7 @@ use native.Mathlib.Omega.{arith}
 use lib.Dec.{eqb, ltb}
 use borrow.Author.Tests.{eqb-true, eq-eqb, ltb-true, not-true}
 use lib.ListN.{get_or}
+use Rattle.std.specs.Prelude as std
 use Rattle.machine.specs.Word.{field_b}
 use Rattle.machine.specs.Table.{endpoints, endpoint}
 use Rattle.machine.specs.Queue.{name, owner}
@@ -20,7 +21,6 @@ use Rattle.machine.proofs.Accepted.{accepted-counts, accepted-owner, accepted-na
 use Rattle.machine.proofs.Below.{first-same, all-at}
 use Rattle.machine.proofs.Bools.{and_left, and_right, cond-elim}
 use Rattle.calls.specs.Split.{call_of}
-use Rattle.calls.specs.declared.split.Second.{Second}
 use Rattle.calls.specs.Decode.{decoded}
 use Rattle.calls.proofs.Decided.{decided}
 use Rattle.rules.specs.Access.{decided_by}
@@ -38,12 +38,12 @@ unfolding ring_owner owner
 ring-owner r q s = ap field_b s.same_info
 
 -- the first that passes a test, where none before it does
-none_before : (k : ℕ) (p : ℕ → Bool) → ((i : ℕ) → i < k → p i ≡ false) → first_below k p ≡ none
+pub none_before : (k : ℕ) (p : ℕ → Bool) → ((i : ℕ) → i < k → p i ≡ false) → first_below k p ≡ none
 unfolding first_below
 none_before zero p f = refl
 none_before (suc k) p f = rw (none_before k p (λ i l. f i (omega arith)), f k (omega arith))
 
-first-is : (k : ℕ) (p : ℕ → Bool) (e : ℕ) → e < k → p e ≡ true → ((i : ℕ) → i < e → p i ≡ false) → first_below k p ≡ some e
+pub first-is : (k : ℕ) (p : ℕ → Bool) (e : ℕ) → e < k → p e ≡ true → ((i : ℕ) → i < e → p i ≡ false) → first_below k p ≡ some e
 unfolding first_below
 first-is zero p e l is before = absurd (omega arith)
 first-is (suc k) p e l is before = go (λ less. first-is k p e less is before) (dec_lt e k)
@@ -96,7 +96,7 @@ module _ (n m : ℕ) (rows : List (List ℕ)) (rings names owned t : List ℕ) (
       }
 
   -- so the decision on a call is the same
-  pub decided-same : (hints : List ℕ) (w : ℕ) (s : Second) → decided_by n m (reading_from rows rings (named_in m names hints)) (decoded w s) ≡ decide t (call_of w s)
+  pub decided-same : (hints : List ℕ) (w : ℕ) (s : std.Option ℕ) → decided_by n m (reading_from rows rings (named_in m names hints)) (decoded w s) ≡ decide t (call_of w s)
   decided-same hints w s =
       same-decision n m (reading_from rows rings (named_in m names hints)) (reading_of t) (same-reading hints) (decoded w s)
       ∙ ap₂ (λ (i j : ℕ). decided_by i j (reading_of t) (decoded w s)) x.domains x.endpoints

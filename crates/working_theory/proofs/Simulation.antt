@@ -3,13 +3,14 @@ use mathlib.Core.Path.{◌≡◌, refl, sym, ap, ap₂, subst, subst₂, ◌∙�
 use mathlib.Core.Logic.{⊎_elim}
 use mathlib.Core.Bool.{true, false, cond}
 use mathlib.Core.List.{List, [], ◌∷◌}
-use Prim.Native.Nat.{ℕ, ◌+◌, ◌*◌, ◌/◌, ◌%◌, ◌^◌, ◌<◌, ◌≤◌}
+use Prim.Native.Nat.{ℕ, ◌+◌, ◌*◌, ◌%◌, ◌^◌, ◌<◌, ◌≤◌}
 use native.Mathlib.Nat.{le_trans, mod-eq_of_lt}
 use native.Mathlib.Decide.{dec_lt, ℕ_discrete}
 use native.Mathlib.Omega.{arith}
 use lib.Dec.{eqb, ltb}
 use lib.ListN.{length, get_or}
 use borrow.Author.Tests.{lt-ltb, le-ltb, ltb-true}
+use Rattle.std.specs.Prelude as std
 use Rattle.machine.specs.Word.{payload, caller, field_a, field_b, field_c}
 use Rattle.machine.specs.Right.{all_rights, adds, without}
 use Rattle.machine.specs.Table as machine
@@ -29,8 +30,6 @@ use Rattle.machine.proofs.Step.{rights-held, stays-accepted}
 use Rattle.machine.proofs.Table as table
 use Rattle.machine.proofs.Table.{Sized, endpoint-length}
 use Rattle.calls.specs.Split.{call_of}
-use Rattle.calls.specs.declared.split.Second.{Second}
-use Rattle.calls.specs.declared.split.Second.TheVariants.{Nothing, Word}
 use Rattle.answers.proofs.Digits.{digits-below}
 use Rattle.holders.specs.Noted.{noted, holders_after}
 use Rattle.holders.proofs.Kept.{holders-kept}
@@ -48,16 +47,16 @@ use Rattle.working_theory.proofs.Reading.{decided-same}
 
 -- the words of an answer, by its data
 answer-words :
-    (w : ℕ) (s : Second) (rows : List (List ℕ)) (rings owned t : List ℕ) (d : Decision)
+    (w : ℕ) (s : std.Option ℕ) (rows : List (List ℕ)) (rings owned t : List ℕ) (d : Decision)
     → first_from rows rings owned d ≡ (data_words t d).0
     → second_from rows rings d ≡ (data_words t d).1
     → answer_from w rows rings owned d ≡ answer_to t (call_of w s) d
 unfolding answer_from answer_to answer_word shown_caller first
 answer-words w s rows rings owned t d p q = ap₂ (λ (x y : ℕ). answer_word (one w) (code d) ∷ x ∷ y ∷ []) p q ∙ by_first s
   where
-    by_first : (s : Second) → answer_word (one w) (code d) ∷ (data_words t d).0 ∷ (data_words t d).1 ∷ [] ≡ answer_to t (call_of w s) d
-    by_first Nothing = refl
-    by_first (Word v) = refl
+    by_first : (s : std.Option ℕ) → answer_word (one w) (code d) ∷ (data_words t d).0 ∷ (data_words t d).1 ∷ [] ≡ answer_to t (call_of w s) d
+    by_first std.None = refl
+    by_first (std.Some v) = refl
 
 module _ (n m : ℕ) (rows : List (List ℕ)) (rings names owned t : List ℕ) (a : Accepted t) (x : Represents n m rows rings names owned t) where
   few : n ≤ 16
@@ -96,7 +95,7 @@ module _ (n m : ℕ) (rows : List (List ℕ)) (rings names owned t : List ℕ) (
   same-held : (h g : ℕ) → h < machine.domains t → g < machine.domains t → held_in rows h g ≡ rights t h g
   same-held h g lh lg = x.rights.same h g (below-n h lh) (below-n g lg)
 
-  answer-along : (w : ℕ) (s : Second) → answer_from w rows rings owned (decide t (call_of w s)) ≡ answer t (call_of w s)
+  answer-along : (w : ℕ) (s : std.Option ℕ) → answer_from w rows rings owned (decide t (call_of w s)) ≡ answer t (call_of w s)
   unfolding answer first_from second_from data_words oldest
   answer-along w s =
       let c = call_of w s in

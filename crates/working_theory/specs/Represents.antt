@@ -1,6 +1,6 @@
 -- When a working state represents a table (document 02 (l)), and what is claimed of it: a call on the state simulates the call on
 -- the table.
-use Rattle.std.specs.Prelude.{ℕ, ◌*◌, ◌<◌, ◌≡◌, List, length, get_or}
+use Rattle.std.specs.Prelude.{ℕ, Option, ◌*◌, ◌<◌, ◌≡◌, List, length, get_or}
 use Rattle.machine.specs.Table as machine
 use Rattle.machine.specs.Table.{endpoint}
 use Rattle.machine.specs.Queue.{name}
@@ -8,7 +8,6 @@ use Rattle.machine.specs.Check.{Accepted}
 use Rattle.machine.specs.Machine.{owned_bits, decide, step, answer}
 use Rattle.machine.specs.Holders.{holders_of}
 use Rattle.calls.specs.Split.{call_of}
-use Rattle.calls.specs.declared.split.Second.{Second}
 use Rattle.calls.specs.Decode.{decoded}
 use Rattle.rules.specs.Access.{decided_by}
 use Rattle.holders.specs.Noted.{holders_after}
@@ -30,7 +29,7 @@ pub record Represents (n m : ℕ) (rows : List (List ℕ)) (rings names owned t 
 -- A call of the first word w and the second s, on a state, whatever the hints for its names, and on the table t: the decision is
 -- the same, the answer is the same, what it leaves represents the table after it, and noting its effect makes of the table's
 -- holders those of the table after it.
-pub record Simulates (w : ℕ) (s : Second) (n m : ℕ) (rows : List (List ℕ)) (rings names hints owned t : List ℕ) : Type 0 where
+pub record Simulates (w : ℕ) (s : Option ℕ) (n m : ℕ) (rows : List (List ℕ)) (rings names hints owned t : List ℕ) : Type 0 where
   pub decided : decided_by n m (reading_from rows rings (named_in m names hints)) (decoded w s) ≡ decide t (call_of w s)
   pub answer : answer_from w rows rings owned (decide t (call_of w s)) ≡ answer t (call_of w s)
   pub state :
@@ -44,7 +43,7 @@ pub record Simulates (w : ℕ) (s : Second) (n m : ℕ) (rows : List (List ℕ))
 -- on a state that represents an accepted table, every call simulates the call on the table
 abbrev pub CallsSimulate : Type 0
 CallsSimulate =
-    (w : ℕ) (s : Second) (n m : ℕ) (rows : List (List ℕ)) (rings names hints owned t : List ℕ)
+    (w : ℕ) (s : Option ℕ) (n m : ℕ) (rows : List (List ℕ)) (rings names hints owned t : List ℕ)
     → Accepted t
     → Represents n m rows rings names owned t
     → Simulates w s n m rows rings names hints owned t
