@@ -53,20 +53,41 @@ pub step_is : (s : Input) (g : Got) (buffer : List ℕ) → 0 < wanted_of s → 
 unfolding stepped is_step
 step_is s g buffer more asked fits = simp (lt-ltb _ _ more, eq-eqb _ _ asked, le-leb _ _ fits)
 
+-- what the stage says where so many bytes are at the front of a buffer
+module _ (have : ℕ) (buffer : List ℕ) where
+  have_at : (ended : Bool) → have_of (stage_at have ended buffer) ≡ have
+  unfolding stage_at
+  have_at ended = refl
+
+  wanted_at : (ended : Bool) → wanted_of (stage_at have ended buffer) ≡ cond ended 0 (wanted (take have buffer))
+  unfolding stage_at
+  wanted_at true = refl
+  wanted_at false = refl
+
+  ended_at : (ended : Bool) → ended_of (stage_at have ended buffer) ≡ ended
+  unfolding stage_at
+  ended_at true = refl
+  ended_at false = refl
+
 -- the stage after the bytes and the part that came
 pub goes_on : (bytes part buffer : List ℕ) (s : Input) (g : Got)
     → StageAfter bytes s → 0 < wanted_of s → asked_of g ≡ wanted_of s → came_of g ≡ length part → length part ≤ wanted_of s
     → take (have_of s + came_of g) buffer ≡ bytes ++ part → have_of s + came_of g ≤ length buffer
     → StageAfter (bytes ++ part) (stepped s g buffer)
-unfolding stage_at
 goes_on bytes part buffer s g a more asked came few is fits =
     let wants = still-wants a more in
+    let have = have_of s + came_of g in
+    let ended = ltb (came_of g) (asked_of g) in
+    let over = ended_at have buffer ended in
     rw (step_is s g buffer more asked fits)
     record {
-      all = omega (arith, a.all, came, length-append bytes part);
+      all = omega (arith, have_at have buffer ended, a.all, came, length-append bytes part);
       needed = needed-more wanted still-wanted bytes part a.needed (omega (arith, wants));
-      wants = ap (λ (l : List ℕ). cond (ltb (came_of g) (asked_of g)) 0 (wanted l)) is;
-      short = λ e. still-wanted bytes part (omega (arith, ltb-true (came_of g) (asked_of g) e, wants));
+      wants =
+          wanted_at have buffer ended
+          ∙ ap (λ (l : List ℕ). cond ended 0 (wanted l)) is
+          ∙ ap (λ (b : Bool). cond b 0 (wanted (bytes ++ part))) (sym over);
+      short = λ e. still-wanted bytes part (omega (arith, ltb-true (came_of g) (asked_of g) (sym over ∙ e), wants));
     }
 
 pub steps : EveryStep
@@ -154,8 +175,7 @@ module _ (before after : List ℕ) (s : Input) (g : Got) (r : Reached before s) 
       }
 
   ended_is : ended_of (stepped s g after) ≡ ltb (came_of g) (asked_of g)
-  unfolding stage_at
-  ended_is = ap ended_of (step_is s g after more asked fits)
+  ended_is = ap ended_of (step_is s g after more asked fits) ∙ ended_at _ after _
 
   pub fewer-left : steps_left (stepped s g after) < steps_left s
   unfolding steps_left

@@ -1,6 +1,7 @@
 -- How far linerun's reading is, as the values that its functions pass on (document 01, 'Into firmware and onto the bench'): what one
 -- read gave, and the stage that says how many bytes are wanted next. A stage goes on by what was read and by nothing else.
-use Rattle.std.specs.Prelude.{ℕ, ◌+◌, ◌≤◌, ◌<◌, ◌≡◌, Bool, true, false, cond, ◌&&◌, List, [], ◌++◌, eqb, ltb, leb, length, take, drop}
+use Rattle.std.specs.Prelude.{ℕ, ◌+◌, ◌≤◌, ◌<◌, ◌≡◌, Bool, true, cond, ◌&&◌, List, [], ◌++◌, eqb, ltb, leb, length, take, Some, None}
+use Rattle.std.specs.Option.{unwrap_or, is_none}
 use Rattle.linerun_input.specs.Input.{wanted, most_input, Needed}
 use Rattle.reader.specs.Read.{asked_of, came_of}
 use Rattle.reader.specs.declared.Got.{Got}
@@ -11,19 +12,19 @@ abbrev pub have_of : Input → ℕ
 have_of s = s.have
 
 abbrev pub wanted_of : Input → ℕ
-wanted_of s = s.wanted
+wanted_of s = unwrap_or s.wanted 0
 
 abbrev pub ended_of : Input → Bool
-ended_of s = s.ended
+ended_of s = is_none s.wanted
 
 -- the stage before anything is read: the length word is wanted
 unfoldable pub started : Input
-started = record { have = 0; wanted = 4; ended = false }
+started = record { have = 0; wanted = Some 4 }
 
 -- the stage where so many bytes are at the front of a buffer: nothing is wanted where the input ended after them
 unfoldable pub stage_at : ℕ → Bool → List ℕ → Input
 stage_at have ended buffer =
-    record { have = have; wanted = cond ended 0 (wanted (take have buffer)); ended = ended }
+    record { have = have; wanted = cond ended None (Some (wanted (take have buffer))) }
 
 -- a read is a step of a stage: something is wanted, the read asked for just that, and what came is in the buffer
 unfoldable pub is_step : Input → Got → List ℕ → Bool

@@ -16,6 +16,7 @@ use input_words::table_input::{after_table, no_table, table_wanted};
 const LIST_BYTES: usize = 4 * (LONGEST_LIST + 1);
 
 // Returns whether code 7 refuses the input.
+#[tactic(auto, unfolding(crate::specs::Input::unreadable, crate::specs::Input::left_over))]
 pub fn unreadable(bytes: &[u8]) -> bool
     ensures { result ≡ unreadable bytes.now }
 {
@@ -23,13 +24,11 @@ pub fn unreadable(bytes: &[u8]) -> bool
         return true;
     }
     let rest = after_table(bytes).len();
-    if rest < LIST_BYTES {
-        return rest % 4 != 0;
-    }
-    false
+    rest < LIST_BYTES && rest % 4 != 0
 }
 
 // Returns how many more bytes to read, where the input so far is `bytes`. It is 0 where no further byte can matter.
+#[tactic(auto, unfolding(crate::specs::Input::wanted))]
 pub fn wanted(bytes: &[u8]) -> usize
     ensures { result ≡ wanted bytes.now }
 {
@@ -37,8 +36,5 @@ pub fn wanted(bytes: &[u8]) -> usize
         return table_wanted(bytes);
     }
     let rest = after_table(bytes).len();
-    if rest < LIST_BYTES {
-        return LIST_BYTES - rest;
-    }
-    0
+    LIST_BYTES.saturating_sub(rest)
 }

@@ -1,11 +1,10 @@
 -- `reading::read_input` meets its contract: each read is a step of the stage, there are ever fewer left, and what a step brings is
 -- what the reader gave. Assumes nothing.
-use mathlib.Core.Path.{sym, ◌∙◌}
+use mathlib.Core.Path.{◌∙◌}
 use native.Mathlib.Nat.{pos_of_ne-zero}
-use native.Mathlib.Omega.{arith}
 use Rattle.std.proofs.KnownBytes.{Consumes-nil}
 use Rattle.linerun_input.specs.Stage.{started}
-use Rattle.linerun_input.proofs.StageLaws.{reached-first, reached-next, given-next, fewer-left, reads-into, reads_nothing}
+use Rattle.linerun_input.proofs.StageLaws.{reached-first, reached-next, given-next, fewer-left, reads_nothing}
 use Rattle.linerun_input.proofs.reading.read_input.Goals as goal
 
 pub returns-then-buffer-ne-MOST_INPUT : goal.returns-then-buffer-ne-MOST_INPUT
@@ -41,10 +40,3 @@ loop-have-preserved g c =
       reached = reached-next before after input got at_loop.reached more _ _ c.have-have.ensures c.wanted-want.ensures read.read;
       given = given-next before after input got at_loop.reached more _ _ c.have-have.ensures c.wanted-want.ensures read.read _ _ _ at_loop.given read.next;
     })
-
-pub returns : goal.returns
-returns g c =
-    record {
-      read = reads-into _ (omega arith) c.loop-have.invariant.reached (sym c.wanted.ensures ∙ c.loop-have-test.false);
-      next = c.loop-have.invariant.given;
-    }
