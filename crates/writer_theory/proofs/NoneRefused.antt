@@ -8,6 +8,7 @@ use mathlib.Core.Option.{Option, none, some}
 use native.Mathlib.Omega.{arith}
 use lib.Dec.{ltb}
 use lib.ListN.{length, get_or, length-map}
+use Rattle.std.specs.Prelude as std
 use Rattle.machine.specs.Word.{answer_code}
 use Rattle.machine.specs.Table.{domains}
 use Rattle.machine.specs.Call as machine
@@ -23,7 +24,6 @@ use Rattle.calls.specs.Decode.{decoded}
 use Rattle.calls.specs.Number.{number_of}
 use Rattle.calls.specs.Decide.{known_caller, refused_call, decide_call}
 use Rattle.calls.specs.declared.Refusal.{Refusal}
-use Rattle.calls.specs.declared.split.Second.TheVariants.{Nothing, Word}
 use Rattle.calls.specs.declared.Call.{Call}
 use Rattle.calls.specs.declared.Call.TheVariants.{LookUp, Send, Receive, MyEndpoints, MyRights, Grant, Remove, Revoke, Refused}
 use Rattle.calls.proofs.Decided.{decided}
@@ -112,8 +112,8 @@ module _ (t : List ℕ) where
   -- a call that is decoded into one that fits
   by-words : (c : machine.Call) → fits (decoded_calls c) ≡ true → None (decide t c)
   unfolding decoded_calls
-  by-words (machine.one w) h = rw (decided t w Nothing) (by_kind (decoded w Nothing) (fits-taken (decoded w Nothing) h))
-  by-words (machine.two w v) h = rw (decided t w (Word v)) (by_kind (decoded w (Word v)) (fits-taken (decoded w (Word v)) h))
+  by-words (machine.one w) h = rw (decided t w std.None) (by_kind (decoded w std.None) (fits-taken (decoded w std.None) h))
+  by-words (machine.two w v) h = rw (decided t w (std.Some v)) (by_kind (decoded w (std.Some v)) (fits-taken (decoded w (std.Some v)) h))
 
   -- a call that the reader takes past the four, and one that it doesn't
   abbrev Four : Call → Type 0
@@ -152,8 +152,8 @@ module _ (t : List ℕ) where
 
 pub four-of-the-machine : FourOfTheMachine
 unfolding decoded_calls
-four-of-the-machine t (machine.one w) = rw (decided t w Nothing) (four t (decoded w Nothing))
-four-of-the-machine t (machine.two w v) = rw (decided t w (Word v)) (four t (decoded w (Word v)))
+four-of-the-machine t (machine.one w) = rw (decided t w std.None) (four t (decoded w std.None))
+four-of-the-machine t (machine.two w v) = rw (decided t w (std.Some v)) (four t (decoded w (std.Some v)))
 
 -- each of some calls, wherever it is
 each_fits : (before : List machine.Call) (c : machine.Call) (later : List machine.Call)

@@ -4,14 +4,13 @@ use Prim.Native.Nat.{ℕ}
 use mathlib.Core.Path.{◌≡◌, refl, sym, ap, ap₂, ◌∙◌}
 use mathlib.Core.Bool.{Bool, true, false, cond, false≢true}
 use mathlib.Core.List.{List, [], ◌∷◌, ◌++◌, map}
+use Rattle.std.specs.Prelude.{Option, Some, None}
 use Rattle.machine.specs.Word.{kind, word}
 use Rattle.machine.specs.Call as machine
 use Rattle.machine.specs.Call.{pairs, split, wants_second, kind_of, unused_fields, all_zero, has_second, second_payload}
 use Rattle.machine.proofs.Bools.{and_left, and_right, and_intro}
 use Rattle.machine.proofs.Split.{split-last, split_one, split-two}
 use Rattle.calls.specs.Split.{call_of}
-use Rattle.calls.specs.declared.split.Second.{Second}
-use Rattle.calls.specs.declared.split.Second.TheVariants.{Nothing, Word}
 use Rattle.calls.specs.Decode.{needs_second, whole, of_kind, decoded}
 use Rattle.calls.specs.declared.Call.{Call}
 use Rattle.calls.specs.declared.Call.TheVariants.{LookUp, Send, Receive, MyEndpoints, MyRights, Grant, Remove, Revoke, Refused}
@@ -21,14 +20,14 @@ use Rattle.writer_theory.specs.Claims.{decoded_calls, read_from, past, all_past,
 use Rattle.writer_theory.proofs.FieldWords.{Holds, bounds, held, second-kind, second_holds}
 
 -- the second word of a call with these fields
-abbrev pub second_of : Fields → Second
-second_of f = cond (wants_second f.kind) (Word (word 15 f.second)) Nothing
+abbrev pub second_of : Fields → Option ℕ
+second_of f = cond (wants_second f.kind) (Some (word 15 f.second)) None
 
 -- the machine's call of a first word and, if there is one, a second is decoded from these words
-pub taken_of : (w : ℕ) (s : Second) → decoded_calls (call_of w s) ≡ decoded w s
+pub taken_of : (w : ℕ) (s : Option ℕ) → decoded_calls (call_of w s) ≡ decoded w s
 unfolding decoded_calls
-taken_of w Nothing = refl
-taken_of w (Word v) = refl
+taken_of w None = refl
+taken_of w (Some v) = refl
 
 -- a first word that holds the fields of a call that fits is decoded into the call
 apart-back : (c : Call) (w : ℕ) → fits c ≡ true → Holds w (fields_of c) → decoded w (second_of (fields_of c)) ≡ c
@@ -60,7 +59,7 @@ unfolding field_words
 split-front f h rest = go (wants_second f.kind) (ap wants_second (held f h).kind) rest
   where
     go : (b : Bool) → wants_second (kind (first_word f)) ≡ b → (rest : List ℕ)
-        → split ((first_word f ∷ cond b (word 15 f.second ∷ []) []) ++ rest) ≡ call_of (first_word f) (cond b (Word (word 15 f.second)) Nothing) ∷ split rest
+        → split ((first_word f ∷ cond b (word 15 f.second ∷ []) []) ++ rest) ≡ call_of (first_word f) (cond b (Some (word 15 f.second)) None) ∷ split rest
     go true e rest = split-two _ _ rest (both _ _ e (second-kind f.second (bounds f h).second))
     go false e [] = split-last _
     go false e (v ∷ rest) = split_one _ v rest (alone _ v e)

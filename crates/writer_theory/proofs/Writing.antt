@@ -9,6 +9,7 @@ use native.Mathlib.Omega.{arith}
 use borrow.Author.Tests.{lt-ltb, ne_eqb, eqb-true, eqb-false}
 use lib.Arith.{mod-mul}
 use lib.Dec.{eqb, lit<}
+use Rattle.std.specs.Prelude.{Option, Some, None}
 use Rattle.machine.specs.Word.{kind, payload, caller, field_a, field_b, field_c, word}
 use Rattle.machine.specs.Call.{Kind, pairs, split, wants_second, unused_fields, all_zero, has_second, second_payload}
 use Rattle.machine.specs.Call.{Kind.look_up, Kind.send, Kind.receive, Kind.my_endpoints, Kind.my_rights, Kind.grant, Kind.remove, Kind.revoke}
@@ -16,8 +17,6 @@ use Rattle.machine.proofs.Bools.{and_left, and_right, and_intro}
 use Rattle.machine.proofs.Split.{split-last, split_one, split-two}
 use Rattle.machine.proofs.KindCases.{kind-elim}
 use Rattle.calls.specs.Split.{call_of}
-use Rattle.calls.specs.declared.split.Second.{Second}
-use Rattle.calls.specs.declared.split.Second.TheVariants.{Nothing, Word}
 use Rattle.calls.specs.Decode.{needs_second, whole, of_kind, decoded}
 use Rattle.calls.specs.declared.Call.{Call}
 use Rattle.calls.specs.declared.Call.TheVariants.{Refused}
@@ -28,26 +27,26 @@ use Rattle.writer_theory.specs.Claims.{read_from, past, all_past, of_the_four, W
 use Rattle.writer_theory.proofs.Reading.{taken_of}
 
 -- the fields that a first word and, if there is one, a second hold
-abbrev fields_in : ℕ → Second → Fields
+abbrev fields_in : ℕ → Option ℕ → Fields
 fields_in w s = fields_at (kind w) (caller w) (field_a w) (field_b w) (field_c w) (second_payload (call_of w s))
 
 -- the words of a call
-abbrev words_in : ℕ → Second → List ℕ
-words_in w Nothing = w ∷ []
-words_in w (Word v) = w ∷ v ∷ []
+abbrev words_in : ℕ → Option ℕ → List ℕ
+words_in w None = w ∷ []
+words_in w (Some v) = w ∷ v ∷ []
 
 -- the second word, if there is one, makes one call with the first, as in a split list
-abbrev FromSplit : ℕ → Second → Type 0
-FromSplit w Nothing = Unit {0}
-FromSplit w (Word v) = pairs w v ≡ true
+abbrev FromSplit : ℕ → Option ℕ → Type 0
+FromSplit w None = Unit {0}
+FromSplit w (Some v) = pairs w v ≡ true
 
 -- the fields of a word are within their bits
-second_below : (w : ℕ) (s : Second) → second_payload (call_of w s) < 268435456
+second_below : (w : ℕ) (s : Option ℕ) → second_payload (call_of w s) < 268435456
 unfolding second_payload
-second_below w Nothing = omega arith
-second_below w (Word v) = omega arith
+second_below w None = omega arith
+second_below w (Some v) = omega arith
 
-within : (w : ℕ) (s : Second) → (kind w ≡ 0 → ⊥) → within_bits (fields_in w s) ≡ true
+within : (w : ℕ) (s : Option ℕ) → (kind w ≡ 0 → ⊥) → within_bits (fields_in w s) ≡ true
 unfolding within_bits
 within w s some =
     rw (
@@ -72,16 +71,16 @@ again w =
         → word (kind w) (u * 4194304 + a * 65536 + b * 256 + c) ≡ kind w * 268435456 + p
     digits u a b c e f g = omega arith
 
-same-words : (w : ℕ) (s : Second) → FromSplit w s → has_second (call_of w s) ≡ wants_second (kind w) → field_words (fields_in w s) ≡ words_in w s
+same-words : (w : ℕ) (s : Option ℕ) → FromSplit w s → has_second (call_of w s) ≡ wants_second (kind w) → field_words (fields_in w s) ≡ words_in w s
 unfolding field_words first_word has_second second_payload pairs
-same-words w Nothing split h = rw (again w, sym h)
-same-words w (Word v) split h =
+same-words w None split h = rw (again w, sym h)
+same-words w (Some v) split h =
     let k : kind v ≡ 15 = eqb-true _ _ (and_right (wants_second (kind w)) (eqb (kind v) 15) split) in
     let v-again : word 15 (payload v) ≡ v = omega arith in
     rw (again w, sym h, v-again)
 
 -- what a call is written in is what it was read from
-pub record Back (w : ℕ) (s : Second) (c : Call) : Type 0 where
+pub record Back (w : ℕ) (s : Option ℕ) (c : Call) : Type 0 where
   pub fit : fits c ≡ true
   pub words : encoded_words c ≡ words_in w s
 
@@ -102,18 +101,18 @@ three-zero x y z h =
     (eqb-true x 0 (and_left (eqb x 0) (all_zero (y ∷ z ∷ [])) h), rest.0, rest.1)
 
 -- without a second word, what it holds is 0
-no_payload : (w : ℕ) (s : Second) → has_second (call_of w s) ≡ false → second_payload (call_of w s) ≡ 0
+no_payload : (w : ℕ) (s : Option ℕ) → has_second (call_of w s) ≡ false → second_payload (call_of w s) ≡ 0
 unfolding has_second second_payload
-no_payload w Nothing h = refl
-no_payload w (Word v) h = absurd (true≢false h)
+no_payload w None h = refl
+no_payload w (Some v) h = absurd (true≢false h)
 
 -- a split list has a second word only where it is wanted
-split-wants : (w : ℕ) (s : Second) → FromSplit w s → has_second (call_of w s) ≡ true → wants_second (kind w) ≡ true
+split-wants : (w : ℕ) (s : Option ℕ) → FromSplit w s → has_second (call_of w s) ≡ true → wants_second (kind w) ≡ true
 unfolding has_second pairs
-split-wants w Nothing from h = absurd (false≢true h)
-split-wants w (Word v) from h = and_left (wants_second (kind w)) (eqb (kind v) 15) from
+split-wants w None from h = absurd (false≢true h)
+split-wants w (Some v) from h = and_left (wants_second (kind w)) (eqb (kind v) 15) from
 
-module _ (w : ℕ) (s : Second) (from : FromSplit w s) where
+module _ (w : ℕ) (s : Option ℕ) (from : FromSplit w s) where
   -- where a second word is wanted there is one, and where none is wanted there is none
   as_wanted : (wants_second (kind w) && not (has_second (call_of w s))) ≡ false → has_second (call_of w s) ≡ wants_second (kind w)
   as_wanted h = go (wants_second (kind w)) (has_second (call_of w s)) h (split-wants w s from)
@@ -172,7 +171,7 @@ abbrev AsItCame : List ℕ → Type 0
 AsItCame ws = all_past (read_from ws) ≡ true → (all_fit (read_from ws) ≡ true) × (written (read_from ws) ≡ ws)
 
 -- one call in front of a list
-in-front : (w : ℕ) (s : Second) (ws rest : List ℕ) → FromSplit w s → split ws ≡ call_of w s ∷ split rest → words_in w s ++ rest ≡ ws → AsItCame rest → AsItCame ws
+in-front : (w : ℕ) (s : Option ℕ) (ws rest : List ℕ) → FromSplit w s → split ws ≡ call_of w s ∷ split rest → words_in w s ++ rest ≡ ws → AsItCame rest → AsItCame ws
 unfolding read_from all_past all_fit written
 in-front w s ws rest from e whole later h =
     let one = rw (e, taken_of w s) at h in
@@ -184,9 +183,9 @@ in-front w s ws rest from e whole later h =
 pub writes-back : WritesBack
 unfolding read_from written all_fit split
 writes-back [] h = (refl, refl)
-writes-back (w ∷ []) h = in-front w Nothing (w ∷ []) [] tt (split-last w) refl (writes-back []) h
+writes-back (w ∷ []) h = in-front w None (w ∷ []) [] tt (split-last w) refl (writes-back []) h
 writes-back (w ∷ (v ∷ ws)) h = go (pairs w v) refl (writes-back ws) (writes-back (v ∷ ws)) h
   where
     go : (b : Bool) → pairs w v ≡ b → AsItCame ws → AsItCame (v ∷ ws) → AsItCame (w ∷ (v ∷ ws))
-    go true e later next = in-front w (Word v) (w ∷ (v ∷ ws)) ws e (split-two w v ws e) refl later
-    go false e later next = in-front w Nothing (w ∷ (v ∷ ws)) (v ∷ ws) tt (split_one w v ws e) refl next
+    go true e later next = in-front w (Some v) (w ∷ (v ∷ ws)) ws e (split-two w v ws e) refl later
+    go false e later next = in-front w None (w ∷ (v ∷ ws)) (v ∷ ws) tt (split_one w v ws e) refl next

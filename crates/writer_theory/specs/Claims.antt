@@ -1,8 +1,7 @@
 -- What is claimed of the words that calls are written in: they are read back as the calls, no two lists of calls are written
 -- in the same words, and what was read is written as it came (document 02, (c)).
-use Rattle.std.specs.Prelude.{ℕ, ◌≡◌, Bool, true, not, ◌&&◌, ◌||◌, List, [], ◌∷◌, map, eqb}
+use Rattle.std.specs.Prelude.{ℕ, Some, None, ◌≡◌, Bool, true, not, ◌&&◌, ◌||◌, List, [], ◌∷◌, map, eqb}
 use Rattle.machine.specs.Call as machine
-use Rattle.calls.specs.declared.split.Second.TheVariants.{Nothing, Word}
 use Rattle.calls.specs.Number.{number_of}
 use Rattle.calls.specs.Decode.{decoded}
 use Rattle.calls.specs.declared.Call.{Call}
@@ -11,8 +10,8 @@ use Rattle.writer_theory.specs.Words.{all_fit, written}
 
 -- a call of one or two words, decoded
 unfoldable pub decoded_calls : machine.Call → Call
-decoded_calls (machine.one w) = decoded w Nothing
-decoded_calls (machine.two w v) = decoded w (Word v)
+decoded_calls (machine.one w) = decoded w None
+decoded_calls (machine.two w v) = decoded w (Some v)
 
 -- what the reader makes of a list of words: the list is split, and each call is decoded
 unfoldable pub read_from : List ℕ → List Call

@@ -5,7 +5,7 @@
 
 // A call's fields by their places in its words: bits 31–28, 27–22, 21–16, 15–8 and 7–0 of the first word, and bits 27–0 of the
 // second. Kind 0, which begins no call, represents a refused one.
-#[derive(Clone, Copy)]
+#[derive(Clone, Copy, Debug, Default, PartialEq, Eq)]
 pub struct Fields {
     pub kind: u32,
     pub caller: u32,
