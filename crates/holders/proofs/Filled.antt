@@ -9,8 +9,10 @@ use native.Mathlib.Omega.{arith}
 use borrow.Author.Tests.{ltb-true, leb-true, eqb-true}
 use lib.Bits.{bit_or}
 use lib.Dec.{eqb, leb, ltb}
-use lib.ListN.{length, get_or, take, drop, set, length-set}
-use lib.Seq.{take-suc-set, take_all, drop-set-lt, drop-drop, get_or-drop}
+use lib.ListN.{length, get_or, set, replicate, length-set, length-replicate, get_or-replicate}
+use lib.Seq.{get_or-set_same, get_or-set_other}
+use borrow.Author.Count.{below_more}
+use Rattle.std.proofs.lemmas.Grind.{same_number_lists}
 use Rattle.machine.specs.Below.{sum_below, words_below, bits_below}
 use Rattle.machine.specs.Word.{payload}
 use Rattle.machine.specs.Right.{has_any}
@@ -29,39 +31,25 @@ pub use Rattle.holders_theory.proofs.Filled.{filled-accepted}
 -- ---- words written from the front: g of them are there, and the rest is as it was in ws
 pub record Written (f : ℕ → ℕ) (ws ps : List ℕ) (g : ℕ) : Type 0 where
   pub size : length ps ≡ length ws
-  pub within : g ≤ length ws
-  pub front : take g ps ≡ words_below g f
-  pub rest : drop g ps ≡ drop g ws
-
-pub written_start : (f : ℕ → ℕ) (ws : List ℕ) → Written f ws ws 0
-unfolding words_below
-written_start f ws = record { size = refl; within = omega arith; front = refl; rest = refl }
+  pub front : (k : ℕ) → k < g → get_or ps k 0 ≡ f k
+  pub rest : (k : ℕ) → g ≤ k → get_or ps k 0 ≡ get_or ws k 0
 
 module _ (f : ℕ → ℕ) (ws ps : List ℕ) (g : ℕ) (x : Written f ws ps g) where
   pub written_next : (w : ℕ) → g < length ws → w ≡ f g → Written f ws (set ps g w) (g + 1)
-  unfolding words_below
   written_next w l e =
       record {
         size = length-set ps g w ∙ x.size;
-        within = omega arith;
-        front = rw (add-one, ← e) (take-suc-set ps g w (omega (arith, x.size)) ∙ ap (λ us. us ++ (w ∷ [])) x.front);
-        rest = drop-set-lt (g + 1) ps g w (omega arith) ∙ further;
+        front =
+            below_more _ g (λ k b. get_or-set_other ps g k w 0 (λ z. omega arith) ∙ x.front k b)
+            (get_or-set_same ps g w 0 (omega (arith, x.size)) ∙ e);
+        rest = λ k b. get_or-set_other ps g k w 0 (λ z. omega arith) ∙ x.rest k (omega arith);
       }
-    where
-      further : drop (g + 1) ps ≡ drop (g + 1) ws
-      further = sym (drop-drop 1 g ps) ∙ ap (drop 1) x.rest ∙ drop-drop 1 g ws
 
-  -- a word that wasn't written yet
-  pub written-not-yet : get_or ps g 0 ≡ get_or ws g 0
-  written-not-yet = sym (at ps) ∙ ap (λ us. get_or us 0 0) x.rest ∙ at ws
-    where
-      at : (us : List ℕ) → get_or (drop g us) 0 0 ≡ get_or us g 0
-      at us = get_or-drop g us 0 0 ∙ ap (λ k. get_or us k 0) (omega arith)
-
-  pub written-end : (n : ℕ) → length ws ≡ n → n ≤ g → ps ≡ words_below n f
-  written-end n e l =
-      let all : g ≡ n = omega (arith, x.within) in
-      sym (take_all g ps (omega (arith, x.size))) ∙ x.front ∙ ap (λ k. words_below k f) all
+-- a list is known by its words
+pub words-of : (f : ℕ → ℕ) (n : ℕ) (ps : List ℕ) → length ps ≡ n → ((k : ℕ) → k < n → get_or ps k 0 ≡ f k) → ps ≡ words_below n f
+words-of f n ps size same =
+    same_number_lists ps (words_below n f) (size ∙ sym (words-length n f))
+    (λ k l. let below : k < n = omega (arith, size) in same k below ∙ sym (words-at n f k 0 below))
 
 -- ---- one row: its words are in the table, and each adds the holder's bit to a word
 pub row-there : (t : List ℕ) (n : ℕ) (ps : List ℕ) (h g at : ℕ) → HoldersFit t n ps → at ≡ rights_at n h g → h < n → g < n → at < length t
@@ -82,9 +70,13 @@ pub record Gathered (t : List ℕ) (n : ℕ) (ps : List ℕ) (h : ℕ) : Type 0 
   pub within : h ≤ n
   pub found : ps ≡ words_below n (λ g. bits_below h (λ u. reaches t u g))
 
-pub gathered-start : (t : List ℕ) (n : ℕ) (ps : List ℕ) → ps ≡ words_below n (λ _. 0) → Gathered t n ps 0
+pub gathered-start : (t : List ℕ) (n : ℕ) → Gathered t n (replicate n 0) 0
 unfolding bits_below sum_below
-gathered-start t n ps e = record { within = omega arith; found = e }
+gathered-start t n =
+    record {
+      within = omega arith;
+      found = words-of _ n (replicate n 0) (length-replicate n 0) (λ k l. get_or-replicate n k 0 0 l);
+    }
 
 module _ (t : List ℕ) (n : ℕ) (ps : List ℕ) (h : ℕ) (x : Gathered t n ps h) where
   pub gathered-size : length ps ≡ n

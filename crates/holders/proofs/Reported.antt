@@ -1,18 +1,21 @@
 -- What is reported of who can reach a domain, and for callers that the code and the set are small. Assumes nothing.
-use mathlib.Core.Path.{◌≡◌, refl, sym, subst}
-use mathlib.Core.Bool.{true, false, and-false}
+use mathlib.Core.Path.{◌≡◌, refl, sym, ◌∙◌}
+use mathlib.Core.Bool.{Bool, true, false, and-false}
+use mathlib.Core.Logic.{⊎_elim}
 use mathlib.Core.List.{List}
 use Prim.Native.Nat.{ℕ, ◌+◌, ◌^◌, ◌<◌, ◌≤◌}
 use native.Mathlib.Numerals.{add-one}
 use native.Mathlib.Omega.{arith}
-use borrow.Author.Tests.{lt-ltb, le-ltb, lt-leb}
+use borrow.Author.Tests.{ltb-true, lt-ltb, le-ltb, lt-leb}
 use lib.Dec.{leb, ltb}
 use lib.ListN.{length, get_or}
 use Rattle.machine.specs.Below.{all_below}
-use Rattle.machine.proofs.Below.{all-fails}
+use Rattle.machine.proofs.Below.{all-at, all_of}
+use Rattle.machine.proofs.Bools.{either}
 use Rattle.reachability.specs.Closure.{closed}
-use Rattle.holders.specs.declared.Asked.{Asked}
-use Rattle.holders.specs.declared.Asked.TheVariants.{Reach, NotAskable}
+use Rattle.std.specs.Prelude.{◌↔◌, Result, Ok, Err}
+use Rattle.holders.specs.declared.AskRefusal.{AskRefusal}
+use Rattle.holders.specs.declared.AskRefusal.TheVariants.{NotAskable}
 use Rattle.holders_theory.specs.Asked.{bits_within, askable, ask_code, asked, ReachReported}
 use Rattle.holders.specs.Asked.{asked_code}
 use Rattle.holders_theory.proofs.Reported.{reports}
@@ -20,29 +23,15 @@ pub use Rattle.holders_theory.proofs.Reported.{asked-small}
 
 -- ---- when words can be asked
 
--- the first v words have no bit at or above the count of the words
-pub record Within (ws : List ℕ) (v : ℕ) : Type 0 where
-  pub most : v ≤ length ws
-  pub small : all_below v (λ i. ltb (get_or ws i 0) (2 ^ length ws)) ≡ true
-
-pub within-start : (ws : List ℕ) → Within ws 0
-unfolding all_below
-within-start ws = record { most = omega arith; small = refl }
-
-module _ (ws : List ℕ) (v : ℕ) (x : Within ws v) where
-  pub within-next : v < length ws → get_or ws v 0 < 2 ^ length ws → Within ws (v + 1)
-  unfolding all_below
-  within-next l s = record { most = omega arith; small = rw (add-one, x.small, lt-ltb (get_or ws v 0) (2 ^ length ws) s) }
-
-  pub within-not : v < length ws → 2 ^ length ws ≤ get_or ws v 0 → false ≡ bits_within ws
-  unfolding bits_within
-  within-not l s = sym (all-fails (length ws) _ v l (le-ltb (get_or ws v 0) (2 ^ length ws) s))
-
-  pub within_all : length ws ≤ v → true ≡ bits_within ws
-  unfolding bits_within
-  within_all l =
-      let all : v ≡ length ws = omega (arith, x.most) in
-      sym (subst (λ k. all_below k (λ i. ltb (get_or ws i 0) (2 ^ length ws)) ≡ true) all x.small)
+pub within_is : (ws : List ℕ) (bound : ℕ) (r : Bool) → bound ≡ 2 ^ length ws → (r ≡ true) ↔ ((k : ℕ) → k < length ws → get_or ws k 0 < bound) → r ≡ bits_within ws
+unfolding bits_within
+within_is ws bound r e h = rw (← e) (go r h)
+  where
+    go : (r : Bool) → (r ≡ true) ↔ ((k : ℕ) → k < length ws → get_or ws k 0 < bound) → r ≡ all_below (length ws) (λ v. ltb (get_or ws v 0) bound)
+    go true h = sym (all_of (length ws) _ (λ k l. lt-ltb _ _ (h.0 refl k l)))
+    go false h =
+        ⊎_elim (λ all. h.1 (λ k l. ltb-true _ _ (all-at (length ws) _ all k l)) ∙ sym all) (λ none. sym none)
+        (either (all_below (length ws) (λ v. ltb (get_or ws v 0) bound)))
 
 module _ (ws : List ℕ) (d : ℕ) where
   pub too_many : 16 < length ws → false ≡ askable ws d
@@ -64,6 +53,6 @@ module _ (ws : List ℕ) (d : ℕ) where
   reported h set e = reports ws d 0 set (rw (← h)) (rw (← h) e)
 
 -- an answer's code is small
-pub code-small : (a : Asked) → asked_code a ≤ 32
-code-small (Reach set) = omega arith
-code-small NotAskable = omega arith
+pub code-small : (a : Result ℕ AskRefusal) → asked_code a ≤ 32
+code-small (Ok set) = omega arith
+code-small (Err NotAskable) = omega arith

@@ -13,18 +13,12 @@ pub fn with_bit(word: u32, i: u32, set: bool) -> u32
     ensures { result ≡ with_bit word i set }
 {
     let one = bit(i);
-    if set {
-        return word | one;
-    }
-    word - (word & one)
+    if set { word | one } else { word - (word & one) }
 }
 
 // Returns the holder's own set where a rights word has any right in it, else the empty set.
 pub fn held(rights: u32, holder: u32) -> u32
     ensures { result ≡ cond (has_any (payload rights)) holder 0 }
 {
-    if rights % KIND_UNIT != 0 {
-        return holder;
-    }
-    0
+    if rights % KIND_UNIT != 0 { holder } else { 0 }
 }

@@ -10,11 +10,12 @@ mod rows;
 ghost use Rattle.std.specs.Prelude.{◌≡◌};
 ghost use Rattle.holders_theory.specs.Noted.{noted, filled};
 ghost use Rattle.holders_theory.specs.Asked.{ReachReported};
-ghost use Rattle.holders.specs.Asked.{asked_code, asked_set};
+ghost use Rattle.holders.specs.Asked.{ask_refusal_code, asked_code, asked_set};
 
 use asking::askable;
 use bits::with_bit;
 use reachability::{bit, closure};
+use result_code::Coded;
 use rows::{fill_rows, fillable};
 use table_layout::domains;
 
@@ -38,52 +39,33 @@ pub fn note(holders: &mut [u32], holder: u32, target: u32, rights: u32)
     }
     let at = target as usize;
     if at < holders.len() {
-        let any = rights != 0;
-        let word = holders[at];
-        let changed = with_bit(word, holder, any);
-        holders[at] = changed;
+        holders[at] = with_bit(holders[at], holder, rights != 0);
     }
 }
 
-// The answer to who can reach a domain.
-#[derive(Clone, Copy)]
-pub enum Asked {
-    // the domains with a chain of rights to it, a bit for each, the domain itself among them
-    Reach(u32),
+// Why words can't be asked about a domain.
+#[derive(Clone, Copy, Debug, PartialEq, Eq)]
+pub enum AskRefusal {
     // 32: the words aren't 1 to 16, or one has a bit at or above their count, or the domain isn't below it
     NotAskable,
 }
 
-impl Asked {
-    // Returns the code of the answer, 0 where the question is answered.
-    pub fn code(self) -> u32
-        ensures { result ≡ asked_code self }
-    {
-        match self {
-            Asked::Reach(_) => 0,
-            Asked::NotAskable => 32,
-        }
-    }
+impl Coded for AskRefusal {
+    ghost code_of = { ask_refusal_code };
 
-    // Returns the domains as bits, none where the question isn't answered.
-    pub fn set(self) -> u32
-        ensures { result ≡ asked_set self }
-    {
+    fn code(self) -> u32 {
         match self {
-            Asked::Reach(set) => set,
-            Asked::NotAskable => 0,
+            AskRefusal::NotAskable => 32,
         }
     }
 }
 
-// Returns every domain with a chain of rights to a given one in the lent words, or that they can't be asked.
-pub fn who_reaches(words: &[u32], domain: u32) -> Asked
+// Returns every domain with a chain of rights to a given one in the lent words, a bit for each and the domain itself among them.
+pub fn who_reaches(words: &[u32], domain: u32) -> Result<u32, AskRefusal>
     ensures { ReachReported words.now domain (asked_code result) (asked_set result) }
 {
     if !askable(words, domain) {
-        return Asked::NotAskable;
+        return Err(AskRefusal::NotAskable);
     }
-    let alone = bit(domain);
-    let reached = closure(words, alone);
-    Asked::Reach(reached)
+    Ok(closure(words, bit(domain)))
 }

@@ -22,44 +22,27 @@ pub fn fillable(n: u32, size: usize, lent: usize) -> bool
     (lent == count) & (count * count < size)
 }
 
-// Clears every word: no domain holds anything.
-fn clear(holders: &mut [u32])
-    ensures { holders.new ≡ words_below (length holders.old) (λ _. 0) }
-{
-    let mut g: usize = 0;
-    while g < holders.len() {
-        holders[g] = 0;
-        g += 1;
-    }
-}
-
 // Adds what one domain holds: its bit in the word of each domain that it has a right on.
 fn add_row(table: &[u32], n: u32, h: u32, holders: &mut [u32])
-    requires holders_fit { HoldersFit table.now n holders.old }
-    requires h_lt_n { h < n }
+    requires fit { HoldersFit table.now n holders.old }
+    requires is_domain { h < n }
     ensures { holders.new ≡ words_below n (with_row table.now n h holders.old) }
 {
     let holder = bit(h);
-    let mut g: u32 = 0;
-    while g < n {
-        let at = rights_at(n, h, g);
-        let one = held(table[at], holder);
-        let word = g as usize;
-        holders[word] = holders[word] | one;
-        g += 1;
+    for (g, word) in holders.iter_mut().enumerate() {
+        let at = rights_at(n, h, g as u32);
+        *word |= held(table[at], holder);
     }
 }
 
 // Computes the words of all n domains.
 pub fn fill_rows(table: &[u32], n: u32, holders: &mut [u32])
-    requires holders_fit { HoldersFit table.now n holders.old }
-    requires n_value { n ≡ domains table.now }
+    requires fit { HoldersFit table.now n holders.old }
+    requires domains { n ≡ domains table.now }
     ensures { holders.new ≡ holders_of table.now }
 {
-    clear(holders);
-    let mut h: u32 = 0;
-    while h < n {
+    holders.fill(0);
+    for h in 0..n {
         add_row(table, n, h, holders);
-        h += 1;
     }
 }

@@ -7,8 +7,8 @@ use Rattle.holders.proofs.fill.Goals as goal
 pub fill_rows-requires : goal.fill_rows-requires
 fill_rows-requires c =
     record {
-      holders_fit = has_room _ _ _ (sym c.fillable.ensures ∙ c.if-fillable.true);
-      n_value = c.domains-n.ensures;
+      fit = has_room _ _ _ (sym c.fillable.ensures ∙ c.if-fillable.true);
+      domains = c.domains-n.ensures;
     }
 
 pub returns-then-fillable : goal.returns-then-fillable

@@ -12,7 +12,7 @@ pub returns-then-at-holders : goal.returns-then-at-holders
 unfolding has_any
 returns-then-at-holders c =
     let start = c in
-    ap (set start.args.holders.now start.args.target) c.with_bit-changed.ensures
+    ap (set start.args.holders.now start.args.target) c.with_bit.ensures
     ∙ noted-there _ _ _ _ c.if-holder-gt31.false c.if-at-holders.true
 
 pub returns-else-at-holders : goal.returns-else-at-holders

@@ -15,5 +15,5 @@ returns c =
     let test = c in
     let asked = sym (test.if-not-askable.false) ∙ test.askable.ensures in
     let (few, _, below) = askable-parts _ _ (sym asked) in
-    let alone = bit_is (omega (arith, few, below)) c.bit-alone.ensures in
-    reported _ _ asked _ (c.closure-reached.ensures ∙ ap (closed test.args.words.now) alone)
+    let alone = bit_is (omega (arith, few, below)) c.bit.ensures in
+    reported _ _ asked _ (c.closure.ensures ∙ ap (closed test.args.words.now) alone)

@@ -10,5 +10,5 @@ returns-then-set c = made-set _ _ _ _ (bit_is c.requires c.bit-one.ensures) c.if
 pub overflow_sub-result : goal.overflow_sub-result
 overflow_sub-result c = and_le_l _ _
 
-pub returns : goal.returns
-returns c = made-cleared _ _ _ _ (bit_is c.requires c.bit-one.ensures) c.if-set.false
+pub returns-else-set : goal.returns-else-set
+returns-else-set c = made-cleared _ _ _ _ (bit_is c.requires c.bit-one.ensures) c.if-set.false

@@ -1,29 +1,19 @@
 -- `rows::fill_rows` meets its contract: one row after the other. Assumes nothing.
-use mathlib.Core.Path.{sym, ap, ◌∙◌}
-use Rattle.machine.specs.Below.{words_below}
-use Rattle.holders.proofs.Filled.{gathered-start, gathered-size, gathered_next, gathered-end}
+use mathlib.Core.Path.{◌∙◌, ap, sym, subst}
+use mathlib.Core.List.{List}
+use lib.ListN.{replicate}
+use Rattle.holders.proofs.Filled.{Gathered, gathered-start, gathered_next, gathered-end}
 use Rattle.holders.proofs.rows.fill_rows.Goals as goal
 
 pub loop-h-init : goal.loop-h-init
 loop-h-init c =
-    gathered-start _ _ _ (c.clear.ensures ∙ ap (λ k. words_below k (λ _. 0)) c.requires.holders_fit.words)
-
-pub add_row-requires : goal.add_row-requires
-add_row-requires c =
-    let room = c.requires.holders_fit in
-    record {
-      holders_fit = record { few = room.few; words = gathered-size _ _ _ _ c.loop-h.invariant; table = room.table };
-      h_lt_n = c.loop-h-test.true;
-    }
+    subst (λ ps. Gathered c.args.table.now c.args.n ps 0)
+    (sym (c.fill.ensures.after (λ y e. e) ∙ ap (λ k. replicate k 0) c.requires.fit.words))
+    (gathered-start _ _)
 
 pub loop-h-preserved : goal.loop-h-preserved
 loop-h-preserved c =
-    gathered_next _ _ _ _ c.loop-h.invariant c.requires.n_value _ c.loop-h-test.true c.add_row.ensures
-
-pub shape_of-holders : goal.shape_of-holders
-shape_of-holders c =
-    gathered-size _ _ _ _ c.loop-h.invariant ∙ sym c.requires.holders_fit.words
+    gathered_next _ _ _ _ c.loop-h.invariant c.requires.domains _ c.loop-h-test.true c.add_row.ensures
 
 pub returns : goal.returns
-returns c =
-    gathered-end _ _ _ _ c.loop-h.invariant c.requires.n_value c.loop-h-test.false
+returns c = gathered-end _ _ _ _ c.loop-h.invariant c.requires.domains c.loop-h-test.false
