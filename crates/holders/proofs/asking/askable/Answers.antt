@@ -1,7 +1,6 @@
 -- `asking::askable` meets its contract: each test refuses by itself. Assumes nothing.
-use mathlib.Core.Path.{◌∙◌, subst}
+use mathlib.Core.Path.{◌∙◌}
 use native.Mathlib.Omega.{arith}
-use Prim.Native.Nat.{◌<◌}
 use Rattle.reachability.proofs.Bits.{bit_is}
 use Rattle.holders_theory.proofs.Reported.{by_bits}
 use Rattle.holders.proofs.Reported.{within_is, too_many, no-domain}
@@ -12,10 +11,10 @@ pub returns-then-words-gt-DOMAIN_PLACES : goal.returns-then-words-gt-DOMAIN_PLAC
 returns-then-words-gt-DOMAIN_PLACES c =
     elim c.then-words-gt-DOMAIN_PLACES.branch [
       | then-words-gt-DOMAIN_PLACES-via-then-words-gt-DOMAIN_PLACES w ↦ too_many _ _ w.if-words-gt-DOMAIN_PLACES.true
-      | then-words-gt-DOMAIN_PLACES-via-else-words-gt-DOMAIN_PLACES+then-words-domain w ↦ no-domain _ _ w.if-words-domain.true
+      | then-words-gt-DOMAIN_PLACES-via-else-words-gt-DOMAIN_PLACES+then-words-domain w ↦ no-domain _ _ (omega (arith, w.if-words-domain.true))
     ]
 
 pub returns : goal.returns
 returns c =
     let few = c.if-words-gt-DOMAIN_PLACES.false in
-    within_is _ _ _ (bit_is (omega arith) c.bit.ensures) c.bits_within.ensures ∙ by_bits _ _ few c.if-words-domain.false
+    within_is _ _ _ (bit_is (omega arith) c.bit.ensures) c.bits_within.ensures ∙ by_bits _ _ few (omega arith)

@@ -1,6 +1,5 @@
 -- `rows::fill_rows` meets its contract: one row after the other. Assumes nothing.
 use mathlib.Core.Path.{◌∙◌, ap, sym, subst}
-use mathlib.Core.List.{List}
 use lib.ListN.{replicate}
 use Rattle.holders.proofs.Filled.{Gathered, gathered-start, gathered_next, gathered-end}
 use Rattle.holders.proofs.rows.fill_rows.Goals as goal
