@@ -1,11 +1,11 @@
 // The rights that one domain holds on another: a set by value, with a bit for each right (document 01, 'The table').
-// Each method is the machine's definition of the same name.
-#![tactic(auto)]
+// Each method is the machine's definition of the same name; as operators of std (`|` for adds) they would lose these names.
+#![tactic(auto, unfolding(machine::specs::Right::holds, machine::specs::Right::adds, machine::specs::Right::without, machine::specs::Right::has_any))]
 
 ghost use Rattle.std.specs.Prelude.{◌≡◌};
 ghost use Rattle.machine.specs.Right.{holds, adds, without, has_any};
 
-#[derive(Clone, Copy)]
+#[derive(Clone, Copy, Debug, PartialEq, Eq)]
 pub struct Rights {
     pub bits: u32,
 }
