@@ -18,9 +18,9 @@ pub flag-below : (name : ℕ) → flag_of name < 512
 flag-below name = omega arith
 
 -- a name whose flag isn't set
-pub flag-unset : (names flags : List ℕ) (e : ℕ) → Flagged names flags e → get_or flags (flag_of (get_or names e 0)) 0 ≡ 0 → true ≡ new_at names e
+pub flag_unset : (names flags : List ℕ) (e : ℕ) → Flagged names flags e → get_or flags (flag_of (get_or names e 0)) 0 ≡ 0 → true ≡ new_at names e
 unfolding new_at
-flag-unset names flags e s h = sym (all_of e _ differs)
+flag_unset names flags e s h = sym (all_of e _ differs)
   where
     differs : (f : ℕ) → f < e → not (eqb (get_or names f 0) (get_or names e 0)) ≡ true
     differs f l =

@@ -4,7 +4,7 @@ use mathlib.Core.Path.{◌≡◌, refl, sym, ap, ap₂, ◌∙◌}
 use mathlib.Core.Bool.{Bool, true, false, not, ◌&&◌}
 use mathlib.Core.List.{List}
 use Prim.Native.Nat.{ℕ, zero, suc, ◌+◌, ◌-◌, ◌%◌, ◌<◌, ◌≤◌}
-use native.Mathlib.Nat.{add-zero, sub-zero, add-sub_cancel_left}
+use native.Mathlib.Nat.{add-zero, add-sub_cancel_left}
 use native.Mathlib.Omega.{arith}
 use lib.Dec.{eqb}
 use lib.ListN.{get_or, take, drop}
@@ -59,11 +59,11 @@ module _ (t : List ℕ) where
       (sym (get_or-take 12 (drop (endpoint_at (domains t) e) t) 0 0 (omega arith) ∙ get_or-drop (endpoint_at (domains t) e) t 0 0 ∙ ap (λ (i : ℕ). get_or t i 0) (add-zero _)))
 
   -- at the loop's end the test of names[0..m] is the machine's test
-  pub names-decide : (m : ℕ) (names : List ℕ) (e : ℕ) → m ≡ endpoints t → m ≤ 32 → Gathered t m names e → m ≤ e → all_different (take (m - 0) (drop 0 names)) ≡ endpoints_ok t
+  pub names-decide : (m : ℕ) (names : List ℕ) (e : ℕ) → m ≡ endpoints t → m ≤ 32 → Gathered t m names e → m ≤ e → all_different (take m names) ≡ endpoints_ok t
   unfolding endpoints_ok
   names-decide m names e all b g l =
       let words : true ≡ all_below (endpoints t) (λ f. endpoint_ok (domains t) (endpoint t f)) = rw all at (scan-end _ m true e g.tested l) in
-      rw (sub-zero m, different t names m e g.named l b, all)
+      rw (different t names m e g.named l b, all)
       (ap (λ (x : Bool). x && all_below (endpoints t) (name_new t)) words
       ∙ sym (all_both (endpoints t) (λ f. endpoint_ok (domains t) (endpoint t f)) (name_new t)))
 

@@ -1,6 +1,7 @@
 -- Laws that the proofs of several functions cite.
 pub mod Fill
 pub mod Flags
+pub mod Fresh
 pub mod Places
 pub mod Bounds
 pub mod Gather

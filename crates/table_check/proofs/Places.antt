@@ -1,17 +1,20 @@
 -- The places 2 to 5 in the order of document 01: what each test says of a table's code (specs/Check of the machine), and what
 -- the first two say of the counts in word 0. Assumes nothing.
-use mathlib.Core.Path.{◌≡◌, sym, ◌∙◌}
+use mathlib.Core.Path.{◌≡◌, sym, ap, ◌∙◌}
 use mathlib.Core.Bool.{Bool, true, false, ◌&&◌, not}
 use mathlib.Core.List.{List}
-use Prim.Native.Nat.{ℕ, ◌+◌, ◌*◌, ◌/◌, ◌%◌, ◌≤◌}
-use native.Mathlib.Nat.{le-add_right, mul-le-mul}
+use Prim.Native.Nat.{ℕ, ◌+◌, ◌-◌, ◌*◌, ◌/◌, ◌%◌, ◌≤◌}
+use native.Mathlib.Nat.{le-add_right, mul-le-mul, add-sub_cancel_left}
 use native.Mathlib.Omega.{arith}
 use borrow.Author.Tests.{leb-true, eqb-true, ne_eqb, not-true, not-false}
 use lib.Dec.{eqb, leb}
-use lib.ListN.{length, get_or}
+use lib.ListN.{length, get_or, take, drop, length-drop}
+use lib.Seq.{get_or-take, get_or-drop, length-take-le}
+use Rattle.machine.specs.Below.{all_below}
+use Rattle.machine.proofs.Below.{all_same}
 use Rattle.machine.specs.Word.{kind, upper, field_b, field_c}
 use Rattle.machine.specs.Table.{domains, endpoints, length_for}
-use Rattle.machine.specs.Check.{header_word_ok, header_ok, length_ok, rights_ok, endpoints_ok, table_code}
+use Rattle.machine.specs.Check.{header_word_ok, rights_word_ok, header_ok, length_ok, rights_ok, endpoints_ok, table_code}
 use Rattle.machine.proofs.Bools.{and_right}
 use Rattle.table_check.specs.Checked.{Headed}
 
@@ -35,9 +38,9 @@ module _ (t : List ℕ) where
   unfolding header_ok
   word-header ne = rw (ne_eqb (length t) 0 ne)
 
-  pub empty-length : length t ≡ 0 → length_ok t ≡ false
+  pub empty_length : length t ≡ 0 → length_ok t ≡ false
   unfolding length_ok
-  empty-length e = ne_eqb (length t) (length_for (domains t) (endpoints t)) (λ q. omega arith)
+  empty_length e = ne_eqb (length t) (length_for (domains t) (endpoints t)) (λ q. omega arith)
 
   -- at most 32 endpoints
   pub headed-most : Headed t → get_or t 0 0 % 256 ≤ 32
@@ -53,6 +56,18 @@ module _ (t : List ℕ) where
 
   pub headed-rights : Headed t → 1 + (get_or t 0 0 / 256 % 256) * (get_or t 0 0 / 256 % 256) ≤ length t
   headed-rights h = rw (headed-size h) (le-add_right _ _)
+
+  -- the part of the table with the rights words
+  pub rights-part : Headed t
+      → (let n = get_or t 0 0 / 256 % 256 in
+      let part = take (1 + n * n - 1) (drop 1 t) in
+      all_below (length part) (λ i. rights_word_ok (get_or part i 0)) ≡ rights_ok t)
+  unfolding rights_ok domains
+  rights-part h =
+      let n = get_or t 0 0 / 256 % 256 in
+      let size : length (take (n * n) (drop 1 t)) ≡ n * n = length-take-le (n * n) (drop 1 t) (omega (arith, headed-rights h, length-drop 1 t)) in
+      rw (add-sub_cancel_left 1 (n * n), size)
+      (all_same (n * n) _ _ (λ i l. ap rights_word_ok (get_or-take (n * n) (drop 1 t) i 0 l ∙ get_or-drop 1 t i 0)))
 
   pub code-2 : header_ok t ≡ false → 2 ≡ table_code t
   unfolding table_code

@@ -44,20 +44,19 @@ impl Coded for TableRefusal {
 }
 
 // Returns whether place 2 passes: word 0 is there and valid.
+#[tactic(auto, unfolding(machine::specs::Check::header_ok))]
 fn header_ok(table: &[u32]) -> bool
     ensures { result ≡ header_ok table.now }
 {
-    if table.len() == 0 {
-        return false;
-    }
-    header_word_ok(table[0])
+    !table.is_empty() && header_word_ok(table[0])
 }
 
 // Returns whether place 3 passes: the length is the one that the n domains and m endpoints of word 0 require.
+#[tactic(auto, using(crate::proofs::Places::empty_length), unfolding(machine::specs::Check::length_ok, machine::specs::Table::domains, machine::specs::Table::endpoints))]
 fn length_ok(table: &[u32]) -> bool
     ensures { result ≡ length_ok table.now }
 {
-    if table.len() == 0 {
+    if table.is_empty() {
         return false;
     }
     let header = table[0];
@@ -74,13 +73,10 @@ fn rights_ok(table: &[u32]) -> bool
 {
     let header = table[0];
     let n = (header / 256 % 256) as usize;
-    let count = n * n;
-    let mut wrong: u32 = 0;
-    let mut i: usize = 0;
-    while i < count {
-        let word = rights_wrong(table[1 + i]);
-        wrong = wrong | word;
-        i += 1;
+    let words = &table[1..1 + n * n];
+    let mut wrong = 0;
+    for &word in words {
+        wrong |= rights_wrong(word);
     }
     wrong <= Rights::ALL.bits
 }
@@ -96,17 +92,14 @@ fn endpoints_ok(table: &[u32]) -> bool
     let m = (header % 256) as usize;
     let from = 1 + n as usize * n as usize;
     let mut names = [0u32; ENDPOINT_PLACES];
-    let mut e: usize = 0;
-    while e < m {
+    for e in 0..m {
         let start = from + ENDPOINT_WORDS * e;
-        let end = start + ENDPOINT_WORDS;
-        if !endpoint_ok(n, &table[start..end]) {
+        if !endpoint_ok(n, &table[start..start + ENDPOINT_WORDS]) {
             return false;
         }
         names[e] = table[start] % KIND_UNIT;
-        e += 1;
     }
-    all_different(&names[0..m])
+    all_different(&names[..m])
 }
 
 // Checks a table by the places 2 to 5 of document 01. The first that fails decides. No word is written.

@@ -12,27 +12,17 @@ fn is_new(names: &[u32], e: usize) -> bool
     requires { e < length names.now }
     ensures { result ≡ new_at names.now e }
 {
-    let name = names[e];
-    let mut f: usize = 0;
-    while f < e {
-        if names[f] == name {
-            return false;
-        }
-        f += 1;
-    }
-    true
+    names[..e].iter().all(|&name| name != names[e])
 }
 
 // Returns whether no two names are the same, by comparing pairs.
 fn few_different(names: &[u32]) -> bool
     ensures { result ≡ all_different names.now }
 {
-    let mut e: usize = 0;
-    while e < names.len() {
+    for e in 0..names.len() {
         if !is_new(names, e) {
             return false;
         }
-        e += 1;
     }
     true
 }
@@ -42,10 +32,11 @@ fn few_different(names: &[u32]) -> bool
 fn flag_of(name: u32) -> usize
     ensures { result ≡ flag_of name }
 {
-    (name as u64 * 0x9E37_79B1 / 0x80_0000 % 512) as usize
+    (u64::from(name) * 0x9E37_79B1 / 0x80_0000 % 512) as usize
 }
 
 // Returns whether the name at e differs from all before it. Precondition: the flags of all those are set.
+#[tactic(auto, using(crate::proofs::Flags::flag_unset))]
 fn is_new_by_flags(flags: &[u8; 512], names: &[u32], e: usize) -> bool
     requires { Flagged names.now flags.now e × (e < length names.now) }
     ensures { result ≡ new_at names.now e }
@@ -62,14 +53,12 @@ fn many_different(names: &[u32]) -> bool
     ensures { result ≡ all_different names.now }
 {
     let mut flags = [0u8; 512];
-    let mut e: usize = 0;
-    while e < names.len() {
+    for e in 0..names.len() {
         if !is_new_by_flags(&flags, names, e) {
             return false;
         }
         let flag = flag_of(names[e]);
         flags[flag] = 1;
-        e += 1;
     }
     true
 }

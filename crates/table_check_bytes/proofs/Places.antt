@@ -47,16 +47,16 @@ module _ {b : List ℕ} {n from m : ℕ} (c : Counted b n from m) {e : ℕ} (l :
   counted-first = omega (arith, c.room)
 
 module _ (b : List ℕ) where
-  pub under-four : length b < 4 → header_ok (words_of b) ≡ false
-  under-four h = empty-header (words_of b) (let n = length-words_of b in omega arith)
+  pub under_four : length b < 4 → header_ok (words_of b) ≡ false
+  under_four h = empty-header (words_of b) (let n = length-words_of b in omega arith)
 
-  pub first-word : 4 ≤ length b → header_ok (words_of b) ≡ header_word_ok (get_or (words_of b) 0 0)
-  first-word f = word-header (words_of b) (λ e. omega (arith, length-words_of b))
+  pub first_word : 4 ≤ length b → header_ok (words_of b) ≡ header_word_ok (get_or (words_of b) 0 0)
+  first_word f = word-header (words_of b) (λ e. omega (arith, length-words_of b))
 
   -- where the first word is valid, four bytes are there
-  pub header-four : header_ok (words_of b) ≡ true → 4 ≤ length b
+  pub header_four : header_ok (words_of b) ≡ true → 4 ≤ length b
   unfolding header_ok
-  header-four h =
+  header_four h =
       let some = eqb-false (length (words_of b)) 0 (not-true _ (and_left (not (eqb (length (words_of b)) 0)) _ h)) in
       let n = pos_of_ne-zero some in
       omega (arith, length-words_of b)
@@ -87,11 +87,11 @@ module _ (b : List ℕ) where
 
   pub bytes-3 : header_ok (words_of b) ≡ true → eqb (length b) (bytes_for (words_of b)) ≡ false → 3 ≡ bytes_code b
   unfolding bytes_code
-  bytes-3 h n = rw (le-ltb (length b) 4 (header-four h), h, n)
+  bytes-3 h n = rw (le-ltb (length b) 4 (header_four h), h, n)
 
   -- where the first word is valid, and the length: as tests
   pub four_bytes : header_ok (words_of b) ≡ true → ltb (length b) 4 ≡ false
-  four_bytes h = le-ltb (length b) 4 (header-four h)
+  four_bytes h = le-ltb (length b) 4 (header_four h)
 
   pub words_fit : header_ok (words_of b) ≡ true → eqb (length b) (bytes_for (words_of b)) ≡ true → length_ok (words_of b) ≡ true
   words_fit h e = (fitting-headed (record { header = h; size = eqb-true _ _ e })).size
@@ -100,4 +100,4 @@ module _ (b : List ℕ) where
   pub bytes-words : Fitting b → table_code (words_of b) ≡ bytes_code b
   unfolding bytes_code
   bytes-words f =
-      rw (le-ltb (length b) 4 (header-four f.header), f.header, eq-eqb (length b) (bytes_for (words_of b)) f.size)
+      rw (le-ltb (length b) 4 (header_four f.header), f.header, eq-eqb (length b) (bytes_for (words_of b)) f.size)

@@ -22,6 +22,7 @@ use table_words::{
 };
 
 // Returns word i of the bytes.
+#[tactic(auto, using(crate::proofs::Words::nth))]
 fn nth_word(bytes: &[u8], i: usize) -> u32
     requires { 4 * i + 4 ≤ length bytes.now }
     ensures { result ≡ get_or (words_of bytes.now) i 0 }
@@ -31,18 +32,16 @@ fn nth_word(bytes: &[u8], i: usize) -> u32
 }
 
 // Returns whether place 2 passes: four bytes are there, and they make a valid word 0.
+#[tactic(auto, using(crate::proofs::Places::under_four, crate::proofs::Places::first_word))]
 fn header_ok(bytes: &[u8]) -> bool
     ensures { result ≡ header_ok (words_of bytes.now) }
 {
-    if bytes.len() < 4 {
-        false
-    } else {
-        header_word_ok(nth_word(bytes, 0))
-    }
+    4 <= bytes.len() && header_word_ok(nth_word(bytes, 0))
 }
 
 // Returns whether place 3 passes: the length is four times the one that the n domains and m endpoints of word 0 require.
 // Precondition: place 2 passes.
+#[tactic(auto, using(crate::proofs::Places::header_four), unfolding(crate::specs::Bytes::bytes_for, machine::specs::Table::domains, machine::specs::Table::endpoints))]
 fn length_ok(bytes: &[u8]) -> bool
     requires { header_ok (words_of bytes.now) ≡ true }
     ensures { result ≡ eqb (length bytes.now) (bytes_for (words_of bytes.now)) }
@@ -61,13 +60,9 @@ fn rights_ok(bytes: &[u8]) -> bool
 {
     let header = nth_word(bytes, 0);
     let n = (header / 256 % 256) as usize;
-    let count = n * n;
-    let mut wrong: u32 = 0;
-    let mut i: usize = 0;
-    while i < count {
-        let word = rights_wrong(nth_word(bytes, 1 + i));
-        wrong = wrong | word;
-        i += 1;
+    let mut wrong = 0;
+    for i in 0..n * n {
+        wrong |= rights_wrong(nth_word(bytes, 1 + i));
     }
     wrong <= Rights::ALL.bits
 }
@@ -78,12 +73,9 @@ fn slots_ok(bytes: &[u8], start: usize, waiting: u32) -> bool
     ensures { result
         ≡ all_below 8 (λ i. slot_word_ok (waiting - table_word 5 0) i (get_or (words_of bytes.now) (start + i) 0)) }
 {
-    let mut wrong: u32 = 0;
-    let mut i: u32 = 0;
-    while i < SLOTS {
-        let slot = slot_wrong(waiting, i, nth_word(bytes, start + i as usize));
-        wrong = wrong | slot;
-        i += 1;
+    let mut wrong = 0;
+    for i in 0..SLOTS {
+        wrong |= slot_wrong(waiting, i, nth_word(bytes, start + i as usize));
     }
     wrong == 0
 }
@@ -114,16 +106,14 @@ fn endpoints_ok(bytes: &[u8]) -> bool
     let m = (header % 256) as usize;
     let from = 1 + n as usize * n as usize;
     let mut names = [0u32; ENDPOINT_PLACES];
-    let mut e: usize = 0;
-    while e < m {
+    for e in 0..m {
         let start = from + ENDPOINT_WORDS * e;
         if !endpoint_ok(bytes, start, n) {
             return false;
         }
         names[e] = nth_word(bytes, start) % KIND_UNIT;
-        e += 1;
     }
-    all_different(&names[0..m])
+    all_different(&names[..m])
 }
 
 // Checks a table in bytes by the places 2 to 5 of document 01. The first that fails decides.

@@ -24,8 +24,8 @@ pub behind : (a l : Bool) {s t : Bool} → (a ≡ true → s ≡ t) → (a && l 
 behind true l f = ap (λ (x : Bool). true && l && x) (f refl)
 behind false l f = refl
 
-pub by-waiting : (q : List ℕ) → (waiting_word_ok (get_or q 1 0 % 256) (get_or q 2 0) && lost_word_ok (get_or q 3 0) && all_below 8 (λ i. slot_word_ok (get_or q 2 0 - word 5 0) i (get_or q (4 + i) 0))) ≡ queue_ok q
+pub by_waiting : (q : List ℕ) → (waiting_word_ok (get_or q 1 0 % 256) (get_or q 2 0) && lost_word_ok (get_or q 3 0) && all_below 8 (λ i. slot_word_ok (get_or q 2 0 - word 5 0) i (get_or q (4 + i) 0))) ≡ queue_ok q
 unfolding queue_ok capacity waiting
-by-waiting q =
+by_waiting q =
     behind (waiting_word_ok (get_or q 1 0 % 256) (get_or q 2 0)) (lost_word_ok (get_or q 3 0))
     (λ h. ap (λ (c : ℕ). all_below 8 (λ i. slot_word_ok c i (get_or q (4 + i) 0))) (right-count (get_or q 1 0 % 256) (get_or q 2 0) h))

@@ -60,9 +60,9 @@ count-above waiting i = go (ltb i (waiting - 1342177280)) refl
     go true e = lt-ltb (1342177280 + i) waiting (omega (arith, ltb-true i (waiting - 1342177280) e))
     go false e = le-ltb (1342177280 + i) waiting (omega (arith, ltb-false i (waiting - 1342177280) e))
 
-pub slot-right : (waiting i w asked : ℕ) → w < 2 ^ 32 → asked ≡ cond (ltb (1342177280 + i) waiting) 4026531840 4294967295 → eqb (bit_and (bit_xor w empty_slot) asked) 0 ≡ slot_word_ok (waiting - 1342177280) i w
+pub slot_right : (waiting i w asked : ℕ) → w < 2 ^ 32 → asked ≡ cond (ltb (1342177280 + i) waiting) 4026531840 4294967295 → eqb (bit_and (bit_xor w empty_slot) asked) 0 ≡ slot_word_ok (waiting - 1342177280) i w
 unfolding slot_word_ok
-slot-right waiting i w asked l e =
+slot_right waiting i w asked l e =
     rw (e, count-above waiting i) (slot_cases (ltb i (waiting - 1342177280)) w l)
 
 -- the bits that are asked for, by the whole waiting word

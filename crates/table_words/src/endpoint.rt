@@ -10,6 +10,7 @@ use crate::{info_word_ok, lost_word_ok, name_word_ok, slot_wrong, waiting_word_o
 use format::tables::{ENDPOINT_WORDS, SLOTS};
 
 // Returns whether the name and the info are valid, among n domains.
+#[tactic(auto, using(crate::proofs::Short::short_identity), unfolding(machine::specs::Check::identity_ok))]
 pub fn identity_ok(n: u32, q: &[u32]) -> bool
     ensures { result ≡ identity_ok n q.now }
 {
@@ -27,11 +28,9 @@ fn slots_ok(waiting: u32, q: &[u32]) -> bool
     ensures { result ≡ all_below 8 (λ i. slot_word_ok (waiting - word 5 0) i (get_or q.now (4 + i) 0)) }
 {
     let mut wrong: u32 = 0;
-    let mut i: u32 = 0;
-    while i < SLOTS {
+    for i in 0..SLOTS {
         let slot = slot_wrong(waiting, i, q[4 + i as usize]);
-        wrong = wrong | slot;
-        i += 1;
+        wrong |= slot;
     }
     wrong == 0
 }
@@ -49,6 +48,7 @@ fn whole_queue_ok(q: &[u32]) -> bool
 }
 
 // Returns whether the waiting count, the lost count and the slots are valid.
+#[tactic(auto, using(crate::proofs::Short::short_queue))]
 pub fn queue_ok(q: &[u32]) -> bool
     ensures { result ≡ queue_ok q.now }
 {
@@ -59,6 +59,7 @@ pub fn queue_ok(q: &[u32]) -> bool
 }
 
 // Returns whether all twelve words are valid, among n domains.
+#[tactic(auto, using(crate::proofs::Short::short_endpoint), unfolding(machine::specs::Check::endpoint_ok))]
 pub fn endpoint_ok(n: u32, q: &[u32]) -> bool
     ensures { result ≡ endpoint_ok n q.now }
 {

@@ -1,7 +1,7 @@
 // Tests of each kind of word of a table (document 01, 'The table'). Each is total, and its contract cites the machine's
 // definition for that kind of word. Most return whether the word is valid, and are joined by `&`, which leaves no branch in
 // the loops that call them. `rights_wrong` and `slot_wrong` return the bits that are wrong, for the loops that gather them.
-#![tactic(auto)]
+#![tactic(auto, unfolding(machine::specs::Check::header_word_ok, machine::specs::Check::rights_word_ok, machine::specs::Check::name_word_ok, machine::specs::Check::info_word_ok, machine::specs::Check::waiting_word_ok, machine::specs::Check::lost_word_ok, crate::specs::Wrong::rights_wrong))]
 
 pub mod endpoint;
 
@@ -44,7 +44,7 @@ pub fn rights_word_ok(w: u32) -> bool
 // loop gathers the bits of all rights words by `|`.
 pub fn rights_wrong(w: u32) -> u32
     ensures value { result ≡ rights_wrong w }
-    ensures all_rights_value { leb result all_rights ≡ rights_word_ok w }
+    ensures valid { leb result all_rights ≡ rights_word_ok w }
 {
     w ^ NO_RIGHT
 }
@@ -92,9 +92,10 @@ fn bits_asked(waits: bool) -> u32
 // Returns the bits that are wrong in slot i of an endpoint with this waiting word, or 0 where the slot is valid: of kind 15,
 // and empty from the waiting count on. A loop gathers the bits of all slots by `|`. The whole waiting word is compared: a
 // comparison of the count with 0 is compiled differently from the seven others, and the eight then don't run side by side.
+#[tactic(auto, using(crate::proofs::Wrong::slot_is, crate::proofs::Wrong::slot_right))]
 pub fn slot_wrong(waiting: u32, i: u32, w: u32) -> u32
     ensures value { result ≡ slot_wrong waiting i w }
-    ensures result_value { eqb result 0 ≡ slot_word_ok (waiting - word 5 0) i w }
+    ensures valid { eqb result 0 ≡ slot_word_ok (waiting - word 5 0) i w }
 {
     let waits = NONE_WAITING + (i as u64) < waiting as u64;
     let asked = bits_asked(waits);

@@ -1,21 +1,10 @@
--- `rights_ok` is the machine's `rights_ok`: rights alone are gathered where the words passed are valid. Assumes nothing.
-use Prim.Native.Nat.{◌+◌, ◌-◌, ◌≤◌}
-use native.Mathlib.Omega.{arith}
-use borrow.Author.Count.{falls}
+-- Rights alone are gathered where the words passed are valid.
 use lib.Dec.{leb}
 use lib.ListN.{get_or, length}
 use Rattle.machine.specs.Right.{all_rights}
-use Rattle.machine.specs.Table.{domains}
-use Rattle.machine.specs.Check.{rights_word_ok, rights_ok}
-use Rattle.table_words.proofs.Wrong.{rights-gathered}
-use Rattle.table_check.proofs.Places.{headed-size, headed-rights}
-use Rattle.table_check.proofs.Bounds.{count_fits, rights-fits, rights-bytes-fit, rights-next-fits, rights-within}
-use Rattle.table_words.proofs.Scan.{Scanned, scan-start, scan-next, scan-end}
+use Rattle.machine.specs.Check.{rights_word_ok}
+use Rattle.table_words.proofs.Scan.{Scanned}
 use Rattle.table_check.proofs.rights_ok.Given as goal
 
-abbrev pub invariant-loop-i : goal.invariant-loop-i
-invariant-loop-i l =
-    Scanned (λ j. rights_word_ok (get_or l.table (1 + j) 0)) l.count (leb l.wrong all_rights) l.i × (1 + l.count ≤ length l.table)
-
-abbrev pub decreases-loop-i : goal.decreases-loop-i
-decreases-loop-i l = l.count - l.i
+abbrev pub invariant-loop-word : goal.invariant-loop-word
+invariant-loop-word l = Scanned (λ j. rights_word_ok (get_or l.words j 0)) (length l.words) (leb l.wrong all_rights) l.word-index

@@ -1,6 +1,5 @@
--- `rights_ok` is the machine's `rights_ok` of the words: rights alone are gathered where the words passed are valid. Assumes
--- nothing.
-use Prim.Native.Nat.{◌+◌, ◌-◌, ◌*◌, ◌≤◌}
+-- Rights alone are gathered where the words passed are valid.
+use Prim.Native.Nat.{◌+◌, ◌*◌, ◌≤◌}
 use lib.Dec.{leb}
 use lib.ListN.{get_or, length}
 use Rattle.machine.specs.Right.{all_rights}
@@ -11,7 +10,4 @@ use Rattle.table_check_bytes.proofs.rights_ok.Given as goal
 
 abbrev pub invariant-loop-i : goal.invariant-loop-i
 invariant-loop-i l =
-    Scanned (λ j. rights_word_ok (get_or (words_of l.bytes) (1 + j) 0)) l.count (leb l.wrong all_rights) l.i × (4 * (1 + l.count) ≤ length l.bytes)
-
-abbrev pub decreases-loop-i : goal.decreases-loop-i
-decreases-loop-i l = l.count - l.i
+    Scanned (λ j. rights_word_ok (get_or (words_of l.bytes) (1 + j) 0)) l.i-end (leb l.wrong all_rights) l.i × (4 * (1 + l.i-end) ≤ length l.bytes)

@@ -1,4 +1,4 @@
--- `slots_ok`: no bit is gathered where the slots passed are valid. Assumes nothing.
+-- No bit is gathered where the slots passed are valid.
 use Prim.Native.Nat.{◌+◌, ◌-◌}
 use lib.Dec.{eqb}
 use lib.ListN.{get_or}
@@ -11,6 +11,3 @@ use Rattle.table_check_bytes.proofs.slots_ok.Given as goal
 abbrev pub invariant-loop-i : goal.invariant-loop-i
 invariant-loop-i l =
     Scanned (λ j. slot_word_ok (l.waiting - word 5 0) j (get_or (words_of l.bytes) (l.start + j) 0)) 8 (eqb l.wrong 0) l.i
-
-abbrev pub decreases-loop-i : goal.decreases-loop-i
-decreases-loop-i l = 8 - l.i
