@@ -12,6 +12,7 @@ use Rattle.machine.specs.Right.{all_rights}
 use Rattle.machine.specs.Queue.{empty_slot}
 use Rattle.machine.specs.Check.{slot_word_ok, rights_word_ok}
 use Rattle.table_words.specs.Wrong.{slot_asked, slot_wrong}
+use Rattle.table_words.proofs.Scan.{Scanned, scan-next}
 
 -- two tests that follow from each other
 same_tests : (x y a b : ℕ) → (x ≡ y → a ≡ b) → (a ≡ b → x ≡ y) → eqb x y ≡ eqb a b
@@ -107,3 +108,11 @@ rights-gathered a b = go (leb a 15) refl (leb b 15) refl
     go true e true d = le-leb (bit_or a b) 15 (let h = or_lt 4 a b (let l = leb-true a 15 e in omega arith) (let l = leb-true b 15 d in omega arith) in omega arith)
     go true e false d = lt-leb (bit_or a b) 15 (let l = leb-false b 15 d in omega (arith, or_add_and a b, and_le_l a b))
     go false e u d = lt-leb (bit_or a b) 15 (let l = leb-false a 15 e in omega (arith, or_add_and a b, and_le_r a b))
+
+-- A loop that gathers bits by `|` keeps its test (proofs/Scan): that none is wrong, or that those of rights alone are.
+module _ (p : ℕ → Bool) (k wrong b i : ℕ) where
+  pub scan-none : Scanned p k (eqb wrong 0) i → i < k → eqb b 0 ≡ p i → Scanned p k (eqb (bit_or wrong b) 0) (i + 1)
+  scan-none s l e = rw (none-gathered wrong b) (scan-next p k _ _ i s l e)
+
+  pub scan-rights : Scanned p k (leb wrong all_rights) i → i < k → leb b all_rights ≡ p i → Scanned p k (leb (bit_or wrong b) all_rights) (i + 1)
+  scan-rights s l e = rw (rights-gathered wrong b) (scan-next p k _ _ i s l e)

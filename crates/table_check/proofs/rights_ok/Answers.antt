@@ -1,7 +1,7 @@
 -- Rights alone are gathered where the words passed are valid.
 use Rattle.std.proofs.Common.{◌∙◌, arith}
-use Rattle.table_words.proofs.Wrong.{rights-gathered}
-use Rattle.table_words.proofs.Scan.{scan-start, scan-next, scan-end}
+use Rattle.table_words.proofs.Wrong.{scan-rights}
+use Rattle.table_words.proofs.Scan.{scan-start, scan-end}
 use Rattle.table_check.proofs.Places.{headed-rights, rights-part}
 use Rattle.table_check.proofs.rights_ok.Goals as goal
 
@@ -16,8 +16,7 @@ loop-word-init c = scan-start _ _
 
 pub loop-word-preserved : goal.loop-word-preserved
 loop-word-preserved c =
-    rw rights-gathered
-    (scan-next _ _ _ _ _ c.loop-word.invariant c.loop-word-test.true c.rights_wrong-wrong.ensures.valid)
+    scan-rights _ _ _ _ _ c.loop-word.invariant c.loop-word-test.true c.rights_wrong-wrong.ensures.valid
 
 pub returns : goal.returns
 returns c =

@@ -2,8 +2,8 @@
 use Rattle.std.proofs.Common.{ap, ◌∙◌, arith}
 use Rattle.machine.specs.Table.{domains}
 use Rattle.machine.specs.Check.{rights_word_ok, rights_ok}
-use Rattle.table_words.proofs.Wrong.{rights-gathered}
-use Rattle.table_words.proofs.Scan.{scan-start, scan-next, scan-end}
+use Rattle.table_words.proofs.Wrong.{scan-rights}
+use Rattle.table_words.proofs.Scan.{scan-start, scan-end}
 use Rattle.table_check_bytes.proofs.Places.{header_four, fitting-counted}
 use Rattle.table_check_bytes.proofs.rights_ok.Goals as goal
 
@@ -15,7 +15,7 @@ loop-i-init c = (scan-start _ _, omega (arith, (fitting-counted _ c.requires _ c
 
 pub loop-i-preserved : goal.loop-i-preserved
 loop-i-preserved c =
-    (rw rights-gathered (scan-next _ _ _ _ _ c.loop-i.invariant.0 c.loop-i-test.true (c.rights_wrong-wrong.ensures.valid ∙ ap rights_word_ok c.nth_word.ensures)), c.loop-i.invariant.1)
+    (scan-rights _ _ _ _ _ c.loop-i.invariant.0 c.loop-i-test.true (c.rights_wrong-wrong.ensures.valid ∙ ap rights_word_ok c.nth_word.ensures), c.loop-i.invariant.1)
 
 pub returns : goal.returns
 unfolding rights_ok domains
