@@ -3,5 +3,4 @@ pub mod Passes
 pub mod Outcomes
 pub mod ByKind
 pub mod RowAt
-pub mod Rounds
 pub mod OneNumber

@@ -1,48 +1,36 @@
 -- The result of writing, by what the code finds: each result is the one that is due (writer_theory: specs/Write).
 -- Assumes nothing.
-use Prim.Native.Nat.{ℕ, min, ◌≤◌}
-use mathlib.Core.Path.{◌≡◌, refl, sym, ap, ap₂, ◌∙◌}
+use Prim.Native.Nat.{ℕ, ◌≤◌}
+use mathlib.Core.Path.{◌≡◌, refl, ap, ap₂, ◌∙◌}
 use mathlib.Core.Bool.{true, false, ◌||◌}
 use mathlib.Core.List.{List, ◌++◌}
 use mathlib.Core.Option.{Option, none, some}
-use native.Mathlib.Nat.{min-eq_left, min-eq_right}
-use native.Mathlib.Decide.{dec_le}
 use native.Mathlib.Omega.{arith}
 use borrow.Author.Tests.{ltb-false}
 use lib.Dec.{ltb}
-use lib.ListN.{length, take, drop}
-use lib.Seq.{take_all}
+use lib.ListN.{length, drop}
 use Rattle.machine.specs.Entry.{longest_list}
 use Rattle.machine.proofs.Bools.{or-none-right}
 use Rattle.calls.specs.declared.Call.{Call}
 use Rattle.writer_theory.specs.Words.{all_fit, written}
-use Rattle.writer.specs.declared.Measured.TheVariants.{Words, Unfit}
+use Rattle.std.specs.Prelude.{Ok, Err}
+use Rattle.writer.specs.declared.WriteRefusal.{WriteRefusal}
+use Rattle.writer.specs.declared.WriteRefusal.TheVariants.{BadCall}
+use Rattle.writer.specs.Answer.{answered}
 use Rattle.writer_theory.specs.Write.{first_unfit, too_long, WriteOutcome, refusal, words_put, writing}
 use Rattle.writer.specs.FirstPass.{found, measured}
 use Rattle.writer_theory.proofs.ListClaims.{none-unfit}
-
--- an array of 4,096 calls holds the first count of them, or all of them
-pub held-calls : (calls : List Call) (count : ℕ) → length calls ≡ 4096 → take (min count 4096) calls ≡ take count calls
-held-calls calls count long = go (dec_le count 4096)
-  where
-    go : Dec (count ≤ 4096) → take (min count 4096) calls ≡ take count calls
-    go (yes h) = ap (λ (n : ℕ). take n calls) (min-eq_left h)
-    go (no h) =
-        let more : 4096 ≤ count = omega arith in
-        ap (λ (n : ℕ). take n calls) (min-eq_right more)
-        ∙ take_all 4096 calls (omega arith)
-        ∙ sym (take_all count calls (omega arith))
 
 -- an outcome with code 0
 abbrev put : ℕ → List ℕ → WriteOutcome
 put n ws = record { code = 0; number = n; list = ws }
 
 -- the cases of what was found
-found-unfit : (o : Option ℕ) (words i : ℕ) → Unfit i ≡ found o words → o ≡ some i
+found-unfit : (o : Option ℕ) (words i : ℕ) → Err (BadCall i) ≡ found o words → o ≡ some i
 found-unfit none words i e = let z : ◌≡◌ {A = ℕ} 0 1 = cc in absurd (omega arith)
 found-unfit (some j) words i e = cc
 
-found_none : (o : Option ℕ) (words w : ℕ) → Words w ≡ found o words → (o ≡ none) × (w ≡ words)
+found_none : (o : Option ℕ) (words w : ℕ) → Ok w ≡ found o words → (o ≡ none) × (w ≡ words)
 found_none none words w e = (refl, cc)
 found_none (some j) words w e = let z : ◌≡◌ {A = ℕ} 0 1 = cc in absurd (omega arith)
 
@@ -58,11 +46,11 @@ module _ (cs : List Call) (count : ℕ) (list : List ℕ) where
   refused-long first long = rw (first, long)
 
   -- ---- by what the first pass found
-  pub unfit : (i : ℕ) → Unfit i ≡ measured cs → refusal 30 i list ≡ writing cs count list
+  pub unfit : (i : ℕ) → Err (BadCall i) ≡ measured cs → refusal 30 i list ≡ writing cs count list
   unfolding measured
   unfit i e = first-unfit i (found-unfit (first_unfit cs) _ i e)
 
-  module _ (words : ℕ) (e : Words words ≡ measured cs) where
+  module _ (words : ℕ) (e : Ok words ≡ measured cs) where
     none_found : (first_unfit cs ≡ none) × (words ≡ length (written cs))
     unfolding measured
     none_found = found_none (first_unfit cs) _ words e
@@ -93,3 +81,14 @@ module _ (cs : List Call) (count : ℕ) (list : List ℕ) where
           let first = none_found.0 in
           let short : too_long count (length (written cs)) (length list) ≡ false = rw (← words-counted) h in
           rw (first, short) (ap₂ (λ (n : ℕ) (ws : List ℕ). put n ws) words-counted wrote)
+
+-- a refusal of the first pass is that of a call that can't be written
+found-refused : (o : Option ℕ) (words : ℕ) (r : WriteRefusal) → Err r ≡ found o words → (i : ℕ) × (r ≡ BadCall i) × (o ≡ some i)
+found-refused none words r e = absurd (cc)
+found-refused (some i) words r e = (i, cc, refl)
+
+pub refused : (cs : List Call) (count : ℕ) (list : List ℕ) (r : WriteRefusal) → Err r ≡ measured cs → answered (Err r) list ≡ writing cs count list
+unfolding measured
+refused cs count list r e =
+    let bad = found-refused (first_unfit cs) (length (written cs)) r e in
+    ap (λ (x : WriteRefusal). answered (Err x) list) bad.1 ∙ first-unfit cs count list bad.0 bad.2

@@ -1,55 +1,57 @@
 -- The two passes over the calls: what each keeps. Assumes nothing.
-use Prim.Native.Nat.{ℕ, ◌+◌, ◌*◌, ◌<◌, ◌≤◌}
+use Prim.Native.Nat.{ℕ, ◌+◌, ◌<◌, ◌≤◌}
 use mathlib.Core.Path.{◌≡◌, refl, sym, ap, ap₂, ◌∙◌}
 use mathlib.Core.Bool.{true, false, ◌&&◌}
 use mathlib.Core.List.{List, [], ◌∷◌, ◌++◌, append_assoc, append-nil}
 use mathlib.Core.Option.{Option, some}
 use native.Mathlib.Numerals.{add-one}
 use native.Mathlib.Omega.{arith}
-use lib.ListN.{length, get_or, take, drop, length-append, drop_of_length-le}
-use lib.Seq.{drop-cons, get_or-take, length-take-le, take_at, drop_at, drop-drop}
+use lib.ListN.{length, take, drop, length-append, drop_of_length-le}
+use lib.Seq.{drop-cons, take_at, drop_at, drop-drop}
 use Rattle.machine.proofs.Bools.{and_left, and_right}
 use Rattle.calls.specs.declared.Call.{Call}
 use Rattle.writer_theory.specs.Words.{fits, encoded_words, all_fit, written}
 use Rattle.call_encode.specs.Put.{put_at}
 use Rattle.call_encode.proofs.Putting.{put-there}
-use Rattle.writer.specs.declared.Measured.TheVariants.{Words, Unfit}
+use Rattle.std.specs.Prelude.{Ok, Err}
+use Rattle.writer.specs.declared.WriteRefusal.TheVariants.{BadCall}
 use Rattle.writer_theory.specs.Write.{unfit_from, first_unfit}
+use Rattle.writer_theory.specs.Rows.{no_call}
+use Rattle.writer.specs.Given.{Gives}
 use Rattle.writer.specs.FirstPass.{found, measured}
 
--- the call at index i of the first n of some calls, and those after it
-pub front_of : (calls : List Call) (n i : ℕ) (d : Call) → i < n → n ≤ length calls → drop i (take n calls) ≡ get_or calls i d ∷ drop (i + 1) (take n calls)
-front_of calls n i d l most =
-    let m : i < length (take n calls) = omega (arith, length-take-le n calls most) in
-    rw (add-one i, ← get_or-take n calls i d l) (drop-cons (take n calls) i d m)
+-- the call that is given for index i, and those after it
+pub front-given : {gives : ℕ → Call → Type 0} {n : ℕ} {cs : List Call} (g : Gives gives n cs) (i : ℕ) (c : Call) → i < n → gives i c
+    → drop i cs ≡ c ∷ drop (i + 1) cs
+front-given {cs = cs} g i c l is =
+    let m : i < length cs = omega (arith, g.count) in
+    rw (add-one i, g.each i c l is) (drop-cons cs i no_call m)
 
 -- ---- the first pass: the calls before index i fit and are so many words, and the others are still to be tested
 pub record Measuring (cs : List Call) (words i : ℕ) : Type 0 where
   pub within : i ≤ length cs
-  pub few : words ≤ 2 * i
   pub unfit : unfit_from i (drop i cs) ≡ first_unfit cs
   pub sum : words + length (written (drop i cs)) ≡ length (written cs)
 
 pub measuring-start : (cs : List Call) → Measuring cs 0 0
 unfolding first_unfit
-measuring-start cs = record { within = omega arith; few = omega arith; unfit = refl; sum = omega arith }
+measuring-start cs = record { within = omega arith; unfit = refl; sum = omega arith }
 
 module _ {cs : List Call} {words i : ℕ} (m : Measuring cs words i) where
   module _ (c : Call) (front : drop i cs ≡ c ∷ drop (i + 1) cs) (l : i < length cs) where
     -- a call that doesn't fit is the first
-    pub measured-unfit : fits c ≡ false → Unfit i ≡ measured cs
+    pub measured-unfit : fits c ≡ false → Err (BadCall i) ≡ measured cs
     unfolding measured unfit_from
     measured-unfit h =
         let first : unfit_from i (drop i cs) ≡ some i = rw (front, h) in
         ap (λ (o : Option ℕ). found o (length (written cs))) (sym first ∙ m.unfit)
 
     -- one that fits is measured
-    pub measuring-next : (w : ℕ) → w ≡ length (encoded_words c) → w ≤ 2 → fits c ≡ true → Measuring cs (words + w) (i + 1)
+    pub measuring-next : (w : ℕ) → w ≡ length (encoded_words c) → fits c ≡ true → Measuring cs (words + w) (i + 1)
     unfolding unfit_from written
-    measuring-next w e most h =
+    measuring-next w e h =
         record {
           within = omega arith;
-          few = omega (arith, m.few);
           unfit = let next : unfit_from i (drop i cs) ≡ unfit_from (i + 1) (drop (i + 1) cs) = rw (front, h) in sym next ∙ m.unfit;
           sum =
               omega (
@@ -61,7 +63,7 @@ module _ {cs : List Call} {words i : ℕ} (m : Measuring cs words i) where
         }
 
   -- no call is left: all fit
-  pub measured-all : length cs ≤ i → Words words ≡ measured cs
+  pub measured-all : length cs ≤ i → Ok words ≡ measured cs
   unfolding measured unfit_from written
   measured-all past =
       let nothing = drop_of_length-le cs past in

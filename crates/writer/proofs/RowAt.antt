@@ -1,15 +1,14 @@
 -- The call that begins at an index of some rows, and those after it (writer_theory: specs/Rows). Assumes nothing.
-use Prim.Native.Nat.{ℕ, suc, ◌+◌, ◌<◌, ◌≤◌}
+use Prim.Native.Nat.{ℕ, zero, suc, ◌+◌, ◌-◌, ◌*◌, ◌<◌, ◌≤◌}
 use mathlib.Core.Path.{◌≡◌, refl, sym, ap, ap₂, ◌∙◌}
-use mathlib.Core.Bool.{true, false≢true}
 use mathlib.Core.List.{List, [], ◌∷◌}
+use native.Mathlib.Nat.{add-zero}
 use native.Mathlib.Decide.{dec_le}
 use native.Mathlib.Omega.{arith}
 use borrow.Author.Tests.{lt-ltb, le-ltb}
-use lib.ListN.{length, get_or, drop, length-drop, drop_of_length-le}
-use lib.Seq.{drop-cons}
+use lib.ListN.{length, get_or, take, drop, length-drop, drop_of_length-le}
+use lib.Seq.{drop-cons, drop-drop, take_all, get_or-drop}
 use Rattle.calls.specs.declared.Call.{Call}
-use Rattle.writer_theory.specs.Words.{fields_of, within_bits, fits}
 use Rattle.writer_theory.specs.Rows.{no_call, row_call, call_at, rows_handed_in}
 
 module _ (ws : List ℕ) (at : ℕ) where
@@ -59,13 +58,46 @@ front-row ws at l = go (dec_le (at + 5) (length ws))
         few_words (drop at ws) (omega (arith, length-drop at ws)) (omega (arith, length-drop at ws))
         ∙ ap₂ (λ (c : Call) (cs : List Call). c ∷ cs) (too_few ws at short) (sym (ap rows_handed_in past))
 
--- a call that fits has five words
-pub whole_row : (ws : List ℕ) (at : ℕ) → fits (call_at ws at) ≡ true → at + 5 ≤ length ws
-unfolding fits within_bits fields_of
-whole_row ws at h = go (dec_le (at + 5) (length ws))
+-- the rows from the one of an index on
+rows-from : (ws : List ℕ) (i : ℕ) → drop i (rows_handed_in ws) ≡ rows_handed_in (drop (5 * i) ws)
+unfolding rows_handed_in
+rows-from ws zero = refl
+rows-from ws (suc i) =
+    let next : suc i ≡ i + 1 = omega arith in
+    let one : drop (suc i) (rows_handed_in ws) ≡ drop 1 (drop i (rows_handed_in ws)) = ap (λ (k : ℕ). drop k (rows_handed_in ws)) next ∙ sym (drop-drop 1 i (rows_handed_in ws)) in
+    let five : 5 * suc i ≡ 5 * i + 5 = omega arith in
+    one ∙ ap (drop 1) (rows-from ws i) ∙ go (dec_le (length ws) (5 * i)) ∙ ap (λ (k : ℕ). rows_handed_in (drop k ws)) (sym five)
   where
-    go : Dec (at + 5 ≤ length ws) → at + 5 ≤ length ws
-    go (yes l) = l
-    go (no n) =
-        let short : length ws < at + 5 = omega arith in
-        absurd (false≢true (ap fits (too_few ws at short) ∙ h))
+    go : Dec (length ws ≤ 5 * i) → drop 1 (rows_handed_in (drop (5 * i) ws)) ≡ rows_handed_in (drop (5 * i + 5) ws)
+    go (yes past) =
+        let more : length ws ≤ 5 * i + 5 = omega arith in
+        rw (drop_of_length-le ws past, drop_of_length-le ws more)
+    go (no there) = ap (drop 1) (front-row ws (5 * i) (omega arith))
+
+-- the row of an index is the call of that index
+pub row-given : (ws : List ℕ) (i : ℕ) (d : Call) → 5 * i < length ws → call_at ws (5 * i) ≡ get_or (rows_handed_in ws) i d
+row-given ws i d l =
+    let first : get_or (drop i (rows_handed_in ws)) 0 d ≡ call_at ws (5 * i) = rw (rows-from ws i, front-row ws (5 * i) l) in
+    sym first ∙ get_or-drop i (rows_handed_in ws) 0 d ∙ ap (λ (k : ℕ). get_or (rows_handed_in ws) k d) (omega arith)
+
+-- each row has five words, but the last
+pub rows-count : (ws : List ℕ) → (5 * length (rows_handed_in ws) ≤ length ws + 4) × (length ws ≤ 5 * length (rows_handed_in ws))
+unfolding rows_handed_in
+rows-count [] = (omega arith, omega arith)
+rows-count (k ∷ []) = (omega arith, omega arith)
+rows-count (k ∷ (u ∷ [])) = (omega arith, omega arith)
+rows-count (k ∷ (u ∷ (a ∷ []))) = (omega arith, omega arith)
+rows-count (k ∷ (u ∷ (a ∷ (b ∷ [])))) = (omega arith, omega arith)
+rows-count (k ∷ (u ∷ (a ∷ (b ∷ (c ∷ ws))))) = (omega (arith, (rows-count ws).0), omega (arith, (rows-count ws).1))
+
+-- five words from an index on, as the code takes them
+pub cut-row : (ws : List ℕ) (at : ℕ) (x : Call)
+    → x ≡ row_call (get_or (take (length ws - at) (drop at ws)) 0 0) (get_or (take (length ws - at) (drop at ws)) 1 0)
+    (get_or (take (length ws - at) (drop at ws)) 2 0) (get_or (take (length ws - at) (drop at ws)) 3 0)
+    (get_or (take (length ws - at) (drop at ws)) 4 0)
+    → at + 5 ≤ length ws
+    → x ≡ call_at ws at
+cut-row ws at x is h =
+    let all : take (length ws - at) (drop at ws) ≡ drop at ws = take_all (length ws - at) (drop at ws) (omega (arith, length-drop at ws)) in
+    let words = simp (all, get_or-drop, add-zero) at is in
+    words ∙ a-row ws at h

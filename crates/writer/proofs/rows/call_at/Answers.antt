@@ -1,16 +1,17 @@
 -- `rows::call_at` meets its contract: five words, or too few. Assumes nothing.
-use mathlib.Core.Path.{◌∙◌}
+use Prim.Native.Nat.{◌*◌, ◌-◌}
 use native.Mathlib.Omega.{arith}
-use Rattle.writer.proofs.RowAt.{too_few, a-row}
+use lib.ListN.{length, drop, length-take, length-drop}
+use Rattle.writer.proofs.RowAt.{too_few, cut-row}
 use Rattle.writer.proofs.rows.call_at.Goals as goal
 
-pub returns-then-rows-at-lt5 : goal.returns-then-rows-at-lt5
-returns-then-rows-at-lt5 c =
-    let a = c.args in
-    too_few a.rows.now a.at (omega (arith, c.if-rows-at-lt5.true, c.requires))
+pub returns-in_default : goal.returns-in_default
+returns-in_default c =
+    let from = drop (5 * c.args.i) c.args.rows.now in
+    too_few _ _ (omega (arith, c.in_default.len_below, length-take (length c.args.rows.now - 5 * c.args.i) from, length-drop (5 * c.args.i) c.args.rows.now))
 
-pub returns : goal.returns
-returns c =
-    let start = c in
-    let left = c.if-rows-at-lt5.false in
-    c.row_call.ensures ∙ a-row start.args.rows.now start.args.at (omega arith)
+pub returns-in-len5-up : goal.returns-in-len5-up
+returns-in-len5-up c =
+    let from = drop (5 * c.args.i) c.args.rows.now in
+    cut-row _ _ _ c.row_call.ensures
+    (omega (arith, c.in-len5-up.len_at_least, length-take (length c.args.rows.now - 5 * c.args.i) from, length-drop (5 * c.args.i) c.args.rows.now))
