@@ -1,6 +1,6 @@
 -- The rings as they are loaded, one after the other. Assumes nothing.
 use mathlib.Core.Path.{◌≡◌, refl, sym, ap, ap₂, subst, ◌∙◌}
-use mathlib.Core.Bool.{true, false, cond}
+use mathlib.Core.Bool.{true, cond}
 use mathlib.Core.List.{List, ◌++◌}
 use Prim.Native.Nat.{ℕ, ◌+◌, ◌-◌, ◌*◌, ◌/◌, ◌%◌, ◌<◌, ◌≤◌}
 use native.Mathlib.Nat.{add-sub_cancel_left}
@@ -22,9 +22,6 @@ use Rattle.working_load.proofs.Places.{HasQueues, words-within, words-lent}
 pub record Taking (n m : ℕ) (t rings : List ℕ) (e : ℕ) : Type 0 where
   pub size : length rings ≡ 12 * m
   pub done : (i : ℕ) → i < 12 * e → get_or rings i 0 ≡ get_or (ring_of (words_at n t (i / 12))) (i % 12) 0
-
-pub taking-start : (n m : ℕ) (t rings : List ℕ) → length rings ≡ 12 * m → Taking n m t rings 0
-taking-start n m t rings long = record { size = long; done = λ i l. absurd (omega arith) }
 
 ring-twelve : (q : List ℕ) → length (ring_of q) ≡ 12
 unfolding ring_of
@@ -83,9 +80,6 @@ taking-end n m t rings e s all =
     f : ℕ → ℕ
     f i = get_or (ring_of (words_at n t (i / 12))) (i % 12) 0
 
--- the loaded rings, on either side of the test
-pub taken_none : (n m : ℕ) (t rings : List ℕ) → has_queues n m (length t) (length rings) ≡ false → rings ≡ cond (has_queues n m (length t) (length rings)) (rings_of n m t) rings
-taken_none n m t rings h = rw h
-
+-- the loaded rings, where the test holds
 pub taken-all : (n m : ℕ) (t rings x : List ℕ) → has_queues n m (length t) (length rings) ≡ true → x ≡ rings_of n m t → x ≡ cond (has_queues n m (length t) (length rings)) (rings_of n m t) rings
 taken-all n m t rings x h e = rw h e

@@ -2,7 +2,7 @@
 use mathlib.Core.Path.{◌≡◌, refl, sym, ap, ap₂, subst, ◌∙◌}
 use mathlib.Core.Bool.{Bool, cond}
 use mathlib.Core.List.{List}
-use Prim.Native.Nat.{ℕ, ◌+◌, ◌-◌, ◌*◌, ◌/◌, ◌%◌, ◌<◌, min}
+use Prim.Native.Nat.{ℕ, ◌+◌, ◌*◌, ◌/◌, ◌%◌, ◌<◌, min}
 use native.Mathlib.Nat.{add-zero, mod-eq_of_lt}
 use native.Mathlib.Omega.{arith}
 use lib.Dec.{eqb}
@@ -11,7 +11,7 @@ use lib.Seq.{ext_get_or}
 use borrow.Author.Tests.{lt-ltb}
 use Rattle.machine.specs.Below.{words_below, bits_below}
 use Rattle.machine.specs.Word.{payload, field_b}
-use Rattle.machine.specs.Table.{domains, endpoints, endpoint_at, rights, endpoint}
+use Rattle.machine.specs.Table.{domains, endpoints, endpoint_at, endpoint}
 use Rattle.machine.specs.Queue.{name, owner}
 use Rattle.machine.specs.Check.{Accepted}
 use Rattle.machine.specs.Machine.{owned_bits}

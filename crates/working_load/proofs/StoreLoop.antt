@@ -1,6 +1,6 @@
 -- The rings stored to a table, one after the other. Assumes nothing.
 use mathlib.Core.Path.{◌≡◌, refl, sym, ap, ap₂, subst, ◌∙◌}
-use mathlib.Core.Bool.{true, false, cond, ◌&&◌}
+use mathlib.Core.Bool.{true, cond, ◌&&◌}
 use mathlib.Core.List.{List, ◌∷◌, ◌++◌}
 use Prim.Native.Nat.{ℕ, ◌+◌, ◌-◌, ◌*◌, ◌/◌, ◌%◌, ◌<◌, ◌≤◌}
 use native.Mathlib.Nat.{add-sub_cancel_left}
@@ -31,9 +31,6 @@ pub record Out (n m : ℕ) (rings t₀ t : List ℕ) (e : ℕ) : Type 0 where
   pub before : (i : ℕ) → i < endpoint_at n 0 → get_or t i 0 ≡ get_or t₀ i 0
   pub done : (j : ℕ) → j < 12 * e → get_or t (endpoint_at n 0 + j) 0 ≡ word_out n rings t₀ j
   pub rest : (j : ℕ) → 12 * e ≤ j → get_or t (endpoint_at n 0 + j) 0 ≡ get_or t₀ (endpoint_at n 0 + j) 0
-
-pub out-start : (n m : ℕ) (rings t : List ℕ) → Out n m rings t t 0
-out-start n m rings t = record { size = refl; before = λ i l. refl; done = λ j l. absurd (omega arith); rest = λ j l. refl }
 
 out-twelve : (r q : List ℕ) → length q ≡ 12 → length (stored_queue r q) ≡ 12
 unfolding stored_queue
@@ -136,9 +133,6 @@ out-end n m rings t₀ t e s all =
         ∙ ap (λ (k : ℕ). get_or t₀ k 0) (sym back)
         ∙ rw (le-leb a i (omega arith), le-ltb i (endpoint_at n m) (omega arith))
 
--- the table with the rings stored, on either side of the test
-pub out_none : (n m : ℕ) (rings t : List ℕ) → has_queues n m (length t) (length rings) ≡ false → t ≡ cond (has_queues n m (length t) (length rings)) (stored_queues n m rings t) t
-out_none n m rings t h = rw h
-
+-- the table with the rings stored, where the test holds
 pub out-all : (n m : ℕ) (rings t x : List ℕ) → has_queues n m (length t) (length rings) ≡ true → x ≡ stored_queues n m rings t → x ≡ cond (has_queues n m (length t) (length rings)) (stored_queues n m rings t) t
 out-all n m rings t x h e = rw h e

@@ -1,6 +1,6 @@
 -- A table's endpoints in the working state (document 02 (l)): what is loaded from the table's words and what storing makes of them.
 -- The definitions are total: they accept arbitrary words as a table of n domains and m endpoints.
-use Rattle.std.specs.Prelude.{ℕ, ◌+◌, ◌-◌, ◌*◌, ◌/◌, ◌%◌, ◌^◌, min, Bool, cond, ◌&&◌, List, eqb, leb, ltb, length, get_or, take, drop}
+use Rattle.std.specs.Prelude.{ℕ, ◌+◌, ◌-◌, ◌*◌, ◌/◌, ◌%◌, min, Bool, cond, ◌&&◌, List, eqb, leb, ltb, length, get_or, take, drop}
 use Rattle.machine.specs.Below.{words_below, bits_below}
 use Rattle.machine.specs.Word.{payload, field_b}
 use Rattle.machine.specs.Table.{endpoint_at}

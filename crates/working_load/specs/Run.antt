@@ -1,14 +1,12 @@
 -- A whole run on the working layout (document 02 (l)), as one closed statement: the table is loaded once, the calls run one after the
 -- other on what was loaded, with no table beside it, and what they leave is stored once.
-use Rattle.std.specs.Prelude.{ℕ, ◌≡◌, List, [], ◌∷◌, ◌++◌}
+use Rattle.std.specs.Prelude.{ℕ, ◌≡◌, List, [], ◌∷◌, ◌++◌, Option, Some, None}
 use Rattle.machine.specs.Table.{domains, endpoints}
 use Rattle.machine.specs.Check.{Accepted}
 use Rattle.machine.specs.Call.{Call, first, Call.one, Call.two}
 use Rattle.machine.specs.Machine.{Decision}
 use Rattle.machine.specs.Run as machine
 use Rattle.machine.specs.Holders.{holders_of}
-use Rattle.calls.specs.declared.split.Second.{Second}
-use Rattle.calls.specs.declared.split.Second.TheVariants.{Nothing, Word}
 use Rattle.calls.specs.Decode.{decoded}
 use Rattle.rules.specs.Access.{decided_by}
 use Rattle.holders.specs.Noted.{holders_after}
@@ -30,9 +28,9 @@ pub record Parts : Type 0 where
   pub rings : List ℕ
 
 -- a call's second word, if it has one
-unfoldable pub second_of : Call → Second
-second_of (one w) = Nothing
-second_of (two w v) = Word v
+unfoldable pub second_of : Call → Option ℕ
+second_of (one w) = None
+second_of (two w v) = Some v
 
 -- the decision on a call, by what the state says
 unfoldable pub decided_on : Unchanging → Parts → Call → Decision

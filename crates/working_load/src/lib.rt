@@ -1,8 +1,8 @@
 // Loads a table's endpoints and stores their queues (document 02 (l)): the queues as rings, the names side by side, and for each
 // domain the endpoints that it owns as bits. All functions are total: they accept arbitrary words as a table.
-#![tactic(auto)]
+#![tactic(auto, unfolding(crate::specs::Layout::has_queues))]
 
-ghost use Rattle.std.specs.Prelude.{◌≡◌, cond, ◌%◌, min, length};
+ghost use Rattle.std.specs.Prelude.{◌≡◌, cond, ◌%◌, length};
 ghost use Rattle.working_load.specs.Layout.{has_queues, rings_of, stored_queues, names_of, owned_of};
 
 use format::KIND_UNIT;
@@ -14,11 +14,8 @@ use table_layout::{endpoint_at, endpoint_word};
 fn has_queues(n: u32, m: u32, size: usize, lent: usize) -> bool
     ensures { result ≡ has_queues (n % 256) m size lent }
 {
-    if MOST_ENDPOINTS < m {
-        return false;
-    }
     let end = endpoint_at(n, m);
-    (end <= size) & (lent == ENDPOINT_WORDS * m as usize)
+    m <= MOST_ENDPOINTS && end <= size && lent == ENDPOINT_WORDS * m as usize
 }
 
 // Loads the rings from the table's queues. They stay as they are where m is over 32, the table is too short, or their length isn't
@@ -31,14 +28,13 @@ pub fn load_rings(table: &[u32], n: u32, m: u32, rings: &mut [u32])
     if !has_queues(n, m, table.len(), rings.len()) {
         return;
     }
-    let mut e: u32 = 0;
-    while e < m {
+    // Cuts the rings by index: a proof knows nothing of what is written to the parts that chunks_exact_mut lends.
+    for e in 0..m {
         let start = endpoint_at(n, e);
         let end = start + ENDPOINT_WORDS;
         let from = ENDPOINT_WORDS * e as usize;
         let to = from + ENDPOINT_WORDS;
         ring::load(&table[start..end], &mut rings[from..to]);
-        e += 1;
     }
 }
 
@@ -52,39 +48,24 @@ pub fn store_rings(rings: &[u32], n: u32, m: u32, table: &mut [u32])
     if !has_queues(n, m, table.len(), rings.len()) {
         return;
     }
-    let mut e: u32 = 0;
-    while e < m {
+    // Cuts the table by index, as load_rings cuts the rings.
+    for e in 0..m {
         let place = ENDPOINT_WORDS * e as usize;
         let behind = place + ENDPOINT_WORDS;
         let first = endpoint_at(n, e);
         let next = first + ENDPOINT_WORDS;
         ring::store(&rings[place..behind], &mut table[first..next]);
-        e += 1;
     }
-}
-
-// Returns m, or 32 where m is over 32.
-fn at_most(m: u32) -> u32
-    ensures { result ≡ min m 32 }
-{
-    if m < MOST_ENDPOINTS {
-        return m;
-    }
-    MOST_ENDPOINTS
 }
 
 // Returns the names of the first 32 endpoints, side by side, and 0 where there is no endpoint.
 pub fn load_names(table: &[u32], n: u32, m: u32) -> [u32; 32]
     ensures { result ≡ names_of (n % 256) m table.now }
 {
-    let mut names = [0u32; 32];
-    let few = at_most(m);
-    let mut e: u32 = 0;
-    while e < few {
+    let mut names = [0; 32];
+    for e in 0..m.min(MOST_ENDPOINTS) {
         let word = endpoint_word(table, n, e, 0);
-        let at = e as usize;
-        names[at] = word % KIND_UNIT;
-        e += 1;
+        names[e as usize] = word % KIND_UNIT;
     }
     names
 }
@@ -93,15 +74,12 @@ pub fn load_names(table: &[u32], n: u32, m: u32) -> [u32; 32]
 pub fn load_owned(table: &[u32], n: u32, m: u32) -> [u32; 16]
     ensures { result ≡ owned_of (n % 256) m table.now }
 {
-    let mut owned = [0u32; 16];
-    let few = at_most(m);
-    let mut e: u32 = 0;
-    while e < few {
+    let mut owned = [0; 16];
+    let few = m.min(MOST_ENDPOINTS);
+    for e in 0..few {
         let info = endpoint_word(table, n, e, 1);
-        let u = (info / 256 % 256 % 16) as usize;
-        let one = bit(e);
-        owned[u] = owned[u] + one;
-        e += 1;
+        let owner = (info / 256 % 256 % 16) as usize;
+        owned[owner] += bit(e);
     }
     owned
 }
