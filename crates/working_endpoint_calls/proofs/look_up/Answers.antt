@@ -1,31 +1,28 @@
 -- `look_up` meets its contract: refused with code 12, or decided by what has the name. Assumes nothing.
-use mathlib.Core.Path.{◌≡◌, sym, ap, ◌∙◌}
-use mathlib.Core.List.{[]}
+use Rattle.std.proofs.Common.{◌≡◌, ◌∙◌, sym, ap, refl, Some, None, Err, rules}
 use Rattle.machine.specs.Guards.{look_up_places}
-use Rattle.calls.specs.declared.Call.TheVariants.{LookUp}
+use Rattle.calls.specs.declared.Refusal.TheVariants.{NoSuchName}
 use Rattle.rules.specs.Range.{call_numbers}
-use Rattle.rules.specs.Access.{found_of, access_by, decided_by}
-use Rattle.rules.specs.declared.access.Found.{Found}
-use Rattle.rules.proofs.Guards.{outside, within}
-use Rattle.working_theory.specs.State.{named_in, reading_from}
+use Rattle.rules.specs.Access.{found_of, access_by}
 use Rattle.working_theory.proofs.Answered.{refused-answer}
 use Rattle.working_endpoint_calls.proofs.Outcomes.{looked-up}
 use Rattle.working_endpoint_calls.proofs.look_up.Goals as goal
 
-pub returns-in-Outside : goal.returns-in-Outside
+pub returns-in_err-of_caller : goal.returns-in_err-of_caller
 unfolding call_numbers
-returns-in-Outside c = refused-answer _ _ _ _ _ _ _ (outside _ c.in-Outside.is (c.of_caller-range.ensures _)) c.refusal.ensures
+returns-in_err-of_caller c first =
+    let is : c.from_residual.result ≡ Err c.in_err-of_caller.field-0.0 = search rules in
+    rw is (refused-answer _ _ first _ _ _ _ (c.in_err-of_caller.ensures _) refl)
 
-pub returns-in-At : goal.returns-in-At
-unfolding call_numbers access_by look_up_places found_of
-returns-in-At c =
-    looked-up _ _ _ _ _ _ _
-    (ap (λ (f : Found). look_up_places (found_of f)) (sym c.in-At.is) ∙ (ap look_up_places c.find_by-found.ensures
-    ∙ within _ c.in_default.is (c.of_caller-range.ensures _))) c.done.ensures
+pub returns-in_err-e : goal.returns-in_err-e
+unfolding call_numbers access_by found_of look_up_places
+returns-in_err-e c first =
+    let is : c.from_residual-in_err-e.result ≡ Err NoSuchName = search rules in
+    let none : c.find_by.result ≡ None = search rules in
+    rw is (refused-answer _ _ first _ _ _ _ (ap look_up_places (ap found_of (sym none) ∙ c.find_by.ensures) ∙ c.in_ok-of_caller.ensures _) refl)
 
-pub returns-in-Nothing : goal.returns-in-Nothing
-unfolding call_numbers access_by look_up_places found_of
-returns-in-Nothing c =
-    refused-answer _ _ _ _ _ _ _
-    (ap (λ (f : Found). look_up_places (found_of f)) (sym c.in-Nothing.is) ∙ (ap look_up_places c.find_by-found.ensures
-    ∙ within _ c.in_default.is (c.of_caller-range.ensures _))) c.refusal-in-Nothing.ensures
+pub returns : goal.returns
+unfolding call_numbers access_by found_of look_up_places
+returns c =
+    let found : c.find_by.result ≡ Some c.in_ok-e.e = search rules in
+    looked-up _ _ _ _ _ (ap look_up_places (ap found_of (sym found) ∙ c.find_by.ensures) ∙ c.in_ok-of_caller.ensures _)
