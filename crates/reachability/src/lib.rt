@@ -8,6 +8,7 @@ ghost use Rattle.std.specs.Prelude.{◌≡◌, ◌%◌, ◌^◌};
 ghost use Rattle.reachability.specs.Closure.{widened, closed};
 
 // Returns the set of one domain: bit i of a word, i taken modulo 32.
+#[tactic(auto, using(machine::proofs::Below::one_bit))]
 pub fn bit(i: u32) -> u32
     ensures { result ≡ 2 ^ (i % 32) }
 {
@@ -20,13 +21,11 @@ fn widen(words: &[u32], set: u32) -> u32
 {
     let mut wide = set;
     let mut members = set;
-    let mut v: usize = 0;
-    while v < words.len() {
+    for &word in words {
         if members % 2 == 1 {
-            wide = wide | words[v];
+            wide |= word;
         }
-        members = members / 2;
-        v += 1;
+        members /= 2;
     }
     wide
 }
@@ -36,14 +35,12 @@ pub fn closure(words: &[u32], set: u32) -> u32
     ensures { result ≡ closed words.now set }
 {
     let mut reached = set;
-    let mut round: usize = 0;
-    while round < words.len() {
+    for _round in 0..words.len() {
         let wider = widen(words, reached);
         if wider == reached {
             return reached;
         }
         reached = wider;
-        round += 1;
     }
     reached
 }

@@ -1,5 +1,4 @@
--- `reachability::closure` meets its contract: a round that adds nobody ends it, and so do as many rounds as there are words.
--- Assumes nothing.
+-- A round that adds nobody ends the loop, and so do as many rounds as there are words.
 use mathlib.Core.Path.{sym, ◌∙◌}
 use Rattle.reachability.proofs.Loops.{closing-start, closing-still, closing-next, closing_end}
 use Rattle.reachability.proofs.closure.Goals as goal

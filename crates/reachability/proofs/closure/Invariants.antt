@@ -1,12 +1,7 @@
--- `reachability::closure` meets its contract: a round that adds nobody ends it, and so do as many rounds as there are words.
--- Assumes nothing.
-use Prim.Native.Nat.{◌-◌}
-use lib.ListN.{length}
+-- A round that adds nobody ends the loop, and so do as many rounds as there are words.
 use Rattle.reachability.proofs.Loops.{Closing}
 use Rattle.reachability.proofs.closure.Given as goal
 
 abbrev pub invariant-loop-round : goal.invariant-loop-round
-invariant-loop-round l = Closing l.words l.set l.reached l.round
+invariant-loop-round l = Closing l.words l.set l.reached l._round
 
-abbrev pub decreases-loop-round : goal.decreases-loop-round
-decreases-loop-round l = length l.words - l.round
