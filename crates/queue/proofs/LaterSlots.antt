@@ -13,11 +13,11 @@ use Rattle.machine.proofs.Everything.{everything}
 use Rattle.machine.proofs.Queue.{received-drop, received-length, received-identity, received-count, received-before, received-moved, received-freed}
 use Rattle.queue.specs.Queue.{receivable, left_by_receive}
 use Rattle.queue.specs.LaterSlots.{LaterSlotsStay, MovedUp, WaitingMoveUp, EveryReceive, receive_rows}
-use Rattle.queue.proofs.Laws.{may-receive, received-there}
+use Rattle.queue.proofs.Laws.{may_receive, received-there}
 
 pub later-slots-stay : LaterSlotsStay
 later-slots-stay q h =
-    let may = may-receive q h in
+    let may = may_receive q h in
     let left = waiting q - 1 in
     let moved = take left (drop 5 q) in
     let all : waiting q ≡ length moved + 1 = omega (arith, length-take-le left (drop 5 q) (rw length-drop (omega arith))) in
@@ -29,7 +29,7 @@ later-slots-stay q h =
 
 pub waiting-move-up : WaitingMoveUp
 waiting-move-up q h =
-    let may = may-receive q h in
+    let may = may_receive q h in
     let some : waiting q ≢ 0 = λ none. omega (arith, may.some) in
     subst (MovedUp q) (received-there q h)
     (record {

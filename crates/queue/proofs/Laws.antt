@@ -33,9 +33,9 @@ pub record MaySend (q : List ℕ) (message : ℕ) : Type 0 where
   pub most : waiting q ≤ 8
   pub small : message ≤ most_payload
 
-pub may-send : (q : List ℕ) (m : ℕ) → sendable q m ≡ true → MaySend q m
+pub may_send : (q : List ℕ) (m : ℕ) → sendable q m ≡ true → MaySend q m
 unfolding sendable
-may-send q m h =
+may_send q m h =
     let twelve = eqb (length q) 12 in
     let holds = leb 1 (capacity q) in
     let slots = leb (capacity q) 8 in
@@ -51,18 +51,18 @@ may-send q m h =
       small = leb-true _ _ (and_right (twelve && holds && slots && most) (leb m most_payload) h);
     }
 
-pub not-sent : (q : List ℕ) (m : ℕ) → sendable q m ≡ false → q ≡ left_by_send q m
+pub not_sent : (q : List ℕ) (m : ℕ) → sendable q m ≡ false → q ≡ left_by_send q m
 unfolding left_by_send
-not-sent q m h = rw h
+not_sent q m h = rw h
 
 module _ (q : List ℕ) (m : ℕ) (passed : sendable q m ≡ true) where
-  pub sent-with-space : waiting q < capacity q → send_with_space q m ≡ left_by_send q m
+  pub sent_with_space : waiting q < capacity q → send_with_space q m ≡ left_by_send q m
   unfolding left_by_send sent has_space
-  sent-with-space space = rw (passed, lt-ltb _ _ space)
+  sent_with_space space = rw (passed, lt-ltb _ _ space)
 
-  pub sent-to-full : capacity q ≤ waiting q → send_to_full q m ≡ left_by_send q m
+  pub sent_to_full : capacity q ≤ waiting q → send_to_full q m ≡ left_by_send q m
   unfolding left_by_send sent has_space
-  sent-to-full full = rw (passed, le-ltb _ _ full)
+  sent_to_full full = rw (passed, le-ltb _ _ full)
 
 -- ---- a send to a full queue: once the oldest message is out there is space for the new one,
 pub room-made : (q : List ℕ) (m : ℕ) → MayPushOut q m → QueueRoom (received q) m
@@ -80,9 +80,9 @@ unfolding send_to_full
 pushed-out q p r m n took sent raised = rw (sent, took, raised)
 
 -- ---- what the test of a receive says, and what a receive is on either side of it
-pub may-receive : (q : List ℕ) → receivable q ≡ true → MayReceive q
+pub may_receive : (q : List ℕ) → receivable q ≡ true → MayReceive q
 unfolding receivable
-may-receive q h =
+may_receive q h =
     let twelve = eqb (length q) 12 in
     let some = leb 1 (waiting q) in
     let both = and_left (twelve && some) (leb (waiting q) 8) h in

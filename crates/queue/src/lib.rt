@@ -13,6 +13,7 @@ use format::tables::{EMPTY_SLOT, ENDPOINT_WORDS, MOST_LOST, NONE_LOST, NONE_WAIT
 
 // Returns whether a send can be done: twelve words with a capacity of 1 to 8 and at most 8 messages waiting, and a message of 28
 // bits. So a full queue has a message to push out, and its messages are in slots.
+#[tactic(auto, unfolding(crate::specs::Queue::sendable, machine::specs::Queue::capacity, machine::specs::Queue::waiting))]
 fn sendable(q: &[u32], message: u32) -> bool
     ensures { result ≡ sendable q.now message }
 {
@@ -25,6 +26,7 @@ fn sendable(q: &[u32], message: u32) -> bool
 }
 
 // Stores the message in the slot at the waiting count, and raises waiting by 1.
+#[tactic(auto, unfolding(machine::specs::Queue::send_with_space, machine::specs::Queue::waiting))]
 fn send_with_space(q: &mut [u32], message: u32)
     requires { QueueRoom q.old message }
     ensures { q.new ≡ send_with_space q.old message }
@@ -39,10 +41,7 @@ fn send_with_space(q: &mut [u32], message: u32)
 pub fn lost_after(count: u32) -> u32
     ensures { result ≡ min (count + 1) most_lost }
 {
-    if count < MOST_LOST {
-        return count + 1;
-    }
-    MOST_LOST
+    count.min(MOST_LOST - 1) + 1
 }
 
 // Pushes out the oldest message, puts the new one last, and raises lost by 1, or leaves it at its largest.
@@ -59,6 +58,7 @@ fn send_to_full(q: &mut [u32], message: u32)
 
 // Sends a message where `sendable` allows it, and returns whether it does. The waiting count and the capacity say whether there is
 // space. The answer is the same either way.
+#[tactic(auto, using(crate::proofs::Laws::may_send, crate::proofs::Laws::sent_with_space, crate::proofs::Laws::sent_to_full, crate::proofs::Laws::not_sent), unfolding(machine::specs::Queue::capacity, machine::specs::Queue::waiting))]
 pub fn send(q: &mut [u32], message: u32) -> bool
     ensures value { result ≡ sendable q.old message }
     ensures q_after { q.new ≡ left_by_send q.old message }
@@ -78,6 +78,7 @@ pub fn send(q: &mut [u32], message: u32) -> bool
 
 // Returns whether a receive can be done: twelve words with 1 to 8 messages waiting, whatever the slots from the waiting count on
 // hold.
+#[tactic(auto, unfolding(crate::specs::Queue::receivable, machine::specs::Queue::waiting))]
 fn receivable(q: &[u32]) -> bool
     ensures { result ≡ receivable q.now }
 {
@@ -90,22 +91,20 @@ fn receivable(q: &[u32]) -> bool
 
 // Takes out the oldest message: the others move up, the slot that comes free is cleared, and waiting falls by 1. Slots from
 // the waiting count on aren't touched, whatever they hold.
+#[tactic(auto, using(crate::proofs::Received::moved_end), unfolding(machine::specs::Queue::waiting))]
 fn take_oldest(q: &mut [u32])
     requires { MayReceive q.old }
     ensures { q.new ≡ received q.old }
 {
     let left = q[2] % KIND_UNIT - 1;
     let last = left as usize;
-    let mut i: usize = 0;
-    while i < last {
-        q[4 + i] = q[5 + i];
-        i += 1;
-    }
+    q.copy_within(5..5 + last, 4);
     q[4 + last] = EMPTY_SLOT;
     q[2] = NONE_WAITING + left;
 }
 
 // Takes out the oldest message where `receivable` allows it, and returns whether it does.
+#[tactic(auto, using(crate::proofs::Laws::may_receive), unfolding(crate::specs::Queue::left_by_receive))]
 pub fn receive(q: &mut [u32]) -> bool
     ensures value { result ≡ receivable q.old }
     ensures q_after { q.new ≡ left_by_receive q.old }
