@@ -19,8 +19,8 @@ row_fits h n ph pn =
     mul-le-mul qh qn
 
 -- the square of eight bits
-pub square-small : (n : ℕ) → n % 256 * (n % 256) ≤ 65025
-square-small n =
+pub square_small : (n : ℕ) → n % 256 * (n % 256) ≤ 65025
+square_small n =
     let few : n % 256 ≤ 255 = omega arith in
     mul-le-mul few few
 

@@ -15,13 +15,11 @@ use rights::Rights;
 pub fn word(table: &[u32], at: usize) -> u32
     ensures { result ≡ get_or table.now at 0 }
 {
-    if at < table.len() {
-        return table[at];
-    }
-    0
+    table.get(at).copied().unwrap_or(0)
 }
 
 // Returns n, the count of domains.
+#[tactic(auto, unfolding(machine::specs::Table::domains))]
 pub fn domains(table: &[u32]) -> u32
     ensures { result ≡ domains table.now }
 {
@@ -30,6 +28,7 @@ pub fn domains(table: &[u32]) -> u32
 }
 
 // Returns m, the count of endpoints.
+#[tactic(auto, unfolding(machine::specs::Table::endpoints))]
 pub fn endpoints(table: &[u32]) -> u32
     ensures { result ≡ endpoints table.now }
 {
@@ -38,6 +37,7 @@ pub fn endpoints(table: &[u32]) -> u32
 }
 
 // Returns the place of the rights word of a holder on a target, among n domains.
+#[tactic(auto, using(crate::proofs::Places::row_fits))]
 pub fn rights_at(n: u32, holder: u32, target: u32) -> usize
     ensures { result ≡ rights_at n holder target }
 {
@@ -45,6 +45,7 @@ pub fn rights_at(n: u32, holder: u32, target: u32) -> usize
 }
 
 // Returns the place of the first of an endpoint's twelve words, among n domains.
+#[tactic(auto, using(crate::proofs::Places::square_small))]
 pub fn endpoint_at(n: u32, e: u32) -> usize
     ensures { result ≡ endpoint_at (n % 256) e }
 {
@@ -64,6 +65,7 @@ pub fn rights(table: &[u32], n: u32, holder: u32, target: u32) -> Rights
 }
 
 // Returns word i from an endpoint's first word on, among n domains.
+#[tactic(auto, using(crate::proofs::Places::square_small))]
 pub fn endpoint_word(table: &[u32], n: u32, e: u32, i: u32) -> u32
     ensures { result ≡ get_or table.now (endpoint_at (n % 256) e + i) 0 }
 {
