@@ -72,8 +72,8 @@ pub one_at_most : (b : Bool) → cond b 0 1 ≤ 1
 one_at_most true = omega arith
 one_at_most false = omega arith
 
-pub counted-all : (list : List ℕ) (calls before i : ℕ) → length list ≤ i → Counted list calls before i → calls ≡ length (split list)
+pub counted_all : (list : List ℕ) (calls before i : ℕ) → length list ≤ i → Counted list calls before i → calls ≡ length (split list)
 unfolding begun_after
-counted-all list calls before i l h =
+counted_all list calls before i l h =
     let none : begun_after before (drop i list) ≡ 0 = rw (drop_of_length-le list l) refl in
     omega arith

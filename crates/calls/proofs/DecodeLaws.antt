@@ -1,8 +1,8 @@
 -- The decoding of a call, by what the code tests: a sum for the unused fields, a match for the second word and for the kind.
 -- Assumes nothing.
-use Prim.Native.Nat.{ℕ, ◌+◌, ◌*◌, ◌%◌, ◌^◌, ◌<◌, ◌≤◌}
+use Prim.Native.Nat.{ℕ, ◌+◌, ◌*◌, ◌%◌, ◌<◌, ◌≤◌}
 use mathlib.Core.Path.{◌≡◌, refl, sym, ap, ◌∙◌}
-use mathlib.Core.Logic.{◌⊎◌, inl, inr, ◌↔◌}
+use mathlib.Core.Logic.{◌↔◌}
 use mathlib.Core.Bool.{Bool, true, false, not, ◌&&◌}
 use mathlib.Core.List.{List, [], ◌∷◌}
 use native.Mathlib.Omega.{arith}
@@ -87,23 +87,3 @@ unknown-kind w s low high =
       differs 8 (omega arith),
       differs 15 (omega arith),
     )
-
--- what a match leaves to its last arm when those before it are the kinds 15, 0 and 1 to 7, in this order
-abbrev pub Others : ℕ → Type 0
-Others n =
-    ((((((((Unit × (n ≡ 15 → ⊥)) × (n ≡ 0 → ⊥)) × (n ≡ 1 → ⊥)) × (n ≡ 2 → ⊥)) × (n ≡ 3 → ⊥)) × (n ≡ 4 → ⊥))
-    × (n ≡ 5 → ⊥))
-    × (n ≡ 6 → ⊥))
-    × (n ≡ 7 → ⊥)
-
-from-four : (n : ℕ) → (n ≡ 0 → ⊥) → (n ≡ 1 → ⊥) → (n ≡ 2 → ⊥) → (n ≡ 3 → ⊥) → 4 ≤ n
-from-four n d0 d1 d2 d3 = omega arith
-
-from-eight : (n : ℕ) → 4 ≤ n → (n ≡ 4 → ⊥) → (n ≡ 5 → ⊥) → (n ≡ 6 → ⊥) → (n ≡ 7 → ⊥) → 8 ≤ n
-from-eight n low d4 d5 d6 d7 = omega arith
-
--- without 9 to 14 too, 8 is the one kind left
-pub eight-left : (w : ℕ) → w < 2 ^ 32 → Others (kind w) → (kind w < 9) ⊎ (15 ≤ kind w) → kind w ≡ 8
-eight-left w fits (((((((((_, d15), d0), d1), d2), d3), d4), d5), d6), d7) (inl h) =
-    omega (arith, from-eight (kind w) (from-four (kind w) d0 d1 d2 d3) d4 d5 d6 d7)
-eight-left w fits (((((((((_, d15), d0), d1), d2), d3), d4), d5), d6), d7) (inr h) = absurd (d15 (omega arith))

@@ -9,7 +9,7 @@ use format::calls::{KIND_LOOK_UP, KIND_SECOND, KIND_SEND};
 
 // Returns whether a kind wants a second word: kinds 1 and 2 do.
 #[tactic(auto, unfolding(machine::specs::Call::wants_second))]
-fn wants_second(kind: u32) -> bool
+pub fn wants_second(kind: u32) -> bool
     ensures { result ≡ wants_second kind }
 {
     kind == KIND_LOOK_UP || kind == KIND_SEND
@@ -20,12 +20,7 @@ fn wants_second(kind: u32) -> bool
 pub fn make_one_call(first: u32, next: u32) -> bool
     ensures { result ≡ pairs first next }
 {
-    let kind = next / KIND_UNIT;
-    if kind == KIND_SECOND {
-        wants_second(first / KIND_UNIT)
-    } else {
-        false
-    }
+    next / KIND_UNIT == KIND_SECOND && wants_second(first / KIND_UNIT)
 }
 
 // Returns how many calls a word begins: one, or none where it makes one call with the word before it.
@@ -36,17 +31,15 @@ fn begun(before: u32, word: u32) -> usize
 }
 
 // Returns how many calls a list has. Every word begins one, except a word that makes one call with the word before it.
+#[tactic(auto, using(crate::proofs::Counted::counted_none, crate::proofs::Counted::one_at_most))]
 pub fn count(list: &[u32]) -> usize
     ensures { result ≡ length (split list.now) }
 {
     let mut calls: usize = 0;
     let mut before: u32 = 0;
-    let mut i: usize = 0;
-    while i < list.len() {
-        let word = list[i];
-        calls += begun(before, word);
-        before = word;
-        i += 1;
+    for word in list {
+        calls += begun(before, *word);
+        before = *word;
     }
     calls
 }

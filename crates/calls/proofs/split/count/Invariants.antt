@@ -1,12 +1,8 @@
 -- `split::count` meets its contract. The invariant says what remains (proofs/Counted).
 -- Assumes nothing.
-use Prim.Native.Nat.{◌≤◌, ◌-◌}
-use lib.ListN.{length}
+use Prim.Native.Nat.{◌≤◌}
 use Rattle.calls.proofs.Counted.{Counted}
 use Rattle.calls.proofs.split.count.Given as goal
 
-abbrev pub invariant-loop-i : goal.invariant-loop-i
-invariant-loop-i l = (l.i ≤ length l.list) × (l.calls ≤ l.i) × Counted l.list l.calls l.before l.i
-
-abbrev pub decreases-loop-i : goal.decreases-loop-i
-decreases-loop-i l = length l.list - l.i
+abbrev pub invariant-loop-word : goal.invariant-loop-word
+invariant-loop-word l = (l.calls ≤ l.word-index) × Counted l.list l.calls l.before l.word-index
