@@ -11,6 +11,7 @@ use borrow.Author.Tests.{eq-eqb, ne_eqb}
 use lib.Dec.{eqb}
 use lib.ListN.{length, get_or, take, drop, set, replicate, length-set, drop_of_length-le, length-replicate, get_or-replicate}
 use lib.Seq.{take-suc-set, get_or-set_same, get_or-set_other, get_or-drop, drop-drop, ext_get_or}
+use Rattle.std.specs.Int.{from_bool}
 use Rattle.machine.specs.Word.{kind, field_b, answer_code}
 use Rattle.machine.specs.Below.{words_below}
 use Rattle.machine.specs.Call.{Call, Kind, first, split, kind_number, one_of, kind_of, call_kind}
@@ -59,6 +60,16 @@ named_at list i = field_b (get_or list i 0)
 
 abbrev pub adds_at : List ℕ → List ℕ → ℕ → ℕ → ℕ → ℕ
 adds_at list answers at i k = one (get_or list i 0) (get_or answers at 0) k
+
+-- the same as the code reads it: whether the call was done, as a number
+pub adds-one : (list answers : List ℕ) (at i k : ℕ) {answer added : ℕ} {is-done : Bool} → answer ≡ get_or answers at 0
+    → is-done ≡ (eqb (kind (get_or list i 0)) k && eqb (answer_code answer) 0) → added ≡ from_bool is-done → added ≡ adds_at list answers at i k
+adds-one list answers at i k read is number =
+    number ∙ ap from_bool is ∙ as-cond _ ∙ ap (λ (a : ℕ). one (get_or list i 0) a k) read
+  where
+    as-cond : (b : Bool) → from_bool b ≡ cond b 1 0
+    as-cond true = refl
+    as-cond false = refl
 
 -- one call more: the count of the endpoint that it names, with it
 module _ {is : Kind → Bool} {list answers counts : List ℕ} {at i : ℕ} (k : ℕ) (numbered : Numbered is k) (l : i < length list)

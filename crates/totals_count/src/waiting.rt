@@ -12,10 +12,10 @@ pub fn waiting_counts(table: &[u32]) -> [u64; 32]
     ensures { result ≡ words_below 32 (λ e. waiting (endpoint table.now e)) }
 {
     let n = domains(table);
-    let mut counts = [0u64; 32];
-    for e in 0..32 {
+    let mut counts = [0; 32];
+    for (e, count) in counts.iter_mut().enumerate() {
         let word = endpoint_word(table, n, e as u32, 2);
-        counts[e] = (word % KIND_UNIT) as u64;
+        *count = u64::from(word % KIND_UNIT);
     }
     counts
 }
