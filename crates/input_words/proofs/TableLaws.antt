@@ -38,8 +38,8 @@ no_words bytes h =
     ap (λ l. take (table_length bytes) (words_of l)) (drop_of_length-le bytes {i = 4} (omega arith))
     ∙ take-nil (table_length bytes)
 
-pub fills-none : (bytes table : List ℕ) → length bytes < 4 → Fills (table_of bytes) table 0 table
-fills-none bytes table h =
+pub fills_none : (bytes table : List ℕ) → length bytes < 4 → Fills (table_of bytes) table 0 table
+fills_none bytes table h =
     rw (no_words bytes h) (record { count-is = omega arith; items-are = sym (overwrite-none 0 table) })
 
 -- an index capped at the input's length gives the same bytes from it on, since there are none past the end

@@ -30,8 +30,8 @@ take-words_of (suc k) (a ∷ b ∷ c ∷ []) = rw four-times
 take-words_of (suc k) (a ∷ b ∷ c ∷ d ∷ bytes) = rw four-times (ap (λ l. word_of a b c d ∷ l) (take-words_of k bytes))
 
 -- past the end every byte counts as 0
-pub word_at-past : (bytes : List ℕ) (at : ℕ) → length bytes ≤ at → word_at bytes at ≡ 0
-word_at-past bytes at h =
+pub word_at_past : (bytes : List ℕ) (at : ℕ) → length bytes ≤ at → word_at bytes at ≡ 0
+word_at_past bytes at h =
     let none : (k : ℕ) → get_or bytes (at + k) 0 ≡ 0 = λ k. get_or-eq_default bytes 0 (omega arith) in
     let first : get_or bytes at 0 ≡ 0 = get_or-eq_default bytes 0 h in
     simp (first, none)

@@ -3,7 +3,6 @@ ghost use Rattle.std.specs.Prelude.{min, ◌≡◌, length};
 ghost use Rattle.input_words.specs.TableInput.{no_table, table_end, table_of, after_table, table_wanted};
 ghost use Rattle.text.specs.Write.{Fills};
 
-use crate::bounds::least;
 use crate::words::{fill, word_at};
 use format::tables::LONGEST_TABLE;
 
@@ -12,24 +11,20 @@ fn table_end(bytes: &[u8]) -> usize
     ensures { result ≡ min (table_end bytes.now) (length bytes.now) }
 {
     let length = word_at(bytes, 0) as usize;
-    least(4 + 4 * length, bytes.len())
+    bytes.len().min(4 + 4 * length)
 }
 
 // Returns whether the input has no whole table: under 4 bytes, a length above the longest, or fewer words than its length says.
+#[tactic(auto, unfolding(crate::specs::TableInput::no_table))]
 pub fn no_table(bytes: &[u8]) -> bool
     ensures { result ≡ no_table bytes.now }
 {
-    if bytes.len() < 4 {
-        return true;
-    }
     let length = word_at(bytes, 0) as usize;
-    if LONGEST_TABLE < length {
-        return true;
-    }
-    bytes.len() < 4 + 4 * length
+    bytes.len() < 4 || LONGEST_TABLE < length || bytes.len() < 4 + 4 * length
 }
 
 // Returns how many more bytes to read, where the input so far is `bytes`: first the length word, then the table that it announces.
+#[tactic(auto, unfolding(crate::specs::TableInput::table_wanted))]
 pub fn table_wanted(bytes: &[u8]) -> usize
     ensures { result ≡ table_wanted bytes.now }
 {
@@ -41,8 +36,7 @@ pub fn table_wanted(bytes: &[u8]) -> usize
     if LONGEST_TABLE < words {
         return 0;
     }
-    let end = 4 + 4 * words;
-    if have < end { end - have } else { 0 }
+    (4 + 4 * words).saturating_sub(have)
 }
 
 // Fills `table` from the front with the table's words, as many as fit, and returns how many.
@@ -57,6 +51,7 @@ pub fn read_table(bytes: &[u8], table: &mut [u32]) -> usize
 }
 
 // Returns the bytes after the table.
+#[tactic(auto, using(crate::proofs::TableLaws::rest_part))]
 pub fn after_table(bytes: &[u8]) -> &[u8]
     ensures { result.now ≡ after_table bytes.now }
 {

@@ -3,23 +3,22 @@ ghost use Rattle.std.specs.Prelude.{◌≡◌, get_or};
 ghost use Rattle.input_words.specs.Bytes.{word_of, word_at, words_of};
 ghost use Rattle.text.specs.Write.{Fills};
 
-use crate::bounds::least;
-
 // Returns the word of four bytes, the lowest first.
 pub fn word(a: u8, b: u8, c: u8, d: u8) -> u32
     ensures { result ≡ word_of a b c d }
 {
-    a as u32 + 256 * (b as u32) + 65536 * (c as u32) + 16777216 * (d as u32)
+    u32::from_le_bytes([a, b, c, d])
 }
 
 // Returns the byte at an index, or 0 past the end.
 fn byte_at(bytes: &[u8], at: usize) -> u8
     ensures { result ≡ get_or bytes.now at 0 }
 {
-    if at < bytes.len() { bytes[at] } else { 0 }
+    bytes.get(at).copied().unwrap_or(0)
 }
 
 // Returns the word of the four bytes from an index on. A byte past the end counts as 0.
+#[tactic(auto, using(crate::proofs::WordLaws::word_at_past))]
 pub fn word_at(bytes: &[u8], at: usize) -> u32
     ensures { result ≡ word_at bytes.now at }
 {
@@ -39,7 +38,7 @@ pub fn word_at(bytes: &[u8], at: usize) -> u32
 pub fn fill(bytes: &[u8], words: &mut [u32]) -> usize
     ensures { Fills (words_of bytes.now) words.old result words.new }
 {
-    let count = least(bytes.len() / 4, words.len());
+    let count = (bytes.len() / 4).min(words.len());
     for i in 0..count {
         let at = 4 * i;
         words[i] = word(bytes[at], bytes[at + 1], bytes[at + 2], bytes[at + 3]);
