@@ -1,4 +1,4 @@
--- Laws of a domain's seventeen words (specs/Pending): the tests and their parts, what the two loops make of the words, and what is
+-- Laws of a domain's seventeen words (specs/Pending): the tests and their parts, what the two copies make of the words, and what is
 -- pending in the words that they leave. Assumes nothing.
 use mathlib.Core.Path.{◌≡◌, refl, sym, ap, ap₂, ◌∙◌}
 use mathlib.Core.Bool.{true, false}
@@ -8,6 +8,7 @@ use native.Mathlib.Numerals.{add-one}
 use native.Mathlib.Decide.{dec_le}
 use native.Mathlib.Omega.{arith}
 use borrow.Author.Tests.{eqb-true, leb-true, le-leb, lt-leb}
+use borrow.Rule.Slice.PartMut.{put_mid}
 use lib.Dec.{eqb, leb}
 use lib.ListN.{length, get_or, take, drop, set, length-append, length-drop}
 use lib.Seq.{length-take-le, take-length, take_at, drop_at, get_or-drop, drop-drop, take-add, paste, paste-suc, drop-paste}
@@ -57,12 +58,13 @@ cons_drop (x ∷ xs) h = refl
 
 -- ---- words that are appended
 
--- the loop has copied all: the count is set
-pub enqueue-end : (b vs : List ℕ) → 1 ≤ length b → set (paste b (1 + count b) vs (length vs)) 0 (count b + length vs) ≡ enqueued b vs
+-- the words are copied after those that were pending, and the count is set
+pub enqueue-end : (b vs new : List ℕ) (p k : ℕ) → 1 ≤ length b → new ≡ vs → p ≡ count b → k ≡ length vs → set (put_mid (1 + p) k b new) 0 (p + length vs) ≡ enqueued b vs
 unfolding enqueued pending_in
-enqueue-end b vs h =
-    ap₂ (λ (xs ys : List ℕ). set (xs ++ ys ++ drop (1 + count b + length vs) b) 0 (count b + length vs)) front (take-length vs)
-    ∙ ap (λ (ws : List ℕ). (count b + length vs) ∷ ws) (append_assoc (take (count b) (drop 1 b)) vs _)
+enqueue-end b vs new p k h is at wide =
+    ap₂ (λ (z : List ℕ) (i : ℕ). set (put_mid (1 + p) i b z) 0 (p + length vs)) is wide
+    ∙ ap (λ (i : ℕ). set (put_mid (1 + i) (length vs) b vs) 0 (i + length vs)) at
+    ∙ ap₂ (λ (xs ys : List ℕ). set (xs ++ (vs ++ ys)) 0 (count b + length vs)) front (drop-drop (length vs) (1 + count b) b)
   where
     front : take (1 + count b) b ≡ get_or b 0 0 ∷ take (count b) (drop 1 b)
     front =
@@ -70,31 +72,6 @@ enqueue-end b vs h =
         ap (λ (k : ℕ). take k b) next ∙ ap (take (suc (count b))) (cons_drop b h)
 
 -- ---- words that move to the front
-
--- the first j of the words after the first few have moved
-abbrev pub moved : List ℕ → ℕ → ℕ → List ℕ
-moved b few j = paste b 1 (drop (1 + few) b) j
-
-module _ (b : List ℕ) (few j : ℕ) (within : 1 + few + j < length b) where
-  behind : j < length (drop (1 + few) b)
-  behind = rw length-drop (omega arith)
-
-  moved-read : get_or (moved b few j) (1 + few + j) 0 ≡ get_or (drop (1 + few) b) j 0
-  moved-read =
-      let next : 1 + few + j ≡ 1 + j + few = omega arith in
-      ap (λ (i : ℕ). get_or (moved b few j) i 0) next
-      ∙ sym (get_or-drop (1 + j) (moved b few j) few 0)
-      ∙ ap (λ (l : List ℕ). get_or l few 0) (drop-paste b 1 (drop (1 + few) b) j (omega arith) (omega (arith, behind)))
-      ∙ get_or-drop (1 + j) b few 0
-      ∙ ap (λ (i : ℕ). get_or b i 0) (sym next)
-      ∙ sym (get_or-drop (1 + few) b j 0)
-
-  -- one iteration of the loop
-  pub moved_more : set (moved b few j) (1 + j) (get_or (moved b few j) (1 + few + j) 0) ≡ moved b few (j + 1)
-  moved_more =
-      ap (λ (w : ℕ). set (moved b few j) (1 + j) w) moved-read
-      ∙ paste-suc b 1 (drop (1 + few) b) j 0 (omega arith) behind
-      ∙ ap (moved b few) (sym (add-one j))
 
 -- what is dropped of what is taken
 drop-take : (few n : ℕ) (l : List ℕ) → few ≤ n → few ≤ length l → drop few (take n l) ≡ take (n - few) (drop few l)
@@ -104,17 +81,18 @@ drop-take few n l h k =
     ∙ ap (drop few) (take-add few (n - few) l)
     ∙ drop_at (take few l) (take (n - few) (drop few l)) few (length-take-le few l k)
 
--- the loop has moved all: the count is set
-pub dequeue-end : (b : List ℕ) (few : ℕ) → MayDequeue b few → set (moved b few (count b - few)) 0 (count b - few) ≡ dequeued b few
+-- the words after the first few are moved, and the count is set
+pub dequeue-end : (b new : List ℕ) (few k left : ℕ) → new ≡ paste b 1 (drop (1 + few) b) k → k ≡ count b - few → left ≡ count b - few → MayDequeue b few → set new 0 left ≡ dequeued b few
 unfolding dequeued pending_in
-dequeue-end b few p =
-    let left = count b - few in
+dequeue-end b new few k left is wide at p =
+    let rest = count b - few in
     let z = length-drop 1 b in
     let m = count_most b in
     let s = p.size in
-    ap (λ (xs : List ℕ). set (take 1 xs ++ take left (drop (1 + few) b) ++ drop (1 + left) b) 0 left) (cons_drop b (omega arith))
-    ∙ ap (λ (ws : List ℕ). left ∷ (ws ++ drop (1 + left) b))
-    (ap (take left) (sym (drop-drop few 1 b)) ∙ sym (drop-take few (count b) (drop 1 b) p.there (omega (arith, p.there))))
+    ap₂ (λ (xs : List ℕ) (i : ℕ). set xs 0 i) (is ∙ ap (paste b 1 (drop (1 + few) b)) wide) at
+    ∙ ap (λ (xs : List ℕ). set (take 1 xs ++ take rest (drop (1 + few) b) ++ drop (1 + rest) b) 0 rest) (cons_drop b (omega arith))
+    ∙ ap (λ (ws : List ℕ). rest ∷ (ws ++ drop (1 + rest) b))
+    (ap (take rest) (sym (drop-drop few 1 b)) ∙ sym (drop-take few (count b) (drop 1 b) p.there (omega (arith, p.there))))
 
 -- ---- what is pending afterwards
 

@@ -1,18 +1,22 @@
--- Laws of whose turn is next (specs/State: or_none, next_to_serve). Assumes nothing.
+-- Laws of whose turn is next (specs/State: found, next_to_serve). Assumes nothing.
 use mathlib.Core.Path.{◌≡◌, refl, sym, ap, ◌∙◌}
 use mathlib.Core.Bool.{Bool, true, false}
 use mathlib.Core.Logic.{◌⊎◌, ⊎_elim, ◌⊎◌.inl, ◌⊎◌.inr}
 use mathlib.Core.List.{List}
+use mathlib.Core.Option as maybe
 use mathlib.Core.Option.{none, some}
-use Prim.Native.Nat.{ℕ, ◌<◌}
+use Rattle.std.specs.Prelude.{Option, Some, None, MatchOption}
+use Rattle.std.proofs.lemmas.Option.{none-some, same_Some}
+use Prim.Native.Nat.{ℕ, ◌<◌, ◌≤◌}
 use native.Mathlib.Omega.{arith}
 use borrow.Author.Tests.{eqb-true, eqb-false, eq-eqb, ne_eqb}
 use lib.Dec.{eqb, leb}
 use lib.ListN.{length}
 use Rattle.machine.proofs.Bools.{and_right}
-use Rattle.turns_theory.specs.Turns.{Turns, waits, first_pending_from, first_waiting}
-use Rattle.turns_theory.proofs.Pending.{waiting-up, waiting-round, from-cases}
-use Rattle.turns_state.specs.State.{state_length, turns_in, or_none, next_to_serve}
+use Rattle.machine.specs.Below.{first_below}
+use Rattle.turns_theory.specs.Turns.{Turns, waits, first_pending_from, or_else, first_waiting}
+use Rattle.turns_theory.proofs.Pending.{waiting-up, waiting-round, from-cases, first_found, first-none}
+use Rattle.turns_state.specs.State.{state_length, turns_in, found, next_to_serve}
 
 -- the first that is found is a domain with a call
 pub record Found (n : ℕ) (s : Turns) (d : ℕ) : Type 0 where
@@ -31,50 +35,56 @@ waiting-found n s =
     (λ is. ⊎_elim (λ f. let (d, is', it) = f in inl (d, waiting-round n s is ∙ is', it)) (λ is'. inr (waiting-round n s is ∙ is')) (from_found n s 0))
     (from_found n s s.place)
 
--- n is returned where nobody was found there, and then the search is repeated from 0
-pub none-there : (n : ℕ) (s : Turns) → or_none n (first_pending_from n s s.place) ≡ n → or_none n (first_pending_from n s 0) ≡ or_none n (first_waiting n s)
-unfolding or_none
-none-there n s h =
-    ⊎_elim (λ f. let (d, is, it) = f in absurd (omega (arith, it.below, sym (ap (or_none n) is) ∙ h)))
-    (λ is. ap (or_none n) (sym (waiting-round n s is)))
-    (from_found n s s.place)
+-- what a search of the domains below n by a test returns
+pub search-found : (n : ℕ) (p : ℕ → Bool) (r : Option ℕ)
+    → MatchOption r ((k : ℕ) → 0 ≤ k → k < n → p k ≡ false) (λ i. (0 ≤ i) × (i < n) × (p i ≡ true) × ((k : ℕ) → 0 ≤ k → k < i → p k ≡ false))
+    → r ≡ found (first_below n p)
+search-found n p None fails = sym (ap found (first-none n p (λ i l. fails i (omega arith) l)))
+search-found n p (Some i) (_, l, is, fails) = sym (ap found (first_found n p i (first-none i p (λ j b. fails j (omega arith) b)) is l))
 
-pub one-there : (n : ℕ) (s : Turns) → (or_none n (first_pending_from n s s.place) ≡ n → ⊥) → or_none n (first_pending_from n s s.place) ≡ or_none n (first_waiting n s)
-unfolding or_none
-one-there n s h =
-    ⊎_elim (λ f. let (d, is, it) = f in ap (or_none n) (is ∙ sym (waiting-up n s d is)))
-    (λ is. absurd (h (ap (or_none n) is)))
-    (from_found n s s.place)
-
--- the domain that is next, where it isn't n
-pub next-found : (n : ℕ) (s : Turns) (d : ℕ) → d ≡ or_none n (first_waiting n s) → (d ≡ n → ⊥) → first_waiting n s ≡ some d
-unfolding or_none
-next-found n s d h other =
-    ⊎_elim (λ f. let (e, is, it) = f in is ∙ ap (λ (x : ℕ). some x) (sym (h ∙ ap (or_none n) is)))
-    (λ is. absurd (other (h ∙ ap (or_none n) is)))
-    (waiting-found n s)
-
-pub next-none : (n : ℕ) (s : Turns) → n ≡ or_none n (first_waiting n s) → first_waiting n s ≡ none
-unfolding or_none
-next-none n s h =
-    ⊎_elim (λ f. let (e, is, it) = f in absurd (omega (arith, it.below, h ∙ ap (or_none n) is))) (λ is. is) (waiting-found n s)
+-- from the place of the turn on, and then from 0
+pub found-waiting : (n : ℕ) (s : Turns) (first r : Option ℕ) (Next : Type 0)
+    → first ≡ found (first_pending_from n s s.place)
+    → (Next → r ≡ found (first_pending_from n s 0))
+    → MatchOption first Next (λ d. r ≡ Some d)
+    → r ≡ found (first_waiting n s)
+unfolding first_waiting or_else
+found-waiting n s first r Next is next which = go first (first_pending_from n s s.place) is which
+  where
+    go : (o : Option ℕ) (m : maybe.Option ℕ) → o ≡ found m → MatchOption o Next (λ d. r ≡ Some d) → r ≡ found (or_else m (first_pending_from n s 0))
+    go None none e q = next q
+    go None (some d) e q = absurd (none-some d e)
+    go (Some d) none e q = absurd (none-some d (sym e))
+    go (Some d) (some x) e q = q ∙ e
 
 -- ---- whom a turn is to serve
 
-pub next-size : (n : ℕ) (ws : List ℕ) → (length ws ≡ state_length n → ⊥) → next_to_serve n ws ≡ n
+pub next-size : (n : ℕ) (ws : List ℕ) → (length ws ≡ state_length n → ⊥) → next_to_serve n ws ≡ None
 unfolding next_to_serve
 next-size n ws h = rw (ne_eqb (length ws) (state_length n) h)
 
-pub next-waiting : (n : ℕ) (ws : List ℕ) → length ws ≡ state_length n → next_to_serve n ws ≡ or_none n (first_waiting n (turns_in ws))
+pub next-waiting : (n : ℕ) (ws : List ℕ) → length ws ≡ state_length n → next_to_serve n ws ≡ found (first_waiting n (turns_in ws))
 unfolding next_to_serve
 next-waiting n ws h = rw (eq-eqb (length ws) (state_length n) h)
 
 -- whoever is to be served is the first that waits, in a state of the right length
-pub next-may : (n : ℕ) (ws : List ℕ) (d : ℕ) → d ≡ next_to_serve n ws → (d ≡ n → ⊥) → (length ws ≡ state_length n) × (first_waiting n (turns_in ws) ≡ some d)
-next-may n ws d is other = go (eqb (length ws) (state_length n)) refl
+pub next-may : (n : ℕ) (ws : List ℕ) (d : ℕ) → Some d ≡ next_to_serve n ws → (length ws ≡ state_length n) × (first_waiting n (turns_in ws) ≡ some d)
+next-may n ws d is = go (eqb (length ws) (state_length n)) refl
   where
+    one : (o : maybe.Option ℕ) → Some d ≡ found o → o ≡ some d
+    one none e = absurd (none-some d (sym e))
+    one (some x) e = ap (λ (y : ℕ). some y) (sym (same_Some d x e))
+
     go : (b : Bool) → eqb (length ws) (state_length n) ≡ b → (length ws ≡ state_length n) × (first_waiting n (turns_in ws) ≡ some d)
     go true e =
         let size = eqb-true _ _ e in
-        (size, next-found n (turns_in ws) d (is ∙ next-waiting n ws size) other)
-    go false e = absurd (other (is ∙ next-size n ws (eqb-false _ _ e)))
+        (size, one (first_waiting n (turns_in ws)) (is ∙ next-waiting n ws size))
+    go false e = absurd (none-some d (sym (is ∙ next-size n ws (eqb-false _ _ e))))
+
+-- nobody is to be served where nobody waits, in a state of the right length
+pub next-none : (n : ℕ) (ws : List ℕ) → length ws ≡ state_length n → None ≡ next_to_serve n ws → first_waiting n (turns_in ws) ≡ none
+next-none n ws size is = go (first_waiting n (turns_in ws)) (is ∙ next-waiting n ws size)
+  where
+    go : (o : maybe.Option ℕ) → None ≡ found o → o ≡ none
+    go none e = refl
+    go (some d) e = absurd (none-some d e)

@@ -1,8 +1,8 @@
 -- The words that represent what is pending and the place of the turn (document 02 (m)): 1 + 17 n of them, the place first, then
 -- seventeen words for each domain, lowest index first. For arbitrary words: what they represent, and what handing in and a turn
 -- leave of them. Where the place isn't below n, no domain is at or after it, so that a turn starts at 0.
-use Rattle.std.specs.Prelude.{ℕ, ◌+◌, ◌*◌, Bool, cond, not, ◌&&◌, List, ◌++◌, eqb, length, get_or, take, drop, set, replicate}
-use Rattle.std.proofs.Math.Option.{Option, none, some}
+use Rattle.std.specs.Prelude.{ℕ, ◌+◌, ◌*◌, Bool, cond, not, ◌&&◌, List, ◌++◌, eqb, length, get_or, take, drop, set, replicate, Option, Some, None}
+use Rattle.std.proofs.Math.Option as found_in
 use Rattle.machine.specs.Word.{kind, caller}
 use Rattle.machine.specs.Table.{domains}
 use Rattle.turns_theory.specs.Turns.{Turns, Turn, first_waiting, turn_of, width, Turn.idle, Turn.serves}
@@ -67,11 +67,11 @@ removed_from ws d few = cond (dequeuable (block ws d) few) (state_served ws d fe
 unfoldable pub is_call_of : ℕ → ℕ → Bool
 is_call_of w d = not (eqb (kind w) 15) && eqb (caller w) d
 
--- a domain below n, or n for none
-unfoldable pub or_none : ℕ → Option ℕ → ℕ
-or_none n none = n
-or_none n (some d) = d
+-- the domain that a search gave, as the code returns it
+abbrev pub found : found_in.Option ℕ → Option ℕ
+found found_in.none = None
+found (found_in.some d) = Some d
 
--- the domain that a turn is to serve, or n
-unfoldable pub next_to_serve : ℕ → List ℕ → ℕ
-next_to_serve n ws = cond (eqb (length ws) (state_length n)) (or_none n (first_waiting n (turns_in ws))) n
+-- the domain that a turn is to serve
+unfoldable pub next_to_serve : ℕ → List ℕ → Option ℕ
+next_to_serve n ws = cond (eqb (length ws) (state_length n)) (found (first_waiting n (turns_in ws))) None

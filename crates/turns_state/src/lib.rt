@@ -17,11 +17,7 @@ use calls::split::Second;
 pub fn clear(state: &mut [u32])
     ensures { state.new ≡ replicate (length state.old) 0 }
 {
-    let mut i: usize = 0;
-    while i < state.len() {
-        state[i] = 0;
-        i += 1;
-    }
+    state.fill(0);
 }
 
 // Appends the words to those that are pending of the domain and returns true, or returns false where there is no room for them.

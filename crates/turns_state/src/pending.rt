@@ -3,6 +3,7 @@
 // the count on are never read, and a count above 16 is read as 16. Where the words aren't seventeen, `enqueue` and `dequeue` change
 // nothing.
 ghost use Rattle.std.specs.Prelude.{◌≡◌, ◌+◌, ◌≤◌, length};
+ghost use Rattle.turns_theory.specs.Turns.{most_pending};
 ghost use Rattle.turns_state.specs.Pending.{count, enqueuable, left_by_enqueue, enqueued, MayEnqueue};
 ghost use Rattle.turns_state.specs.Pending.{dequeuable, left_by_dequeue, dequeued, MayDequeue, second_of_oldest};
 
@@ -10,17 +11,15 @@ use calls::split::Second;
 use kernel::reports::second_of_first;
 
 // Returns the count of pending words, at most 16.
+#[tactic(auto, unfolding(crate::specs::Pending::count))]
 pub fn count(block: &[u32]) -> usize
-    ensures { result ≡ count block.now }
+    ensures value { result ≡ count block.now }
+    ensures bound { result ≤ most_pending }
 {
-    if block.len() == 0 {
+    if block.is_empty() {
         return 0;
     }
-    let words = block[0];
-    if words < 16 {
-        return words as usize;
-    }
-    16
+    block[0].min(16) as usize
 }
 
 // Returns whether the words are seventeen and `more` words have room.
@@ -40,12 +39,9 @@ fn put_last(block: &mut [u32], words: &[u32])
     ensures { block.new ≡ enqueued block.old words.now }
 {
     let pending = count(block);
-    let mut i: usize = 0;
-    while i < words.len() {
-        block[1 + pending + i] = words[i];
-        i += 1;
-    }
-    block[0] = (pending + words.len()) as u32;
+    let left = pending + words.len();
+    block[1 + pending..1 + left].copy_from_slice(words);
+    block[0] = left as u32;
 }
 
 // Appends the words to those that are pending and returns true, or returns false where there is no room for them.
@@ -87,12 +83,9 @@ fn move_down(block: &mut [u32], few: usize)
     requires { MayDequeue block.old few }
     ensures { block.new ≡ dequeued block.old few }
 {
-    let left = count(block) - few;
-    let mut i: usize = 0;
-    while i < left {
-        block[1 + i] = block[1 + few + i];
-        i += 1;
-    }
+    let pending = count(block);
+    let left = pending - few;
+    block.copy_within(1 + few..1 + pending, 1);
     block[0] = left as u32;
 }
 

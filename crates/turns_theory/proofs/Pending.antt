@@ -155,6 +155,11 @@ first-cases (suc k) p =
     last true e is all = inl (k, first-here k p is e, record { below = omega arith; holds = e; least = all })
     last false e is all = inr (first-not k p is e, λ j l. ⊎_elim (λ b. all j b) (λ same. ap p same ∙ e) (below-or-last k j l))
 
+-- none passes
+pub first-none : (k : ℕ) (p : ℕ → Bool) → ((i : ℕ) → i < k → p i ≡ false) → first_below k p ≡ none
+first-none zero p fails = first-zero p
+first-none (suc k) p fails = first-not k p (first-none k p (λ i l. fails i (omega arith))) (fails k (omega arith))
+
 -- ---- whom a turn serves
 
 -- A turn among n domains serves the call c of the domain d: d is the first that has one from the place on or, where none there has,

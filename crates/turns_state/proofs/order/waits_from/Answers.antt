@@ -18,15 +18,3 @@ returns c =
     sym
     (ap (λ (b : Bool). b && waits s a.d) (le-leb a.place a.d (omega (arith, c.if-d-place.false)))
     ∙ waits-word a.state.now a.n a.d c.requires.state_len c.requires.d_lt_n)
-
-pub overflow_mul-result : goal.overflow_mul-result
-overflow_mul-result c = omega arith
-
-pub overflow_add-result : goal.overflow_add-result
-overflow_add-result c = omega arith
-
-pub offset_bounds-state-d : goal.offset_bounds-state-d
-offset_bounds-state-d c = omega arith
-
-pub bounds-state-d : goal.bounds-state-d
-bounds-state-d c = omega arith

@@ -12,4 +12,4 @@ returns-then-block-ne17 c = rw (ne_eqb _ _ c.if-block-ne17.true)
 
 pub returns : goal.returns
 unfolding dequeuable
-returns c = rw (eq-eqb _ _ c.if-block-ne17.false) (ap (leb c.args.few) c.count-pending.ensures)
+returns c = rw (eq-eqb _ _ c.if-block-ne17.false) (ap (leb c.args.few) c.count-pending.ensures.value)
