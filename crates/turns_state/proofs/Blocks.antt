@@ -1,12 +1,12 @@
 -- Laws of the state's words (specs/State): where a domain's are, what they represent, and what is left of the others.
 -- Assumes nothing.
 use mathlib.Core.Path.{◌≡◌, refl, sym, ap, ◌∙◌}
-use mathlib.Core.Bool.{Bool, true, false, cond, not}
+use mathlib.Core.Bool.{Bool, true, false, cond, not, ◌&&◌}
 use mathlib.Core.List.{List}
 use Prim.Native.Nat.{ℕ, zero, suc, ◌+◌, ◌<◌, ◌≤◌, min}
 use native.Mathlib.Omega.{arith}
-use borrow.Author.Tests.{eq-eqb, ne_eqb}
-use lib.Dec.{eqb}
+use borrow.Author.Tests.{eq-eqb, ne_eqb, lt-leb}
+use lib.Dec.{eqb, leb}
 use lib.ListN.{length, get_or, take, drop, set, length-take, length-drop}
 use lib.Seq.{length-take-le, get_or-take, get_or-drop}
 use borrow.Rule.Slice.PartMut.{put_same, same_len_mid}
@@ -40,6 +40,10 @@ module _ (ws : List ℕ) (n d : ℕ) (size : length ws ≡ state_length n) (belo
       small : (w : ℕ) → eqb (min w most_pending) 0 ≡ eqb w 0
       small zero = refl
       small (suc w) = ne_eqb (min (suc w) most_pending) 0 (λ z. omega arith) ∙ sym (ne_eqb (suc w) 0 (λ z. omega arith))
+
+-- a domain before the place is passed over
+pub before-place : (place d : ℕ) (b : Bool) → d < place → false ≡ (leb place d && b)
+before-place place d b h = rw (lt-leb _ _ h)
 
 -- a domain's words, stored where they were
 pub block_same : (ws : List ℕ) (d : ℕ) → set_block ws d (block ws d) ≡ ws

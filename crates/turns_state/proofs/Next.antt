@@ -43,19 +43,21 @@ search-found n p None fails = sym (ap found (first-none n p (λ i l. fails i (om
 search-found n p (Some i) (_, l, is, fails) = sym (ap found (first_found n p i (first-none i p (λ j b. fails j (omega arith) b)) is l))
 
 -- from the place of the turn on, and then from 0
-pub found-waiting : (n : ℕ) (s : Turns) (first r : Option ℕ) (Next : Type 0)
-    → first ≡ found (first_pending_from n s s.place)
-    → (Next → r ≡ found (first_pending_from n s 0))
-    → MatchOption first Next (λ d. r ≡ Some d)
-    → r ≡ found (first_waiting n s)
+pub one-there : (n : ℕ) (s : Turns) (d : ℕ) → Some d ≡ found (first_pending_from n s s.place) → Some d ≡ found (first_waiting n s)
 unfolding first_waiting or_else
-found-waiting n s first r Next is next which = go first (first_pending_from n s s.place) is which
+one-there n s d is = go (first_pending_from n s s.place) is
   where
-    go : (o : Option ℕ) (m : maybe.Option ℕ) → o ≡ found m → MatchOption o Next (λ d. r ≡ Some d) → r ≡ found (or_else m (first_pending_from n s 0))
-    go None none e q = next q
-    go None (some d) e q = absurd (none-some d e)
-    go (Some d) none e q = absurd (none-some d (sym e))
-    go (Some d) (some x) e q = q ∙ e
+    go : (o : maybe.Option ℕ) → Some d ≡ found o → Some d ≡ found (or_else o (first_pending_from n s 0))
+    go none e = absurd (none-some d (sym e))
+    go (some x) e = e
+
+pub none-there : (n : ℕ) (s : Turns) → None ≡ found (first_pending_from n s s.place) → found (first_pending_from n s 0) ≡ found (first_waiting n s)
+unfolding first_waiting or_else
+none-there n s is = go (first_pending_from n s s.place) is
+  where
+    go : (o : maybe.Option ℕ) → None ≡ found o → found (first_pending_from n s 0) ≡ found (or_else o (first_pending_from n s 0))
+    go none e = refl
+    go (some d) e = absurd (none-some d e)
 
 -- ---- whom a turn is to serve
 

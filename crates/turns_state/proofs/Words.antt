@@ -36,6 +36,15 @@ second-oldest w (v ∷ ws) =
     go true = refl
     go false = refl
 
+-- a first word of kind 15 is no call's, and any other is of its caller
+pub stray-of-none : (w d : ℕ) → kind w ≡ 15 → false ≡ is_call_of w d
+unfolding is_call_of
+stray-of-none w d h = rw (eq-eqb _ _ h)
+
+pub call-of-caller : (w d : ℕ) (b : Bool) → (kind w ≡ 15 → ⊥) → b ≡ eqb (caller w) d → b ≡ is_call_of w d
+unfolding is_call_of
+call-of-caller w d b h is = rw (ne_eqb _ _ h) is
+
 -- a call's caller, by its first word
 called-by : (c : Call) (d : ℕ) → called_by d (caller_of c) ≡ is_call_of (first c) d
 unfolding caller_of called_by is_call_of

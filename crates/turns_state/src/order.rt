@@ -32,7 +32,10 @@ fn first_waiting(state: &[u32], n: u8) -> Option<u8>
     ensures { result ≡ found (first_waiting n (turns_in state.now)) }
 {
     let place = state[0];
-    first_from(state, n, place).or_else(|| first_from(state, n, 0))
+    match first_from(state, n, place) {
+        Some(d) => Some(d),
+        None => first_from(state, n, 0),
+    }
 }
 
 // Returns the domain that a turn on the table is to serve: none where nothing is pending, or the state's length isn't the one for

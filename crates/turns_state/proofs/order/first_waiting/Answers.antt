@@ -1,10 +1,13 @@
 -- `order::first_waiting` meets its contract: from the place of the turn on, and then from 0. Assumes nothing.
-use native.Mathlib.Omega.{arith}
-use Rattle.std.proofs.Common.{rules}
+use mathlib.Core.Path.{◌∙◌}
 use Rattle.turns_state.specs.State.{turns_in}
-use Rattle.turns_state.proofs.Next.{found-waiting}
+use Rattle.turns_state.proofs.Next.{one-there, none-there}
 use Rattle.turns_state.proofs.order.first_waiting.Goals as goal
 
-pub returns : goal.returns
+pub returns-in-Some : goal.returns-in-Some
 unfolding turns_in
-returns c = found-waiting c.args.n (turns_in c.args.state.now) _ _ _ c.first_from.ensures (λ q. search rules) c.or_else.ensures
+returns-in-Some c = one-there c.args.n (turns_in c.args.state.now) _ c.in-Some.ensures
+
+pub returns-in-None : goal.returns-in-None
+unfolding turns_in
+returns-in-None c = c.first_from-in-None.ensures ∙ none-there c.args.n (turns_in c.args.state.now) c.in-None.ensures

@@ -2,14 +2,14 @@
 use mathlib.Core.Path.{sym, ap, ◌∙◌}
 use mathlib.Core.Bool.{Bool, ◌&&◌}
 use native.Mathlib.Omega.{arith}
-use borrow.Author.Tests.{le-leb, lt-leb}
+use borrow.Author.Tests.{le-leb}
 use Rattle.turns_state.specs.State.{turns_in}
 use Rattle.turns_theory.specs.Turns.{waits}
-use Rattle.turns_state.proofs.Blocks.{waits-word}
+use Rattle.turns_state.proofs.Blocks.{waits-word, before-place}
 use Rattle.turns_state.proofs.order.waits_from.Goals as goal
 
 pub returns-then-d-place : goal.returns-then-d-place
-returns-then-d-place c = rw (lt-leb _ _ c.if-d-place.true)
+returns-then-d-place c = before-place c.args.place c.args.d _ c.if-d-place.true
 
 pub returns : goal.returns
 returns c =
