@@ -7,6 +7,7 @@ use native.Mathlib.Decide.{dec_lt, ℕ_discrete}
 use native.Mathlib.Omega.{arith}
 use lib.Dec.{eqb, leb, ltb}
 use lib.ListN.{length}
+use Rattle.std.specs.Prelude.{Ok, Err}
 use borrow.Author.Tests.{lt-ltb, le-ltb, leb-true, leb-false, eqb-true, eqb-false, eq-eqb, ne_eqb}
 use Rattle.machine.specs.Check.{table_code, Accepted}
 use Rattle.machine.specs.Table.{domains}
@@ -23,10 +24,6 @@ use Rattle.answers.specs.declared.Answer.{Answer}
 use Rattle.kernel.specs.Step.{StepOutcome, step_entry_code, StepPromise}
 use Rattle.kernel.specs.Reports.{HoldersPromise}
 use Rattle.kernel.specs.Run.{AllRun}
-use Rattle.kernel.specs.Entered.{entered_code}
-use Rattle.kernel.specs.declared.Entered.{Entered}
-use Rattle.kernel.specs.declared.Entered.TheVariants as entered
-use Rattle.kernel.specs.declared.Stepped.TheVariants.{Refused, Answered}
 
 -- the test of the code and that of the definition
 pub at_most : (a b : ℕ) → leb a b ≡ not (ltb b a)
@@ -49,7 +46,7 @@ module _ (t : List ℕ) (lent : ℕ) where
 -- Code that refuses by that code and changes nothing keeps the step's promise,
 pub step-refused : (t : List ℕ) (c : Call) (holders : List ℕ) (r : EntryRefusal)
     → entry_refusal_code r ≡ step_entry_code t (length holders)
-    → StepPromise t c holders (Refused r) t holders
+    → StepPromise t c holders (Err r) t holders
 step-refused t c holders r e =
     let bad = ne_eqb (step_entry_code t (length holders)) 0 (λ none. entry-refusal-code r (e ∙ none)) in
     record { code = e; words = rw bad; table = rw bad; same_holders = rw bad }
@@ -58,7 +55,7 @@ step-refused t c holders r e =
 pub step-served : (t : List ℕ) (c : Call) (holders : List ℕ) (a : Answer) (t' kept : List ℕ)
     → step_entry_code t (length holders) ≡ 0
     → StepOutcome t c (answer_words a) t' kept
-    → StepPromise t c holders (Answered a) t' kept
+    → StepPromise t c holders (Ok a) t' kept
 step-served t c holders a t' kept e served =
     let fine = eq-eqb (step_entry_code t (length holders)) 0 e in
     record {
@@ -68,20 +65,17 @@ step-served t c holders a t' kept e served =
       same_holders = rw fine served.holders;
     }
 
--- ---- a run, by the result of its entry
-module _ (t ws : List ℕ) (size lent : ℕ) (x : Entered) (reported : entered_code x ≡ entry_code t ws size lent) (is : x ≡ entered.Runs) where
-  runs : Runs t ws size lent
-  runs = sym (sym (ap entered_code is) ∙ reported)
-
+-- ---- a run that its entry doesn't refuse
+module _ (t ws : List ℕ) (size lent : ℕ) (runs : 0 ≡ entry_code t ws size lent) where
   -- what the calls of a list need
   pub may-run : Accepted t × (length ws ≤ longest_list × (3 * length (split ws) ≤ size × (lent ≡ domains t)))
   may-run = (a, (short, (enough (dec_lt size (3 * length (split ws))), fit (ℕ_discrete lent (domains t)))))
     where
       a : Accepted t
-      a = runs-accepted t ws size lent runs
+      a = runs-accepted t ws size lent (sym runs)
 
       short : length ws ≤ longest_list
-      short = runs-short t ws size lent runs
+      short = runs-short t ws size lent (sym runs)
 
       enough : Dec (size < 3 * length (split ws)) → 3 * length (split ws) ≤ size
       enough (yes few) = absurd (omega (arith, runs, code-space t ws size lent short a few))
@@ -94,22 +88,20 @@ module _ (t ws : List ℕ) (size lent : ℕ) (x : Entered) (reported : entered_c
           (omega (arith, runs, code-holders t ws size lent short a (enough (dec_lt size (3 * length (split ws)))) ∙ holders-unfit t lent n))
 
 -- Code that stops where the entry refuses keeps the run's promise,
-pub promise-entered : (t ws space holders : List ℕ) (x : Entered) (r : EntryRefusal)
-    → entered_code x ≡ entry_code t ws (length space) (length holders)
-    → x ≡ entered.Refused r
+pub promise-entered : (t ws space holders : List ℕ) (r : EntryRefusal)
+    → entry_refusal_code r ≡ entry_code t ws (length space) (length holders)
     → RunPromise t ws space holders (entry_refusal_code r) 0 space t holders
-promise-entered t ws space holders x r reported is =
-    promise-refused t ws space holders (entry_refusal_code r) (sym (ap entered_code is) ∙ reported) (entry-refusal-code r)
+promise-entered t ws space holders r reported =
+    promise-refused t ws space holders (entry_refusal_code r) reported (entry-refusal-code r)
 
 -- and so does code that runs the calls where it doesn't.
-pub promise-all-run : (t ws space holders : List ℕ) (x : Entered)
-    → entered_code x ≡ entry_code t ws (length space) (length holders)
-    → x ≡ entered.Runs
+pub promise-all-run : (t ws space holders : List ℕ)
+    → 0 ≡ entry_code t ws (length space) (length holders)
     → (k : ℕ) (answers end kept : List ℕ)
     → AllRun t ws space k answers end kept
     → RunPromise t ws space holders 0 k answers end kept
-promise-all-run t ws space holders x reported is k answers end kept all =
-    promise-ran t ws space holders k answers end kept (runs t ws (length space) (length holders) x reported is) all.count all.answers all.table all.holders
+promise-all-run t ws space holders runs k answers end kept all =
+    promise-ran t ws space holders k answers end kept (sym runs) all.count all.answers all.table all.holders
 
 -- ---- the holders of a table by itself
 

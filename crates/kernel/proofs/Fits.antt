@@ -22,7 +22,7 @@ use Rattle.machine.proofs.Queue.{message-small, waiting-most}
 use Rattle.machine.proofs.Step.{rights-held}
 use Rattle.machine.proofs.Table.{rights-below, endpoint-length}
 use Rattle.calls.specs.Split.{call_of}
-use Rattle.calls.specs.declared.split.Second.{Second}
+use Rattle.std.specs.Prelude.{Option}
 use Rattle.calls.specs.Decode.{needs_second, whole, of_kind, decoded}
 use Rattle.calls.specs.declared.Call.{Call}
 use Rattle.calls.specs.declared.Call.TheVariants.{LookUp, Send, Receive, MyEndpoints, MyRights, Grant, Remove, Revoke, Refused}
@@ -49,7 +49,7 @@ MessageFits (Grant u g h r) = Unit {0}
 MessageFits (Remove u g r) = Unit {0}
 MessageFits (Revoke u g h r) = Unit {0}
 
-module _ (w : ℕ) (s : Second) where
+module _ (w : ℕ) (s : Option ℕ) where
   whole-fits : (k : Kind) (call : Call) → MessageFits call → MessageFits (whole w s k call)
   unfolding whole
   whole-fits k call fits =

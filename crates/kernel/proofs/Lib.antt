@@ -4,9 +4,9 @@ pub mod WrittenWords
 pub mod RunInvariant
 pub mod Entries
 pub mod Ranges
+pub mod Decided
 pub mod Outcomes
 pub mod OutcomeLaws
 pub mod LastToFirst
 pub mod AskedAfterStep
 pub mod StepIsRun
-mod Done

@@ -2,7 +2,7 @@
 use mathlib.Core.Path.{◌≡◌, refl, sym, ap, subst, ◌∙◌}
 use mathlib.Core.Bool.{Bool, true, false, not, ◌&&◌}
 use mathlib.Core.List.{List}
-use Prim.Native.Nat.{ℕ, ◌+◌, ◌%◌, ◌<◌, ◌≤◌}
+use Prim.Native.Nat.{ℕ, ◌+◌, ◌<◌, ◌≤◌}
 use native.Mathlib.Omega.{arith}
 use lib.Dec.{ltb, leb}
 use lib.ListN.{length, get_or}
@@ -21,11 +21,7 @@ use Rattle.machine.proofs.Queue.{sound-of}
 use Rattle.machine.proofs.Right.{adds-within, without-le}
 use Rattle.machine.proofs.Step.{rights-held}
 use Rattle.machine.proofs.Table.{rights-below, endpoint-fits}
-use Rattle.table_layout.proofs.Places.{eight-bits}
-use Rattle.rules.specs.Range.{followed, caller_number, endpoint_numbers, grant_numbers, remove_numbers}
-use Rattle.rules.specs.declared.range.Range.{Range}
-use Rattle.rules.specs.declared.range.Range.TheVariants.{Within}
-use Rattle.rules.proofs.Guards.{within}
+use Rattle.rules.specs.Range.{caller_number, endpoint_numbers, grant_numbers, remove_numbers}
 
 -- a decision that isn't a refusal
 abbrev Goes : Decision → Type 0
@@ -53,41 +49,48 @@ below : (a b : ℕ) → not (ltb a b) ≡ false → a < b
 below a b h = ltb-true a b (holds_then (ltb a b) h)
 
 -- ---- the indices and rights, where no range test failed
-module _ (r : Range) (is : r ≡ Within) where
-  goes : (X : Decision → Decision) → ((next : Decision) → followed r next ≡ X next) → Goes (X (machine.lists_rights 0))
-  goes X tested = subst (λ (d : Decision). Goes d) (within (machine.lists_rights 0) is (tested (machine.lists_rights 0))) tt
+goes : (X : Decision → Decision) → ((next : Decision) → next ≡ X next) → Goes (X (machine.lists_rights 0))
+goes X tested = subst (λ (d : Decision). Goes d) (tested (machine.lists_rights 0)) tt
 
-  pub in-caller : (n u : ℕ) → ((next : Decision) → followed r next ≡ caller_number n u next) → u < n
-  unfolding caller_number
-  in-caller n u tested = below u n (passes (not (ltb u n)) 12 _ (goes (caller_number n u) tested)).0
+pub in-caller : (n u : ℕ) → ((next : Decision) → next ≡ caller_number n u next) → u < n
+unfolding caller_number
+in-caller n u tested = below u n (passes (not (ltb u n)) 12 _ (goes (caller_number n u) tested)).0
 
-  pub in-endpoint : (n m u e : ℕ) → ((next : Decision) → followed r next ≡ endpoint_numbers n m u e next) → (u < n) × (e < m)
-  unfolding endpoint_numbers caller_number
-  in-endpoint n m u e tested =
-      let caller = passes (not (ltb u n)) 12 _ (goes (endpoint_numbers n m u e) tested) in
-      let named = passes (not (ltb e m)) 16 _ caller.1 in
-      (below u n caller.0, below e m named.0)
+pub in-endpoint : (n m u e : ℕ) → ((next : Decision) → next ≡ endpoint_numbers n m u e next) → (u < n) × (e < m)
+unfolding endpoint_numbers caller_number
+in-endpoint n m u e tested =
+    let caller = passes (not (ltb u n)) 12 _ (goes (endpoint_numbers n m u e) tested) in
+    let named = passes (not (ltb e m)) 16 _ caller.1 in
+    (below u n caller.0, below e m named.0)
 
-  pub in-grant : (n u g h s : ℕ) → ((next : Decision) → followed r next ≡ grant_numbers n u g h s next) → (u < n) × (g < n) × (h < n) × (s ≤ 15)
-  unfolding grant_numbers caller_number is_set
-  in-grant n u g h s tested =
-      let caller = passes (not (ltb u n)) 12 _ (goes (grant_numbers n u g h s) tested) in
-      let both = passes (not (ltb g n && ltb h n)) 20 _ caller.1 in
-      let set = passes (not (is_set s)) 21 _ both.1 in
-      let known = holds_then (ltb g n && ltb h n) both.0 in (
-        below u n caller.0,
-        ltb-true g n (and_left (ltb g n) (ltb h n) known),
-        ltb-true h n (and_right (ltb g n) (ltb h n) known),
-        leb-true s 15 (and_right (leb 1 s) (leb s 15) (holds_then (is_set s) set.0)),
-      )
+-- a grant's, and a revoke's
+pub record InGrant (n u g h s : ℕ) : Type 0 where
+  pub caller : u < n
+  pub target : g < n
+  pub other : h < n
+  pub few : s ≤ 15
 
-  pub in_remove : (n u g s : ℕ) → ((next : Decision) → followed r next ≡ remove_numbers n u g s next) → (u < n) × (g < n) × (s ≤ 15)
-  unfolding remove_numbers caller_number is_set
-  in_remove n u g s tested =
-      let caller = passes (not (ltb u n)) 12 _ (goes (remove_numbers n u g s) tested) in
-      let target = passes (not (ltb g n)) 20 _ caller.1 in
-      let set = passes (not (is_set s)) 21 _ target.1 in
-      (below u n caller.0, below g n target.0, leb-true s 15 (and_right (leb 1 s) (leb s 15) (holds_then (is_set s) set.0)))
+pub in-grant : (n u g h s : ℕ) → ((next : Decision) → next ≡ grant_numbers n u g h s next) → InGrant n u g h s
+unfolding grant_numbers caller_number is_set
+in-grant n u g h s tested =
+    let caller = passes (not (ltb u n)) 12 _ (goes (grant_numbers n u g h s) tested) in
+    let both = passes (not (ltb g n && ltb h n)) 20 _ caller.1 in
+    let set = passes (not (is_set s)) 21 _ both.1 in
+    let known = holds_then (ltb g n && ltb h n) both.0 in
+    record {
+      caller = below u n caller.0;
+      target = ltb-true g n (and_left (ltb g n) (ltb h n) known);
+      other = ltb-true h n (and_right (ltb g n) (ltb h n) known);
+      few = leb-true s 15 (and_right (leb 1 s) (leb s 15) (holds_then (is_set s) set.0));
+    }
+
+pub in_remove : (n u g s : ℕ) → ((next : Decision) → next ≡ remove_numbers n u g s next) → (u < n) × (g < n) × (s ≤ 15)
+unfolding remove_numbers caller_number is_set
+in_remove n u g s tested =
+    let caller = passes (not (ltb u n)) 12 _ (goes (remove_numbers n u g s) tested) in
+    let target = passes (not (ltb g n)) 20 _ caller.1 in
+    let set = passes (not (is_set s)) 21 _ target.1 in
+    (below u n caller.0, below g n target.0, leb-true s 15 (and_right (leb 1 s) (leb s 15) (holds_then (is_set s) set.0)))
 
 -- ---- the words at these indices in an accepted table
 module _ (t : List ℕ) (a : Accepted t) (n : ℕ) (is : n ≡ domains t) where
@@ -97,10 +100,10 @@ module _ (t : List ℕ) (a : Accepted t) (n : ℕ) (is : n ≡ domains t) where
       let qg : g < domains t = omega (arith, pg, is) in
       omega (arith, place ∙ ap (λ (k : ℕ). rights_at k h g) is, rights-below (domains t) h g qh qg, accepted-sized t a)
 
-  pub endpoint-in : (e m at : ℕ) → m ≡ endpoints t → e < m → at ≡ endpoint_at (n % 256) e → at + 12 ≤ length t
-  endpoint-in e m at all l place =
+  pub endpoint-in : (e m : ℕ) → m ≡ endpoints t → e < m → endpoint_at (domains t) e + 12 ≤ length t
+  endpoint-in e m all l =
       let q : e < endpoints t = omega (arith, l, all) in
-      omega (arith, place ∙ ap (λ (k : ℕ). endpoint_at k e) (eight-bits t n is ∙ is), endpoint-fits (domains t) (endpoints t) e q, accepted-sized t a)
+      omega (arith, endpoint-fits (domains t) (endpoints t) e q, accepted-sized t a)
 
   pub owner-in : (e m w : ℕ) → m ≡ endpoints t → e < m → w ≡ owner (endpoint t e) → w < n
   owner-in e m w all l own =
@@ -108,12 +111,11 @@ module _ (t : List ℕ) (a : Accepted t) (n : ℕ) (is : n ≡ domains t) where
       omega (arith, (info-of (domains t) (endpoint t e) (accepted-endpoint t a e q)).0, own, is)
 
   -- the lost word has its kind
-  pub lost-in : (e m w : ℕ) → m ≡ endpoints t → e < m → w ≡ get_or (endpoint t e) 3 0 → kind w ≡ 6
+  pub lost-in : (e m : ℕ) → m ≡ endpoints t → e < m → kind (get_or (endpoint t e) 3 0) ≡ 6
   unfolding endpoint_ok
-  lost-in e m w all l same =
+  lost-in e m all l =
       let q : e < endpoints t = omega (arith, l, all) in
-      let ok = and_right (identity_ok (domains t) (endpoint t e)) (queue_ok (endpoint t e)) (accepted-endpoint t a e q) in
-      ap kind same ∙ (sound-of (endpoint t e) ok).is_lost
+      (sound-of (endpoint t e) (and_right (identity_ok (domains t) (endpoint t e)) (queue_ok (endpoint t e)) (accepted-endpoint t a e q))).is_lost
 
   -- rights that are added to and taken from what is held
   right-small : (h g : ℕ) → h < n → g < n → rights t h g ≤ 15

@@ -11,8 +11,9 @@ use Rattle.machine.specs.Holders.{holders_of}
 use Rattle.machine.proofs.Split.{Running, running-start, running-next, running-end}
 use Rattle.machine.proofs.Step.{stays-accepted}
 use Rattle.calls.specs.Split.{call_of, second_at, width_of}
-use Rattle.calls.specs.declared.split.Second.{Second}
+use Rattle.std.specs.Prelude.{Option}
 use Rattle.calls.proofs.SplitAt.{SplitAt, split_at}
+use Rattle.calls.proofs.SplitAt as calls
 use Rattle.kernel.specs.Step.{StepOutcome}
 use Rattle.kernel.specs.Run.{AllRun}
 
@@ -45,8 +46,13 @@ module _ {t₀ ws space₀ p₀ t space p : List ℕ} {k i : ℕ} (u : Underway 
       let more = ap length (split_at ws i l).front in
       omega (arith, u.running.count, u.space_size)
 
+  -- the next call ends within the list, and has a word
+  pub next-place : (s : Option ℕ) (w : ℕ) → s ≡ second_at ws i → w ≡ width_of s → (i + w ≤ length ws) × (1 ≤ w)
+  next-place s w is wide =
+      (rw (wide, is) (split_at ws i l).within, omega (arith, wide, calls.wide s))
+
   -- one call more, whose answer words are put after the others
-  pub underway-next : (s : Second) (w : ℕ) (words t' space' p' : List ℕ)
+  pub underway-next : (s : Option ℕ) (w : ℕ) (words t' space' p' : List ℕ)
       → s ≡ second_at ws i
       → w ≡ width_of s
       → StepOutcome t (call_of (get_or ws i 0) s) words t' p'

@@ -20,87 +20,69 @@ ghost use Rattle.kernel.specs.Entered.{entered_code};
 ghost use Rattle.run_result.specs.Entry.{ran_code, ran_calls};
 
 use answers::Answer;
-use calls::split::Second;
 use format::calls::LONGEST_LIST;
 use holders::fill;
 use lent_lengths::{has_space, one_a_domain};
+use reports::enter_step;
 use run_list::run_calls;
-use run_result::{EntryRefusal, Ran};
-use serve::serve;
-use table_check::Checked;
+use run_result::EntryRefusal;
+use serve::answer_call;
+use table_check::TableRefusal;
 use table_layout::{domains, endpoints};
 
-// The result of one call by itself: it is refused at the entry, or answered.
-#[derive(Clone, Copy)]
-pub enum Stepped {
-    Refused(EntryRefusal),
-    Answered(Answer),
-}
-
-// Checks a table by itself and returns the result.
-pub fn check(table: &[u32]) -> Checked
+// Checks a table by itself.
+pub fn check(table: &[u32]) -> Result<(), TableRefusal>
     ensures { checked_code result ≡ table_code table.now }
 {
     table_check::check(table)
 }
 
-// Runs one call by itself, as a run of one call does, and returns the result. Total: accepts arbitrary words as the table and as
+// Runs one call by itself, as a run of one call does, and returns its answer. Total: accepts arbitrary words as the table and as
 // the holders.
-pub fn step(table: &mut [u32], first: u32, second: Second, holders: &mut [u32]) -> Stepped
+pub fn step(
+    table: &mut [u32],
+    first: u32,
+    second: Option<u32>,
+    holders: &mut [u32],
+) -> Result<Answer, EntryRefusal>
     ensures { StepPromise table.old (call_of first second) holders.old result table.new
         holders.new }
 {
-    let checked = check(table);
-    if let Checked::Refused(refusal) = checked {
-        return Stepped::Refused(EntryRefusal::BadTable(refusal));
-    }
-    if !one_a_domain(table, holders.len()) {
-        return Stepped::Refused(EntryRefusal::BadHolders);
-    }
+    enter_step(table, holders.len())?;
     fill(table, holders);
     let n = domains(table);
     let m = endpoints(table);
-    let words = serve(table, n, m, holders, first, second);
-    Stepped::Answered(words)
+    Ok(answer_call(table, n, m, holders, first, second))
 }
 
-// The result of a run's entry: it is refused, or its calls may run.
-#[derive(Clone, Copy)]
-pub enum Entered {
-    Refused(EntryRefusal),
-    Runs,
-}
-
-// Tests the entry of a run, place by place, with so many words lent for the answers and for the holders, and returns the result.
-pub fn enter(table: &[u32], list: &[u32], space: usize, lent: usize) -> Entered
+// Tests the entry of a run, place by place, with so many words lent for the answers and for the holders.
+pub fn enter(table: &[u32], list: &[u32], space: usize, lent: usize) -> Result<(), EntryRefusal>
     ensures { entered_code result ≡ entry_code table.now list.now space lent }
 {
     if LONGEST_LIST < list.len() {
-        return Entered::Refused(EntryRefusal::ListTooLong);
+        return Err(EntryRefusal::ListTooLong);
     }
-    let checked = check(table);
-    if let Checked::Refused(refusal) = checked {
-        return Entered::Refused(EntryRefusal::BadTable(refusal));
-    }
+    check(table)?;
     if !has_space(list, space) {
-        return Entered::Refused(EntryRefusal::SpaceTooSmall);
+        return Err(EntryRefusal::SpaceTooSmall);
     }
     if !one_a_domain(table, lent) {
-        return Entered::Refused(EntryRefusal::BadHolders);
+        return Err(EntryRefusal::BadHolders);
     }
-    Entered::Runs
+    Ok(())
 }
 
-// Runs a list of calls and returns the result. Total: accepts arbitrary words as the table, the list, the answer space and the
-// holders.
-pub fn run(table: &mut [u32], list: &[u32], answers: &mut [u32], holders: &mut [u32]) -> Ran
+// Runs a list of calls and returns how many there are. Total: accepts arbitrary words as the table, the list, the answer space and
+// the holders.
+pub fn run(
+    table: &mut [u32],
+    list: &[u32],
+    answers: &mut [u32],
+    holders: &mut [u32],
+) -> Result<usize, EntryRefusal>
     ensures { RunPromise table.old list.now answers.old holders.old (ran_code result)
         (ran_calls result) answers.new table.new holders.new }
 {
-    let entered = enter(table, list, answers.len(), holders.len());
-    if let Entered::Refused(refusal) = entered {
-        return Ran::Refused(refusal);
-    }
-    let calls = run_calls(table, list, answers, holders);
-    Ran::Done(calls)
+    enter(table, list, answers.len(), holders.len())?;
+    Ok(run_calls(table, list, answers, holders))
 }

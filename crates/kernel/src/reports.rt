@@ -10,13 +10,14 @@ ghost use Rattle.kernel.specs.Entered.{entered_code};
 ghost use Rattle.kernel.specs.Step.{step_entry_code};
 ghost use Rattle.kernel.specs.Reports.{HoldersPromise};
 
+use crate::check;
 use crate::lent_lengths::one_a_domain;
-use crate::{Entered, check};
 use answers::Answer;
-use calls::split::{Second, second_at};
+use calls::split::second_at;
 use holders::fill;
+use result_code::Coded;
 use run_result::EntryRefusal;
-use table_check::{Checked, TableRefusal};
+use table_check::TableRefusal;
 use table_layout::domains;
 
 // Returns n, the table's count of domains. Total: accepts arbitrary words as the table.
@@ -28,43 +29,37 @@ pub fn domain_count(table: &[u32]) -> u8
 }
 
 // Returns the second word of the call that a list begins with, if it has one.
-pub fn second_of_first(list: &[u32]) -> Second
+pub fn second_of_first(list: &[u32]) -> Option<u32>
     ensures { result ≡ second_at list.now 0 }
 {
     second_at(list, 0)
 }
 
 // Returns how many words a call has.
-pub fn width(second: Second) -> usize
+pub fn width(second: Option<u32>) -> usize
     ensures { result ≡ width_of second }
 {
     calls::split::width(second)
 }
 
-// Tests the entry of one call by itself, with so many words lent for the holders, and returns the result.
-pub fn enter_step(table: &[u32], lent: usize) -> Entered
+// Tests the entry of one call by itself, with so many words lent for the holders.
+pub fn enter_step(table: &[u32], lent: usize) -> Result<(), EntryRefusal>
     ensures { entered_code result ≡ step_entry_code table.now lent }
 {
-    let checked = check(table);
-    if let Checked::Refused(refusal) = checked {
-        return Entered::Refused(EntryRefusal::BadTable(refusal));
-    }
+    check(table)?;
     if !one_a_domain(table, lent) {
-        return Entered::Refused(EntryRefusal::BadHolders);
+        return Err(EntryRefusal::BadHolders);
     }
-    Entered::Runs
+    Ok(())
 }
 
-// Computes the holders of a table where its entry doesn't refuse it, as a run of no call does, and returns the result.
-pub fn show_holders(table: &[u32], holders: &mut [u32]) -> Entered
+// Computes the holders of a table where its entry doesn't refuse it, as a run of no call does.
+pub fn show_holders(table: &[u32], holders: &mut [u32]) -> Result<(), EntryRefusal>
     ensures { HoldersPromise table.now holders.old (entered_code result) holders.new }
 {
-    let entered = enter_step(table, holders.len());
-    if let Entered::Refused(refusal) = entered {
-        return Entered::Refused(refusal);
-    }
+    enter_step(table, holders.len())?;
     fill(table, holders);
-    Entered::Runs
+    Ok(())
 }
 
 // Stores an answer's words at the start of a space. A space of fewer than three words is left as it is.

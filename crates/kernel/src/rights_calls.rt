@@ -3,28 +3,27 @@
 ghost use Rattle.std.specs.Prelude.{◌≡◌, List, ℕ, ◌<◌, ◌≤◌};
 ghost use Rattle.machine.specs.Table.{domains, rights, set_rights};
 ghost use Rattle.machine.specs.Check.{Accepted};
-ghost use Rattle.answers.specs.Answer.{answer_words};
 ghost use Rattle.calls.specs.Decide.{decide_call};
 ghost use Rattle.calls.specs.declared.Call.TheVariants.{MyRights, Grant, Remove, Revoke};
 ghost use Rattle.holders.specs.Noted.{noted};
 ghost use Rattle.kernel.specs.Outcome.{CallOutcome};
 
-use answers::by_value::{done, refusal};
-use answers::{Answer, rights_listed};
+use answers::rights_listed;
+use calls::Refusal;
 use format::KIND_UNIT;
 use format::tables::NO_RIGHT;
 use holders::note;
 use rights::Rights;
-use rules::range::{Range, of_caller, of_grant, of_remove};
-use rules::{Decision, access};
+use rules::access;
+use rules::range::{of_caller, of_grant, of_remove};
 use table_layout::rights_at;
 
 // Returns a holder's rights on a target.
 pub fn held(table: &[u32], n: u32, holder: u32, target: u32) -> Rights
     requires accepted { Accepted table.now }
-    requires n_value { n ≡ domains table.now }
-    requires holder_lt_n { holder < n }
-    requires target_lt_n { target < n }
+    requires same_domains { n ≡ domains table.now }
+    requires known_holder { holder < n }
+    requires known_target { target < n }
     ensures { result.bits ≡ rights table.now holder target }
 {
     let at = rights_at(n, holder, target);
@@ -37,10 +36,10 @@ pub fn held(table: &[u32], n: u32, holder: u32, target: u32) -> Rights
 // Writes a holder's rights on a target, and notes them in the holders.
 fn alter(table: &mut [u32], n: u32, holders: &mut [u32], holder: u32, target: u32, rights: u32)
     requires accepted { Accepted table.old }
-    requires n_value { n ≡ domains table.old }
-    requires holder_lt_n { holder < n }
-    requires target_lt_n { target < n }
-    requires rights_bound { rights ≤ 15 }
+    requires same_domains { n ≡ domains table.old }
+    requires known_holder { holder < n }
+    requires known_target { target < n }
+    requires fits { rights ≤ 15 }
     ensures table_after { table.new ≡ set_rights table.old holder target rights }
     ensures holders_after { holders.new ≡ noted holders.old holder target rights }
 {
@@ -49,112 +48,85 @@ fn alter(table: &mut [u32], n: u32, holders: &mut [u32], holder: u32, target: u3
     note(holders, holder, target, rights);
 }
 
-// Grants rights to a recipient and returns the answer.
+// Grants rights to a recipient.
 pub fn grant(
     table: &mut [u32],
     n: u32,
     holders: &mut [u32],
-    first: u32,
     caller: u32,
     target: u32,
     recipient: u32,
     given: u32,
-) -> Answer
+) -> Result<(u32, u32), Refusal>
     requires accepted { Accepted table.old }
-    requires n_value { n ≡ domains table.old }
-    ensures { CallOutcome table.old holders.old first
-        (decide_call table.old (Grant caller target recipient given)) (answer_words result) table.new
-        holders.new }
+    requires same_domains { n ≡ domains table.old }
+    ensures { CallOutcome table.old holders.old
+        (decide_call table.old (Grant caller target recipient given)) result table.new holders.new }
 {
-    let range = of_grant(n, caller, target, recipient, given);
-    if let Range::Outside(refused) = range {
-        return refusal(first, refused);
-    }
+    of_grant(n, caller, target, recipient, given)?;
     let mine = held(table, n, caller, target);
     let toward = held(table, n, caller, recipient);
-    let decision = access::grant(caller, target, recipient, given, mine, toward);
-    if let Decision::Refused(refused) = decision {
-        return refusal(first, refused);
-    }
+    access::grant(caller, target, recipient, given, mine, toward)?;
     let had = held(table, n, recipient, target);
     let more = had.adds(Rights { bits: given });
     alter(table, n, holders, recipient, target, more.bits);
-    done(first, 0, 0)
+    Ok((0, 0))
 }
 
-// Removes rights of the caller's own and returns the answer.
+// Removes rights of the caller's own.
 pub fn remove(
     table: &mut [u32],
     n: u32,
     holders: &mut [u32],
-    first: u32,
     caller: u32,
     target: u32,
     given: u32,
-) -> Answer
+) -> Result<(u32, u32), Refusal>
     requires accepted { Accepted table.old }
-    requires n_value { n ≡ domains table.old }
-    ensures { CallOutcome table.old holders.old first
-        (decide_call table.old (Remove caller target given)) (answer_words result) table.new holders.new }
+    requires same_domains { n ≡ domains table.old }
+    ensures { CallOutcome table.old holders.old (decide_call table.old (Remove caller target given))
+        result table.new holders.new }
 {
-    let range = of_remove(n, caller, target, given);
-    if let Range::Outside(refused) = range {
-        return refusal(first, refused);
-    }
+    of_remove(n, caller, target, given)?;
     let mine = held(table, n, caller, target);
-    let decision = access::remove(caller, target, given, mine);
-    if let Decision::Refused(refused) = decision {
-        return refusal(first, refused);
-    }
+    access::remove(caller, target, given, mine)?;
     let left = mine.without(Rights { bits: given });
     alter(table, n, holders, caller, target, left.bits);
-    done(first, 0, 0)
+    Ok((0, 0))
 }
 
-// Takes rights back from a holder and returns the answer.
+// Takes rights back from a holder.
 pub fn revoke(
     table: &mut [u32],
     n: u32,
     holders: &mut [u32],
-    first: u32,
     caller: u32,
     target: u32,
     holder: u32,
     given: u32,
-) -> Answer
+) -> Result<(u32, u32), Refusal>
     requires accepted { Accepted table.old }
-    requires n_value { n ≡ domains table.old }
-    ensures { CallOutcome table.old holders.old first
-        (decide_call table.old (Revoke caller target holder given)) (answer_words result) table.new
-        holders.new }
+    requires same_domains { n ≡ domains table.old }
+    ensures { CallOutcome table.old holders.old
+        (decide_call table.old (Revoke caller target holder given)) result table.new holders.new }
 {
-    let range = of_grant(n, caller, target, holder, given);
-    if let Range::Outside(refused) = range {
-        return refusal(first, refused);
-    }
+    of_grant(n, caller, target, holder, given)?;
     let mine = held(table, n, caller, target);
     let toward = held(table, n, caller, holder);
-    let decision = access::revoke(caller, target, holder, given, mine, toward);
-    if let Decision::Refused(refused) = decision {
-        return refusal(first, refused);
-    }
+    access::revoke(caller, target, holder, given, mine, toward)?;
     let had = held(table, n, holder, target);
     let left = had.without(Rights { bits: given });
     alter(table, n, holders, holder, target, left.bits);
-    done(first, 0, 0)
+    Ok((0, 0))
 }
 
-// Returns the answer to my rights.
-pub fn my_rights(table: &[u32], n: u32, first: u32, caller: u32) -> Answer
+// Returns the caller's rights, eight targets to a data word.
+pub fn my_rights(table: &[u32], n: u32, caller: u32) -> Result<(u32, u32), Refusal>
     requires accepted { Accepted table.now }
-    requires n_value { n ≡ domains table.now }
+    requires same_domains { n ≡ domains table.now }
     ensures { (p : List ℕ)
-        → CallOutcome table.now p first (decide_call table.now (MyRights caller)) (answer_words result)
-        table.now p }
+        → CallOutcome table.now p (decide_call table.now (MyRights caller)) result table.now p }
 {
-    let range = of_caller(n, caller);
-    if let Range::Outside(refused) = range {
-        return refusal(first, refused);
-    }
-    rights_listed(table, first, caller)
+    of_caller(n, caller)?;
+    Ok(rights_listed(table, caller))
 }

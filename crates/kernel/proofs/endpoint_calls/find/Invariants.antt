@@ -9,6 +9,3 @@ use Rattle.kernel.proofs.endpoint_calls.find.Given as goal
 
 abbrev pub invariant-loop-e : goal.invariant-loop-e
 invariant-loop-e l = From (λ (e : ℕ). eqb (queue.name (endpoint l.table e)) l.name) l.m l.e l.found
-
-abbrev pub decreases-loop-e : goal.decreases-loop-e
-decreases-loop-e l = l.e

@@ -1,84 +1,58 @@
 -- `rights_calls::grant` meets its contract: refused by a range test, refused by what was read, or done. Assumes nothing.
-use mathlib.Core.Path.{◌≡◌, refl, sym, ap, ap₂, ◌∙◌}
-use Prim.Native.Nat.{ℕ, ◌<◌, ◌≤◌}
+use mathlib.Core.Path.{◌≡◌, refl, sym, ap, ◌∙◌}
+use Prim.Native.Nat.{ℕ}
+use Rattle.std.specs.Prelude.{Err}
 use Rattle.machine.specs.Right.{adds}
-use Rattle.machine.specs.Table.{rights}
-use Rattle.calls.specs.Decide.{decide_call}
-use Rattle.calls.specs.declared.Call.TheVariants.{Grant}
-use Rattle.rules.specs.Decision.{decision_of}
 use Rattle.rules.specs.Range.{call_numbers}
-use Rattle.rules.specs.Access.{grant_access, access_by}
-use Rattle.rules.proofs.Guards.{outside, within}
+use Rattle.rules.specs.Access.{grant_access}
 use Rattle.rules.proofs.Places.{decided}
 use Rattle.rules.proofs.Passed.{passed}
-use Rattle.kernel.proofs.Done.{done}
+use Rattle.kernel.proofs.Decided.{grant-decided}
 use Rattle.kernel.proofs.Ranges.{in-grant, more-fits}
-use Rattle.kernel.proofs.Outcomes.{settled-refused, granted}
+use Rattle.kernel.proofs.Outcomes.{settled-stopped, granted}
 use Rattle.kernel.proofs.rights_calls.grant.Goals as goal
 
-pub returns-in-Outside : goal.returns-in-Outside
+pub returns-in_err-of_grant : goal.returns-in_err-of_grant
 unfolding call_numbers
-returns-in-Outside c =
-    settled-refused _ _ _ _ _ _ (outside _ c.in-Outside.is (decided _ _ _ _ _ c.requires.n_value refl c.of_grant-range.ensures)) c.refusal.ensures
+returns-in_err-of_grant c =
+    settled-stopped _ _ _ _ _ c.from_residual.ensures.1 (decided _ _ _ _ (Err _) c.requires.same_domains refl c.in_err-of_grant.ensures)
 
 pub held-mine-requires : goal.held-mine-requires
 held-mine-requires c =
-    record {
-      accepted = c.requires.accepted;
-      n_value = c.requires.n_value;
-      holder_lt_n = ((let the_ranged : let a = c.args in (a.caller < a.n) × (a.target < a.n) × (a.recipient < a.n) × (a.given ≤ 15) = in-grant _ c.in_default.is _ _ _ _ _ c.of_grant-range.ensures in the_ranged)).0;
-      target_lt_n = ((let the_ranged : let a = c.args in (a.caller < a.n) × (a.target < a.n) × (a.recipient < a.n) × (a.given ≤ 15) = in-grant _ c.in_default.is _ _ _ _ _ c.of_grant-range.ensures in the_ranged)).1;
-    }
+    let within = in-grant _ _ _ _ _ c.in_ok-of_grant.ensures in
+    record { accepted = c.requires.accepted; same_domains = c.requires.same_domains; known_holder = within.caller; known_target = within.target }
 
 pub held-toward-requires : goal.held-toward-requires
 held-toward-requires c =
-    record {
-      accepted = c.requires.accepted;
-      n_value = c.requires.n_value;
-      holder_lt_n = ((let the_ranged : let a = c.args in (a.caller < a.n) × (a.target < a.n) × (a.recipient < a.n) × (a.given ≤ 15) = in-grant _ c.in_default.is _ _ _ _ _ c.of_grant-range.ensures in the_ranged)).0;
-      target_lt_n = ((let the_ranged : let a = c.args in (a.caller < a.n) × (a.target < a.n) × (a.recipient < a.n) × (a.given ≤ 15) = in-grant _ c.in_default.is _ _ _ _ _ c.of_grant-range.ensures in the_ranged)).2;
-    }
+    let within = in-grant _ _ _ _ _ c.in_ok-of_grant.ensures in
+    record { accepted = c.requires.accepted; same_domains = c.requires.same_domains; known_holder = within.caller; known_target = within.other }
 
-pub returns-in-Refused : goal.returns-in-Refused
-unfolding decision_of call_numbers access_by
-returns-in-Refused c =
-    settled-refused _ _ _ _ _ _ (sym (ap decision_of c.in-Refused.is) ∙ (let the_reached : let a = c.args in decision_of c.grant-decision.result ≡ decide_call a.table.now (Grant a.caller a.target a.recipient a.given) = let reported = c in
-    let s = reported in
-    let a = s.args in
-    c.grant-decision.ensures
-    ∙ ap₂ (grant_access a.caller a.target a.recipient a.given) c.held-mine.ensures c.held-toward.ensures
-    ∙ within _ reported.in_default.is (decided _ _ _ _ _ s.requires.n_value refl reported.of_grant-range.ensures) in the_reached)) c.refusal-in-Refused.ensures
+pub returns-in_err-grant : goal.returns-in_err-grant
+returns-in_err-grant c =
+    settled-stopped _ _ _ _ _ c.from_residual-in_err-grant.ensures.1
+    (c.in_err-grant.ensures ∙ grant-decided _ _ c.requires.same_domains _ _ _ _ c.in_ok-of_grant.ensures _ _ c.held-mine.ensures c.held-toward.ensures)
 
 pub held-had-requires : goal.held-had-requires
 held-had-requires c =
-    record {
-      accepted = c.requires.accepted;
-      n_value = c.requires.n_value;
-      holder_lt_n = ((let the_ranged : let a = c.args in (a.caller < a.n) × (a.target < a.n) × (a.recipient < a.n) × (a.given ≤ 15) = in-grant _ c.in_default.is _ _ _ _ _ c.of_grant-range.ensures in the_ranged)).2;
-      target_lt_n = ((let the_ranged : let a = c.args in (a.caller < a.n) × (a.target < a.n) × (a.recipient < a.n) × (a.given ≤ 15) = in-grant _ c.in_default.is _ _ _ _ _ c.of_grant-range.ensures in the_ranged)).1;
-    }
+    let within = in-grant _ _ _ _ _ c.in_ok-of_grant.ensures in
+    record { accepted = c.requires.accepted; same_domains = c.requires.same_domains; known_holder = within.other; known_target = within.target }
 
 pub alter-requires : goal.alter-requires
 alter-requires c =
-    let in-range = (let the_ranged : let a = c.args in (a.caller < a.n) × (a.target < a.n) × (a.recipient < a.n) × (a.given ≤ 15) = in-grant _ c.in_default.is _ _ _ _ _ c.of_grant-range.ensures in the_ranged) in
+    let within = in-grant _ _ _ _ _ c.in_ok-of_grant.ensures in
+    let new = c.adds-more.ensures ∙ ap (λ (k : ℕ). adds k c.args.given) c.held-had.ensures in
     record {
       accepted = c.requires.accepted;
-      n_value = c.requires.n_value;
-      holder_lt_n = in-range.2;
-      target_lt_n = in-range.1;
-      rights_bound = more-fits _ c.requires.accepted _ c.requires.n_value _ _ _ _ in-range.2 in-range.1 in-range.3 ((let the_added : let a = c.args in c.adds-more.result.bits ≡ adds (rights a.table.now a.recipient a.target) a.given = c.adds-more.ensures ∙ ap (λ (k : ℕ). adds k c.args.given) c.held-had.ensures in the_added));
+      same_domains = c.requires.same_domains;
+      known_holder = within.other;
+      known_target = within.target;
+      fits = more-fits _ c.requires.accepted _ c.requires.same_domains _ _ _ _ within.other within.target within.few new;
     }
 
 pub returns : goal.returns
-unfolding grant_access call_numbers access_by
+unfolding grant_access
 returns c =
-    let x = c.grant-decision.result in
-    let reported = done _ c.in_default-decision.not-Refused in
-    let made = c.alter.ensures in
-    granted _ _ _ _ _ c.done.ensures _ _ _ _ _ made.table_after made.holders_after _
-    (sym (passed x _ 23 _ reported (passed x _ 22 _ reported c.grant-decision.ensures)) ∙ (let the_reached : let a = c.args in decision_of c.grant-decision.result ≡ decide_call a.table.now (Grant a.caller a.target a.recipient a.given) = let reported = c in
-    let c = reported in
-    let a = c.args in
-    c.grant-decision.ensures
-    ∙ ap₂ (grant_access a.caller a.target a.recipient a.given) c.held-mine.ensures c.held-toward.ensures
-    ∙ within _ reported.in_default.is (decided _ _ _ _ _ c.requires.n_value refl reported.of_grant-range.ensures) in the_reached)) ((let the_added : let a = c.args in c.adds-more.result.bits ≡ adds (rights a.table.now a.recipient a.target) a.given = c.adds-more.ensures ∙ ap (λ (k : ℕ). adds k c.args.given) c.held-had.ensures in the_added))
+    let made = c.in_ok-grant.ensures in
+    granted _ _ _ _ _ _ _ _ c.alter.ensures.table_after c.alter.ensures.holders_after _
+    (sym (passed _ _ 23 _ (passed _ _ 22 _ made)) ∙ made ∙ grant-decided _ _ c.requires.same_domains _ _ _ _ c.in_ok-of_grant.ensures _ _ c.held-mine.ensures c.held-toward.ensures)
+    (c.adds-more.ensures ∙ ap (λ (k : ℕ). adds k c.args.given) c.held-had.ensures)

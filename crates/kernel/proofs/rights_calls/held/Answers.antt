@@ -9,11 +9,11 @@ use Rattle.kernel.proofs.Ranges.{right-in}
 use Rattle.kernel.proofs.rights_calls.held.Goals as goal
 
 pub offset_bounds-table-at : goal.offset_bounds-table-at
-offset_bounds-table-at c = let s = c in omega (arith, right-in _ s.requires.accepted _ s.requires.n_value _ _ _ s.requires.holder_lt_n s.requires.target_lt_n c.rights_at-at.ensures)
+offset_bounds-table-at c = omega (arith, right-in _ c.requires.accepted _ c.requires.same_domains _ _ _ c.requires.known_holder c.requires.known_target c.rights_at-at.ensures)
 
 pub bounds-table-at : goal.bounds-table-at
-bounds-table-at c = let s = c in right-in _ s.requires.accepted _ s.requires.n_value _ _ _ s.requires.holder_lt_n s.requires.target_lt_n c.rights_at-at.ensures
+bounds-table-at c = right-in _ c.requires.accepted _ c.requires.same_domains _ _ _ c.requires.known_holder c.requires.known_target c.rights_at-at.ensures
 
 pub returns : goal.returns
 returns c =
-    ap (λ (k : ℕ). payload (get_or c.args.table.now k 0)) c.rights_at-at.ensures ∙ rights-read _ _ c.requires.n_value _ _
+    ap (λ (k : ℕ). payload (get_or c.args.table.now k 0)) c.rights_at-at.ensures ∙ rights-read _ _ c.requires.same_domains _ _

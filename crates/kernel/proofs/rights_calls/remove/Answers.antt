@@ -1,65 +1,48 @@
 -- `rights_calls::remove` meets its contract: refused by a range test, refused by what was read, or done. Assumes nothing.
 use mathlib.Core.Path.{◌≡◌, refl, sym, ap, ◌∙◌}
-use Prim.Native.Nat.{ℕ, ◌<◌, ◌≤◌}
+use Prim.Native.Nat.{ℕ}
+use Rattle.std.specs.Prelude.{Err}
 use Rattle.machine.specs.Right.{without}
-use Rattle.machine.specs.Table.{rights}
-use Rattle.calls.specs.Decide.{decide_call}
-use Rattle.calls.specs.declared.Call.TheVariants.{Remove}
-use Rattle.rules.specs.Decision.{decision_of}
 use Rattle.rules.specs.Range.{call_numbers}
-use Rattle.rules.specs.Access.{remove_access, access_by}
-use Rattle.rules.proofs.Guards.{outside, within}
+use Rattle.rules.specs.Access.{remove_access}
 use Rattle.rules.proofs.Places.{decided}
 use Rattle.rules.proofs.Passed.{passed}
-use Rattle.kernel.proofs.Done.{done}
+use Rattle.kernel.proofs.Decided.{remove-decided}
 use Rattle.kernel.proofs.Ranges.{in_remove, less-fits}
-use Rattle.kernel.proofs.Outcomes.{settled-refused, removed}
+use Rattle.kernel.proofs.Outcomes.{settled-stopped, removed}
 use Rattle.kernel.proofs.rights_calls.remove.Goals as goal
 
-pub returns-in-Outside : goal.returns-in-Outside
+pub returns-in_err-of_remove : goal.returns-in_err-of_remove
 unfolding call_numbers
-returns-in-Outside c =
-    settled-refused _ _ _ _ _ _ (outside _ c.in-Outside.is (decided _ _ _ _ _ c.requires.n_value refl c.of_remove-range.ensures)) c.refusal.ensures
+returns-in_err-of_remove c =
+    settled-stopped _ _ _ _ _ c.from_residual.ensures.1 (decided _ _ _ _ (Err _) c.requires.same_domains refl c.in_err-of_remove.ensures)
 
 pub held-mine-requires : goal.held-mine-requires
 held-mine-requires c =
-    record {
-      accepted = c.requires.accepted;
-      n_value = c.requires.n_value;
-      holder_lt_n = ((let the_ranged : let a = c.args in (a.caller < a.n) × (a.target < a.n) × (a.given ≤ 15) = in_remove _ c.in_default.is _ _ _ _ c.of_remove-range.ensures in the_ranged)).0;
-      target_lt_n = ((let the_ranged : let a = c.args in (a.caller < a.n) × (a.target < a.n) × (a.given ≤ 15) = in_remove _ c.in_default.is _ _ _ _ c.of_remove-range.ensures in the_ranged)).1;
-    }
+    let within = in_remove _ _ _ _ c.in_ok-of_remove.ensures in
+    record { accepted = c.requires.accepted; same_domains = c.requires.same_domains; known_holder = within.0; known_target = within.1 }
 
-pub returns-in-Refused : goal.returns-in-Refused
-unfolding decision_of call_numbers access_by
-returns-in-Refused c =
-    settled-refused _ _ _ _ _ _ (sym (ap decision_of c.in-Refused.is) ∙ (let the_reached : let a = c.args in decision_of c.remove-decision.result ≡ decide_call a.table.now (Remove a.caller a.target a.given) = let reported = c in
-    let s = reported in
-    let a = s.args in
-    c.remove-decision.ensures
-    ∙ ap (remove_access a.caller a.target a.given) c.held-mine.ensures
-    ∙ within _ reported.in_default.is (decided _ _ _ _ _ s.requires.n_value refl reported.of_remove-range.ensures) in the_reached)) c.refusal-in-Refused.ensures
+pub returns-in_err-remove : goal.returns-in_err-remove
+returns-in_err-remove c =
+    settled-stopped _ _ _ _ _ c.from_residual-in_err-remove.ensures.1
+    (c.in_err-remove.ensures ∙ remove-decided _ _ c.requires.same_domains _ _ _ _ c.in_ok-of_remove.ensures c.held-mine.ensures)
 
 pub alter-requires : goal.alter-requires
 alter-requires c =
-    let in-range = (let the_ranged : let a = c.args in (a.caller < a.n) × (a.target < a.n) × (a.given ≤ 15) = in_remove _ c.in_default.is _ _ _ _ c.of_remove-range.ensures in the_ranged) in
+    let within = in_remove _ _ _ _ c.in_ok-of_remove.ensures in
+    let new = c.without-left.ensures ∙ ap (λ (k : ℕ). without k c.args.given) c.held-mine.ensures in
     record {
       accepted = c.requires.accepted;
-      n_value = c.requires.n_value;
-      holder_lt_n = in-range.0;
-      target_lt_n = in-range.1;
-      rights_bound = less-fits _ c.requires.accepted _ c.requires.n_value _ _ _ _ in-range.0 in-range.1 ((let the_left_over : let a = c.args in c.without-left.result.bits ≡ without (rights a.table.now a.caller a.target) a.given = c.without-left.ensures ∙ ap (λ (k : ℕ). without k c.args.given) c.held-mine.ensures in the_left_over));
+      same_domains = c.requires.same_domains;
+      known_holder = within.0;
+      known_target = within.1;
+      fits = less-fits _ c.requires.accepted _ c.requires.same_domains _ _ _ _ within.0 within.1 new;
     }
 
 pub returns : goal.returns
-unfolding remove_access call_numbers access_by
+unfolding remove_access
 returns c =
-    let x = c.remove-decision.result in
-    let reported = done _ c.in_default-decision.not-Refused in
-    let made = c.alter.ensures in
-    removed _ _ _ _ _ c.done.ensures _ _ _ _ _ made.table_after made.holders_after _ (sym (passed x _ 22 _ reported c.remove-decision.ensures) ∙ (let the_reached : let a = c.args in decision_of c.remove-decision.result ≡ decide_call a.table.now (Remove a.caller a.target a.given) = let reported = c in
-    let c = reported in
-    let a = c.args in
-    c.remove-decision.ensures
-    ∙ ap (remove_access a.caller a.target a.given) c.held-mine.ensures
-    ∙ within _ reported.in_default.is (decided _ _ _ _ _ c.requires.n_value refl reported.of_remove-range.ensures) in the_reached)) ((let the_left_over : let a = c.args in c.without-left.result.bits ≡ without (rights a.table.now a.caller a.target) a.given = c.without-left.ensures ∙ ap (λ (k : ℕ). without k c.args.given) c.held-mine.ensures in the_left_over))
+    let made = c.in_ok-remove.ensures in
+    removed _ _ _ _ _ _ _ _ c.alter.ensures.table_after c.alter.ensures.holders_after _
+    (sym (passed _ _ 22 _ made) ∙ made ∙ remove-decided _ _ c.requires.same_domains _ _ _ _ c.in_ok-of_remove.ensures c.held-mine.ensures)
+    (c.without-left.ensures ∙ ap (λ (k : ℕ). without k c.args.given) c.held-mine.ensures)

@@ -8,14 +8,14 @@ pub send-requires : goal.send-requires
 send-requires c =
     record {
       accepted = c.requires.accepted;
-      n_value = c.requires.n_value;
-      m_value = c.requires.m_value;
-      message_le_most_payload = message-fits _ _ c.in-Send.is c.decode-call.ensures;
+      same_domains = c.requires.same_domains;
+      same_endpoints = c.requires.same_endpoints;
+      fits = message-fits _ _ c.in-Send.is c.decode-call.ensures;
     }
 
 pub returns-in-Refused : goal.returns-in-Refused
 returns-in-Refused c =
-    here c.in-Refused.is c.decode-call.ensures (settled-unread _ _ _ _ _ _ _ c.requires.n_value c.refuse.ensures)
+    here c.in-Refused.is c.decode-call.ensures (settled-unread _ _ _ _ _ _ c.requires.same_domains c.refuse.ensures)
 
 pub returns-in-LookUp : goal.returns-in-LookUp
 returns-in-LookUp c =
