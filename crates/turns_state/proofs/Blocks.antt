@@ -11,7 +11,7 @@ use lib.ListN.{length, get_or, take, drop, set, length-take, length-drop}
 use lib.Seq.{length-take-le, get_or-take, get_or-drop}
 use borrow.Rule.Slice.PartMut.{put_same, same_len_mid}
 use Rattle.turns_theory.specs.Turns.{most_pending, waits}
-use Rattle.calls.specs.declared.split.Second.TheVariants.{Nothing}
+use Rattle.std.specs.Prelude.{None}
 use Rattle.turns_state.specs.Pending.{block_length, count, enqueuable, enqueued, left_by_enqueue, dequeuable, left_by_dequeue, second_of_oldest}
 use Rattle.turns_state.proofs.Laws.{pending-length, not-dequeued, dequeued-there}
 use Rattle.turns_state.specs.State.{state_length, block_at, block, set_block, turns_in, state_handed_in, state_served, added_to, first_of_oldest, removed_from}
@@ -83,7 +83,7 @@ module _ (ws : List ℕ) (d : ℕ) where
     unfolding first_of_oldest
     short-first = rw short
 
-    pub short-second : Nothing ≡ second_of_oldest (block ws d)
+    pub short-second : None ≡ second_of_oldest (block ws d)
     unfolding second_of_oldest
     short-second = rw short
 

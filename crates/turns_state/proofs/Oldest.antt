@@ -14,7 +14,7 @@ use lib.Seq.{get_or-take, get_or-drop}
 use Rattle.machine.specs.Table.{domains}
 use Rattle.machine.specs.Call.{Call, split}
 use Rattle.machine.proofs.Bools.{and_intro}
-use Rattle.calls.specs.declared.split.Second.{Second}
+use Rattle.std.specs.Prelude.{Option}
 use Rattle.calls.specs.Split.{call_of, second_at, width_of}
 use Rattle.turns_theory.specs.Turns.{waits, first_waiting, serves_oldest, Turn.serves}
 use Rattle.turns_theory.proofs.Pending.{split-oldest, oldest-width, turn-of}
@@ -76,7 +76,7 @@ module _ (t ws : List ℕ) (d : ℕ) (size : length ws ≡ state_length (domains
   oldest-turn =
       turn-of (domains t) (turns_in ws) d next
       ∙ oldest-served d (pending_in (block ws d)) there
-      ∙ ap₂ (λ (w : ℕ) (s : Second). serves d (call_of w s)) (sym first) (sym second)
+      ∙ ap₂ (λ (w : ℕ) (s : Option ℕ). serves d (call_of w s)) (sym first) (sym second)
 
   -- its words can be removed
   fits : dequeuable (block ws d) (width_of (second_of_oldest (block ws d))) ≡ true

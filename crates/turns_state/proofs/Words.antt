@@ -14,25 +14,24 @@ use Rattle.machine.specs.Word.{kind, caller}
 use Rattle.machine.specs.Call.{Call, first, caller_of, pairs, split, Call.one, Call.two}
 use Rattle.machine.specs.DomainSet.{called_by}
 use Rattle.calls.specs.Split.{call_of, second_at, width_of}
-use Rattle.calls.specs.declared.split.Second.{Second}
-use Rattle.calls.specs.declared.split.Second.TheVariants.{Nothing, Word}
+use Rattle.std.specs.Prelude.{Option, None, Some}
 use Rattle.turns_theory.specs.Turns.{is_one_of, width}
 use Rattle.turns_theory.proofs.Pending.{oldest, split-oldest, oldest-width, oldest-first}
 use Rattle.turns_state.specs.State.{is_call_of}
 
 -- how many words a call has, by its second word
-pub width-of : (w : ℕ) (s : Second) → width_of s ≡ width (call_of w s)
-width-of w Nothing = refl
-width-of w (Word v) = refl
+pub width-of : (w : ℕ) (s : Option ℕ) → width_of s ≡ width (call_of w s)
+width-of w None = refl
+width-of w (Some v) = refl
 
 -- the oldest call of words is their first with its second word
 pub second-oldest : (w : ℕ) (ws : List ℕ) → call_of w (second_at (w ∷ ws) 0) ≡ oldest w ws
 unfolding second_at oldest
-second-oldest w [] = ap (λ (b : Bool). call_of w (cond (b && pairs w 0) (Word 0) Nothing)) (le-ltb 1 1 (omega arith))
+second-oldest w [] = ap (λ (b : Bool). call_of w (cond (b && pairs w 0) (Some 0) None)) (le-ltb 1 1 (omega arith))
 second-oldest w (v ∷ ws) =
-    ap (λ (b : Bool). call_of w (cond (b && pairs w v) (Word v) Nothing)) (lt-ltb 1 (suc (suc (length ws))) (omega arith)) ∙ go (pairs w v)
+    ap (λ (b : Bool). call_of w (cond (b && pairs w v) (Some v) None)) (lt-ltb 1 (suc (suc (length ws))) (omega arith)) ∙ go (pairs w v)
   where
-    go : (b : Bool) → call_of w (cond b (Word v) Nothing) ≡ cond b (two w v) (one w)
+    go : (b : Bool) → call_of w (cond b (Some v) None) ≡ cond b (two w v) (one w)
     go true = refl
     go false = refl
 

@@ -1,9 +1,7 @@
 -- A domain's seventeen words (document 02 (m)): the count of its pending words and sixteen words, of which the first so many are
 -- pending, oldest first. For arbitrary words: what is pending in them, and what they are after others are appended and after the
 -- first are removed.
-use Rattle.std.specs.Prelude.{ℕ, ◌+◌, ◌-◌, ◌≤◌, min, ◌≡◌, Bool, cond, ◌&&◌, List, ◌∷◌, ◌++◌, eqb, leb, length, get_or, take, drop}
-use Rattle.calls.specs.declared.split.Second.{Second}
-use Rattle.calls.specs.declared.split.Second.TheVariants.{Nothing}
+use Rattle.std.specs.Prelude.{ℕ, ◌+◌, ◌-◌, ◌≤◌, min, ◌≡◌, Bool, cond, ◌&&◌, List, ◌∷◌, ◌++◌, eqb, leb, length, get_or, take, drop, Option, None}
 use Rattle.calls.specs.Split.{second_at}
 use Rattle.turns_theory.specs.Turns.{most_pending}
 
@@ -31,8 +29,8 @@ unfoldable pub left_by_enqueue : List ℕ → List ℕ → List ℕ
 left_by_enqueue b vs = cond (enqueuable b (length vs)) (enqueued b vs) b
 
 -- the second word of the oldest pending call, if it has one
-unfoldable pub second_of_oldest : List ℕ → Second
-second_of_oldest b = cond (eqb (length b) block_length) (second_at (pending_in b) 0) Nothing
+unfoldable pub second_of_oldest : List ℕ → Option ℕ
+second_of_oldest b = cond (eqb (length b) block_length) (second_at (pending_in b) 0) None
 
 -- the words are seventeen, and at least so many are pending
 unfoldable pub dequeuable : List ℕ → ℕ → Bool

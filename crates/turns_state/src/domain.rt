@@ -32,7 +32,7 @@ fn is_call_of(first: u32, domain: u32) -> bool
 pub fn is_one_call(words: &[u32], domain: u32) -> bool
     ensures { result ≡ is_one_of domain (split words.now) }
 {
-    if words.len() == 0 {
+    if words.is_empty() {
         return false;
     }
     if !is_call_of(words[0], domain) {

@@ -11,8 +11,6 @@ ghost use Rattle.std.specs.Prelude.{◌≡◌, length, replicate};
 ghost use Rattle.turns_state.specs.Pending.{enqueuable, second_of_oldest, dequeuable};
 ghost use Rattle.turns_state.specs.State.{block, added_to, first_of_oldest, removed_from};
 
-use calls::split::Second;
-
 // Sets every word of the state to 0, which is the beginning: nothing is pending, and the first turn starts at 0.
 pub fn clear(state: &mut [u32])
     ensures { state.new ≡ replicate (length state.old) 0 }
@@ -45,13 +43,13 @@ pub fn first_of_oldest(state: &[u32], domain: u8) -> u32
 }
 
 // Returns the second word of the domain's oldest pending call, if it has one.
-pub fn second_of_oldest(state: &[u32], domain: u8) -> Second
+pub fn second_of_oldest(state: &[u32], domain: u8) -> Option<u32>
     ensures { result ≡ second_of_oldest (block state.now domain) }
 {
     let start = 1 + 17 * domain as usize;
     let end = start + 17;
     if state.len() < end {
-        return Second::Nothing;
+        return None;
     }
     crate::pending::second_of_oldest(&state[start..end])
 }

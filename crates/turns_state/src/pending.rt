@@ -7,7 +7,6 @@ ghost use Rattle.turns_theory.specs.Turns.{most_pending};
 ghost use Rattle.turns_state.specs.Pending.{count, enqueuable, left_by_enqueue, enqueued, MayEnqueue};
 ghost use Rattle.turns_state.specs.Pending.{dequeuable, left_by_dequeue, dequeued, MayDequeue, second_of_oldest};
 
-use calls::split::Second;
 use kernel::reports::second_of_first;
 
 // Returns the count of pending words, at most 16.
@@ -57,11 +56,11 @@ pub fn enqueue(block: &mut [u32], words: &[u32]) -> bool
 }
 
 // Returns the second word of the oldest pending call, if it has one.
-pub fn second_of_oldest(block: &[u32]) -> Second
+pub fn second_of_oldest(block: &[u32]) -> Option<u32>
     ensures { result ≡ second_of_oldest block.now }
 {
     if block.len() != 17 {
-        return Second::Nothing;
+        return None;
     }
     let end = 1 + count(block);
     second_of_first(&block[1..end])
