@@ -1,15 +1,13 @@
 -- The cells of a matrix by their places, and the closure's steps as the functions make them (specs/Closure of crate
 -- potential_theory). Assumes nothing.
-use mathlib.Core.Path.{◌≡◌, sym, ap, ◌∙◌}
+use mathlib.Core.Path.{◌≡◌}
 use mathlib.Core.Bool.{true, false}
 use mathlib.Core.List.{List}
-use Prim.Native.Nat.{ℕ, ◌+◌, ◌*◌, ◌/◌, ◌%◌, ◌^◌, ◌<◌}
-use native.Mathlib.Nat.{div-one}
+use Prim.Native.Nat.{ℕ, ◌*◌, ◌/◌, ◌%◌, ◌^◌, ◌<◌}
 use native.Mathlib.Omega.{arith}
 use borrow.Author.Tests.{eq-eqb, ne_eqb}
 use lib.Arith.{digits_lt}
 use lib.ListN.{get_or, set}
-use lib.Pow.{shr-shr}
 use Rattle.machine.specs.Below.{has_bit}
 use Rattle.machine.specs.Right.{GRANT, holds, adds, has_any}
 use Rattle.potential_theory.specs.Closure.{cell_at, cell, steps_below, granted_on, granted_to, granted_by}
@@ -48,19 +46,13 @@ module _ (m : List ℕ) (n u h at held : ℕ) (e : at ≡ cell_at n u h) (is : h
   unfolding granted_to cell
   to-not-done none = rw (← e, ← is, none)
 
--- ---- all grants by one domain: tested by its bit, which is the lowest of what is left of the set
+-- ---- all grants by one domain: tested by its bit
 
-pub left-start : (s : ℕ) → s ≡ s / 2 ^ 0
-left-start s = sym (div-one s)
-
-pub left-next : (s u left : ℕ) → left ≡ s / 2 ^ u → left / 2 ≡ s / 2 ^ (u + 1)
-left-next s u left e = ap (λ x. x / 2) e ∙ shr-shr s u 1
-
-module _ (m : List ℕ) (n s u left : ℕ) (e : left ≡ s / 2 ^ u) where
-  pub by-done : (m' : List ℕ) → left % 2 ≡ 1 → m' ≡ steps_below n (granted_to n u) m → m' ≡ granted_by n s u m
+module _ (m : List ℕ) (n s u : ℕ) where
+  pub by-done : (m' : List ℕ) → s / 2 ^ u % 2 ≡ 1 → m' ≡ steps_below n (granted_to n u) m → m' ≡ granted_by n s u m
   unfolding granted_by has_bit
-  by-done m' acts made = rw (← e, eq-eqb (left % 2) 1 acts) made
+  by-done m' acts made = rw (eq-eqb (s / 2 ^ u % 2) 1 acts) made
 
-  pub by-not-done : (left % 2 ≡ 1 → ⊥) → m ≡ granted_by n s u m
+  pub by-not-done : (s / 2 ^ u % 2 ≡ 1 → ⊥) → m ≡ granted_by n s u m
   unfolding granted_by has_bit
-  by-not-done not = rw (← e, ne_eqb (left % 2) 1 not)
+  by-not-done not = rw (ne_eqb (s / 2 ^ u % 2) 1 not)

@@ -13,6 +13,8 @@ use Rattle.potential_theory.proofs.Matrix.{proper-most}
 use Rattle.potential_theory.proofs.Steps.{Step}
 use Rattle.potential_theory.proofs.Granted.{Within}
 use Rattle.potential_theory.proofs.Closure.{round-step}
+use Rattle.std.specs.List.{sum}
+use Rattle.potential.proofs.Loops.{sum-total}
 
 -- a round on any rights whatsoever
 Any : ℕ → ℕ → ℕ → Type 0
@@ -28,10 +30,10 @@ module _ (n s : ℕ) where
   within m p = record { proper = p; only = λ _ _ _ _ _ _. tt }
 
 -- the sum of a matrix of sixteen domains or less fits a word
-pub sum_fits : (n : ℕ) (m : List ℕ) → Proper n m → n ≤ 16 → total m < 2 ^ 32
+pub sum_fits : (n : ℕ) (m : List ℕ) → Proper n m → n ≤ 16 → sum m < 2 ^ 32
 sum_fits n m p few =
     let cells : n * n ≤ 16 * 16 = mul-le-mul few few in
-    omega (arith, proper-most n m p)
+    omega (arith, sum-total m, proper-most n m p)
 
 -- ---- the first of suc k rounds
 

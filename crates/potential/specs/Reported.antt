@@ -1,12 +1,13 @@
 -- What is reported of the potential rights in arbitrary words as a table, where the domains of the set s act: a code, and the
 -- words left in the space that was lent for them.
-use Rattle.std.specs.Prelude.{ℕ, ◌*◌, ◌^◌, ◌≡◌, cond, List, eqb, ltb, length}
+use Rattle.std.specs.Prelude.{ℕ, ◌*◌, ◌^◌, ◌≡◌, cond, List, eqb, ltb, length, ⊤, Result}
 use Rattle.machine.specs.Table.{domains}
 use Rattle.machine.specs.Check.{table_code}
 use Rattle.potential_theory.specs.Closure.{potential}
+use Rattle.result_code.specs.Code.{result_code}
 use Rattle.table_check.specs.Checked.{refusal_code}
-use Rattle.potential.specs.declared.Potential.{Potential}
-use Rattle.potential.specs.declared.Potential.TheVariants.{Computed, BadTable, OtherSpace, NotDomains}
+use Rattle.potential.specs.declared.PotentialRefusal.{PotentialRefusal}
+use Rattle.potential.specs.declared.PotentialRefusal.TheVariants.{BadTable, OtherSpace, NotDomains}
 
 -- the code: the table's 2 to 5, then 6 where other than n × n words are lent, then 32 where s has a bit at or above n, else 0
 unfoldable pub reported_code : List ℕ → ℕ → ℕ → ℕ
@@ -24,9 +25,12 @@ pub record PotentialReported (t : List ℕ) (s : ℕ) (space : List ℕ) (code :
   pub same_code : code ≡ reported_code t s (length space)
   pub same_rights : left ≡ reported_rights t s space
 
+-- the code of a refusal
+abbrev pub potential_refusal_code : PotentialRefusal → ℕ
+potential_refusal_code (BadTable r) = refusal_code r
+potential_refusal_code OtherSpace = 6
+potential_refusal_code NotDomains = 32
+
 -- the code of an answer
-abbrev pub potential_code : Potential → ℕ
-potential_code Computed = 0
-potential_code (BadTable r) = refusal_code r
-potential_code OtherSpace = 6
-potential_code NotDomains = 32
+abbrev pub potential_code : Result ⊤ PotentialRefusal → ℕ
+potential_code r = result_code potential_refusal_code r

@@ -9,10 +9,10 @@ use rights::Rights;
 
 // Gives the recipient the giver's rights on a target, if GRANT is among them.
 fn grant_on(rights: &mut [u32], n: u32, giver: u32, recipient: u32, target: u32)
-    requires rights_len { length rights.old ≡ n * n }
-    requires giver_lt_n { giver < n }
-    requires recipient_lt_n { recipient < n }
-    requires target_lt_n { target < n }
+    requires size { length rights.old ≡ n * n }
+    requires giver { giver < n }
+    requires recipient { recipient < n }
+    requires target { target < n }
     ensures { rights.new ≡ granted_on n giver recipient target rights.old }
 {
     let from = cell_at(n, giver, target);
@@ -27,55 +27,49 @@ fn grant_on(rights: &mut [u32], n: u32, giver: u32, recipient: u32, target: u32)
 
 // Gives the recipient all that the giver can give, on every target.
 fn grant_all(rights: &mut [u32], n: u32, giver: u32, recipient: u32)
-    requires rights_len { length rights.old ≡ n * n }
-    requires giver_lt_n { giver < n }
-    requires recipient_lt_n { recipient < n }
+    requires size { length rights.old ≡ n * n }
+    requires giver { giver < n }
+    requires recipient { recipient < n }
     ensures { rights.new ≡ steps_below n (granted_on n giver recipient) rights.old }
 {
-    let mut target = 0;
-    while target < n {
+    for target in 0..n {
         grant_on(rights, n, giver, recipient, target);
-        target += 1;
     }
 }
 
 // Gives all that the giver can give to every domain that it has some right on.
 fn grant_each(rights: &mut [u32], n: u32, giver: u32)
-    requires rights_len { length rights.old ≡ n * n }
-    requires giver_lt_n { giver < n }
+    requires size { length rights.old ≡ n * n }
+    requires giver { giver < n }
     ensures { rights.new ≡ steps_below n (granted_to n giver) rights.old }
 {
-    let mut recipient = 0;
-    while recipient < n {
-        let on = cell_at(n, giver, recipient);
-        let held = Rights { bits: rights[on] };
+    for recipient in 0..n {
+        let held = Rights {
+            bits: rights[cell_at(n, giver, recipient)],
+        };
         if held.has_any() {
             grant_all(rights, n, giver, recipient);
         }
-        recipient += 1;
     }
 }
 
 // Makes one round: each domain that acts gives all that it can.
 fn grant_round(rights: &mut [u32], n: u32, actors: u32)
-    requires { length rights.old ≡ n * n }
+    requires size { length rights.old ≡ n * n }
+    requires few { n ≤ 16 }
     ensures { rights.new ≡ round n actors rights.old }
 {
-    let mut left = actors;
-    let mut giver = 0;
-    while giver < n {
-        if left % 2 == 1 {
+    for giver in 0..n {
+        if (actors >> giver) % 2 == 1 {
             grant_each(rights, n, giver);
         }
-        left = left / 2;
-        giver += 1;
     }
 }
 
 // Makes rounds until one adds nothing. The sum of the sets rises with every right that is added, so an equal sum ends it.
 pub fn settle(rights: &mut [u32], n: u32, actors: u32)
     requires proper { Proper n rights.old }
-    requires n_bound { n ≤ 16 }
+    requires few { n ≤ 16 }
     ensures { rights.new ≡ settled (enough n) n actors rights.old }
 {
     let mut last = sum(rights);

@@ -7,18 +7,18 @@ mod matrix;
 pub mod places;
 
 ghost use Rattle.std.specs.Prelude.{◌≡◌};
-ghost use Rattle.potential.specs.Reported.{PotentialReported, potential_code};
+ghost use Rattle.potential.specs.Reported.{PotentialReported, potential_refusal_code, potential_code};
+ghost use Rattle.potential.specs.declared.PotentialRefusal.TheVariants.{BadTable};
 
 use grants::settle;
 use matrix::{fill, power};
-use table_check::{Checked, TableRefusal, check};
+use result_code::Coded;
+use table_check::{TableRefusal, check};
 use table_layout::domains;
 
-// The answer about the potential rights.
-#[derive(Clone, Copy)]
-pub enum Potential {
-    // 0: the lent words have them
-    Computed,
+// Why the potential rights aren't computed.
+#[derive(Clone, Copy, Debug, PartialEq, Eq)]
+pub enum PotentialRefusal {
     // 2 to 5: the table is refused
     BadTable(TableRefusal),
     // 6: other than n × n words are lent
@@ -27,36 +27,40 @@ pub enum Potential {
     NotDomains,
 }
 
-impl Potential {
-    // Returns the code of the answer, 0 where the lent words have the rights.
-    pub fn code(self) -> u32
-        ensures { result ≡ potential_code self }
-    {
+impl Coded for PotentialRefusal {
+    ghost code_of = { potential_refusal_code };
+
+    // Returns the code of the refusal.
+    fn code(self) -> u32 {
         match self {
-            Potential::Computed => 0,
-            Potential::BadTable(refusal) => refusal.code(),
-            Potential::OtherSpace => 6,
-            Potential::NotDomains => 32,
+            PotentialRefusal::BadTable(refusal) => refusal.code(),
+            PotentialRefusal::OtherSpace => 6,
+            PotentialRefusal::NotDomains => 32,
         }
     }
 }
 
+impl From<TableRefusal> for PotentialRefusal {
+    ghost from_gives = { λ table potential. potential ≡ BadTable table };
+
+    fn from(refusal: TableRefusal) -> PotentialRefusal {
+        PotentialRefusal::BadTable(refusal)
+    }
+}
+
 // Writes the potential rights in a table, where the domains of a set act, into the lent words. A refusal alters no word.
-pub fn potential_of(table: &[u32], actors: u32, rights: &mut [u32]) -> Potential
+pub fn potential_of(table: &[u32], actors: u32, rights: &mut [u32]) -> Result<(), PotentialRefusal>
     ensures { PotentialReported table.now actors rights.old (potential_code result) rights.new }
 {
-    let checked = check(table);
-    if let Checked::Refused(refusal) = checked {
-        return Potential::BadTable(refusal);
-    }
+    check(table)?;
     let n = domains(table);
     if rights.len() != n as usize * n as usize {
-        return Potential::OtherSpace;
+        return Err(PotentialRefusal::OtherSpace);
     }
     if power(n) <= actors {
-        return Potential::NotDomains;
+        return Err(PotentialRefusal::NotDomains);
     }
     fill(table, rights);
     settle(rights, n, actors);
-    Potential::Computed
+    Ok(())
 }

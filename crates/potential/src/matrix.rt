@@ -1,7 +1,7 @@
 // An access matrix in lent words: the rights of a holder on a target among n domains, n × n sets, holder by holder.
-ghost use Rattle.std.specs.Prelude.{◌≡◌, ◌*◌, ◌^◌, ◌<◌, ◌≤◌, length};
+ghost use Rattle.std.specs.Prelude.{◌≡◌, ◌*◌, ◌^◌, ◌<◌, ◌≤◌, length, sum};
 ghost use Rattle.machine.specs.Table.{domains};
-ghost use Rattle.potential_theory.specs.Closure.{matrix_of, total};
+ghost use Rattle.potential_theory.specs.Closure.{matrix_of};
 
 use format::KIND_UNIT;
 use table_layout::word;
@@ -19,24 +19,15 @@ pub fn fill(table: &[u32], rights: &mut [u32])
     requires { length rights.old ≡ domains table.now * domains table.now }
     ensures { rights.new ≡ matrix_of table.now }
 {
-    let mut i: usize = 0;
-    while i < rights.len() {
-        let held = word(table, 1 + i);
-        rights[i] = held % KIND_UNIT;
-        i += 1;
+    for (i, held) in rights.iter_mut().enumerate() {
+        *held = word(table, 1 + i) % KIND_UNIT;
     }
 }
 
 // Returns the sum of all sets as numbers.
 pub fn sum(rights: &[u32]) -> u32
-    requires { total rights.now < 2 ^ 32 }
-    ensures { result ≡ total rights.now }
+    requires { sum rights.now < 2 ^ 32 }
+    ensures { result ≡ sum rights.now }
 {
-    let mut sum = 0;
-    let mut i: usize = 0;
-    while i < rights.len() {
-        sum += rights[i];
-        i += 1;
-    }
-    sum
+    rights.iter().sum()
 }

@@ -1,34 +1,27 @@
 -- `grants::grant_round` meets its contract: one domain that acts after the other. Assumes nothing.
-use mathlib.Core.Path.{refl, ◌∙◌}
-use Rattle.potential_theory.specs.Closure.{round}
-use Rattle.potential.proofs.Cells.{left-start, left-next, by-done, by-not-done}
-use Rattle.potential.proofs.Loops.{stepping-start, stepping-next, stepping-end}
+use mathlib.Core.Path.{◌≡◌, refl, ap, ◌∙◌}
+use native.Mathlib.Omega.{arith}
+use Rattle.potential_theory.specs.Closure.{steps_below, granted_by, round}
+use Rattle.potential.proofs.Cells.{by-done, by-not-done}
+use Rattle.potential.proofs.Loops.{one-step}
 use Rattle.potential.proofs.grants.grant_round.Goals as goal
-use Rattle.potential.proofs.grants.grant_round.Goals.{then-left-eq1, else-left-eq1}
+use Rattle.potential.proofs.grants.grant_round.Goals.{then-actors-giver-eq1, else-actors-giver-eq1}
 
 pub loop-giver-init : goal.loop-giver-init
-loop-giver-init c = (stepping-start _ _ _, left-start _)
-
-pub grant_each-requires : goal.grant_each-requires
-grant_each-requires c =
-    record { rights_len = c.loop-giver.invariant.0.size ∙ c.requires; giver_lt_n = c.loop-giver-test.true }
+unfolding steps_below
+loop-giver-init c = refl
 
 pub loop-giver-preserved : goal.loop-giver-preserved
 loop-giver-preserved c =
-    let inv = c.loop-giver.invariant in
-    let next = stepping-next _ _ _ _ _ inv.0 in
-    elim c.if-left-eq1.branch [
-      | then-left-eq1 w ↦
-          rw w.rights-is
-          (next _ c.loop-giver-test.true w.grant_each.auto.rights (by-done _ _ _ _ _ inv.1 _ w.if-left-eq1.true w.grant_each.ensures), left-next _ _ _ inv.1)
-      | else-left-eq1 w ↦
-          rw w.rights-is
-          (next _ c.loop-giver-test.true refl (by-not-done _ _ _ _ _ inv.1 w.if-left-eq1.false), left-next _ _ _ inv.1)
+    let made = c.loop-giver.invariant in
+    elim c.if-actors-giver-eq1.branch [
+      | then-actors-giver-eq1 w ↦
+          w.rights-is ∙ one-step _ _ _ _ _ made (by-done _ _ _ _ _ w.if-actors-giver-eq1.true w.grant_each.ensures)
+      | else-actors-giver-eq1 w ↦ w.rights-is ∙ one-step _ _ _ _ _ made (by-not-done _ _ _ _ w.if-actors-giver-eq1.false)
     ]
-
-pub shape_of-rights : goal.shape_of-rights
-shape_of-rights c = c.loop-giver.invariant.0.size
 
 pub returns : goal.returns
 unfolding round
-returns c = stepping-end _ _ _ _ _ c.loop-giver.invariant.0 c.loop-giver-test.false
+returns c =
+    let all : c.loop-giver.giver ≡ c.args.n = omega arith in
+    c.loop-giver.invariant ∙ ap (λ k. steps_below k (granted_by c.args.n c.args.actors) c.args.rights.now) all

@@ -1,20 +1,12 @@
--- `matrix::fill` meets its contract: the cells are filled in one after the other. Assumes nothing.
-use mathlib.Core.Path.{ap}
-use Rattle.machine.specs.Word.{payload}
+-- `matrix::fill` meets its contract: the cells passed are filled in. Assumes nothing.
+use mathlib.Core.Path.{◌∙◌}
+use native.Mathlib.Omega.{arith}
 use Rattle.potential_theory.specs.Closure.{matrix_of}
-use Rattle.potential.proofs.Loops.{filling-start, filling-next, filling-end}
+use Rattle.potential.proofs.Loops.{words-of}
 use Rattle.potential.proofs.matrix.fill.Goals as goal
-
-pub loop-i-init : goal.loop-i-init
-loop-i-init c = filling-start _ _
-
-pub loop-i-preserved : goal.loop-i-preserved
-loop-i-preserved c =
-    filling-next _ _ _ _ c.loop-i.invariant _ c.loop-i-test.true (ap payload c.word-held.ensures)
-
-pub shape_of-rights : goal.shape_of-rights
-shape_of-rights c = c.loop-i.invariant.room
 
 pub returns : goal.returns
 unfolding matrix_of
-returns c = filling-end _ _ _ _ c.loop-i.invariant _ c.requires c.loop-i-test.false
+returns c =
+    let size = c.loop-i.auto.rights in
+    words-of _ _ _ (size ∙ c.requires) (λ k l. c.loop-i.invariant k (omega (arith, size)))
