@@ -13,12 +13,11 @@ use Rattle.machine.proofs.Bools.{cond-elim}
 use Rattle.machine.proofs.Accepted.{accepted-counts}
 use Rattle.reachability.proofs.Bounds.{relation-lt}
 use Rattle.isolation_theory.specs.Component.{joined, component}
-use Rattle.table_check.specs.Checked.{refusal_code}
-use Rattle.table_check.specs.declared.TableRefusal.{TableRefusal}
 use Rattle.table_check.specs.declared.TableRefusal.TheVariants.{BadHeader, BadLength, BadRights, BadEndpoint}
-use Rattle.components.specs.Reported.{reported_code, reported_members, ComponentReported, component_code}
-use Rattle.components.specs.declared.Component.{Component}
-use Rattle.components.specs.declared.Component.TheVariants.{Of, BadTable, NotADomain}
+use Rattle.components.specs.Reported.{reported_code, reported_members, ComponentReported, domain_refusal_code, component_code}
+use Rattle.components.specs.declared.DomainRefusal.{DomainRefusal}
+use Rattle.components.specs.declared.DomainRefusal.TheVariants.{BadTable, NotDomains}
+use Rattle.std.specs.Prelude.{Result, Ok, Err}
 
 module _ (t : List ℕ) (d : ℕ) where
   -- a table that is refused by its code
@@ -59,14 +58,15 @@ module _ (t : List ℕ) (d : ℕ) where
       lt_of_lt_of_le (relation-lt (domains t) (joined t) d l) (pow_mono (accepted-counts t a).1))
       (λ _. omega arith)
 
+-- a refusal's code is small
+pub refusal-small : (r : DomainRefusal) → domain_refusal_code r ≤ 32
+refusal-small (BadTable BadHeader) = omega arith
+refusal-small (BadTable BadLength) = omega arith
+refusal-small (BadTable BadRights) = omega arith
+refusal-small (BadTable BadEndpoint) = omega arith
+refusal-small NotDomains = omega arith
+
 -- an answer's code is small
-pub code-small : (c : Component) → component_code c ≤ 32
-code-small (Of members) = omega arith
-code-small (BadTable r) = go r
-  where
-    go : (r : TableRefusal) → refusal_code r ≤ 32
-    go BadHeader = omega arith
-    go BadLength = omega arith
-    go BadRights = omega arith
-    go BadEndpoint = omega arith
-code-small NotADomain = omega arith
+pub code-small : (a : Result ℕ DomainRefusal) → component_code a ≤ 32
+code-small (Ok members) = omega arith
+code-small (Err r) = refusal-small r

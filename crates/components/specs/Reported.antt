@@ -1,11 +1,12 @@
 -- What is reported of a domain's component (document 02 (j)) in arbitrary words as a table: a code, and the members as bits.
-use Rattle.std.specs.Prelude.{ℕ, ◌≡◌, cond, List, eqb, ltb}
+use Rattle.std.specs.Prelude.{ℕ, ◌≡◌, cond, List, eqb, ltb, Result, Ok, Err}
 use Rattle.machine.specs.Table.{domains}
 use Rattle.machine.specs.Check.{table_code}
 use Rattle.isolation_theory.specs.Component.{component}
+use Rattle.result_code.specs.Code.{result_code}
 use Rattle.table_check.specs.Checked.{refusal_code}
-use Rattle.components.specs.declared.Component.{Component}
-use Rattle.components.specs.declared.Component.TheVariants.{Of, BadTable, NotADomain}
+use Rattle.components.specs.declared.DomainRefusal.{DomainRefusal}
+use Rattle.components.specs.declared.DomainRefusal.TheVariants.{BadTable, NotDomains}
 
 -- the code: the table's 2 to 5, then 32 where d isn't below n, else 0
 unfoldable pub reported_code : List ℕ → ℕ → ℕ
@@ -20,14 +21,16 @@ pub record ComponentReported (t : List ℕ) (d code members : ℕ) : Type 0 wher
   pub same_code : code ≡ reported_code t d
   pub same_members : members ≡ reported_members t d
 
+-- the code of a refusal
+abbrev pub domain_refusal_code : DomainRefusal → ℕ
+domain_refusal_code (BadTable r) = refusal_code r
+domain_refusal_code NotDomains = 32
+
 -- the code of an answer
-abbrev pub component_code : Component → ℕ
-component_code (Of members) = 0
-component_code (BadTable r) = refusal_code r
-component_code NotADomain = 32
+abbrev pub component_code : Result ℕ DomainRefusal → ℕ
+component_code r = result_code domain_refusal_code r
 
 -- the members that an answer has
-abbrev pub component_members : Component → ℕ
-component_members (Of members) = members
-component_members (BadTable r) = 0
-component_members NotADomain = 0
+abbrev pub component_members : Result ℕ DomainRefusal → ℕ
+component_members (Ok members) = members
+component_members (Err r) = 0

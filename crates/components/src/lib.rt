@@ -5,59 +5,51 @@
 mod connections;
 
 ghost use Rattle.std.specs.Prelude.{◌≡◌};
-ghost use Rattle.components.specs.Reported.{ComponentReported, component_code, component_members};
+ghost use Rattle.components.specs.Reported.{ComponentReported, domain_refusal_code, component_code, component_members};
+ghost use Rattle.components.specs.declared.DomainRefusal.TheVariants.{BadTable};
 
 use connections::members;
-use table_check::{Checked, TableRefusal, check};
+use result_code::Coded;
+use table_check::{TableRefusal, check};
 use table_layout::domains;
 
-// The answer about a domain's component.
-#[derive(Clone, Copy)]
-pub enum Component {
-    // the members, a bit for each
-    Of(u32),
+// Why a question about a domain of a table isn't answered.
+#[derive(Clone, Copy, Debug, PartialEq, Eq)]
+pub enum DomainRefusal {
     // 2 to 5: the table is refused
     BadTable(TableRefusal),
-    // 32: the domain isn't below n
-    NotADomain,
+    // 32: a domain that is asked about, or one of a set of domains, isn't below n
+    NotDomains,
 }
 
-impl Component {
-    // Returns the code of the answer, 0 where it has the component.
-    pub fn code(self) -> u32
-        ensures { result ≡ component_code self }
-    {
-        match self {
-            Component::Of(_) => 0,
-            Component::BadTable(refusal) => refusal.code(),
-            Component::NotADomain => 32,
-        }
-    }
+impl Coded for DomainRefusal {
+    ghost code_of = { domain_refusal_code };
 
-    // Returns the members as bits, none where the answer has no component.
-    pub fn members(self) -> u32
-        ensures { result ≡ component_members self }
-    {
+    // Returns the code of the refusal.
+    fn code(self) -> u32 {
         match self {
-            Component::Of(members) => members,
-            Component::BadTable(_) => 0,
-            Component::NotADomain => 0,
+            DomainRefusal::BadTable(refusal) => refusal.code(),
+            DomainRefusal::NotDomains => 32,
         }
     }
 }
 
-// Returns the connected component of a domain in a table, or why it is refused.
-pub fn component_of(table: &[u32], domain: u32) -> Component
+impl From<TableRefusal> for DomainRefusal {
+    ghost from_gives = { λ table domain. domain ≡ BadTable table };
+
+    fn from(refusal: TableRefusal) -> DomainRefusal {
+        DomainRefusal::BadTable(refusal)
+    }
+}
+
+// Returns the connected component of a domain in a table, a bit for each member, or why it is refused.
+pub fn component_of(table: &[u32], domain: u32) -> Result<u32, DomainRefusal>
     ensures { ComponentReported table.now domain (component_code result) (component_members result) }
 {
-    let checked = check(table);
-    if let Checked::Refused(refusal) = checked {
-        return Component::BadTable(refusal);
-    }
+    check(table)?;
     let n = domains(table);
     if n <= domain {
-        return Component::NotADomain;
+        return Err(DomainRefusal::NotDomains);
     }
-    let found = members(table, n, domain);
-    Component::Of(found)
+    Ok(members(table, n, domain))
 }

@@ -20,12 +20,10 @@ use Rattle.reachability.proofs.Bounds.{relation-lt}
 use Rattle.potential_theory.specs.Closure.{potential, potential_rights}
 use Rattle.potential.specs.Reported as rights
 use Rattle.influence_theory.specs.Influence.{could_reach, could_influence}
-use Rattle.table_check.specs.Checked.{refusal_code}
-use Rattle.table_check.specs.declared.TableRefusal.{TableRefusal}
-use Rattle.table_check.specs.declared.TableRefusal.TheVariants.{BadHeader, BadLength, BadRights, BadEndpoint}
 use Rattle.influence.specs.Reported.{reaches_in, reported_code, reported_set, InfluenceReported, influence_code}
-use Rattle.influence.specs.declared.Influence.{Influence}
-use Rattle.influence.specs.declared.Influence.TheVariants.{Of, BadTable, NotDomains}
+use Rattle.components.specs.declared.DomainRefusal.{DomainRefusal}
+use Rattle.components.proofs.Reported.{refusal-small}
+use Rattle.std.specs.Prelude.{Result, Ok, Err}
 
 and_none : (a b : Bool) → b ≡ false → (a && b) ≡ false
 and_none a b e = rw (e, and-false a)
@@ -117,13 +115,6 @@ module _ (t : List ℕ) (s d : ℕ) where
       (λ _. omega arith)
 
 -- an answer's code is small
-pub code-small : (c : Influence) → influence_code c ≤ 32
-code-small (Of set) = omega arith
-code-small (BadTable r) = go r
-  where
-    go : (r : TableRefusal) → refusal_code r ≤ 32
-    go BadHeader = omega arith
-    go BadLength = omega arith
-    go BadRights = omega arith
-    go BadEndpoint = omega arith
-code-small NotDomains = omega arith
+pub code-small : (a : Result ℕ DomainRefusal) → influence_code a ≤ 32
+code-small (Ok set) = omega arith
+code-small (Err r) = refusal-small r

@@ -1,15 +1,15 @@
 -- What is reported of those that could influence the domain d in arbitrary words as a table, where the domains of the set s act: a
 -- code, and the set as bits.
-use Rattle.std.specs.Prelude.{ℕ, ◌^◌, ◌≡◌, Bool, cond, ◌&&◌, List, eqb, ltb}
+use Rattle.std.specs.Prelude.{ℕ, ◌^◌, ◌≡◌, Bool, cond, ◌&&◌, List, eqb, ltb, Result, Ok, Err}
 use Rattle.machine.specs.Below.{has_bit}
 use Rattle.machine.specs.Right.{has_any}
 use Rattle.machine.specs.Table.{domains}
 use Rattle.machine.specs.Check.{table_code}
 use Rattle.potential_theory.specs.Closure.{cell}
 use Rattle.influence_theory.specs.Influence.{could_influence}
-use Rattle.table_check.specs.Checked.{refusal_code}
-use Rattle.influence.specs.declared.Influence.{Influence}
-use Rattle.influence.specs.declared.Influence.TheVariants.{Of, BadTable, NotDomains}
+use Rattle.result_code.specs.Code.{result_code}
+use Rattle.components.specs.declared.DomainRefusal.{DomainRefusal}
+use Rattle.components.specs.Reported.{domain_refusal_code}
 
 -- u acts and has some right on v in the matrix m of n domains
 unfoldable pub reaches_in : ℕ → ℕ → List ℕ → ℕ → ℕ → Bool
@@ -30,13 +30,10 @@ pub record InfluenceReported (t : List ℕ) (s d code set : ℕ) : Type 0 where
   pub same_set : set ≡ reported_set t s d
 
 -- the code of an answer
-abbrev pub influence_code : Influence → ℕ
-influence_code (Of set) = 0
-influence_code (BadTable r) = refusal_code r
-influence_code NotDomains = 32
+abbrev pub influence_code : Result ℕ DomainRefusal → ℕ
+influence_code r = result_code domain_refusal_code r
 
 -- the set that an answer has
-abbrev pub influence_set : Influence → ℕ
-influence_set (Of set) = set
-influence_set (BadTable r) = 0
-influence_set NotDomains = 0
+abbrev pub influence_set : Result ℕ DomainRefusal → ℕ
+influence_set (Ok set) = set
+influence_set (Err r) = 0

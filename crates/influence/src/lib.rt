@@ -10,73 +10,39 @@ ghost use Rattle.machine.specs.Table.{domains};
 ghost use Rattle.influence.specs.Reported.{InfluenceReported, influence_code, influence_set};
 
 use chains::chained;
+use components::DomainRefusal;
 use potential::potential_of;
-use table_check::{Checked, TableRefusal, check};
+use table_check::check;
 use table_layout::domains;
 
-// The answer about those that could influence a domain.
-#[derive(Clone, Copy)]
-pub enum Influence {
-    // all of them, a bit for each
-    Of(u32),
-    // 2 to 5: the table is refused
-    BadTable(TableRefusal),
-    // 32: the domain isn't below n, or the set of those that act has a bit at or above n
-    NotDomains,
-}
-
-impl Influence {
-    // Returns the code of the answer, 0 where it has the set.
-    pub fn code(self) -> u32
-        ensures { result ≡ influence_code self }
-    {
-        match self {
-            Influence::Of(_) => 0,
-            Influence::BadTable(refusal) => refusal.code(),
-            Influence::NotDomains => 32,
-        }
-    }
-
-    // Returns the set as bits, empty where the answer has none.
-    pub fn set(self) -> u32
-        ensures { result ≡ influence_set self }
-    {
-        match self {
-            Influence::Of(set) => set,
-            Influence::BadTable(_) => 0,
-            Influence::NotDomains => 0,
-        }
-    }
-}
-
 // Answers about a domain of an accepted table, with the lent words for the potential rights.
-fn influence_by(table: &[u32], actors: u32, domain: u32, n: u32, rights: &mut [u32]) -> Influence
+fn influence_by(
+    table: &[u32],
+    actors: u32,
+    domain: u32,
+    n: u32,
+    rights: &mut [u32],
+) -> Result<u32, DomainRefusal>
     requires accepted { Accepted table.now }
-    requires n_value { n ≡ domains table.now }
-    requires domain_lt_n { domain < n }
-    requires rights_len { length rights.old ≡ n * n }
+    requires domains { n ≡ domains table.now }
+    requires is_domain { domain < n }
+    requires size { length rights.old ≡ n * n }
     ensures { InfluenceReported table.now actors domain (influence_code result) (influence_set result) }
 {
-    let filled = potential_of(table, actors, rights);
-    let code = filled.code();
-    if code != 0 {
-        return Influence::NotDomains;
+    match potential_of(table, actors, rights) {
+        Ok(()) => Ok(chained(rights, n, actors, domain)),
+        Err(_) => Err(DomainRefusal::NotDomains),
     }
-    let set = chained(rights, n, actors, domain);
-    Influence::Of(set)
 }
 
-// Returns all that could influence a domain in a table where the domains of a set act, or why it is refused.
-pub fn could_influence(table: &[u32], actors: u32, domain: u32) -> Influence
+// Returns all that could influence a domain in a table where the domains of a set act, a bit for each, or why it is refused.
+pub fn could_influence(table: &[u32], actors: u32, domain: u32) -> Result<u32, DomainRefusal>
     ensures { InfluenceReported table.now actors domain (influence_code result) (influence_set result) }
 {
-    let checked = check(table);
-    if let Checked::Refused(refusal) = checked {
-        return Influence::BadTable(refusal);
-    }
+    check(table)?;
     let n = domains(table);
     if n <= domain {
-        return Influence::NotDomains;
+        return Err(DomainRefusal::NotDomains);
     }
     let mut rights = [0u32; 256];
     let count = n as usize * n as usize;

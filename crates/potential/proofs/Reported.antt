@@ -1,15 +1,19 @@
--- What is reported in each case (specs/Reported). Assumes nothing.
+-- What is reported in each case (specs/Reported), and that each refusal has a code. Assumes nothing.
 use mathlib.Core.Path.{◌≡◌, sym, ap, ap₂, subst, ◌∙◌}
 use mathlib.Core.Bool.{true}
 use mathlib.Core.List.{List}
 use Prim.Native.Nat.{ℕ, ◌*◌, ◌^◌, ◌<◌, ◌≤◌}
+use native.Mathlib.Omega.{arith}
 use borrow.Author.Tests.{lt-ltb, le-ltb, eq-eqb, ne_eqb}
 use lib.Dec.{eqb}
 use lib.ListN.{length}
 use Rattle.machine.specs.Table.{domains}
 use Rattle.machine.specs.Check.{table_code, Accepted}
 use Rattle.potential_theory.specs.Closure.{matrix_of, settled, enough, potential}
-use Rattle.potential.specs.Reported.{reported_code, reported_rights, PotentialReported}
+use Rattle.table_check.proofs.Refusals.{refusal-code as table-refusal}
+use Rattle.potential.specs.declared.PotentialRefusal.{PotentialRefusal}
+use Rattle.potential.specs.declared.PotentialRefusal.TheVariants.{BadTable, OtherSpace, NotDomains}
+use Rattle.potential.specs.Reported.{potential_refusal_code, reported_code, reported_rights, PotentialReported}
 
 module _ (t : List ℕ) (s : ℕ) (space : List ℕ) where
   -- a table that is refused by its code
@@ -46,3 +50,9 @@ module _ (t : List ℕ) (s : ℕ) (space : List ℕ) where
             same_code = rw (a, same, few);
             same_rights = rw (a, same, few) (made ∙ ap₂ (λ k m. settled (enough k) k s m) e start);
           }
+
+-- a refusal has a code
+pub refusal-code : (r : PotentialRefusal) → potential_refusal_code r ≡ 0 → ⊥
+refusal-code (BadTable r) e = table-refusal r e
+refusal-code OtherSpace e = omega arith
+refusal-code NotDomains e = omega arith

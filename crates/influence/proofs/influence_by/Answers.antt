@@ -1,25 +1,22 @@
 -- `influence_by` meets its contract: the potential rights are refused, or the chains in them are those of the set. Assumes nothing.
-use mathlib.Core.Path.{sym, ◌∙◌}
+use mathlib.Core.Path.{refl}
 use native.Mathlib.Omega.{arith}
+use Rattle.potential.proofs.Reported.{refusal-code}
 use Rattle.machine.proofs.Accepted.{accepted-counts}
 use Rattle.influence.proofs.Reported.{reported-not-domains, reported}
 use Rattle.influence.proofs.influence_by.Goals as goal
 
-pub returns-then-code-ne0 : goal.returns-then-code-ne0
-returns-then-code-ne0 c =
+pub returns-in-Err : goal.returns-in-Err
+returns-in-Err c =
     let pre = c.requires in
-    reported-not-domains _ _ _ pre.accepted _ pre.n_value pre.domain_lt_n _ pre.rights_len _ _ c.potential_of-filled.ensures
-    (λ none. c.if-code-ne0.true (c.code-code.ensures ∙ none))
+    reported-not-domains _ _ _ pre.accepted _ pre.domains pre.is_domain _ pre.size _ _ c.in-Err.ensures (refusal-code c.in-Err.field-0)
 
-pub chained-set-requires : goal.chained-set-requires
-chained-set-requires c =
+pub chained-requires : goal.chained-requires
+chained-requires c =
     let pre = c.requires in
-    record { few = omega (arith, pre.n_value, (accepted-counts _ pre.accepted).1); is_domain = pre.domain_lt_n }
+    record { few = omega (arith, pre.domains, (accepted-counts _ pre.accepted).1); is_domain = pre.is_domain }
 
-pub returns : goal.returns
-returns c =
+pub returns-in-Ok : goal.returns-in-Ok
+returns-in-Ok c =
     let pre = c.requires in
-    reported _ _ _ pre.accepted _ pre.n_value pre.domain_lt_n _ pre.rights_len _ _ c.potential_of-filled.ensures
-    (sym c.code-code.ensures ∙ c.if-code-ne0.false)
-    _
-    c.chained-set.ensures
+    reported _ _ _ pre.accepted _ pre.domains pre.is_domain _ pre.size _ _ c.in-Ok.ensures refl _ c.chained.ensures
