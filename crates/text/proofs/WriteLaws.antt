@@ -3,12 +3,13 @@
 use Prim.Native.Nat.{ℕ, zero, suc, ◌+◌, ◌-◌, ◌≤◌, ◌<◌, min}
 use mathlib.Core.Path.{◌≡◌, refl, sym, ap, ◌∙◌}
 use mathlib.Core.List.{List, [], ◌∷◌, ◌++◌}
-use native.Mathlib.Nat.{suc-add, add-suc, sub-zero}
+use native.Mathlib.Nat.{suc-add, add-suc, sub-zero, add-sub_cancel_left}
+use borrow.Rule.Slice.PartMut.{put_mid}
 use native.Mathlib.Decide.{dec_le}
 use native.Mathlib.Numerals.{add-one}
 use native.Mathlib.Omega.{arith}
 use lib.ListN.{length, get_or, take, drop, set, length-append, length-take}
-use lib.Seq.{length-take-le, take-suc, take-append_seam}
+use lib.Seq.{drop-drop, length-take-le, take-suc, take-append_seam}
 use Rattle.text.specs.Write.{overwrite, Writes, Fills}
 
 pub length-overwrite : (at : ℕ) (text buffer : List ℕ) → length (overwrite at text buffer) ≡ length buffer
@@ -85,6 +86,16 @@ overwrite-fits zero (c ∷ text) (b ∷ buffer) h =
     rw (add-suc zero (length text)) (ap (λ l. c ∷ l) (overwrite-fits zero text buffer (omega arith)))
 overwrite-fits (suc at) text (b ∷ buffer) h =
     rw (suc-add at (length text)) (ap (λ l. b ∷ l) (overwrite-fits at text buffer (omega arith)))
+
+-- a part of the buffer that a text of its length was copied to
+pub overwrite-part : (at n : ℕ) (text buffer : List ℕ) {part : List ℕ} → part ≡ take n text → n ≤ length text → at + n ≤ length buffer
+    → put_mid at (at + n - at) buffer part ≡ overwrite at (take n text) buffer
+overwrite-part at n text buffer same there fits =
+    let size : length (take n text) ≡ n = length-take-le n text there in
+    rw (same, add-sub_cancel_left at n)
+    (ap (λ l. take at buffer ++ (take n text ++ l)) (drop-drop n at buffer)
+    ∙ sym (overwrite-fits at (take n text) buffer (omega arith)
+    ∙ ap (λ k. take at buffer ++ (take n text ++ drop (at + k) buffer)) size))
 
 -- where the index after a text is capped, the next text is past the end in any case
 overwrite-capped : (at : ℕ) (text buffer : List ℕ)

@@ -6,13 +6,11 @@ ghost use Rattle.text.specs.Write.{overwrite, Writes};
 
 // Copies the first n bytes of a text. The caller must make sure that the text has them and that they fit.
 fn copy(text: &[u8], n: usize, out: &mut [u8], at: usize)
-    requires n_in_bounds { n ≤ length text.now }
-    requires n_in_bounds_2 { at + n ≤ length out.old }
+    requires there { n ≤ length text.now }
+    requires fits { at + n ≤ length out.old }
     ensures { out.new ≡ overwrite at (take n text.now) out.old }
 {
-    for i in 0..n {
-        out[at + i] = text[i];
-    }
+    out[at..at + n].copy_from_slice(&text[..n]);
 }
 
 // Writes a text, and returns the index after it.
@@ -36,12 +34,12 @@ fn spell(x: u64, digits: &mut [u8]) -> usize
     requires { length digits.old ≡ 20 }
     ensures { (result < 20) × (drop result digits.new ≡ decimal x) }
 {
-    digits[19] = 48 + (x % 10) as u8;
+    digits[19] = b'0' + (x % 10) as u8;
     let mut rest = x / 10;
     let mut at = 19;
     while 0 < rest {
         at -= 1;
-        digits[at] = 48 + (rest % 10) as u8;
+        digits[at] = b'0' + (rest % 10) as u8;
         rest /= 10;
     }
     at
@@ -55,7 +53,7 @@ fn put_digit(x: u64, out: &mut [u8], at: usize) -> usize
     if out.len() <= at {
         return out.len() + 1;
     }
-    out[at] = 48 + x as u8;
+    out[at] = b'0' + x as u8;
     at + 1
 }
 

@@ -1,4 +1,4 @@
--- `text::write::spell` meets its contract: the invariant of its loop is `Spelled`. Assumes nothing.
+-- The digits of x but those of what is left are at the end of the array.
 use Rattle.text.proofs.Spelling.{Spelled}
 use Rattle.text.proofs.write.spell.Given as goal
 
