@@ -11,9 +11,9 @@ use table_layout::{endpoint_at, rights_at};
 
 // Returns a word in which bit e is set for each endpoint e that the caller owns.
 pub fn owned_bits(table: &[u32], n: u32, m: u32, caller: u32) -> u32
-    requires n_value { n ≡ domains table.now }
-    requires m_value { m ≡ endpoints table.now }
-    requires m_in_bounds { endpoint_at (n % 256) m ≤ length table.now }
+    requires n_is_domains { n ≡ domains table.now }
+    requires m_is_endpoints { m ≡ endpoints table.now }
+    requires endpoints_in_table { endpoint_at (n % 256) m ≤ length table.now }
     ensures { result ≡ owned_bits table.now caller % 2 ^ 32 }
 {
     let mut bits = 0;
@@ -27,9 +27,9 @@ pub fn owned_bits(table: &[u32], n: u32, m: u32, caller: u32) -> u32
 
 // Returns the rights of the caller on the targets from low up to high, four bits each.
 pub fn rights_bits(table: &[u32], n: u32, caller: u32, low: u32, high: u32) -> u32
-    requires n_value { n ≡ domains table.now }
+    requires n_is_domains { n ≡ domains table.now }
     requires eight { Eight n low high }
-    requires n_in_bounds { rights_at n caller n ≤ length table.now }
+    requires row_in_table { rights_at n caller n ≤ length table.now }
     ensures { result ≡ rights_bits table.now caller low % 2 ^ 32 }
 {
     let mut bits = 0;

@@ -3,11 +3,11 @@
 #![tactic(auto)]
 
 ghost use Rattle.std.specs.Prelude.{◌≡◌, true, ◌+◌, ◌<◌, ◌≤◌, length};
-ghost use Rattle.machine.specs.Call.{wants_second};
 ghost use Rattle.writer_theory.specs.Words.{fields_at, fields_of, within_bits, first_word, field_words, fits, encoded_words};
 ghost use Rattle.call_encode.specs.Put.{pasted, put_at};
 
 use calls::Call;
+use calls::split::wants_second;
 use format::KIND_UNIT;
 use format::calls::{
     A_UNIT, B_UNIT, CALLER_UNIT, KIND_GRANT, KIND_LOOK_UP, KIND_MY_ENDPOINTS, KIND_MY_RIGHTS,
@@ -15,7 +15,8 @@ use format::calls::{
 };
 use writer_theory::Fields;
 
-// Returns the six fields, which are passed in the order of their bits.
+// Returns the six fields, which are passed in the order of their bits. With each by its name, and those of Default left out, the
+// match below would have twice as many lines.
 fn fields_at(kind: u32, caller: u32, a: u32, b: u32, c: u32, second: u32) -> Fields
     ensures { result ≡ fields_at kind caller a b c second }
 {
@@ -30,6 +31,7 @@ fn fields_at(kind: u32, caller: u32, a: u32, b: u32, c: u32, second: u32) -> Fie
 }
 
 // Returns the fields of a call, each where the call's kind has it.
+#[tactic(auto, unfolding(writer_theory::specs::Words::fields_of))]
 pub fn fields_of(call: Call) -> Fields
     ensures { result ≡ fields_of call }
 {
@@ -65,6 +67,7 @@ pub fn fields_of(call: Call) -> Fields
 }
 
 // Returns whether every field is within its bits and the call isn't a refused one.
+#[tactic(auto, unfolding(writer_theory::specs::Words::within_bits))]
 fn within_bits(f: Fields) -> bool
     ensures { result ≡ within_bits f }
 {
@@ -77,54 +80,49 @@ fn within_bits(f: Fields) -> bool
 }
 
 // Returns whether the call can be written.
+#[tactic(auto, unfolding(writer_theory::specs::Words::fits))]
 pub fn fits(call: Call) -> bool
     ensures { result ≡ fits call }
 {
-    let fields = fields_of(call);
-    within_bits(fields)
-}
-
-// Returns whether a kind wants a second word: kinds 1 and 2 do, as where a list is split.
-fn wants_second(kind: u32) -> bool
-    ensures { result ≡ wants_second kind }
-{
-    (kind == KIND_LOOK_UP) | (kind == KIND_SEND)
+    within_bits(fields_of(call))
 }
 
 // Returns how many words the call is written in.
+#[tactic(auto, unfolding(writer_theory::specs::Words::encoded_words, writer_theory::specs::Words::field_words))]
 pub fn width(call: Call) -> usize
     ensures { result ≡ length (encoded_words call) }
 {
-    let fields = fields_of(call);
-    let kind = fields.kind;
+    let kind = fields_of(call).kind;
     if wants_second(kind) { 2 } else { 1 }
 }
 
 // Returns the first word, with each field at its bits.
+#[tactic(auto, using(writer_theory::proofs::FieldWords::bounds), unfolding(writer_theory::specs::Words::first_word))]
 fn first_word(f: Fields) -> u32
-    requires f_value { within_bits f ≡ true }
-    requires kind_bound { f.kind < 16 }
+    requires fit { within_bits f ≡ true }
+    requires kind_fits { f.kind < 16 }
     ensures { result ≡ first_word f }
 {
     f.kind * KIND_UNIT + (f.caller * CALLER_UNIT + f.a * A_UNIT + f.b * B_UNIT + f.c)
 }
 
 // Stores the words of fields that are within their bits, from an index of the list on.
+#[tactic(auto, using(writer_theory::proofs::FieldWords::bounds, crate::proofs::Putting::one_set, crate::proofs::Putting::two_sets), unfolding(writer_theory::specs::Words::field_words))]
 fn put_fields(list: &mut [u32], at: usize, f: Fields)
-    requires f_value { within_bits f ≡ true }
-    requires kind_bound { f.kind < 16 }
-    requires f_in_bounds { at + length (field_words f) ≤ length list.old }
+    requires fit { within_bits f ≡ true }
+    requires kind_fits { f.kind < 16 }
+    requires room { at + length (field_words f) ≤ length list.old }
     ensures { list.new ≡ pasted list.old at (field_words f) }
 {
     list[at] = first_word(f);
-    let kind = f.kind;
-    if wants_second(kind) {
+    if wants_second(f.kind) {
         list[at + 1] = SECOND_WORD + f.second;
     }
 }
 
 // Stores the words of a call, from an index of the list on. Nothing is stored where the call can't be written, or where its words
 // would pass the end.
+#[tactic(auto, using(writer_theory::proofs::FieldWords::kind_small), unfolding(crate::specs::Put::put_at, writer_theory::specs::Words::fits, writer_theory::specs::Words::encoded_words))]
 pub fn put(list: &mut [u32], at: usize, call: Call)
     ensures { list.new ≡ put_at list.old at call }
 {
@@ -137,6 +135,5 @@ pub fn put(list: &mut [u32], at: usize, call: Call)
     if list.len() - at < width(call) {
         return;
     }
-    let fields = fields_of(call);
-    put_fields(list, at, fields);
+    put_fields(list, at, fields_of(call));
 }

@@ -53,7 +53,7 @@ impl WriteRefusal {
 
 // Makes the first pass over n calls and returns how many words they are.
 fn measure<F: Fn(usize) -> Call>(n: usize, call_at: &F) -> Result<usize, WriteRefusal>
-    requires n_bound { n < 2 ^ 62 }
+    requires few { n < 2 ^ 62 }
     requires callable { (i : ℕ) → i < n → F.pre call_at.now i }
     ensures { (cs : List AnyCall) → Gives (F.post call_at.now) n cs → result ≡ measured cs }
 {
@@ -70,7 +70,7 @@ fn measure<F: Fn(usize) -> Call>(n: usize, call_at: &F) -> Result<usize, WriteRe
 
 // Makes the second pass: stores the words of n calls, which fit and have space.
 fn put_all<F: Fn(usize) -> Call>(n: usize, call_at: &F, list: &mut [u32])
-    requires n_bound { n < 2 ^ 62 }
+    requires few { n < 2 ^ 62 }
     requires callable { (i : ℕ) → i < n → F.pre call_at.now i }
     ensures { (cs : List AnyCall) → Gives (F.post call_at.now) n cs → all_fit cs ≡ true → length (written cs) ≤ length list.old
         → list.new ≡ written cs ++ drop (length (written cs)) list.old }
@@ -98,7 +98,7 @@ fn write_each<F: Fn(usize) -> Call>(
     call_at: &F,
     list: &mut [u32],
 ) -> Result<usize, WriteRefusal>
-    requires n_bound { n < 2 ^ 62 }
+    requires few { n < 2 ^ 62 }
     requires callable { (i : ℕ) → i < n → F.pre call_at.now i }
     ensures { (cs : List AnyCall) → Gives (F.post call_at.now) n cs → answered result list.new ≡ writing cs count list.old }
 {

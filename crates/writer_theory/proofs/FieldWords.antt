@@ -16,17 +16,17 @@ use Rattle.writer_theory.specs.declared.Fields.{Fields}
 use Rattle.writer_theory.specs.Words.{fields_of, within_bits, first_word, field_words, encoded_words}
 
 -- a kind has four bits
-pub kind-small : (c : Call) → (fields_of c).kind < 16
+pub kind_small : (c : Call) → (fields_of c).kind < 16
 unfolding fields_of
-kind-small (LookUp u x) = omega arith
-kind-small (Send u e m) = omega arith
-kind-small (Receive u e) = omega arith
-kind-small (MyEndpoints u) = omega arith
-kind-small (MyRights u) = omega arith
-kind-small (Grant u g h r) = omega arith
-kind-small (Remove u g r) = omega arith
-kind-small (Revoke u g h r) = omega arith
-kind-small (Refused u r) = omega arith
+kind_small (LookUp u x) = omega arith
+kind_small (Send u e m) = omega arith
+kind_small (Receive u e) = omega arith
+kind_small (MyEndpoints u) = omega arith
+kind_small (MyRights u) = omega arith
+kind_small (Grant u g h r) = omega arith
+kind_small (Remove u g r) = omega arith
+kind_small (Revoke u g h r) = omega arith
+kind_small (Refused u r) = omega arith
 
 -- the fields are within their bits
 pub record Bounds (f : Fields) : Type 0 where

@@ -18,7 +18,7 @@ use Rattle.writer_theory.specs.Write.{writing}
 use Rattle.writer_theory.specs.Rows.{no_call, where_zero, of_columns, row_call, rows_handed_in, row_of, rows_of}
 use Rattle.writer_theory.specs.Claims.{read_from}
 use Rattle.writer_theory.specs.ListClaims.{RowsReadBack, RowsDifferentWords, RowsWrittenAsItCame}
-use Rattle.writer_theory.proofs.FieldWords.{kind-small, bounds}
+use Rattle.writer_theory.proofs.FieldWords.{kind_small, bounds}
 use Rattle.writer_theory.proofs.Writing.{writes-back}
 use Rattle.writer_theory.proofs.ListClaims.{written_all, written-reads-back, written-as-it-came}
 
@@ -112,7 +112,7 @@ rows-small (c ∷ cs) h =
     let f = fields_of c in
     let r = bounds f (and_left (fits c) (all_fit cs) h) in
     five-small f.kind f.caller f.a f.b (cond (wants_second f.kind) f.second f.c) (rows_of cs)
-    (omega (arith, kind-small c)) (omega (arith, r.caller)) (omega (arith, r.a)) (omega (arith, r.b))
+    (omega (arith, kind_small c)) (omega (arith, r.caller)) (omega (arith, r.a)) (omega (arith, r.b))
     (cond-elim (λ (x : ℕ). x < 4294967296) (wants_second f.kind) (λ _. omega (arith, r.second)) (λ _. omega (arith, r.c)))
     (rows-small cs (and_right (fits c) (all_fit cs) h))
 

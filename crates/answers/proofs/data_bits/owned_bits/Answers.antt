@@ -23,7 +23,7 @@ pub loop-e-init : goal.loop-e-init
 loop-e-init c =
     let a = c.args in
     let d = owns_at a.table.now a.caller in
-    subst (Kept 2 d a.m 0) (ap (digit_sum 2 d) c.requires.m_value ∙ owned-digits a.table.now a.caller) (none_kept 2 d a.m)
+    subst (Kept 2 d a.m 0) (ap (digit_sum 2 d) c.requires.m_is_endpoints ∙ owned-digits a.table.now a.caller) (none_kept 2 d a.m)
 
 pub loop-e-preserved : goal.loop-e-preserved
 unfolding owner
@@ -32,7 +32,7 @@ loop-e-preserved c =
     let t = a.table.now in
     let owned : field_b (get_or t (c.endpoint_at-at.result + 1) 0) ≡ owner (endpoint t (c.loop-e.e - 1)) =
     ap field_b
-    (ap (λ (k : ℕ). get_or t (k + 1) 0) c.endpoint_at-at.ensures ∙ endpoint-read _ _ c.requires.n_value _ 1 (omega arith))
+    (ap (λ (k : ℕ). get_or t (k + 1) 0) c.endpoint_at-at.ensures ∙ endpoint-read _ _ c.requires.n_is_domains _ 1 (omega arith))
     in
     let digit : c.from.result ≡ owns_at t a.caller (c.loop-e.e - 1) =
     c.from.ensures ∙ byte _ ∙ ap (λ (o : ℕ). cond (eqb o a.caller) 1 0) owned

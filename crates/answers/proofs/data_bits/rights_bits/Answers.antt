@@ -15,7 +15,7 @@ loop-target-init c =
     let a = c.args in
     let d = rights_on a.table.now a.caller a.low in
     let count = a.high - a.low in
-    subst (Kept 16 d count 0) (rights-start _ _ c.requires.n_value a.caller _ _ c.requires.eight) (none_kept 16 d count)
+    subst (Kept 16 d count 0) (rights-start _ _ c.requires.n_is_domains a.caller _ _ c.requires.eight) (none_kept 16 d count)
 
 pub offset_bounds-table-at : goal.offset_bounds-table-at
 offset_bounds-table-at c = omega (arith, c.rights_at-at.ensures, c.requires.eight.within)
@@ -33,8 +33,8 @@ loop-target-preserved c =
     let most : target ≤ a.n = omega (arith, c.requires.eight.within) in
     let digit : held ≡ rights_on t a.caller a.low (target - a.low - 1) =
     ap (λ (k : ℕ). payload (get_or t k 0)) c.rights_at-at.ensures
-    ∙ rights-read t _ c.requires.n_value _ _
-    ∙ rights-digit t _ c.requires.n_value _ a.low target c.loop-target-test.true most in
+    ∙ rights-read t _ c.requires.n_is_domains _ _
+    ∙ rights-digit t _ c.requires.n_is_domains _ a.low target c.loop-target-test.true most in
     rw (c.from.ensures, c.from-in-loop-target.ensures)
     (rw down at
     (one_kept 16 (rights_on t a.caller a.low) (target - a.low) c.loop-target.bits _ held _ (omega arith) c.loop-target.invariant digit
