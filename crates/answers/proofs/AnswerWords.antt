@@ -20,7 +20,6 @@ use Rattle.machine.specs.Table.{domains, endpoints, rights_at, endpoint_at, righ
 use Rattle.machine.specs.Queue.{owner}
 use Rattle.machine.specs.Call.{first, Call.one}
 use Rattle.machine.specs.Machine.{owned_bits, rights_bits, shown_caller, answer_word}
-use Rattle.machine.specs.Below.{sum_below}
 use Rattle.machine.proofs.Below.{sum_same}
 use Rattle.table_layout.proofs.Places.{eight-bits}
 use Rattle.answers.specs.Answer.{answer_of, head_of, has_endpoints, has_row, shown}
@@ -42,28 +41,28 @@ pub answered : (w : ℕ) (o : Result (ℕ × ℕ) Refusal)
 answered w (Ok (x, y)) = same_head (head-code w 0)
 answered w (Err r) = same_head (head-code w (number_of r))
 
-pub head-stray : (w : ℕ) → kind w ≡ 15 → w - w % 268435456 ≡ head_of w
+pub head_stray : (w : ℕ) → kind w ≡ 15 → w - w % 268435456 ≡ head_of w
 unfolding head_of answer_word shown_caller first
-head-stray w is = rw is (omega arith)
+head_stray w is = rw is (omega arith)
 
 -- the word is its kind, its caller and its lowest 22 bits
 fields : (w k p u r : ℕ) → k * 268435456 + p ≡ w → p ≡ u * 4194304 + r → w - r ≡ k * 268435456 + u * 4194304 + 0
 fields w k p u r e f = omega arith
 
-pub head-other : (w : ℕ) → (kind w ≡ 15 → ⊥) → w - w % 4194304 ≡ head_of w
+pub head_other : (w : ℕ) → (kind w ≡ 15 → ⊥) → w - w % 4194304 ≡ head_of w
 unfolding head_of answer_word shown_caller first
-head-other w other =
+head_other w other =
     rw (ne_eqb (kind w) 15 other)
     (fields w (kind w) (w % 268435456) (caller w) (w % 4194304) (div-add-mod' w 268435456)
     (mod-mul w {m = 64} {c = 4194304} (lit< tt) (lit< tt)))
 
 -- there is space for a code in it
-pub head-room : (w : ℕ) → w < 2 ^ 32 → head_of w + 23 < 2 ^ 32
-head-room w fits = go (ℕ_discrete (kind w) 15)
+pub head_room : (w : ℕ) → w < 2 ^ 32 → head_of w + 23 < 2 ^ 32
+head_room w fits = go (ℕ_discrete (kind w) 15)
   where
     go : Dec (kind w ≡ 15) → head_of w + 23 < 2 ^ 32
-    go (yes is) = omega (arith, head-stray w is)
-    go (no other) = omega (arith, head-other w other)
+    go (yes is) = omega (arith, head_stray w is)
+    go (no other) = omega (arith, head_other w other)
 
 -- what is there is shown, 32 bits of it, and what isn't there is not
 pub shows : {there : Bool} (x : ℕ) {y : ℕ} → there ≡ true → y ≡ x % 2 ^ 32 → y ≡ shown there x
@@ -83,25 +82,25 @@ module _ (t : List ℕ) (n : ℕ) (is : n ≡ domains t) where
     own-end : at ≡ endpoint_at (domains t) (endpoints t)
     own-end = end ∙ by-own m ∙ ap (endpoint_at (domains t)) all
 
-    pub endpoints-there : at ≤ length t → has_endpoints t ≡ true
+    pub endpoints_there : at ≤ length t → has_endpoints t ≡ true
     unfolding has_endpoints
-    endpoints-there h = rw own-end at (le-leb at (length t) h)
+    endpoints_there h = rw own-end at (le-leb at (length t) h)
 
-    pub endpoints-past : length t < at → has_endpoints t ≡ false
+    pub endpoints_past : length t < at → has_endpoints t ≡ false
     unfolding has_endpoints
-    endpoints-past h = rw own-end at (lt-leb at (length t) h)
+    endpoints_past h = rw own-end at (lt-leb at (length t) h)
 
   module _ (u at : ℕ) (end : at ≡ rights_at n u n) where
     own_row : at ≡ rights_at (domains t) u (domains t)
     own_row = end ∙ ap (λ (k : ℕ). rights_at k u k) is
 
-    pub rights-there : at ≤ length t → has_row t u ≡ true
+    pub rights_there : at ≤ length t → has_row t u ≡ true
     unfolding has_row
-    rights-there h = rw own_row at (le-leb at (length t) h)
+    rights_there h = rw own_row at (le-leb at (length t) h)
 
-    pub rights-past : length t < at → has_row t u ≡ false
+    pub rights_past : length t < at → has_row t u ≡ false
     unfolding has_row
-    rights-past h = rw own_row at (lt-leb at (length t) h)
+    rights_past h = rw own_row at (lt-leb at (length t) h)
 
 -- bit e of the owned endpoints
 abbrev pub owns_at : List ℕ → ℕ → ℕ → ℕ

@@ -17,9 +17,9 @@ pub put_whole : (space words : List ℕ) → 3 ≤ length space → answers_put 
 unfolding answers_put
 put_whole space words enough = rw (le-ltb (length space) 3 enough)
 
-pub three-put : (space : List ℕ) (a b c : ℕ) → 3 ≤ length space → set (set (set space 0 a) 1 b) 2 c ≡ answers_put space (a ∷ b ∷ c ∷ [])
+pub three_put : (space : List ℕ) (a b c : ℕ) → 3 ≤ length space → set (set (set space 0 a) 1 b) 2 c ≡ answers_put space (a ∷ b ∷ c ∷ [])
 unfolding answers_put
-three-put space a b c enough = rw (le-ltb (length space) 3 enough) (three-sets space 0 a b c (omega arith))
+three_put space a b c enough = rw (le-ltb (length space) 3 enough) (three-sets space 0 a b c (omega arith))
 
 -- three words that are lent from an index on, and returned with an answer
 pub lent_back : (space words q : List ℕ) (at : ℕ)

@@ -12,6 +12,7 @@ use result_code::code;
 use rules::range::of_refused;
 
 // Returns a call's answer: its data words where it is done, or its refusal's code with data words that are 0.
+#[tactic(auto, using(crate::proofs::AnswerWords::answered, crate::proofs::AnswerWords::head_room, calls::proofs::Numbers::code_most))]
 pub fn answer(first: u32, outcome: Result<(u32, u32), Refusal>) -> Answer
     ensures { answer_words result ≡ answer_of first outcome }
 {
@@ -34,6 +35,7 @@ pub fn refuse(n: u32, caller: u32, refusal: Refusal) -> Refusal
 }
 
 // Stores an answer's words at the start of a space. A space of fewer than three words is left as it is.
+#[tactic(auto, using(crate::proofs::Space::too_short, crate::proofs::Space::three_put))]
 pub fn put(space: &mut [u32], words: Answer)
     ensures { space.new ≡ answers_put space.old (answer_words words) }
 {

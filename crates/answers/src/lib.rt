@@ -25,6 +25,7 @@ pub struct Answer {
 
 // Returns the first answer word of a call without its code: the kind and the caller of the call's first word, as found. A stray
 // shows no caller.
+#[tactic(auto, using(crate::proofs::AnswerWords::head_stray, crate::proofs::AnswerWords::head_other))]
 fn head(first: u32) -> u32
     ensures { result ≡ head_of first }
 {
@@ -36,6 +37,7 @@ fn head(first: u32) -> u32
 }
 
 // Returns the data word of my endpoints: a bit for each endpoint that the caller owns.
+#[tactic(auto, using(crate::proofs::AnswerWords::endpoints_past, crate::proofs::AnswerWords::endpoints_there), unfolding(crate::specs::Answer::shown))]
 pub fn endpoints_listed(table: &[u32], caller: u32) -> u32
     ensures { result ≡ shown (has_endpoints table.now) (owned_bits table.now caller) }
 {
@@ -49,6 +51,7 @@ pub fn endpoints_listed(table: &[u32], caller: u32) -> u32
 }
 
 // Returns the data words of my rights, eight targets to a word: those on targets 0 to 7, and those on targets 8 to 15.
+#[tactic(auto, using(crate::proofs::AnswerWords::rights_past, crate::proofs::AnswerWords::rights_there), unfolding(crate::specs::Answer::shown))]
 pub fn rights_listed(table: &[u32], caller: u32) -> (u32, u32)
     ensures low { result.0 ≡ shown (has_row table.now caller) (rights_bits table.now caller 0) }
     ensures high { result.1 ≡ shown (has_row table.now caller) (rights_bits table.now caller 8) }

@@ -23,6 +23,6 @@ number-most BadRights = omega arith
 number-most LacksRight = omega arith
 number-most NoInfluence = omega arith
 
-pub code-most : {A : Type 0} (o : Result A Refusal) → result_code number_of o ≤ 23
-code-most (Ok x) = omega arith
-code-most (Err r) = number-most r
+pub code_most : {A : Type 0} (o : Result A Refusal) → result_code number_of o ≤ 23
+code_most (Ok x) = omega arith
+code_most (Err r) = number-most r
