@@ -12,7 +12,7 @@ use Rattle.machine.proofs.Bools.{or-none-left}
 use Rattle.input_words.specs.Bytes.{words_of}
 use Rattle.input_words.specs.TableInput.{table_end, no_table, after_table}
 use Rattle.text.specs.Write.{Fills}
-use Rattle.text.proofs.WriteLaws.{fills-cut, fills-part}
+use Rattle.text.proofs.WriteLaws.{fills-cut, fills-front}
 use Rattle.input_words.proofs.WordLaws.{take-words_of-append}
 use Rattle.input_words.proofs.TableLaws.{Whole, whole, whole-table, table-within, whole-more, after_table-more, still-asks}
 use Rattle.linerun_input.specs.Input.{list_words_read, most_input, list_of, left_over, unreadable, wanted}
@@ -35,9 +35,9 @@ length-list_of bytes = omega (arith, length-take list_words_read (words_of (afte
 
 -- what reading the list into a buffer for that many words left, as a part that is lent from the front on, is the list
 pub list-part : (bytes : List ℕ) {buffer : List ℕ} {count : ℕ} {left : List ℕ} → length buffer ≡ list_words_read
-    → Fills (words_of (after_table bytes)) buffer count left → take (count - 0) (drop 0 left) ≡ list_of bytes
+    → Fills (words_of (after_table bytes)) buffer count left → take count left ≡ list_of bytes
 unfolding list_of
-list-part bytes room f = fills-part (omega (arith, length-list_of bytes)) (fills-cut list_words_read (omega arith) f)
+list-part bytes room f = (fills-front (omega (arith, length-list_of bytes)) (fills-cut list_words_read (omega arith) f)).1
 
 -- an input that 7 does not refuse has a whole table
 pub readable-whole : (bytes : List ℕ) → unreadable bytes ≡ false → no_table bytes ≡ false

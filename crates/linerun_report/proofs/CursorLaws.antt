@@ -13,7 +13,7 @@ use Rattle.text.specs.Write.{overwrite, Writes}
 use Rattle.text.proofs.WriteLaws.{length-overwrite, overwrite-none, writes-length, fills-front}
 use Rattle.linerun_report.specs.Lines.{all_lines, printed_before, lines_between, part_bytes, line_after, part_from}
 use Rattle.linerun_report.specs.Report.{answer_space, outcome_lines, answered, report}
-use Rattle.linerun_report.specs.Cursor.{calls_of, code_of, line_of, given_of, first_lines, ended, gives, part_of, advanced, parts_from, PartsAreReport}
+use Rattle.linerun_report.specs.Cursor.{calls_of, code_of, line_of, given_of, ended, gives, part_of, advanced, parts_from, PartsAreReport}
 use Rattle.linerun_report.specs.declared.Lines.{Lines}
 use Rattle.linerun_report.proofs.LineLaws.{at-number, lines_join, all-printed}
 use Rattle.linerun_report.proofs.ReportLaws.{answered-few, answers-lent}
@@ -73,19 +73,28 @@ parts_join (suc most) l answers space few lent fits within enough =
         ∙ ap (λ (k : ℕ). before k ++ rest) (sym (line-is l answers space given))
         ∙ later
 
+-- before the first line nothing is printed
+pub none-printed : (l : Lines) (answers : List ℕ) → line_of l ≡ 0 → printed_before (calls_of l) (code_of l) answers (line_of l) ≡ []
+unfolding printed_before
+none-printed l answers start = at-number (printed_before (calls_of l) (code_of l) answers) (line_of l) 0 start
+
 pub parts-are-report : PartsAreReport
-unfolding report outcome_lines first_lines printed_before
-parts-are-report bytes space most fits enough =
+unfolding report outcome_lines
+parts-are-report bytes l space most first fits enough =
     let o = answered bytes answer_space in
-    parts_join most (first_lines o) o.answers space (answered-few bytes answer_space) (answers-lent bytes answer_space) fits (omega arith)
-    (omega (arith, answered-few bytes answer_space))
-    ∙ sym (all-printed o.calls o.code o.answers)
+    let few : calls_of l ≤ longest_list = omega (arith, first.calls, answered-few bytes answer_space) in
+    let lent : 3 * calls_of l ≤ length o.answers = omega (arith, first.calls, answers-lent bytes answer_space) in
+    ap (λ (p : List ℕ). p ++ parts_from most l o.answers space) (sym (none-printed l o.answers first.line))
+    ∙ parts_join most l o.answers space few lent fits (omega (arith, first.line)) (omega (arith, few))
+    ∙ sym (all-printed (calls_of l) (code_of l) o.answers)
+    ∙ ap (λ (k : ℕ). all_lines k (code_of l) o.answers) first.calls
+    ∙ ap (λ (k : ℕ). all_lines o.calls k o.answers) first.code
 
 -- ---- what `next` returns and leaves
 
 -- where no part is given, the buffer stays and the cursor is at the same line
 pub stays : (l : Lines) (answers out : List ℕ) → gives l answers (length out) ≡ false
-    → (record { calls = calls_of l; code = code_of l; line = line_of l; given = 0 } ≡ advanced l answers (length out))
+    → (record { ran = l.ran; line = line_of l; given = 0 } ≡ advanced l answers (length out))
     × ((out ≡ overwrite 0 (part_of l answers (length out)) out) × (0 ≤ length out))
 unfolding advanced part_of
 stays l answers out none = (rw none refl, (rw none (sym (overwrite-none 0 out)), zero-le))
@@ -107,7 +116,7 @@ enough-lent l answers space given =
 pub goes_on : (l : Lines) (answers out : List ℕ) {line bytes : ℕ} {left : List ℕ} → gives l answers (length out) ≡ true
     → line ≡ line_after (calls_of l) (line_of l)
     → Writes 0 (lines_between (calls_of l) (code_of l) answers (line_of l) line) out bytes left → bytes ≤ length out
-    → (record { calls = calls_of l; code = code_of l; line = line; given = bytes } ≡ advanced l answers (length out))
+    → (record { ran = l.ran; line = line; given = bytes } ≡ advanced l answers (length out))
     × ((left ≡ overwrite 0 (part_of l answers (length out)) out) × (bytes ≤ length left))
 unfolding advanced part_of part_from
 goes_on l answers out {line} {bytes} given next w fits =
@@ -182,8 +191,3 @@ all-given first l answers space g over within =
     ∙ sym (all-printed (calls_of l) (code_of l) answers)
     ∙ ap (λ (k : ℕ). all_lines k (code_of l) answers) g.same-calls
     ∙ ap (λ (k : ℕ). all_lines (calls_of first) k answers) g.same_code
-
--- before the first line nothing is printed
-pub none-printed : (l : Lines) (answers : List ℕ) → line_of l ≡ 0 → printed_before (calls_of l) (code_of l) answers (line_of l) ≡ []
-unfolding printed_before
-none-printed l answers start = at-number (printed_before (calls_of l) (code_of l) answers) (line_of l) 0 start

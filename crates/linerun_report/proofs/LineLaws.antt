@@ -1,6 +1,6 @@
 -- Lines that are written some at a time: what an iteration of the loop that writes them adds, and that the lines from one line on
 -- continue what is printed before it. Assumes nothing.
-use Prim.Native.Nat.{ℕ, zero, suc, ◌+◌, ◌-◌, ◌≤◌, ◌<◌}
+use Prim.Native.Nat.{ℕ, zero, suc, ◌+◌, ◌-◌, ◌<◌}
 use mathlib.Core.Path.{◌≡◌, sym, ap, ◌∙◌}
 use mathlib.Core.List.{List, ◌++◌, append_assoc, append-nil}
 use native.Mathlib.Omega.{arith}
@@ -9,17 +9,15 @@ use Rattle.text.proofs.WriteLaws.{then}
 use Rattle.linerun_text.specs.Lines.{first_line}
 use Rattle.linerun_report.specs.Lines.{line_of, call_lines, all_lines, printed_before, lines_from, lines_between}
 
--- an iteration: the line of call i after the lines of those before it
-pub next-line : {at : ℕ} (answers : List ℕ) (from i : ℕ) {buffer : List ℕ} {here : ℕ} {left : List ℕ} {next : ℕ} {left' : List ℕ}
-    → from ≤ i
-    → Writes at (lines_from answers from (i - from)) buffer here left
-    → Writes here (line_of answers i) left next left'
-    → Writes at (lines_from answers from (i + 1 - from)) buffer next left'
+-- an iteration: the next call's line after the lines of those before it
+pub next-line : {at : ℕ} (answers : List ℕ) (from k : ℕ) {buffer : List ℕ} {here : ℕ} {left : List ℕ} {next : ℕ} {left' : List ℕ}
+    → Writes at (lines_from answers from k) buffer here left
+    → Writes here (line_of answers (from + k)) left next left'
+    → Writes at (lines_from answers from (k + 1)) buffer next left'
 unfolding lines_from
-next-line answers from i h w v =
-    let one_more : i + 1 - from ≡ suc (i - from) = omega arith in
-    let call : from + (i - from) ≡ i = omega arith in
-    rw (one_more, call) (then w v)
+next-line answers from k w v =
+    let one_more : k + 1 ≡ suc k = omega arith in
+    rw one_more (then w v)
 
 pub at-number : (f : ℕ → List ℕ) (a b : ℕ) → a ≡ b → f a ≡ f b
 at-number f a b e = ap f e

@@ -1,11 +1,11 @@
 -- The report as the functions make it: the two cases of the definition, and how many calls there are. Where the reading stops
 -- before the input ends, no further byte makes a difference to it. Assumes nothing.
-use Prim.Native.Nat.{ℕ, zero, suc, ◌-◌, ◌*◌, ◌%◌, ◌≤◌, min, zero-le}
+use Prim.Native.Nat.{ℕ, zero, suc, ◌*◌, ◌%◌, ◌≤◌, min, zero-le}
 use mathlib.Core.Path.{◌≡◌, refl, sym, ap, ◌∙◌}
 use mathlib.Core.Bool.{Bool, true, false, and-false}
 use mathlib.Core.List.{List, [], ◌∷◌, ◌++◌, append-nil}
 use borrow.Author.Tests.{ltb-false, eq-eqb}
-use native.Mathlib.Nat.{not-suc-le-zero, le_of_suc-le-suc, min-le_right, sub-zero}
+use native.Mathlib.Nat.{not-suc-le-zero, le_of_suc-le-suc, min-le_right}
 use native.Mathlib.Omega.{arith}
 use lib.Dec.{eqb, ltb}
 use lib.ListN.{length, take, drop, replicate, length-append}
@@ -18,16 +18,18 @@ use Rattle.machine.specs.Promise.{RunPromise}
 use Rattle.machine.proofs.Bools.{cond-elim}
 use Rattle.machine.proofs.Counts.{answers-length}
 use Rattle.machine.proofs.Promise.{calls-few}
+use Rattle.text.specs.Write.{Fills}
+use Rattle.text.proofs.WriteLaws.{fills-front}
 use Rattle.input_words.specs.Bytes.{words_of, bytes_of, AllWords}
 use Rattle.input_words.specs.TableInput.{no_table, table_of, after_table, with_length, TableWords}
 use Rattle.input_words.proofs.WordLaws.{words_of-bytes_of, length-bytes_of}
 use Rattle.input_words.proofs.GivenTable.{given-whole, given-table, given-rest}
 use Rattle.input_words.proofs.TableLaws.{Whole, whole, whole-table, no_more, no-table-more, whole-more, table_of-more, after_table-more}
 use Rattle.linerun_input.specs.Input.{list_words_read, list_of, left_over, unreadable, wanted, Reads}
-use Rattle.linerun_input.proofs.InputLaws.{no-left-over, list_of-more}
+use Rattle.linerun_input.proofs.InputLaws.{no-left-over, list_of-more, list-part}
 use Rattle.linerun_report.specs.Lines.{all_lines}
 use Rattle.linerun_report.specs.Report.{answer_space, holders_space, outcome_lines, answered, report, NothingFollows, EveryWordsReported, Follows}
-use Rattle.linerun_report.specs.Cursor.{calls_of, code_of, first_lines, Prints}
+use Rattle.linerun_report.specs.Cursor.{calls_of, code_of, FirstLines, Prints}
 use Rattle.linerun_report.specs.declared.Lines.{Lines}
 
 pub answered-unreadable : (bytes space : List ℕ) → unreadable bytes ≡ true → answered bytes space ≡ refusal 7 [] space []
@@ -35,17 +37,15 @@ unfolding answered
 answered-unreadable bytes space e = simp e
 
 -- where what ran is the input's table and list, what it returned and left is what is answered
-pub answered-ran : (bytes : List ℕ) {table list space holders : List ℕ} {code calls c k : ℕ} {answers end kept : List ℕ}
+pub answered-ran : (bytes : List ℕ) {table list space holders : List ℕ} {code calls : ℕ} {answers end kept : List ℕ}
     → unreadable bytes ≡ false
     → table ≡ table_of bytes → list ≡ list_of bytes → holders ≡ holders_space (table_of bytes)
-    → RunPromise table list space holders code calls answers end kept → k ≡ calls → c ≡ code
-    → (record { calls = k; code = c; line = 0; given = 0 } ≡ first_lines (answered bytes space)) × (answers ≡ (answered bytes space).answers)
-unfolding answered first_lines
-answered-ran bytes e t l h p same-calls same_code =
+    → RunPromise table list space holders code calls answers end kept
+    → (calls ≡ (answered bytes space).calls) × (code ≡ (answered bytes space).code) × (answers ≡ (answered bytes space).answers)
+unfolding answered
+answered-ran bytes e t l h p =
     let q = rw (t, l, h) at p in
-    let calls_are = same-calls ∙ q.same_calls in
-    let code_is = same_code ∙ q.same_code in
-    (simp (e, calls_are, code_is), simp e q.same_answers)
+    (simp e q.same_calls, simp e q.same_code, simp e q.same_answers)
 
 -- the words that are lent for the holders, as a part of sixteen
 take-replicate : (k n : ℕ) → k ≤ n → take k (replicate {A = ℕ} n 0) ≡ replicate k 0
@@ -53,9 +53,21 @@ take-replicate zero n l = refl
 take-replicate (suc k) zero l = absurd (not-suc-le-zero l)
 take-replicate (suc k) (suc n) l = ap (λ (ws : List ℕ). 0 ∷ ws) (take-replicate k n (le_of_suc-le-suc l))
 
-pub lent-part : (t : List ℕ) {k : ℕ} → k ≡ min (domains t) 16 → take (k - 0) (drop 0 (replicate {A = ℕ} 16 0)) ≡ holders_space t
+pub lent-part : (t : List ℕ) {k : ℕ} → k ≡ min (domains t) 16 → take k (replicate {A = ℕ} 16 0) ≡ holders_space t
 unfolding holders_space
-lent-part t {k} e = rw (sub-zero k, e) (take-replicate (min (domains t) 16) 16 (min-le_right (domains t) 16))
+lent-part t e = rw e (take-replicate (min (domains t) 16) 16 (min-le_right (domains t) 16))
+
+-- so it is where a table, a list and words for the holders are lent as parts
+pub answered_run : (bytes : List ℕ) {room table stock list space : List ℕ} {words listed lent code calls : ℕ} {answers end kept : List ℕ}
+    → unreadable bytes ≡ false
+    → length (table_of bytes) ≤ length room → Fills (table_of bytes) room words table
+    → length stock ≡ list_words_read → Fills (words_of (after_table bytes)) stock listed list
+    → lent ≡ min (domains (take words table)) 16
+    → RunPromise (take words table) (take listed list) space (take lent (replicate {A = ℕ} 16 0)) code calls answers end kept
+    → (calls ≡ (answered bytes space).calls) × (code ≡ (answered bytes space).code) × (answers ≡ (answered bytes space).answers)
+answered_run bytes e fits t long l h p =
+    let table_is = (fills-front fits t).1 in
+    answered-ran bytes e table_is (list-part bytes long l) (lent-part (table_of bytes) (h ∙ ap (λ ws. min (domains ws) 16) table_is)) p
 
 -- there are no more calls than the longest list has words
 pub answered-few : (bytes space : List ℕ) → (answered bytes space).calls ≤ longest_list
@@ -131,14 +143,14 @@ words-reported t ws given words short =
 
 -- so what is printed for the bytes read is the whole input's report
 pub prints : (bytes : List ℕ) (input_ended : Bool) {l : Lines} {answers : List ℕ} → Reads bytes input_ended
-    → l ≡ first_lines (answered bytes answer_space) → answers ≡ (answered bytes answer_space).answers → Prints bytes input_ended l answers
-unfolding first_lines report outcome_lines
+    → FirstLines (answered bytes answer_space) l → answers ≡ (answered bytes answer_space).answers → Prints bytes input_ended l answers
+unfolding report outcome_lines
 prints bytes input_ended {l} {answers} reads cursor left =
-    let is : all_lines (calls_of l) (code_of l) answers ≡ report bytes = rw (cursor, left) refl in
+    let is : all_lines (calls_of l) (code_of l) answers ≡ report bytes = rw (cursor.calls, cursor.code, left) refl in
     record {
-      start = rw cursor refl;
-      few = rw cursor (answered-few bytes answer_space);
-      lent = rw (cursor, left) (answers-lent bytes answer_space);
+      start = cursor.line;
+      few = rw cursor.calls (answered-few bytes answer_space);
+      lent = rw (cursor.calls, left) (answers-lent bytes answer_space);
       read = is;
       whole = λ more follows. is ∙ whole input_ended reads.reason more follows;
     }

@@ -1,17 +1,34 @@
 -- What `linerun` prints, part by part: a cursor over its lines gives the next part and goes on after it. Only a run makes a cursor,
 -- before its first line (document 01, 'Into firmware and onto the bench').
-use Rattle.std.specs.Prelude.{ℕ, zero, suc, ◌*◌, ◌≤◌, ◌<◌, ◌≡◌, Bool, cond, ◌&&◌, List, [], ◌++◌, ltb, leb, length}
+use Rattle.std.specs.Prelude.{ℕ, zero, suc, ◌*◌, ◌≤◌, ◌<◌, ◌≡◌, Bool, cond, ◌&&◌, List, [], ◌++◌, ltb, leb, length, Result}
 use Rattle.machine.specs.Entry.{Outcome, longest_list}
 use Rattle.linerun_report.specs.Lines.{all_lines, part_bytes, line_after, part_from}
 use Rattle.linerun_report.specs.Report.{answer_space, answered, report, Follows}
+use Rattle.std.specs.Result.{result_unwrap_or}
+use Rattle.result_code.specs.Code.{result_code}
+use Rattle.run_result.specs.Entry.{entry_refusal_code}
 use Rattle.linerun_report.specs.declared.Lines.{Lines}
+use Rattle.linerun_report.specs.declared.Refusal.{Refusal}
+use Rattle.linerun_report.specs.declared.Refusal.TheVariants.{Unreadable, Entry}
+
+-- a refusal's code: the program's own is 7
+abbrev pub refusal_code : Refusal → ℕ
+refusal_code Unreadable = 7
+refusal_code (Entry r) = entry_refusal_code r
+
+-- a run's count of calls, 0 after a refusal, and its code, 0 where nothing is refused
+abbrev pub ran_calls : Result ℕ Refusal → ℕ
+ran_calls r = result_unwrap_or r 0
+
+abbrev pub ran_code : Result ℕ Refusal → ℕ
+ran_code r = result_code refusal_code r
 
 -- a cursor: the count of calls and the code of the run, the next line, and how many bytes the last part had
 abbrev pub calls_of : Lines → ℕ
-calls_of l = l.calls
+calls_of l = ran_calls l.ran
 
 abbrev pub code_of : Lines → ℕ
-code_of l = l.code
+code_of l = ran_code l.ran
 
 abbrev pub line_of : Lines → ℕ
 line_of l = l.line
@@ -19,9 +36,12 @@ line_of l = l.line
 abbrev pub given_of : Lines → ℕ
 given_of l = l.given
 
--- the cursor before the first line of an outcome
-unfoldable pub first_lines : Outcome → Lines
-first_lines o = record { calls = o.calls; code = o.code; line = 0; given = 0 }
+-- a cursor before the first line of an outcome
+pub record FirstLines (o : Outcome) (l : Lines) : Type 0 where
+  pub calls : calls_of l ≡ o.calls
+  pub code : code_of l ≡ o.code
+  pub line : line_of l ≡ 0
+  pub given : given_of l ≡ 0
 
 -- all lines were given
 unfoldable pub ended : Lines → Bool
@@ -40,8 +60,7 @@ part_of l answers space = cond (gives l answers space) (part_from (calls_of l) (
 unfoldable pub advanced : Lines → List ℕ → ℕ → Lines
 advanced l answers space =
     record {
-      calls = calls_of l;
-      code = code_of l;
+      ran = l.ran;
       line = cond (gives l answers space) (line_after (calls_of l) (line_of l)) (line_of l);
       given = length (part_of l answers space);
     }
@@ -54,8 +73,8 @@ parts_from (suc most) l answers space =
 
 -- The parts from line 0 on concatenate to the report, where there is space for the longest part. There are no more parts than lines.
 abbrev pub PartsAreReport : Type 0
-PartsAreReport = (bytes : List ℕ) (space most : ℕ) → part_bytes ≤ space → longest_list < most
-    → parts_from most (first_lines (answered bytes answer_space)) (answered bytes answer_space).answers space ≡ report bytes
+PartsAreReport = (bytes : List ℕ) (l : Lines) (space most : ℕ) → FirstLines (answered bytes answer_space) l → part_bytes ≤ space
+    → longest_list < most → parts_from most l (answered bytes answer_space).answers space ≡ report bytes
 
 -- what a cursor will print of the bytes read, where the input ended after them or not: from line 0 on their report, and so that of
 -- the whole input, whatever else is in it

@@ -8,7 +8,8 @@ ghost use Rattle.std.specs.Prelude.{◌≤◌, min, ◌≡◌, length, take};
 ghost use Rattle.machine.specs.Table.{domains};
 ghost use Rattle.text.specs.Write.{overwrite};
 ghost use Rattle.linerun_report.specs.Report.{answered};
-ghost use Rattle.linerun_report.specs.Cursor.{given_of, first_lines, ended, gives, part_of, advanced};
+ghost use Rattle.linerun_report.specs.Cursor.{refusal_code, ran_calls, ran_code, calls_of, given_of, FirstLines, ended, gives, part_of, advanced};
+ghost use Rattle.linerun_report.specs.declared.Refusal.TheVariants.{Entry};
 
 use format::calls::LONGEST_LIST;
 use format::tables::{DOMAIN_PLACES, LONGEST_TABLE};
@@ -17,27 +18,63 @@ use input_words::words::fill;
 use kernel::run;
 use linerun_input::unreadable;
 use parts::{line_after, put_lines};
+use result_code::{Coded, code};
+use run_result::EntryRefusal;
 use table_layout::domains;
 
 // The most bytes that a part of the lines has.
 pub const PART_BYTES: usize = parts::PART_BYTES;
 
-// A cursor over the lines that are to be printed: the count of calls and the code, the next line, and how many bytes the part that
-// was given last has. Only `answer` makes one, and only `next` moves it.
-#[derive(Clone, Copy)]
+// Why nothing runs of what was read.
+#[derive(Clone, Copy, Debug, PartialEq, Eq)]
+pub enum Refusal {
+    Unreadable, // 7, the program's own
+    Entry(EntryRefusal), // 1 to 6
+}
+
+impl Coded for Refusal {
+    ghost code_of = { refusal_code };
+
+    // Returns document 01's code for the refusal.
+    fn code(self) -> u32 {
+        match self {
+            Refusal::Unreadable => 7,
+            Refusal::Entry(refusal) => refusal.code(),
+        }
+    }
+}
+
+impl From<EntryRefusal> for Refusal {
+    ghost from_gives = { λ entry refusal. refusal ≡ Entry entry };
+
+    fn from(entry: EntryRefusal) -> Refusal {
+        Refusal::Entry(entry)
+    }
+}
+
+// A cursor over the lines that are to be printed: the run's count of calls, or why nothing ran; the next line; and how many bytes the
+// part that was given last has. Only `answer` makes one, and only `next` moves it.
+#[derive(Clone, Copy, Debug, PartialEq, Eq)]
 pub struct Lines {
-    calls: usize,
-    code: u32,
+    ran: Result<usize, Refusal>,
     line: usize,
     given: usize,
 }
 
 impl Lines {
+    // Returns the count of calls that ran: 0 where nothing ran.
+    fn calls(self) -> usize
+        ensures { result ≡ calls_of self }
+    {
+        self.ran.unwrap_or(0)
+    }
+
     // Returns whether all lines were given.
+    #[tactic(auto, unfolding(crate::specs::Cursor::ended))]
     pub fn ended(self) -> bool
         ensures { result ≡ ended self }
     {
-        self.calls < self.line
+        self.calls() < self.line
     }
 }
 
@@ -45,25 +82,17 @@ impl Lines {
 fn holders_lent(table: &[u32]) -> usize
     ensures { result ≡ min (domains table.now) 16 }
 {
-    let n = domains(table) as usize;
-    if DOMAIN_PLACES < n {
-        return DOMAIN_PLACES;
-    }
-    n
+    (domains(table) as usize).min(DOMAIN_PLACES)
 }
 
-// Runs what was read. Returns the cursor before the first line, and leaves the calls' answers in the lent words.
-pub fn answer(bytes: &[u8], answers: &mut [u32]) -> Lines
-    ensures value { result ≡ first_lines (answered bytes.now answers.old) }
+// Runs what was read, and returns how many calls ran, or why nothing did. It leaves the calls' answers in the lent words.
+fn run_input(bytes: &[u8], answers: &mut [u32]) -> Result<usize, Refusal>
+    ensures calls { ran_calls result ≡ (answered bytes.now answers.old).calls }
+    ensures code { ran_code result ≡ (answered bytes.now answers.old).code }
     ensures answers_after { answers.new ≡ (answered bytes.now answers.old).answers }
 {
     if unreadable(bytes) {
-        return Lines {
-            calls: 0,
-            code: 7,
-            line: 0,
-            given: 0,
-        };
+        return Err(Refusal::Unreadable);
     }
     let mut table = [0u32; LONGEST_TABLE];
     let words = read_table(bytes, &mut table);
@@ -72,32 +101,35 @@ pub fn answer(bytes: &[u8], answers: &mut [u32]) -> Lines
     let listed = fill(after_table(bytes), &mut list);
     // one word for each domain of an accepted table
     let mut holders = [0u32; DOMAIN_PLACES];
-    let lent = holders_lent(&table[0..words]);
-    let ran = run(
-        &mut table[0..words],
-        &list[0..listed],
+    let lent = holders_lent(&table[..words]);
+    let calls = run(
+        &mut table[..words],
+        &list[..listed],
         answers,
-        &mut holders[0..lent],
-    );
+        &mut holders[..lent],
+    )?;
+    Ok(calls)
+}
+
+// Runs what was read. Returns the cursor before the first line, and leaves the calls' answers in the lent words.
+pub fn answer(bytes: &[u8], answers: &mut [u32]) -> Lines
+    ensures value { FirstLines (answered bytes.now answers.old) result }
+    ensures answers_after { answers.new ≡ (answered bytes.now answers.old).answers }
+{
     Lines {
-        calls: ran.calls(),
-        code: ran.code(),
+        ran: run_input(bytes, answers),
         line: 0,
         given: 0,
     }
 }
 
 // Returns whether a part is given, with these answers and so many bytes of space.
+#[tactic(auto, unfolding(crate::specs::Cursor::gives))]
 fn gives(lines: Lines, answers: &[u32], space: usize) -> bool
     ensures { result ≡ gives lines answers.now space }
 {
-    if LONGEST_LIST < lines.calls {
-        return false;
-    }
-    if answers.len() < 3 * lines.calls {
-        return false;
-    }
-    PART_BYTES <= space
+    let calls = lines.calls();
+    calls <= LONGEST_LIST && 3 * calls <= answers.len() && PART_BYTES <= space
 }
 
 // Writes the next part at the front of the buffer, and returns the cursor after it. Where too few words or bytes are lent it writes
@@ -108,24 +140,17 @@ pub fn next(lines: Lines, answers: &[u32], out: &mut [u8]) -> Lines
         ≡ overwrite 0 (part_of lines answers.now (length out.old)) out.old }
     ensures result_in_bounds { given_of result ≤ length out.new }
 {
-    let calls = lines.calls;
-    let code = lines.code;
-    let line = lines.line;
     if !gives(lines, answers, out.len()) {
-        return Lines {
-            calls,
-            code,
-            line,
-            given: 0,
-        };
+        return Lines { given: 0, ..lines };
     }
+    let calls = lines.calls();
+    let line = lines.line;
     let next = line_after(calls, line);
-    let given = put_lines(calls, code, answers, line, next, out);
+    let given = put_lines(calls, code(lines.ran), answers, line, next, out);
     Lines {
-        calls,
-        code,
         line: next,
         given,
+        ..lines
     }
 }
 
@@ -133,9 +158,5 @@ pub fn next(lines: Lines, answers: &[u32], out: &mut [u8]) -> Lines
 pub fn part(lines: Lines, out: &[u8]) -> &[u8]
     ensures { result.now ≡ take (given_of lines) out.now }
 {
-    let given = lines.given;
-    if out.len() < given {
-        return out;
-    }
-    &out[0..given]
+    &out[..lines.given.min(out.len())]
 }

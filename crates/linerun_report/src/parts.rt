@@ -13,17 +13,12 @@ const PART_LINES: usize = 256;
 pub const PART_BYTES: usize = 16924;
 
 // Returns the line before which the part from `line` on ends.
+#[tactic(auto, unfolding(crate::specs::Lines::line_after))]
 pub fn line_after(calls: usize, line: usize) -> usize
     requires { calls ≤ 4096 }
     ensures { result ≡ line_after calls line }
 {
-    if calls < line {
-        return calls + 1;
-    }
-    if calls - line < PART_LINES {
-        return calls + 1;
-    }
-    line + PART_LINES
+    line.saturating_add(PART_LINES).min(calls + 1)
 }
 
 // Writes the lines of the calls from `from` on and below `to`, from the index `start` on, and returns the index after them. They
@@ -36,12 +31,9 @@ fn call_lines(answers: &[u32], from: usize, to: usize, out: &mut [u8], start: us
     ensures upper_bound { result ≤ start + 66 * (to - from) }
 {
     let mut at = start;
-    for i in from..to {
-        let word = 3 * i;
-        let w = answers[word];
-        let x = answers[word + 1];
-        let y = answers[word + 2];
-        at = call_line(i, w, x, y, out, at);
+    let words = &answers[3 * from..3 * to];
+    for (i, answer) in (from..to).zip(words.chunks_exact(3)) {
+        at = call_line(i, answer[0], answer[1], answer[2], out, at);
     }
     at
 }
