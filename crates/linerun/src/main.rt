@@ -3,17 +3,17 @@
 // was read and gives the lines. This crate passes the one's result to the other, and writes the lines, part by part.
 #![tactic(auto)]
 
-ghost use Rattle.std.specs.Prelude.{◌≤◌, ◌≡◌, true, false, length, take};
+ghost use Rattle.std.specs.Prelude.{◌≤◌, ◌≡◌, length, take, OnOk};
 ghost use Rattle.std.specs.Io.KnownBytes.{Appends};
 ghost use Rattle.linerun_input.specs.Stage.{have_of, wanted_of, ended_of, StageAfter};
 ghost use Rattle.linerun_report.specs.Report.{answer_space, report};
-ghost use Rattle.linerun_report.specs.Cursor.{calls_of, code_of, given_of, ended, Prints};
+ghost use Rattle.linerun_report.specs.Cursor.{Prints};
 
 use format::answers::MOST_ANSWER_WORDS;
 use linerun_input::reading::{MOST_INPUT, read_input};
 use linerun_input::stage::Input;
 use linerun_report::{Lines, PART_BYTES, answer, next, part};
-use std::io::Write;
+use std::io::{self, Write};
 
 // Runs what was read, and returns the cursor before the first line. Precondition: nothing more is wanted, and the words lent for the
 // answers are as the definition has them.
@@ -23,58 +23,31 @@ fn answer_input(buffer: &[u8], input: Input, answers: &mut [u32]) -> Lines
     requires answers_value { answers.old ≡ answer_space }
     ensures { Prints (take (have_of input) buffer.now) (ended_of input) result answers.new }
 {
-    let have = input.have();
-    answer(&buffer[0..have], answers)
+    answer(&buffer[..input.have()], answers)
 }
 
-// Writes the part that was given last, unless one before it could not be written, and returns whether all were.
-fn write_part<W: Write>(writer: &mut W, lines: Lines, out: &[u8], before: bool) -> bool
-    ensures unwritten { before ≡ false → result ≡ false }
-    ensures written { result ≡ true
-        → Appends (W.contents writer.old) (W.contents writer.new) (take (given_of lines) out.now) }
-{
-    if !before {
-        return false;
-    }
-    writer.write_all(part(lines, out)).is_ok()
-}
-
-// What writing the lines left: the cursor after them, and whether all could be written.
-#[derive(Clone, Copy)]
-struct Written {
-    lines: Lines,
-    all: bool,
-}
-
-// Writes the lines of the cursor, part by part until all were given, and returns the cursor after them and whether all were written.
-// No part is written after one that can't be. Where the writer's bytes are known and all were written, the report of the bytes that
-// were read is what they grew by. Precondition: the lines are that report, which nothing more is wanted after.
+// Writes the lines of the cursor, part by part until all were given. No part is written after one that can't be. Where the writer's
+// bytes are known and all parts could be written, the report of the bytes that were read is what they grew by. Precondition: the lines
+// are that report, which nothing more is wanted after.
 fn write_lines<W: Write>(
     writer: &mut W,
     buffer: &[u8],
     input: Input,
     first: Lines,
     answers: &[u32],
-) -> Written
+) -> io::Result<()>
     requires stage_after { StageAfter (take (have_of input) buffer.now) input × (wanted_of input ≡ 0) }
     requires prints { Prints (take (have_of input) buffer.now) (ended_of input) first answers.now }
-    ensures given { (ended result.lines ≡ true)
-        × (calls_of result.lines ≡ calls_of first)
-        × (code_of result.lines ≡ code_of first) }
-    ensures written { result.all ≡ true
-        → Appends (W.contents writer.old) (W.contents writer.new) (report (take (have_of input) buffer.now)) }
+    ensures { OnOk result
+        (Appends (W.contents writer.old) (W.contents writer.new) (report (take (have_of input) buffer.now))) }
 {
     let mut out = [0u8; PART_BYTES];
     let mut lines = first;
-    let mut written = true;
     while !lines.ended() {
         lines = next(lines, answers, &mut out);
-        written = write_part(writer, lines, &out, written);
+        writer.write_all(part(lines, &out))?;
     }
-    Written {
-        lines,
-        all: written,
-    }
+    Ok(())
 }
 
 // Reads standard input, runs it, and writes its lines to standard output. The exit status is 0 in any case, so lines that can't be
@@ -86,7 +59,7 @@ fn main(rt: HostRuntime) {
     let mut answers = [0u32; MOST_ANSWER_WORDS];
     let lines = answer_input(&buffer, input, &mut answers);
     let written = write_lines(&mut rt.stdout(), &buffer, input, lines, &answers);
-    if !written.all {
+    if written.is_err() {
         let _ = rt
             .stderr()
             .write_all(b"linerun: not all lines could be written\n");

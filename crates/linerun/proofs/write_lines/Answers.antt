@@ -1,7 +1,7 @@
 -- `write_lines` meets its contract: there are ever fewer lines left, and each part that is written continues what was written before.
 use Prim.Native.Nat.{ℕ, ◌≤◌}
 use mathlib.Core.Path.{◌≡◌, refl, sym, ap, subst, ◌∙◌}
-use mathlib.Core.Bool.{Bool, true, false, true≢false}
+use mathlib.Core.Bool.{false}
 use mathlib.Core.List.{List}
 use native.Mathlib.Omega.{arith}
 use lib.ListN.{length, take}
@@ -15,11 +15,6 @@ use Rattle.linerun_report.specs.declared.Lines.{Lines}
 use Rattle.linerun_report.proofs.CursorLaws.{Going, going_next, fewer-left, next-within, printed-next, part-in-front, all-given, none-printed}
 use Rattle.linerun.proofs.write_lines.Goals as goal
 
--- all parts before were written, where this one was
-before-written : (before now : Bool) → (before ≡ false → now ≡ false) → now ≡ true → before ≡ true
-before-written true now h e = refl
-before-written false now h e = absurd (true≢false (sym e ∙ h refl))
-
 pub loop-out-init : goal.loop-out-init
 loop-out-init g c =
     let prints = c.requires.prints in
@@ -27,7 +22,7 @@ loop-out-init g c =
       room = refl;
       going = record { few = prints.few; lent = prints.lent; fits = omega arith; same-calls = refl; same_code = refl };
       within = omega (arith, prints.start);
-      printed = λ _. subst (Appends _ _) (sym (none-printed c.args.first c.args.answers.now prints.start)) (Appends-nil _);
+      printed = subst (Appends _ _) (sym (none-printed c.args.first c.args.answers.now prints.start)) (Appends-nil _);
     }
 
 -- the cursor after a part, by the space that there is
@@ -62,21 +57,14 @@ loop-out-preserved g c =
       going = going_next at_loop.going is;
       within = next-within at_loop.going is;
       printed =
-          λ (all : c.write_part-written.result ≡ true).
           continues _ c.loop-out.lines c.next-lines.result c.args.answers.now c.loop-out.out c.next-lines.new.out at_loop.room at_loop.going next.value
-          _ _ _ (sym c.ended.ensures ∙ c.loop-out-test.true) next.out_after next.result_in_bounds
-          (at_loop.printed (before-written _ _ c.write_part-written.ensures.unwritten all)) (c.write_part-written.ensures.written all);
+          _ _ _ (sym c.ended.ensures ∙ c.loop-out-test.true) next.out_after next.result_in_bounds at_loop.printed (rw c.part.ensures at c.in_ok-write_all.ensures.bytes);
     }
 
 pub returns : goal.returns
 returns g c =
     let at_loop = c.loop-out.invariant in
     let over = sym c.ended.ensures ∙ c.loop-out-test.false in
-    record {
-      given = (over, at_loop.going.same-calls, at_loop.going.same_code);
-      written =
-          λ (all : c.loop-out.written ≡ true).
-          subst (Appends _ _)
-          (all-given c.args.first c.loop-out.lines c.args.answers.now 16924 at_loop.going over at_loop.within ∙ c.requires.prints.read)
-          (at_loop.printed all);
-    }
+    subst (Appends _ _)
+    (all-given c.args.first c.loop-out.lines c.args.answers.now 16924 at_loop.going over at_loop.within ∙ c.requires.prints.read)
+    at_loop.printed
