@@ -1,6 +1,5 @@
 -- What the proofs of several functions and of callers cite.
 pub mod Passes
 pub mod Outcomes
-pub mod ByKind
 pub mod RowAt
 pub mod OneNumber

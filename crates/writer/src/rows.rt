@@ -1,8 +1,8 @@
 // Calls as C passes them to the writer: five words a call, here a row (document 02, (c)). The writer's two passes take each
 // call from its row, as it is lent, and keep none, so that little stack is needed.
-ghost use Rattle.std.specs.Prelude.{◌≡◌, ◌*◌, ◌<◌, ◌≤◌, length};
+ghost use Rattle.std.specs.Prelude.{◌≡◌, ◌*◌, ◌≤◌, length};
 ghost use Rattle.writer.specs.Answer.{answered};
-ghost use Rattle.writer_theory.specs.Rows.{where_zero, row_call, call_at, writing_rows};
+ghost use Rattle.writer_theory.specs.Rows.{row_call, call_at, writing_rows};
 
 use crate::{WriteRefusal, write_each};
 use calls::{Call, Refusal};
@@ -17,89 +17,39 @@ const NO_CALL: Call = Call::Refused {
     refusal: Refusal::UnknownKind,
 };
 
-// Returns the call where its unused columns are zero, else no call. 0 is passed for a column that its kind uses.
-fn where_zero(a: u32, b: u32, c: u32, call: Call) -> Call
-    ensures { result ≡ where_zero a b c call }
-{
-    if (a == 0) & (b == 0) & (c == 0) {
-        call
-    } else {
-        NO_CALL
-    }
-}
-
-// Returns the call of a row of kind 1, 2 or 3. Kind 0 is no call.
-fn endpoint_row(kind: u32, caller: u32, a: u32, b: u32, c: u32) -> Call
-    requires { kind < 4 }
-    ensures { result ≡ row_call kind caller a b c }
-{
-    match kind {
-        KIND_LOOK_UP => where_zero(a, b, 0, Call::LookUp { caller, name: c }),
-        KIND_SEND => where_zero(
-            a,
-            0,
-            0,
-            Call::Send {
-                caller,
-                endpoint: b,
-                message: c,
-            },
-        ),
-        KIND_RECEIVE => where_zero(
-            a,
-            0,
-            c,
-            Call::Receive {
-                caller,
-                endpoint: b,
-            },
-        ),
-        _ => NO_CALL,
-    }
-}
-
-// Returns the call of a row of a kind from 4 on. A kind above the last is no call.
-fn rights_row(kind: u32, caller: u32, a: u32, b: u32, c: u32) -> Call
-    requires { 4 ≤ kind }
-    ensures { result ≡ row_call kind caller a b c }
-{
-    match kind {
-        KIND_MY_ENDPOINTS => where_zero(a, b, c, Call::MyEndpoints { caller }),
-        KIND_MY_RIGHTS => where_zero(a, b, c, Call::MyRights { caller }),
-        KIND_GRANT => Call::Grant {
-            caller,
-            target: a,
-            recipient: b,
-            rights: c,
-        },
-        KIND_REMOVE => where_zero(
-            0,
-            b,
-            0,
-            Call::Remove {
-                caller,
-                target: a,
-                rights: c,
-            },
-        ),
-        KIND_REVOKE => Call::Revoke {
-            caller,
-            target: a,
-            holder: b,
-            rights: c,
-        },
-        _ => NO_CALL,
-    }
-}
-
-// Returns the call of a row.
+// Returns the call of a row. A row of no kind of call, or with a column that its kind doesn't use and that isn't 0, is no call.
+#[tactic(auto, unfolding(writer_theory::specs::Rows::row_call, writer_theory::specs::Rows::of_columns, writer_theory::specs::Rows::where_zero, machine::specs::Call::kind_of))]
 fn row_call(kind: u32, caller: u32, a: u32, b: u32, c: u32) -> Call
     ensures { result ≡ row_call kind caller a b c }
 {
-    if kind < KIND_MY_ENDPOINTS {
-        endpoint_row(kind, caller, a, b, c)
-    } else {
-        rights_row(kind, caller, a, b, c)
+    match (kind, a, b, c) {
+        (KIND_LOOK_UP, 0, 0, name) => Call::LookUp { caller, name },
+        (KIND_SEND, 0, endpoint, message) => Call::Send {
+            caller,
+            endpoint,
+            message,
+        },
+        (KIND_RECEIVE, 0, endpoint, 0) => Call::Receive { caller, endpoint },
+        (KIND_MY_ENDPOINTS, 0, 0, 0) => Call::MyEndpoints { caller },
+        (KIND_MY_RIGHTS, 0, 0, 0) => Call::MyRights { caller },
+        (KIND_GRANT, target, recipient, rights) => Call::Grant {
+            caller,
+            target,
+            recipient,
+            rights,
+        },
+        (KIND_REMOVE, target, 0, rights) => Call::Remove {
+            caller,
+            target,
+            rights,
+        },
+        (KIND_REVOKE, target, holder, rights) => Call::Revoke {
+            caller,
+            target,
+            holder,
+            rights,
+        },
+        _ => NO_CALL,
     }
 }
 
