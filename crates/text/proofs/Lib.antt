@@ -3,4 +3,4 @@ pub mod WriteLaws
 pub mod DigitLaws
 pub mod DecimalClaim
 pub mod LabelLaws
-pub mod Spelling
+pub mod Printed

@@ -4,6 +4,8 @@ ghost use Rattle.std.specs.Prelude.{◌+◌, ◌≤◌, ◌<◌, ◌≡◌, leng
 ghost use Rattle.text.specs.Decimal.{decimal, labelled};
 ghost use Rattle.text.specs.Write.{overwrite, Writes};
 
+use itoa::Buffer;
+
 // Copies the first n bytes of a text. The caller must make sure that the text has them and that they fit.
 fn copy(text: &[u8], n: usize, out: &mut [u8], at: usize)
     requires there { n ≤ length text.now }
@@ -29,22 +31,6 @@ pub fn put(text: &[u8], out: &mut [u8], at: usize) -> usize
     at + text.len()
 }
 
-// Writes the digits of a number at the end of twenty bytes, the most that it can have, and returns the index of the first digit.
-fn spell(x: u64, digits: &mut [u8]) -> usize
-    requires { length digits.old ≡ 20 }
-    ensures { (result < 20) × (drop result digits.new ≡ decimal x) }
-{
-    digits[19] = b'0' + (x % 10) as u8;
-    let mut rest = x / 10;
-    let mut at = 19;
-    while 0 < rest {
-        at -= 1;
-        digits[at] = b'0' + (rest % 10) as u8;
-        rest /= 10;
-    }
-    at
-}
-
 // Writes a number below 10, which has one digit, and returns the index after it.
 fn put_digit(x: u64, out: &mut [u8], at: usize) -> usize
     requires { x < 10 }
@@ -57,16 +43,15 @@ fn put_digit(x: u64, out: &mut [u8], at: usize) -> usize
     at + 1
 }
 
-// Writes a number in decimal, and returns the index after it. Most have one digit, which needs no array.
+// Writes a number in decimal, and returns the index after it. Most have one digit, which needs no buffer of digits.
 pub fn put_decimal(x: u64, out: &mut [u8], at: usize) -> usize
     ensures { Writes at (decimal x) out.old result out.new }
 {
     if x < 10 {
         return put_digit(x, out, at);
     }
-    let mut digits = [0u8; 20];
-    let first = spell(x, &mut digits);
-    put(&digits[first..20], out, at)
+    let mut digits = Buffer::new();
+    put(digits.format(x).as_bytes(), out, at)
 }
 
 // Writes a label and right after it a number in decimal, and returns the index after both.

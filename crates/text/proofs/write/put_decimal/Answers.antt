@@ -1,12 +1,7 @@
--- `text::write::put_decimal` meets its contract: one digit at once, or the digits that `spell` left. Assumes nothing.
-use Rattle.text.proofs.Spelling.{whole_part}
+-- What std prints of a number is its decimal.
+use Rattle.std.proofs.Common.{◌∙◌}
+use Rattle.text.proofs.Printed.{printed}
 use Rattle.text.proofs.write.put_decimal.Goals as goal
 
-pub returns-then-x-lt10 : goal.returns-then-x-lt10
-returns-then-x-lt10 c = c.put_digit.ensures
-
 pub returns : goal.returns
-returns c =
-    let spelled = c.spell-first in
-    rw (whole_part 20 spelled.result spelled.new.digits spelled.auto.digits spelled.ensures.1)
-    at c.put.ensures
+returns c = rw (c.as_bytes.ensures.value ∙ c.format.ensures.text ∙ printed c.args.x c.ranges.x.fits) at c.put.ensures
