@@ -4,19 +4,18 @@ use mathlib.Core.Path.{◌≡◌, refl, sym, ap, ap₂, subst, ◌∙◌}
 use mathlib.Core.Bool.{Bool, true, false, cond, not}
 use mathlib.Core.Logic.{⊎_elim}
 use mathlib.Core.List.{List, [], ◌∷◌, ◌++◌, append_assoc, append-nil}
-use native.Mathlib.Nat.{le_antisymm, add-sub_cancel_left}
-use native.Mathlib.Numerals.{add-one, add-one-le}
+use native.Mathlib.Nat.{add-sub_cancel_left}
 use native.Mathlib.Omega.{arith}
 use borrow.Author.Count.{below_none, below_more}
-use lib.ListN.{length, get_or, take, drop, set, replicate, length-set, get_or-replicate, drop_of_length-le}
-use lib.Seq.{get_or-set_same, get_or-set_other, paste, paste-zero, paste-suc, take-suc-set}
+use lib.ListN.{length, get_or, take, drop, set, replicate, length-set, length-drop, drop_of_length-le}
+use lib.Seq.{get_or-set_same, get_or-set_other, take-suc-set, length-take-le}
 use Rattle.machine.specs.Word.{word}
 use Rattle.machine.specs.Table.{domains, endpoints, endpoint_at, endpoint, set_endpoint}
 use Rattle.machine.specs.Queue.{empty_slot}
 use Rattle.machine.specs.Check.{queue_ok, header_ok, length_ok, rights_ok, endpoints_ok, table_code, Accepted}
 use Rattle.machine.proofs.Table.{Sized, domains-header, endpoints-header, endpoint-length, endpoint-ext, set_endpoint-length, set_endpoint-before, set_endpoint-same, set_endpoint-other}
 use Rattle.table_check.specs.Checked.{Headed}
-use Rattle.repair_theory.specs.Mend.{mended_rights, empty_queue, mended_endpoint, mended}
+use Rattle.repair_theory.specs.Mend.{mended_rights, mended_endpoint, mended}
 use Rattle.repair.specs.Passes.{RightsMended, EndpointsMended}
 use Rattle.repair_theory.proofs.Mended.{queue-emptied, mended-twelve, headed-sized, mended-is, headed-either}
 use Rattle.repair_theory.proofs.Claims.{sound-stays}
@@ -39,44 +38,25 @@ rights-next {t} {t'} {i} m l w e =
 
 -- ---- an endpoint's words
 
--- the first j slots of the words p are cleared
-pub record SlotsCleared (p q : List ℕ) (j : ℕ) : Type 0 where
-  pub within : j ≤ 8
-  pub twelve : length p ≡ 12
-  pub size : length q ≡ 12
-  pub words : q ≡ paste p 4 (replicate 8 empty_slot) j
+-- the slots are the last eight of twelve words
+pub slots-eight : (p : List ℕ) → length p ≡ 12 → length (take (length p - 4) (drop 4 p)) ≡ 8
+slots-eight p twelve = length-take-le (length p - 4) (drop 4 p) (omega (arith, length-drop 4 p)) ∙ omega arith
 
-pub slots-start : (p : List ℕ) → length p ≡ 12 → SlotsCleared p p 0
-slots-start p twelve =
-    record { within = omega arith; twelve = twelve; size = twelve; words = paste-zero p 4 (replicate 8 empty_slot) }
-
-pub slots_next : {p q : List ℕ} {j : ℕ} → SlotsCleared p q j → j < 8 → SlotsCleared p (set q (4 + j) empty_slot) (j + 1)
-slots_next {p} {q} {j} s l =
-    record {
-      within = add-one-le l;
-      twelve = s.twelve;
-      size = length-set q (4 + j) empty_slot ∙ s.size;
-      words =
-          ap₂ (λ (x : List ℕ) (w : ℕ). set x (4 + j) w) s.words (sym (get_or-replicate 8 j empty_slot 0 l))
-          ∙ paste-suc p 4 (replicate 8 empty_slot) j 0 (omega (arith, s.twelve)) l
-          ∙ ap (paste p 4 (replicate 8 empty_slot)) (sym (add-one j));
-    }
-
--- once all are, after the waiting and the lost word, the queue is emptied
-pub slots_end : (q : List ℕ) {q' : List ℕ} {j : ℕ} → SlotsCleared (set (set q 2 (word 5 0)) 3 (word 6 0)) q' j → 8 ≤ j → length q ≡ 12 → queue_ok q ≡ false → q' ≡ mended_endpoint q
-slots_end q s l twelve broken =
-    let p = set q 2 (word 5 0) in
-    s.words
-    ∙ ap (paste (set p 3 (word 6 0)) 4 (replicate 8 empty_slot)) (le_antisymm s.within l)
-    ∙ ap₂ (λ (front rest : List ℕ). (front ++ replicate 8 empty_slot) ++ rest)
-    (take-suc-set p 3 (word 6 0) (simp length-set (omega arith))
+-- once the waiting word, the lost word and the slots are written, the queue is emptied
+pub emptied : (q slots : List ℕ) (k : ℕ)
+    → length q ≡ 12
+    → queue_ok q ≡ false
+    → slots ≡ replicate k empty_slot
+    → k ≡ 8
+    → (let p = set (set q 2 (word 5 0)) 3 (word 6 0) in take 4 p ++ (slots ++ drop (length p - 4) (drop 4 p))) ≡ mended_endpoint q
+emptied q slots k twelve broken cleared eight =
+    let p = set (set q 2 (word 5 0)) 3 (word 6 0) in
+    ap₂ (λ (front rest : List ℕ). front ++ (slots ++ rest))
+    (take-suc-set (set q 2 (word 5 0)) 3 (word 6 0) (simp length-set (omega arith))
     ∙ ap (λ (x : List ℕ). x ++ (word 6 0 ∷ [])) (take-suc-set q 2 (word 5 0) (omega arith)))
-    (drop_of_length-le (set p 3 (word 6 0)) {i = 12} (simp length-set (omega arith)))
-    ∙ rejoined
+    (drop_of_length-le (drop 4 p) {i = length p - 4} (simp (length-drop, length-set) (omega arith)))
+    ∙ rw (cleared, eight) (simp (append_assoc, append-nil))
     ∙ sym (queue-emptied q broken)
-  where
-    rejoined : (((take 2 q ++ (word 5 0 ∷ [])) ++ (word 6 0 ∷ [])) ++ replicate 8 empty_slot) ++ [] ≡ take 2 q ++ empty_queue
-    rejoined = simp (append_assoc, append-nil)
 
 -- ---- the endpoints
 

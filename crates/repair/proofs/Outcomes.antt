@@ -1,20 +1,26 @@
 -- The outcome of a repair, by what the code finds: each of its answers is the required one (repair_theory: specs/Repair), and
 -- its code is small. Assumes nothing.
-use Prim.Native.Nat.{ℕ, ◌+◌, ◌*◌, ◌<◌, ◌≤◌}
-use mathlib.Core.Path.{◌≡◌, ap, ◌∙◌}
+use Prim.Native.Nat.{ℕ, ◌*◌, ◌<◌, ◌≤◌}
+use mathlib.Core.Path.{◌≡◌, refl, sym, ap, ◌∙◌}
 use mathlib.Core.Bool.{true, false}
 use mathlib.Core.Logic.{⊎_elim}
 use mathlib.Core.List.{List, ◌++◌}
 use native.Mathlib.Omega.{arith}
-use borrow.Author.Tests.{lt-ltb, le-ltb}
+use borrow.Author.Tests.{lt-ltb, le-ltb, ne_eqb}
 use lib.ListN.{length, drop}
 use Rattle.machine.proofs.Bools.{either}
 use Rattle.repair_theory.specs.Mend.{mended, mendable}
 use Rattle.repair_theory.specs.Changes.{differing, changes}
 use Rattle.repair_theory.specs.Repair.{altered, altered_count, repair_code, refusal, repaired, repair, RepairPromise}
 use Rattle.repair.specs.Answer.{repaired_code}
-use Rattle.repair.specs.declared.Repaired.{Repaired}
-use Rattle.repair.specs.declared.Repaired.TheVariants.{Done, BadFrame, ListTooShort}
+use Rattle.std.specs.Prelude.{⊤, Result, Ok, Err}
+use Rattle.std.specs.Result.{is_ok}
+use lib.Dec.{eqb}
+use Rattle.table_check.specs.Checked.{refusal_code, checked_code}
+use Rattle.table_check.specs.declared.TableRefusal.{TableRefusal}
+use Rattle.table_check.proofs.Refusals.{refusal-code}
+use Rattle.repair.specs.declared.RepairRefusal.{RepairRefusal}
+use Rattle.repair.specs.declared.RepairRefusal.TheVariants.{BadFrame, ListTooShort}
 use Rattle.repair_theory.proofs.Outcomes.{altered-length, altered-few, mendable-small}
 pub use Rattle.repair_theory.proofs.Outcomes.{count_small}
 
@@ -67,7 +73,12 @@ module _ (t list : List ℕ) where
           }
 
 -- the largest code
-pub code-small : (r : Repaired) → repaired_code r ≤ 34
-code-small (Done count) = omega arith
-code-small BadFrame = omega arith
-code-small ListTooShort = omega arith
+pub code-small : (r : Result ℕ RepairRefusal) → repaired_code r ≤ 34
+code-small (Ok count) = omega arith
+code-small (Err BadFrame) = omega arith
+code-small (Err ListTooShort) = omega arith
+
+-- whether the check accepts, as its code says it
+pub ok-is : (r : Result ⊤ TableRefusal) → is_ok r ≡ eqb (checked_code r) 0
+ok-is (Ok done) = refl
+ok-is (Err r) = sym (ne_eqb (refusal_code r) 0 (refusal-code r))

@@ -5,47 +5,34 @@
 
 pub mod mend;
 
-ghost use Rattle.std.specs.Prelude.{◌≡◌, ◌++◌, ◌≤◌, length, drop};
+ghost use Rattle.std.specs.Prelude.{◌≡◌, ◌==◌, ◌++◌, ◌≤◌, not, length, drop, zip, count_by};
 ghost use Rattle.repair_theory.specs.Mend.{mended, mendable};
 ghost use Rattle.repair_theory.specs.Changes.{differing, changes};
 ghost use Rattle.repair_theory.specs.Repair.{RepairPromise};
-ghost use Rattle.repair.specs.Answer.{repaired_code, repaired_count};
+ghost use Rattle.repair.specs.Answer.{repair_refusal_code, repaired_code, repaired_count};
 
 use crate::mend::mend;
 use format::tables::LONGEST_TABLE;
+use result_code::Coded;
 use table_check::check;
 
-// The outcome of a repair.
-#[derive(Clone, Copy)]
-pub enum Repaired {
-    // 0: this count of words is altered
-    Done(usize),
+// Why a table isn't repaired.
+#[derive(Clone, Copy, Debug, PartialEq, Eq)]
+pub enum RepairRefusal {
     // 33: the header, the length, a name or an info is wrong, or a name repeats
     BadFrame,
     // 34: the lent list is too short
     ListTooShort,
 }
 
-impl Repaired {
-    // Returns document 02's code for it.
-    pub fn code(self) -> u32
-        ensures { result ≡ repaired_code self }
-    {
-        match self {
-            Repaired::Done(_) => 0,
-            Repaired::BadFrame => 33,
-            Repaired::ListTooShort => 34,
-        }
-    }
+impl Coded for RepairRefusal {
+    ghost code_of = { repair_refusal_code };
 
-    // Returns how many words were altered.
-    pub fn count(self) -> usize
-        ensures { result ≡ repaired_count self }
-    {
+    // Returns document 02's code for the refusal.
+    fn code(self) -> u32 {
         match self {
-            Repaired::Done(count) => count,
-            Repaired::BadFrame => 0,
-            Repaired::ListTooShort => 0,
+            RepairRefusal::BadFrame => 33,
+            RepairRefusal::ListTooShort => 34,
         }
     }
 }
@@ -56,84 +43,73 @@ fn mend_copy(table: &[u32], copy: &mut [u32]) -> bool
     ensures value { result ≡ mendable table.now }
     ensures copy_after { copy.new ≡ mended table.now }
 {
-    let mut i: usize = 0;
-    while i < table.len() {
-        copy[i] = table[i];
-        i += 1;
-    }
+    copy.copy_from_slice(table);
     mend(copy);
-    let checked = check(copy);
-    checked.code() == 0
+    check(copy).is_ok()
 }
 
 // Returns how many words differ: the first pass, which writes nothing.
 fn count_differing(old: &[u32], new: &[u32]) -> usize
     requires { length new.now ≡ length old.now }
-    ensures { result ≡ length (differing old.now new.now) }
+    ensures { result ≡ count_by (λ p. not (p.0 == p.1)) (zip old.now new.now) }
 {
-    let mut count: usize = 0;
-    let mut i: usize = 0;
-    while i < old.len() {
-        if old[i] != new[i] {
-            count += 1;
-        }
-        i += 1;
-    }
-    count
+    old.iter().zip(new).filter(|(was, is)| was != is).count()
 }
 
 // Makes the second pass, lowest place first: where a word differs, writes the pair into the list and the new word into the table.
 fn replace(table: &mut [u32], new: &[u32], list: &mut [u32])
-    requires len { length new.now ≡ length table.old }
-    requires table_len_bound { length table.old ≤ 641 }
-    requires in_bounds { length (changes table.old new.now) ≤ length list.old }
+    requires same_size { length new.now ≡ length table.old }
+    requires few { length table.old ≤ 641 }
+    requires room { length (changes table.old new.now) ≤ length list.old }
     ensures table_after { table.new ≡ new.now }
     ensures list_after { list.new
         ≡ changes table.old new.now
         ++ drop (length (changes table.old new.now)) list.old }
 {
     let mut at: usize = 0;
-    let mut i: usize = 0;
-    while i < table.len() {
-        let old = table[i];
+    for (i, word) in table.iter_mut().enumerate() {
+        let old = *word;
         if old != new[i] {
             let place = i as u32;
             list[at] = place;
             list[at + 1] = old;
-            table[i] = new[i];
+            *word = new[i];
             at += 2;
         }
-        i += 1;
     }
 }
 
 // Repairs the table, with as many words lent for the copy as the table has.
-fn repair_by_copy(table: &mut [u32], copy: &mut [u32], list: &mut [u32]) -> Repaired
-    requires copy_len { length copy.old ≡ length table.old }
-    requires table_len_bound { length table.old ≤ 641 }
+fn repair_by_copy(
+    table: &mut [u32],
+    copy: &mut [u32],
+    list: &mut [u32],
+) -> Result<usize, RepairRefusal>
+    requires same_size { length copy.old ≡ length table.old }
+    requires few { length table.old ≤ 641 }
     ensures { RepairPromise table.old list.old (repaired_code result) (repaired_count result) table.new
         list.new }
 {
     if !mend_copy(table, copy) {
-        return Repaired::BadFrame;
+        return Err(RepairRefusal::BadFrame);
     }
     let count = count_differing(table, copy);
     if list.len() < 2 * count {
-        return Repaired::ListTooShort;
+        return Err(RepairRefusal::ListTooShort);
     }
     replace(table, copy, list);
-    Repaired::Done(count)
+    Ok(count)
 }
 
 // Repairs the table and lists what was altered. More words than the largest table has are no table, and are refused.
-pub fn repair(table: &mut [u32], list: &mut [u32]) -> Repaired
+pub fn repair(table: &mut [u32], list: &mut [u32]) -> Result<usize, RepairRefusal>
     ensures { RepairPromise table.old list.old (repaired_code result) (repaired_count result) table.new
         list.new }
 {
     let size = table.len();
     if LONGEST_TABLE < size {
-        return Repaired::BadFrame;
+        return Err(RepairRefusal::BadFrame);
     }
     let mut copy = [0u32; LONGEST_TABLE];
-    repair_by_copy(table, &mut copy[0..size], list)
+    repair_by_copy(table, &mut copy[..size], list)
 }

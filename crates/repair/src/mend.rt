@@ -6,7 +6,8 @@ ghost use Rattle.table_check.specs.Checked.{Headed};
 ghost use Rattle.repair_theory.specs.Mend.{mended_rights, mended_endpoint, mended};
 ghost use Rattle.repair.specs.Passes.{RightsMended, EndpointsMended};
 
-use format::tables::{EMPTY_SLOT, ENDPOINT_WORDS, NO_RIGHT, NONE_LOST, NONE_WAITING, SLOT_PLACES};
+use format::tables::{EMPTY_SLOT, ENDPOINT_WORDS, NO_RIGHT, NONE_LOST, NONE_WAITING};
+use result_code::code;
 use table_check::check;
 use table_words::endpoint::queue_ok;
 use table_words::rights_word_ok;
@@ -27,10 +28,8 @@ fn mend_rights(table: &mut [u32])
     let header = table[0];
     let n = (header / 256 % 256) as usize;
     let count = n * n;
-    let mut i: usize = 0;
-    while i < count {
+    for i in 0..count {
         table[1 + i] = mended_rights(table[1 + i]);
-        i += 1;
     }
 }
 
@@ -44,11 +43,7 @@ fn mend_endpoint(q: &mut [u32])
     }
     q[2] = NONE_WAITING;
     q[3] = NONE_LOST;
-    let mut i: usize = 0;
-    while i < SLOT_PLACES {
-        q[4 + i] = EMPTY_SLOT;
-        i += 1;
-    }
+    q[4..].fill(EMPTY_SLOT);
 }
 
 // Mends every endpoint, each lent as a part of the table.
@@ -60,12 +55,10 @@ fn mend_endpoints(table: &mut [u32])
     let n = (header / 256 % 256) as usize;
     let m = (header % 256) as usize;
     let from = 1 + n * n;
-    let mut e: usize = 0;
-    while e < m {
+    for e in 0..m {
         let start = from + ENDPOINT_WORDS * e;
         let end = start + ENDPOINT_WORDS;
         mend_endpoint(&mut table[start..end]);
-        e += 1;
     }
 }
 
@@ -73,8 +66,7 @@ fn mend_endpoints(table: &mut [u32])
 pub fn mend(table: &mut [u32])
     ensures { table.new ≡ mended table.old }
 {
-    let checked = check(table);
-    if checked.code() < 4 {
+    if code(check(table)) < 4 {
         return;
     }
     mend_rights(table);
