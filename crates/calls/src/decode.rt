@@ -145,7 +145,9 @@ pub fn revoke(first: u32) -> Call
 }
 
 // Returns the decoded call of a first word and, if there is one, a second, or its refusal by 10, 11, 13 or 14. Total: accepts
-// arbitrary words, of which the words of a split list are a special case.
+// arbitrary words, of which the words of a split list are a special case. Is inlined in both runs of an archive, which the compiler
+// else does in neither (docs/DECISIONS.md, 83).
+#[inline(always)]
 #[tactic(auto, unfolding(crate::specs::Decode::decoded, crate::specs::Decode::of_kind, machine::specs::Call::kind_of))]
 pub fn decode(first: u32, second: Option<u32>) -> Call
     ensures { result ≡ decoded first second }

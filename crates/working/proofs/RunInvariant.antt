@@ -4,13 +4,13 @@ use mathlib.Core.Path.{◌≡◌, refl, sym, ap, ap₂, subst₂, ◌∙◌}
 use mathlib.Core.List.{List, ◌++◌}
 use Prim.Native.Nat.{ℕ, ◌+◌, ◌*◌, ◌<◌, ◌≤◌}
 use lib.ListN.{length, get_or, take, drop}
+use Rattle.std.specs.Prelude.{Option}
 use Rattle.machine.specs.Machine as machine
 use Rattle.machine.specs.Machine.{Decision}
 use Rattle.machine.specs.SameParts.{SameFrame}
 use Rattle.machine.proofs.Frame.{frame-refl, frame-trans}
 use Rattle.machine.proofs.Step.{stays-accepted}
 use Rattle.calls.specs.Split.{call_of, second_at, width_of}
-use Rattle.calls.specs.declared.split.Second.{Second}
 use Rattle.calls.specs.Decode.{decoded}
 use Rattle.holders.specs.Noted.{holders_after}
 use Rattle.kernel.specs.Step as kernel
@@ -41,13 +41,13 @@ module _ (s₀ : WorkingState) (hints ws space₀ : List ℕ) where
 
   module _ (t₀ : List ℕ) (o : ListOutcome) (i : ℕ) (y : OnItsWay s₀ t₀ ws space₀ o i) where
     -- what one more call leaves on the state: its answer, the rows, the rings and the holders
-    abbrev Serves : ℕ → Second → List ℕ → List (List ℕ) → List ℕ → List ℕ → Type 0
+    abbrev Serves : ℕ → Option ℕ → List ℕ → List (List ℕ) → List ℕ → List ℕ → Type 0
     Serves w s words rows' rings' p' =
         StateOutcome (reads s₀.n s₀.m o.rows o.rings (named_in s₀.m s₀.names hints) s₀.owned o.holders) w (decoded w s)
         (answered words rows' rings' p')
 
     -- one more call on the state is one more on the table
-    served : (w : ℕ) (s : Second) (words : List ℕ) (rows' : List (List ℕ)) (rings' p' : List ℕ)
+    served : (w : ℕ) (s : Option ℕ) (words : List ℕ) (rows' : List (List ℕ)) (rings' p' : List ℕ)
         → Serves w s words rows' rings' p'
         → kernel.StepOutcome y.table (call_of w s) words (machine.step y.table (call_of w s)) p'
         × Represents s₀.n s₀.m rows' rings' s₀.names s₀.owned (machine.step y.table (call_of w s))
@@ -70,7 +70,7 @@ module _ (s₀ : WorkingState) (hints ws space₀ : List ℕ) where
         )
 
     pub way_next : i < length ws
-        → (s : Second) (w : ℕ) (words : List ℕ) (rows' : List (List ℕ)) (rings' space' p' : List ℕ)
+        → (s : Option ℕ) (w : ℕ) (words : List ℕ) (rows' : List (List ℕ)) (rings' space' p' : List ℕ)
         → s ≡ second_at ws i
         → w ≡ width_of s
         → Serves (get_or ws i 0) s words rows' rings' p'

@@ -1,11 +1,11 @@
 -- The decision on a call, by its kind: a refusal, or that of the kind's row. So what the call reads and alters of a part of the
 -- state is what it reads and alters of the whole. Assumes nothing.
 use mathlib.Core.Path.{◌≡◌, refl, sym, ap, subst, ◌∙◌}
-use mathlib.Core.List.{List, [], ◌∷◌}
+use mathlib.Core.List.{List, []}
 use mathlib.Core.Option.{Option, none, some}
 use Prim.Native.Nat.{ℕ}
+use Rattle.std.specs.Prelude.{Result, Err}
 use lib.Dec.{ltb}
-use Rattle.machine.specs.Call.{Call.one}
 use Rattle.machine.specs.Machine as machine
 use Rattle.machine.specs.Machine.{Decision, code, answer_word}
 use Rattle.machine.specs.Guards.{look_up_places}
@@ -14,6 +14,7 @@ use Rattle.machine.proofs.Bools.{cond-elim}
 use Rattle.calls.specs.Number.{number_of}
 use Rattle.calls.specs.declared.Call.{Call}
 use Rattle.calls.specs.declared.Refusal.{Refusal}
+use Rattle.answers.specs.Answer.{answer_of}
 use Rattle.working_endpoint_calls.specs.Outcome.{RingsOutcome}
 use Rattle.working_rights_calls.specs.Outcome.{RightsOutcome}
 use Rattle.calls.specs.declared.Call.TheVariants.{LookUp, Send, Receive, MyEndpoints, MyRights, Grant, Remove, Revoke, Refused}
@@ -99,11 +100,11 @@ module _ (n m w : ℕ) (rows : List (List ℕ)) (rings : List ℕ) (named : ℕ 
       record { answer = reported ∙ q.same; rows_left = q.rows_stay; rings_left = q.rings_stay; noted = q.holders_stay }
 
   module _ (words : List ℕ) (u : ℕ) where
-    pub served-refused : (k : Refusal) → words ≡ answer_word (one w) (code (refused_numbers n u k (machine.refused (number_of k)))) ∷ 0 ∷ 0 ∷ [] → StateOutcome (reads n m rows rings named owned holders) w (Refused u k) (answered words rows rings holders)
+    pub served-refused : (k r : Refusal) → machine.refused (number_of r) ≡ refused_numbers n u k (machine.refused (number_of k)) → words ≡ answer_of w (Err r) → StateOutcome (reads n m rows rings named owned holders) w (Refused u k) (answered words rows rings holders)
     unfolding call_numbers access_by reading answer_from first_from second_from code
-    served-refused k reported =
+    served-refused k r is reported =
         quiet-served [] [] [] words (Refused u k) tt
-        (reported ∙ decided-elim (λ (d : Decision). answer_word (one w) (code d) ∷ 0 ∷ 0 ∷ [] ≡ answer_from w [] [] [] d) (λ _. refl) n m reading (Refused u k) tt)
+        (reported ∙ ap (answer_from w [] [] []) is)
 
     pub served-look-up : (x : ℕ) → words ≡ answer_from w [] [] [] (decided_by n m (reading_from [] [] named) (LookUp u x)) → StateOutcome (reads n m rows rings named owned holders) w (LookUp u x) (answered words rows rings holders)
     unfolding call_numbers access_by reading answer_from first_from second_from code effect_from rows_after rings_after holders_after
@@ -131,25 +132,26 @@ module _ (n m w : ℕ) (rows : List (List ℕ)) (rings : List ℕ) (named : ℕ 
   unfolding answer_from first_from second_from code effect_from rows_after rings_after holders_after
   queue-refused k = record { same = refl; rows_stay = refl; rings_same = refl; holders_stay = refl }
 
-  queue-served : (words rings' : List ℕ) (call : Call)
+  queue-served : (words rings' : List ℕ) (outcome : Result (ℕ × ℕ) Refusal) (call : Call)
       → Row OnQueue call
-      → RingsOutcome (decided_by n m reading call) w rings words rings'
+      → RingsOutcome (decided_by n m reading call) rings outcome rings'
+      → words ≡ answer_of w outcome
       → StateOutcome (reads n m rows rings named owned holders) w call (answered words rows rings' holders)
   unfolding reading
-  queue-served words rings' call row s =
+  queue-served words rings' outcome call row s reported =
       let q = decided-elim OnQueue queue-refused n m reading call row in
-      record { answer = s.answer ∙ q.same; rows_left = q.rows_stay; rings_left = s.left ∙ q.rings_same; noted = q.holders_stay }
+      record { answer = reported ∙ (s.answer w ∙ q.same); rows_left = q.rows_stay; rings_left = s.left ∙ q.rings_same; noted = q.holders_stay }
 
-  module _ (words rings' : List ℕ) (u e : ℕ) where
-    pub served-send : (message : ℕ) → RingsOutcome (decided_by n m (reading_from rows rings nobody) (Send u e message)) w rings words rings' → StateOutcome (reads n m rows rings named owned holders) w (Send u e message) (answered words rows rings' holders)
+  module _ (words rings' : List ℕ) (outcome : Result (ℕ × ℕ) Refusal) (u e : ℕ) where
+    pub served-send : (message : ℕ) → RingsOutcome (decided_by n m (reading_from rows rings nobody) (Send u e message)) rings outcome rings' → words ≡ answer_of w outcome → StateOutcome (reads n m rows rings named owned holders) w (Send u e message) (answered words rows rings' holders)
     unfolding call_numbers access_by reading answer_from first_from second_from code effect_from rows_after rings_after holders_after
-    served-send message s =
-        queue-served words rings' (Send u e message) (record { same = refl; rows_stay = refl; rings_same = refl; holders_stay = refl }) s
+    served-send message s reported =
+        queue-served words rings' outcome (Send u e message) (record { same = refl; rows_stay = refl; rings_same = refl; holders_stay = refl }) s reported
 
-    pub served-receive : RingsOutcome (decided_by n m (reading_from [] rings nobody) (Receive u e)) w rings words rings' → StateOutcome (reads n m rows rings named owned holders) w (Receive u e) (answered words rows rings' holders)
+    pub served-receive : RingsOutcome (decided_by n m (reading_from [] rings nobody) (Receive u e)) rings outcome rings' → words ≡ answer_of w outcome → StateOutcome (reads n m rows rings named owned holders) w (Receive u e) (answered words rows rings' holders)
     unfolding call_numbers access_by reading answer_from first_from second_from code effect_from rows_after rings_after holders_after
-    served-receive s =
-        queue-served words rings' (Receive u e) (record { same = refl; rows_stay = refl; rings_same = refl; holders_stay = refl }) s
+    served-receive s reported =
+        queue-served words rings' outcome (Receive u e) (record { same = refl; rows_stay = refl; rings_same = refl; holders_stay = refl }) s reported
 
   -- a call that alters rights
   record OnRights (x : Decision) : Type 0 where
@@ -161,32 +163,33 @@ module _ (n m w : ℕ) (rows : List (List ℕ)) (rings : List ℕ) (named : ℕ 
   unfolding answer_from first_from second_from code effect_from rings_after
   rights-refused k = record { same = refl; altered = refl; rings_stay = refl }
 
-  rights-served : (words : List ℕ) (rows' : List (List ℕ)) (holders' : List ℕ) (call : Call)
+  rights-served : (words : List ℕ) (rows' : List (List ℕ)) (holders' : List ℕ) (outcome : Result (ℕ × ℕ) Refusal) (call : Call)
       → Row OnRights call
-      → RightsOutcome (decided_by n m reading call) w rows holders words rows' holders'
+      → RightsOutcome (decided_by n m reading call) rows holders outcome rows' holders'
+      → words ≡ answer_of w outcome
       → StateOutcome (reads n m rows rings named owned holders) w call (answered words rows' rings holders')
   unfolding reading
-  rights-served words rows' holders' call row s =
+  rights-served words rows' holders' outcome call row s reported =
       let q = decided-elim OnRights rights-refused n m reading call row in
       record {
-        answer = s.answer ∙ q.same;
+        answer = reported ∙ (s.answer w ∙ q.same);
         rows_left = s.left ∙ ap (rows_after rows) q.altered;
         rings_left = q.rings_stay;
         noted = s.noted ∙ ap (holders_after holders) q.altered;
       }
 
-  module _ (words : List ℕ) (rows' : List (List ℕ)) (holders' : List ℕ) (u g : ℕ) where
-    pub served-grant : (h r : ℕ) → RightsOutcome (decided_by n 0 (reading_from rows [] nobody) (Grant u g h r)) w rows holders words rows' holders' → StateOutcome (reads n m rows rings named owned holders) w (Grant u g h r) (answered words rows' rings holders')
+  module _ (words : List ℕ) (rows' : List (List ℕ)) (holders' : List ℕ) (outcome : Result (ℕ × ℕ) Refusal) (u g : ℕ) where
+    pub served-grant : (h r : ℕ) → RightsOutcome (decided_by n 0 (reading_from rows [] nobody) (Grant u g h r)) rows holders outcome rows' holders' → words ≡ answer_of w outcome → StateOutcome (reads n m rows rings named owned holders) w (Grant u g h r) (answered words rows' rings holders')
     unfolding call_numbers access_by reading answer_from first_from second_from code effect_from rings_after
-    served-grant h r s = rights-served words rows' holders' (Grant u g h r) (record { same = refl; altered = refl; rings_stay = refl }) s
+    served-grant h r s reported = rights-served words rows' holders' outcome (Grant u g h r) (record { same = refl; altered = refl; rings_stay = refl }) s reported
 
-    pub served-remove : (r : ℕ) → RightsOutcome (decided_by n 0 (reading_from rows [] nobody) (Remove u g r)) w rows holders words rows' holders' → StateOutcome (reads n m rows rings named owned holders) w (Remove u g r) (answered words rows' rings holders')
+    pub served-remove : (r : ℕ) → RightsOutcome (decided_by n 0 (reading_from rows [] nobody) (Remove u g r)) rows holders outcome rows' holders' → words ≡ answer_of w outcome → StateOutcome (reads n m rows rings named owned holders) w (Remove u g r) (answered words rows' rings holders')
     unfolding call_numbers access_by reading answer_from first_from second_from code effect_from rings_after
-    served-remove r s = rights-served words rows' holders' (Remove u g r) (record { same = refl; altered = refl; rings_stay = refl }) s
+    served-remove r s reported = rights-served words rows' holders' outcome (Remove u g r) (record { same = refl; altered = refl; rings_stay = refl }) s reported
 
-    pub served-revoke : (h r : ℕ) → RightsOutcome (decided_by n 0 (reading_from rows [] nobody) (Revoke u g h r)) w rows holders words rows' holders' → StateOutcome (reads n m rows rings named owned holders) w (Revoke u g h r) (answered words rows' rings holders')
+    pub served-revoke : (h r : ℕ) → RightsOutcome (decided_by n 0 (reading_from rows [] nobody) (Revoke u g h r)) rows holders outcome rows' holders' → words ≡ answer_of w outcome → StateOutcome (reads n m rows rings named owned holders) w (Revoke u g h r) (answered words rows' rings holders')
     unfolding call_numbers access_by reading answer_from first_from second_from code effect_from rings_after
-    served-revoke h r s = rights-served words rows' holders' (Revoke u g h r) (record { same = refl; altered = refl; rings_stay = refl }) s
+    served-revoke h r s reported = rights-served words rows' holders' outcome (Revoke u g h r) (record { same = refl; altered = refl; rings_stay = refl }) s reported
 
 -- what holds of a call holds of the same call
 pub here : {s : StateRead} {w : ℕ} {call x y : Call} {o : CallOutcome} → call ≡ x → call ≡ y → StateOutcome s w x o → StateOutcome s w y o

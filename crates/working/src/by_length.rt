@@ -4,21 +4,21 @@
 ghost use Rattle.machine.specs.Promise.{RunPromise};
 ghost use Rattle.run_result.specs.Entry.{ran_code, ran_calls};
 
-use run_result::Ran;
+use run_result::EntryRefusal;
 
 // The least length, in words, of a list that runs on the working layout (docs/BENCHMARKS.md, `bench speed --lengths`). No length is
 // right for all calls: at this one, a list of sends that is just long enough and one of look ups that is just too short lose about
 // as much.
 const LONG_WORDS: usize = 128;
 
-// Runs a list of calls on any table, with any answer space and any words for the holders, and returns how the run ended. It keeps
+// Runs a list of calls on any table, with any answer space and any words for the holders, and returns how many they were. It keeps
 // the promise of `kernel::run` and `crate::run_working`.
 pub fn run_by_length(
     table: &mut [u32],
     list: &[u32],
     answers: &mut [u32],
     holders: &mut [u32],
-) -> Ran
+) -> Result<usize, EntryRefusal>
     ensures { RunPromise table.old list.now answers.old holders.old (ran_code result)
         (ran_calls result) answers.new table.new holders.new }
 {

@@ -4,7 +4,6 @@
 #![tactic(auto)]
 
 pub mod by_length;
-mod decode;
 mod run_list;
 mod serve;
 
@@ -18,9 +17,10 @@ ghost use Rattle.run_result.specs.Entry.{ran_code, ran_calls};
 
 use format::tables::{ENDPOINT_PLACES, ENDPOINT_WORDS};
 use holders::fill;
-use kernel::{Entered, enter};
+use kernel::enter;
+use rights_matrix::RightsMatrix;
 use run_list::run_list;
-use run_result::Ran;
+use run_result::EntryRefusal;
 use table_layout::{domains, endpoints};
 use working_endpoint_calls::hint_place;
 use working_load::{load_names, load_owned, load_rings, store_rings};
@@ -29,12 +29,8 @@ use working_load::{load_names, load_owned, load_rings, store_rings};
 // stays. No answer depends on the hints, since a hint is used only where its endpoint has the name.
 fn make_hints(names: &[u32; 32], m: u32) -> [u8; 1024] {
     let mut hints = [0u8; 1024];
-    let mut e: u32 = 0;
-    while e < m {
-        let at = (e % 32) as usize;
-        let place = hint_place(names[at]);
-        hints[place] = (e % 32) as u8;
-        e += 1;
+    for (e, &name) in names.iter().enumerate().take(m as usize) {
+        hints[hint_place(name)] = e as u8;
     }
     hints
 }
@@ -58,7 +54,7 @@ fn run_on_rings(
 {
     let n = domains(table);
     let m = endpoints(table);
-    let mut rows = rights_matrix::load(table, n);
+    let mut rows = RightsMatrix::load(table, n);
     load_rings(table, n, m, rings);
     let names = load_names(table, n, m);
     let owned = load_owned(table, n, m);
@@ -67,7 +63,7 @@ fn run_on_rings(
     let calls = run_list(
         n, m, &mut rows, rings, &names, &hints, &owned, list, answers, holders,
     );
-    rights_matrix::store(&rows, n, table);
+    rows.store(n, table);
     store_rings(rings, n, m, table);
     calls
 }
@@ -86,16 +82,17 @@ fn run_calls(table: &mut [u32], list: &[u32], answers: &mut [u32], holders: &mut
     run_on_rings(table, &mut words[0..end], list, answers, holders)
 }
 
-// Runs a list of calls on any table, with any answer space and any words for the holders, and returns how the run ended. It keeps
+// Runs a list of calls on any table, with any answer space and any words for the holders, and returns how many they were. It keeps
 // the promise of `kernel::run`.
-pub fn run_working(table: &mut [u32], list: &[u32], answers: &mut [u32], holders: &mut [u32]) -> Ran
+pub fn run_working(
+    table: &mut [u32],
+    list: &[u32],
+    answers: &mut [u32],
+    holders: &mut [u32],
+) -> Result<usize, EntryRefusal>
     ensures { RunPromise table.old list.now answers.old holders.old (ran_code result)
         (ran_calls result) answers.new table.new holders.new }
 {
-    let entered = enter(table, list, answers.len(), holders.len());
-    if let Entered::Refused(refusal) = entered {
-        return Ran::Refused(refusal);
-    }
-    let calls = run_calls(table, list, answers, holders);
-    Ran::Done(calls)
+    enter(table, list, answers.len(), holders.len())?;
+    Ok(run_calls(table, list, answers, holders))
 }

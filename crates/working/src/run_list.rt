@@ -6,12 +6,13 @@ ghost use Rattle.working.specs.Run.{working, leaves, RepresentsTable, Represents
 use crate::serve::serve;
 use answers::by_value::put;
 use calls::split::{second_at, width};
+use rights_matrix::RightsMatrix;
 
 // Runs the calls of a list and returns how many they were.
 pub fn run_list(
     n: u32,
     m: u32,
-    rows: &mut [[u8; 16]; 16],
+    rows: &mut RightsMatrix,
     rings: &mut [u32],
     names: &[u32; 32],
     hints: &[u8; 1024],

@@ -5,11 +5,11 @@ ghost use Rattle.calls.specs.Decode.{decoded};
 ghost use Rattle.working_theory.specs.State.{named_in};
 ghost use Rattle.working.specs.Outcome.{reads, answered, StateOutcome};
 
-use crate::decode::decode;
 use answers::Answer;
-use answers::by_value::refuse;
+use answers::by_value::{answer, refuse};
 use calls::Call;
-use calls::split::Second;
+use calls::decode::decode;
+use rights_matrix::RightsMatrix;
 use working_endpoint_calls::{look_up, my_endpoints, receive, send};
 use working_rights_calls::{grant, my_rights, remove, revoke};
 
@@ -17,14 +17,14 @@ use working_rights_calls::{grant, my_rights, remove, revoke};
 pub fn serve(
     n: u32,
     m: u32,
-    rows: &mut [[u8; 16]; 16],
+    rows: &mut RightsMatrix,
     rings: &mut [u32],
     names: &[u32; 32],
     hints: &[u8; 1024],
     owned: &[u32; 16],
     holders: &mut [u32],
     first: u32,
-    second: Second,
+    second: Option<u32>,
 ) -> Answer
     ensures { StateOutcome
         (reads n m rows.old rings.old (named_in m names.now hints.now) owned.now
@@ -33,33 +33,34 @@ pub fn serve(
         (answered (answer_words result) rows.new rings.new holders.new) }
 {
     let call = decode(first, second);
-    match call {
-        Call::Refused { caller, refusal } => refuse(n, first, caller, refusal),
-        Call::LookUp { caller, name } => look_up(n, m, names, hints, first, caller, name),
+    let outcome = match call {
+        Call::Refused { caller, refusal } => Err(refuse(n, caller, refusal)),
+        Call::LookUp { caller, name } => look_up(n, m, names, hints, caller, name),
         Call::Send {
             caller,
             endpoint,
             message,
-        } => send(n, m, rows, rings, first, caller, endpoint, message),
-        Call::Receive { caller, endpoint } => receive(n, m, rings, first, caller, endpoint),
-        Call::MyEndpoints { caller } => my_endpoints(n, owned, first, caller),
-        Call::MyRights { caller } => my_rights(n, rows, first, caller),
+        } => send(n, m, rows, rings, caller, endpoint, message),
+        Call::Receive { caller, endpoint } => receive(n, m, rings, caller, endpoint),
+        Call::MyEndpoints { caller } => my_endpoints(n, owned, caller),
+        Call::MyRights { caller } => my_rights(n, rows, caller),
         Call::Grant {
             caller,
             target,
             recipient,
             rights,
-        } => grant(n, rows, holders, first, caller, target, recipient, rights),
+        } => grant(n, rows, holders, caller, target, recipient, rights),
         Call::Remove {
             caller,
             target,
             rights,
-        } => remove(n, rows, holders, first, caller, target, rights),
+        } => remove(n, rows, holders, caller, target, rights),
         Call::Revoke {
             caller,
             target,
             holder,
             rights,
-        } => revoke(n, rows, holders, first, caller, target, holder, rights),
-    }
+        } => revoke(n, rows, holders, caller, target, holder, rights),
+    };
+    answer(first, outcome)
 }

@@ -20,18 +20,6 @@ run_list-calls-requires c = record {
   list_in_bounds = c.requires.list_in_bounds;
 }
 
-pub shape_of-table : goal.shape_of-table
-shape_of-table c = c.store_rings.auto.table ∙ c.store.auto.table
-
-pub shape_of-rings : goal.shape_of-rings
-shape_of-rings c = c.run_list-calls.auto.rings ∙ c.load_rings.auto.rings
-
-pub shape_of-answers : goal.shape_of-answers
-shape_of-answers c = c.run_list-calls.auto.answers
-
-pub shape_of-holders : goal.shape_of-holders
-shape_of-holders c = c.run_list-calls.auto.holders ∙ c.fill.auto.holders
-
 pub returns : goal.returns
 returns c =
     store _ c.requires.accepted _ _ c.domains-n.ensures c.endpoints-m.ensures _ _ _ _ _ _ _ _ _ _ _ _ _ _

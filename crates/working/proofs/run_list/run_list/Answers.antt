@@ -1,8 +1,7 @@
 -- `run_list::run_list` meets its contract: the loop's invariant is that of a run on a working state (proofs/RunInvariant).
 -- Assumes nothing.
 use mathlib.Core.Path.{sym, ◌∙◌}
-use mathlib.Core.List.{List}
-use Prim.Native.Nat.{ℕ, ◌+◌, ◌*◌, ◌-◌, ◌≤◌}
+use Prim.Native.Nat.{◌+◌, ◌≤◌}
 use native.Mathlib.Omega.{arith}
 use lib.ListN.{length}
 use borrow.Author.Rules.{rules}
@@ -10,8 +9,7 @@ use Rattle.machine.proofs.Split.{split-few}
 use Rattle.calls.proofs.SplitAt.{split_at, wide}
 use Rattle.answers.proofs.Space.{lent_back}
 use Rattle.kernel.proofs.RunInvariant.{room}
-use Rattle.working.specs.Run.{working, leaves, RepresentsTable}
-use Rattle.working.proofs.RunInvariant.{OnItsWay, way-start, way_next, way_end}
+use Rattle.working.proofs.RunInvariant.{way-start, way_next, way_end}
 use Rattle.working.proofs.run_list.run_list.Goals as goal
 
 pub loop-i-init : goal.loop-i-init

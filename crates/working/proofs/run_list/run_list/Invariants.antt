@@ -1,17 +1,10 @@
 -- `run_list::run_list` meets its contract: the loop's invariant is that of a run on a working state (proofs/RunInvariant).
 -- Assumes nothing.
-use mathlib.Core.Path.{sym, ◌∙◌}
 use mathlib.Core.List.{List}
-use Prim.Native.Nat.{ℕ, ◌+◌, ◌*◌, ◌-◌, ◌≤◌}
-use native.Mathlib.Omega.{arith}
+use Prim.Native.Nat.{ℕ, ◌-◌}
 use lib.ListN.{length}
-use borrow.Author.Rules.{rules}
-use Rattle.machine.proofs.Split.{split-few}
-use Rattle.calls.proofs.SplitAt.{split_at, wide}
-use Rattle.answers.proofs.Space.{lent_back}
-use Rattle.kernel.proofs.RunInvariant.{room}
 use Rattle.working.specs.Run.{working, leaves, RepresentsTable}
-use Rattle.working.proofs.RunInvariant.{OnItsWay, way-start, way_next, way_end}
+use Rattle.working.proofs.RunInvariant.{OnItsWay}
 use Rattle.working.proofs.run_list.run_list.Given as goal
 
 abbrev pub invariant-loop-i : goal.invariant-loop-i
