@@ -66,6 +66,7 @@ fn mend_endpoints(table: &mut [u32])
 pub fn mend(table: &mut [u32])
     ensures { table.new ≡ mended table.old }
 {
+    // Compares the check's code, as document 02 (k) does: by 4 and 5 what is broken can be mended.
     if code(check(table)) < 4 {
         return;
     }
