@@ -12,7 +12,7 @@ use borrow.Author.Tests.{lt-ltb, le-ltb, leb-true, leb-false, eqb-true, eqb-fals
 use Rattle.machine.specs.Check.{table_code, Accepted}
 use Rattle.machine.specs.Table.{domains}
 use Rattle.machine.specs.Call.{Call, split}
-use Rattle.machine.specs.Entry.{longest_list, holders_code, entry_code, Runs}
+use Rattle.machine.specs.Entry.{longest_list, holders_code, entry_code}
 use Rattle.machine.specs.Holders.{holders_of}
 use Rattle.machine.specs.Promise.{RunPromise}
 use Rattle.machine.proofs.Promise.{runs-accepted, runs-short, code-space, code-holders, holders-unfit, promise-refused, promise-ran}

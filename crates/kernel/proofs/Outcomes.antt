@@ -1,9 +1,7 @@
 -- What a call's result is and what it leaves, by the decision on it. Assumes nothing.
 use mathlib.Core.Path.{◌≡◌, refl, sym, ap, ap₂, subst, ◌∙◌}
-use mathlib.Core.Bool.{Bool, true, false, cond, not}
 use mathlib.Core.List.{List, [], ◌∷◌}
 use Prim.Native.Nat.{ℕ}
-use lib.Dec.{ltb}
 use Rattle.std.specs.Prelude.{Result, Ok, Err, IsErrAnd}
 use Rattle.machine.specs.Right.{adds, without}
 use Rattle.machine.specs.Table.{domains, rights, endpoint, set_rights, set_endpoint}
@@ -11,7 +9,6 @@ use Rattle.machine.specs.Queue.{oldest, lost, sent, received}
 use Rattle.machine.specs.Call.{Call.one}
 use Rattle.machine.specs.Machine as machine
 use Rattle.machine.specs.Machine.{Decision, code, data_words, answer_word, answer_to, effect, after, owned_bits, rights_bits, Effect.new_rights}
-use Rattle.machine.specs.Guards.{place}
 use Rattle.calls.specs.Number.{number_of}
 use Rattle.calls.specs.Decide.{known_caller, refused_call, decide_call}
 use Rattle.calls.specs.declared.Call.TheVariants.{Refused}

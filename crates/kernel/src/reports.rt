@@ -1,7 +1,8 @@
 // What the kernel reports of itself to a layer above it that serves calls one by one (document 02 (m)): a table's count of domains,
-// the words of a call, the entry of one call by itself, the holders of a table, an answer's words and the code of a refusal.
+// the words of a call, the entry of one call by itself, the holders of a table, an answer's words, and the codes of refusals and of outcomes.
 ghost use Rattle.std.specs.Prelude.{◌≡◌, length};
 ghost use Rattle.machine.specs.Table as machine;
+ghost use Rattle.result_code.specs.Code.{result_code};
 ghost use Rattle.table_check.specs.Checked.{refusal_code};
 ghost use Rattle.run_result.specs.Entry.{entry_refusal_code};
 ghost use Rattle.calls.specs.Split.{second_at, width_of};
@@ -67,6 +68,13 @@ pub fn put(space: &mut [u32], words: Answer)
     ensures { space.new ≡ answers_put space.old (answer_words words) }
 {
     answers::by_value::put(space, words);
+}
+
+// Returns the code of an outcome: its refusal's, and 0 where nothing was refused.
+pub fn code<T: Copy, E: Coded>(outcome: Result<T, E>) -> u32
+    ensures { result ≡ result_code E.code_of outcome }
+{
+    result_code::code(outcome)
 }
 
 // Returns document 01's code for a table's refusal.

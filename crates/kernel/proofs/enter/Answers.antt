@@ -1,5 +1,5 @@
 -- `enter` meets its contract: the entry's places one after the other. Assumes nothing.
-use mathlib.Core.Path.{◌≡◌, sym, ap, ◌∙◌}
+use mathlib.Core.Path.{sym, ap, ◌∙◌}
 use borrow.Author.Tests.{eqb-true, eqb-false, ltb-true, ltb-false, not-true, not-false}
 use Rattle.machine.proofs.Promise.{code-long, code-table, code-space, code-holders, holders-fit, holders-unfit}
 use Rattle.table_check.proofs.Refusals.{refusal-code}

@@ -1,6 +1,6 @@
 -- `endpoint_calls::find` meets its contract. The loop's invariant: of the endpoints looked at, the one found is the first that has
 -- the name. Assumes nothing.
-use mathlib.Core.Path.{◌≡◌, sym, ap, subst, ◌∙◌}
+use mathlib.Core.Path.{sym, ap, subst, ◌∙◌}
 use mathlib.Core.Bool.{Bool}
 use mathlib.Core.List.{List}
 use Prim.Native.Nat.{ℕ}

@@ -1,5 +1,5 @@
 -- `endpoint_calls::look_up` meets its contract: 12, and then the endpoint that has the name. Assumes nothing.
-use mathlib.Core.Path.{sym, ap, ◌∙◌}
+use mathlib.Core.Path.{ap, ◌∙◌}
 use Rattle.std.specs.Prelude.{Ok, Err}
 use Rattle.machine.specs.Guards.{look_up_places}
 use Rattle.rules.specs.Range.{call_numbers}

@@ -1,5 +1,5 @@
 -- `endpoint_calls::receive` meets its contract: refused by a range test, refused by what was read, or done. Assumes nothing.
-use mathlib.Core.Path.{◌≡◌, sym, ap, ◌∙◌}
+use mathlib.Core.Path.{sym, ap, ◌∙◌}
 use native.Mathlib.Omega.{arith}
 use borrow.Author.Tests.{eqb-false}
 use Rattle.std.specs.Prelude.{Err}

@@ -1,12 +1,8 @@
 -- `endpoint_calls::send` meets its contract: refused by a range test, refused by what was read, or done. Assumes nothing.
-use mathlib.Core.Path.{◌≡◌, sym, ap, ◌∙◌}
-use Prim.Native.Nat.{ℕ, ◌+◌}
+use mathlib.Core.Path.{sym, ap, ◌∙◌}
 use native.Mathlib.Omega.{arith}
-use lib.ListN.{get_or}
 use Rattle.std.specs.Prelude.{Err}
-use Rattle.machine.specs.Word.{field_b}
-use Rattle.machine.specs.Table.{rights, endpoint}
-use Rattle.machine.specs.Queue.{owner}
+use Rattle.machine.specs.Table.{rights}
 use Rattle.rules.specs.Range.{call_numbers}
 use Rattle.rules.specs.Access.{send_access}
 use Rattle.rules.proofs.Places.{decided}

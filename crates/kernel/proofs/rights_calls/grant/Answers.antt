@@ -1,5 +1,5 @@
 -- `rights_calls::grant` meets its contract: refused by a range test, refused by what was read, or done. Assumes nothing.
-use mathlib.Core.Path.{◌≡◌, refl, sym, ap, ◌∙◌}
+use mathlib.Core.Path.{refl, sym, ap, ◌∙◌}
 use Prim.Native.Nat.{ℕ}
 use Rattle.std.specs.Prelude.{Err}
 use Rattle.machine.specs.Right.{adds}

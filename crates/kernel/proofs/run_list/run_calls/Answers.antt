@@ -1,6 +1,5 @@
 -- `run_list::run_calls` meets its contract: the loop's invariant is a run under way (proofs/RunInvariant). Assumes nothing.
 use mathlib.Core.Path.{◌∙◌}
-use Prim.Native.Nat.{◌+◌, ◌*◌, ◌≤◌}
 use native.Mathlib.Omega.{arith}
 use borrow.Author.Rules.{rules}
 use Rattle.machine.proofs.Split.{split-few}
