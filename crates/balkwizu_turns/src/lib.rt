@@ -10,6 +10,8 @@ mod step;
 ghost use Rattle.std.specs.Prelude.{◌/◌, ◌%◌};
 ghost use Rattle.turns.specs.Promise.{BeginPromise, HandInPromise, TurnPromise, words, outcome};
 
+use kernel::reports::code;
+
 // Begins: sets every word of the state to 0, so that nothing is pending and the first turn starts at 0, and the holders to what the
 // table says. Returns the first code that applies: 2 to 5 where the table is refused; 6 where the holders aren't one word a domain;
 // 99 where the state isn't 1 + 17 n words; else 0. Where it is not 0 no word is changed.
@@ -22,7 +24,7 @@ pub extern "C" fn balkwizu_turns_begin(table: &[u32], state: &mut [u32], holders
         holders.new }
 {
     let begun = turns::begin(table, state, holders);
-    begun.to_code()
+    code(begun)
 }
 
 // Hands in the words of one call for a domain, which are appended to its pending ones. Returns the first code that applies:
@@ -47,7 +49,7 @@ pub extern "C" fn balkwizu_hand_in(
     ensures { HandInPromise table.now state.old domain words.now result state.new }
 {
     let handed = turns::hand_in(table, state, domain, words);
-    handed.to_code()
+    code(handed)
 }
 
 // Serves the oldest call of the first domain that has one, searched from after the domain served last upward, and then from 0.
@@ -72,7 +74,6 @@ pub extern "C" fn balkwizu_turn(
         (words table.new state.new holders.new answer.new)) }
 {
     let turned = turns::turn(table, state, holders, answer);
-    let code = turned.to_code();
-    let served = turned.served();
-    code + 65536 * served
+    let served = turned.map_or(0, |turned| turned.served());
+    code(turned) + 65536 * served
 }

@@ -1,18 +1,13 @@
--- What holds of every refusal and of every outcome of a turn: a refusal has a code, and the code and how many calls a turn served are
--- small. Assumes nothing.
-use mathlib.Core.Path.{◌≡◌}
-use Prim.Native.Nat.{◌≤◌}
+-- Every refusal has a code; and what a `?` returns where it stops. Assumes nothing.
+use mathlib.Core.Path.{◌≡◌, ap}
 use native.Mathlib.Omega.{arith}
+use Rattle.std.specs.Prelude.{Result, Ok, Err, IsErrAnd}
 use Rattle.table_check.specs.Checked.{refusal_code}
 use Rattle.table_check.specs.declared.TableRefusal.{TableRefusal}
 use Rattle.table_check.specs.declared.TableRefusal.TheVariants.{BadHeader, BadLength, BadRights, BadEndpoint}
 use Rattle.run_result.specs.Entry.{entry_refusal_code}
 use Rattle.run_result.specs.declared.EntryRefusal.{EntryRefusal}
 use Rattle.run_result.specs.declared.EntryRefusal.TheVariants.{ListTooLong, BadTable, SpaceTooSmall, BadHolders}
-use Rattle.turns.specs.declared.Turned.{Turned}
-use Rattle.turns.specs.declared.Turned.TheVariants.{Refused, Idle, Served}
-use Rattle.turns.specs.declared.TurnRefusal.TheVariants.{Entry, BadTurns}
-use Rattle.turns.specs.Codes.{turned_code, turned_served}
 
 pub table-some : (r : TableRefusal) → refusal_code r ≡ 0 → ⊥
 table-some BadHeader e = omega arith
@@ -26,25 +21,7 @@ entry-some (BadTable r) e = table-some r e
 entry-some SpaceTooSmall e = omega arith
 entry-some BadHolders e = omega arith
 
-table-code : (r : TableRefusal) → refusal_code r ≤ 99
-table-code BadHeader = omega arith
-table-code BadLength = omega arith
-table-code BadRights = omega arith
-table-code BadEndpoint = omega arith
-
-entry-code : (r : EntryRefusal) → entry_refusal_code r ≤ 99
-entry-code ListTooLong = omega arith
-entry-code (BadTable r) = table-code r
-entry-code SpaceTooSmall = omega arith
-entry-code BadHolders = omega arith
-
-pub code-small : (r : Turned) → turned_code r ≤ 99
-code-small (Refused (Entry r)) = entry-code r
-code-small (Refused BadTurns) = omega arith
-code-small Idle = omega arith
-code-small Served = omega arith
-
-pub served-small : (r : Turned) → turned_served r ≤ 1
-served-small (Refused r) = omega arith
-served-small Idle = omega arith
-served-small Served = omega arith
+-- what a `?` returns where it stops
+pub stopped : {T E : Type 0} (r : Result T E) (e : E) → IsErrAnd r (λ (x : E). x ≡ e) → r ≡ Err e
+stopped (Err x) e is = ap (λ (y : _). Err y) is
+stopped (Ok x) e is = absurd is

@@ -18,12 +18,12 @@ use Rattle.answers.specs.declared.Answer.{Answer}
 use Rattle.answers.specs.Answer.{answer_words, answers_put}
 use Rattle.calls.specs.Split.{width_of}
 use Rattle.kernel.specs.Step.{step_entry_code, StepPromise}
-use Rattle.kernel.specs.declared.Stepped.TheVariants.{Refused, Answered}
+use Rattle.std.specs.Prelude.{Ok, Err, None}
 use Rattle.turns_theory.specs.Turns.{first_waiting, table_after, holders_after_turn, Turn.idle}
 use Rattle.turns_theory.proofs.Pending.{turn-idle}
 use Rattle.turns_state.specs.Pending.{second_of_oldest}
 use Rattle.turns_state.specs.State.{state_length, block, turns_in, turn_in, state_after, removed_from, next_to_serve}
-use Rattle.turns_state.proofs.Next.{next-none, next-waiting}
+use Rattle.turns_state.proofs.Next.{next-none}
 use Rattle.turns_state.proofs.Oldest.{oldest-call, oldest-turn, oldest-left}
 use Rattle.turns.specs.Codes.{bad_turns, then_code}
 use Rattle.turns.specs.Promise.{turn_code_on_state, served_by, space_after, turn_made, turn_outcome, TurnPromise, words, outcome, MayServe}
@@ -62,13 +62,13 @@ module _ (t ws holders space : List ℕ) where
       refused-turn k 0 (is ∙ sym (turn-unfit t ws (length space) (length holders) other)) (λ z. then_some _ bad_turns (λ e. omega arith) (sym is ∙ z)) refl t holders refl refl
 
   -- nothing is pending
-  pub idle-turn : (k n : ℕ) → length ws ≡ state_length (domains t) → domains t ≡ next_to_serve (domains t) ws → k ≡ step_entry_code t (length holders) → n ≡ 0
+  pub idle-turn : (k n : ℕ) → length ws ≡ state_length (domains t) → None ≡ next_to_serve (domains t) ws → k ≡ step_entry_code t (length holders) → n ≡ 0
       → TurnPromise (words t ws holders space) (outcome k n (words t ws holders space))
   unfolding turn_made served_by table_after state_after holders_after_turn space_after turn_in
   idle-turn k n size next is none = go (eqb k 0) refl
     where
       it : turn_in t ws ≡ idle
-      it = turn-idle (domains t) (turns_in ws) (next-none (domains t) (turns_in ws) (next ∙ next-waiting (domains t) ws size))
+      it = turn-idle (domains t) (turns_in ws) (next-none (domains t) ws size next)
 
       code : k ≡ turn_code_on_state t ws (length space) (length holders)
       code = is ∙ sym (turn-idle-code t ws (length space) (length holders) size it)
@@ -93,7 +93,7 @@ module _ {t ws space : List ℕ} {d : ℕ} (m : MayServe t ws space d) where
       turn-serves t ws (length space) (length holders) m.size d (oldest-call ws d) (oldest-turn t ws d m.size m.next) m.room
 
   -- what the step promises of a call that is refused and of one that is answered, as the turn's
-  pub serve-refused : (holders : List ℕ) (r : EntryRefusal) (t' kept : List ℕ) → StepPromise t (oldest-call ws d) holders (Refused r) t' kept
+  pub serve-refused : (holders : List ℕ) (r : EntryRefusal) (t' kept : List ℕ) → StepPromise t (oldest-call ws d) holders (Err r) t' kept
       → TurnPromise (words t ws holders space) (outcome (entry_refusal_code r) 0 (words t' ws kept space))
   serve-refused holders r t' kept p =
       let bad = ne_eqb (step_entry_code t (length holders)) 0 (λ none. entry-some r (p.code ∙ none)) in
@@ -105,7 +105,7 @@ module _ {t ws space : List ℕ} {d : ℕ} (m : MayServe t ws space d) where
       → few ≡ width_of (second_of_oldest (block ws d))
       → ws' ≡ removed_from ws d few
       → space' ≡ answers_put space (answer_words a)
-      → StepPromise t (oldest-call ws d) holders (Answered a) t' kept
+      → StepPromise t (oldest-call ws d) holders (Ok a) t' kept
       → TurnPromise (words t ws holders space) (outcome 0 1 (words t' ws' kept space'))
   unfolding turn_made served_by table_after holders_after_turn space_after answers_put
   serve-answered holders a t' kept few ws' space' width left reported p =

@@ -6,30 +6,26 @@ ghost use Rattle.turns.specs.Promise.{MayServe, TurnPromise, words, outcome};
 
 use crate::{TurnRefusal, Turned};
 use kernel::reports::{enter_step, put, width};
-use kernel::{Entered, Stepped, step};
+use kernel::step;
 use turns_state::{first_of_oldest, remove, second_of_oldest};
 
 // Returns the refusal of a table or of so many words lent for the holders, or the given refusal where neither is refused.
 pub fn refused_or(table: &[u32], lent: usize, next: TurnRefusal) -> TurnRefusal
     ensures { turn_refusal_code result ≡ then_code (step_entry_code table.now lent) (turn_refusal_code next) }
 {
-    let entered = enter_step(table, lent);
-    if let Entered::Refused(refusal) = entered {
-        return TurnRefusal::Entry(refusal);
+    match enter_step(table, lent) {
+        Ok(()) => next,
+        Err(refusal) => TurnRefusal::Entry(refusal),
     }
-    next
 }
 
 // Returns the outcome of a turn with nothing pending: the refusal of its table or of its holders, or idle.
-pub fn idle(table: &[u32], lent: usize) -> Turned
-    ensures result_value { turned_code result ≡ step_entry_code table.now lent }
-    ensures result_value_2 { turned_served result ≡ 0 }
+pub fn idle(table: &[u32], lent: usize) -> Result<Turned, TurnRefusal>
+    ensures code { turned_code result ≡ step_entry_code table.now lent }
+    ensures none_served { turned_served result ≡ 0 }
 {
-    let entered = enter_step(table, lent);
-    if let Entered::Refused(refusal) = entered {
-        return Turned::Refused(TurnRefusal::Entry(refusal));
-    }
-    Turned::Idle
+    enter_step(table, lent)?;
+    Ok(Turned::Idle)
 }
 
 // Serves the oldest call of a domain. Where the step is refused, nothing changes here either.
@@ -39,7 +35,7 @@ pub fn serve(
     holders: &mut [u32],
     answer: &mut [u32],
     domain: u8,
-) -> Turned
+) -> Result<Turned, TurnRefusal>
     requires { MayServe table.old state.old answer.old domain }
     ensures { TurnPromise (words table.old state.old holders.old answer.old)
         (outcome (turned_code result) (turned_served result)
@@ -47,14 +43,9 @@ pub fn serve(
 {
     let first = first_of_oldest(state, domain);
     let second = second_of_oldest(state, domain);
-    let stepped = step(table, first, second, holders);
-    match stepped {
-        Stepped::Refused(refusal) => Turned::Refused(TurnRefusal::Entry(refusal)),
-        Stepped::Answered(words) => {
-            put(answer, words);
-            let few = width(second);
-            remove(state, domain, few);
-            Turned::Served
-        }
-    }
+    let words = step(table, first, second, holders)?;
+    put(answer, words);
+    let few = width(second);
+    remove(state, domain, few);
+    Ok(Turned::Served)
 }
