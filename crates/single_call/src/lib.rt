@@ -6,8 +6,9 @@ ghost use Rattle.calls.specs.Split.{call_of};
 ghost use Rattle.single_call.specs.Single.{SingleCall, CallOfWords};
 
 use answers::by_value::put;
-use calls::split::{Second, second_at, width};
-use kernel::Stepped;
+use calls::split::{second_at, width};
+use kernel::step;
+use result_code::Coded;
 
 // Runs one call on a table and puts its answer. Returns 0, or the table's 2 to 5, or 6 where the holders aren't one word a domain;
 // 99, which no paper uses, is for an answer space under three words. Where the result isn't 0 nothing is changed. Answer words after
@@ -15,7 +16,7 @@ use kernel::Stepped;
 pub fn answer_call(
     table: &mut [u32],
     first: u32,
-    second: Second,
+    second: Option<u32>,
     answer: &mut [u32],
     holders: &mut [u32],
 ) -> u32
@@ -25,13 +26,12 @@ pub fn answer_call(
     if answer.len() < 3 {
         return 99;
     }
-    let stepped = kernel::step(table, first, second, holders);
-    match stepped {
-        Stepped::Refused(refusal) => refusal.code(),
-        Stepped::Answered(words) => {
+    match step(table, first, second, holders) {
+        Ok(words) => {
             put(answer, words);
             0
         }
+        Err(refusal) => refusal.code(),
     }
 }
 
@@ -43,13 +43,13 @@ pub fn run_call(table: &mut [u32], holders: &mut [u32], words: &[u32], answer: &
     ensures { CallOfWords table.old holders.old words.now answer.old result
         table.new holders.new answer.new }
 {
-    let wide = width(second_at(words, 0));
+    let second = second_at(words, 0);
+    let wide = width(second);
     if words.len() != wide {
         return 36;
     }
     if answer.len() < 3 {
         return 6;
     }
-    let second = second_at(words, 0);
     answer_call(table, words[0], second, answer, holders)
 }
