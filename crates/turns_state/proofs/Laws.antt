@@ -3,15 +3,14 @@
 use mathlib.Core.Path.{◌≡◌, refl, sym, ap, ap₂, ◌∙◌}
 use mathlib.Core.Bool.{true, false}
 use mathlib.Core.List.{List, [], ◌∷◌, ◌++◌, append_assoc}
-use Prim.Native.Nat.{ℕ, suc, ◌+◌, ◌-◌, ◌<◌, ◌≤◌, min}
-use native.Mathlib.Numerals.{add-one}
+use Prim.Native.Nat.{ℕ, suc, ◌+◌, ◌-◌, ◌≤◌, min}
 use native.Mathlib.Decide.{dec_le}
 use native.Mathlib.Omega.{arith}
 use borrow.Author.Tests.{eqb-true, leb-true, le-leb, lt-leb}
 use borrow.Rule.Slice.PartMut.{put_mid}
 use lib.Dec.{eqb, leb}
 use lib.ListN.{length, get_or, take, drop, set, length-append, length-drop}
-use lib.Seq.{length-take-le, take-length, take_at, drop_at, get_or-drop, drop-drop, take-add, paste, paste-suc, drop-paste}
+use lib.Seq.{length-take-le, take_at, drop_at, drop-drop, take-add, paste}
 use Rattle.machine.proofs.Bools.{and_left, and_right}
 use Rattle.turns_theory.specs.Turns.{most_pending}
 use Rattle.turns_state.specs.Pending.{block_length, count, pending_in, enqueuable, enqueued, left_by_enqueue, dequeuable, dequeued, left_by_dequeue, MayEnqueue, MayDequeue}

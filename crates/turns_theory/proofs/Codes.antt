@@ -3,15 +3,12 @@ use mathlib.Core.Path.{◌≡◌, refl, ap}
 use mathlib.Core.Bool.{Bool, true, false, cond}
 use mathlib.Core.List.{List, [], ◌∷◌}
 use mathlib.Core.Option.{Option, none, some}
-use Prim.Native.Nat.{ℕ, ◌+◌, ◌<◌, ◌≤◌}
+use Prim.Native.Nat.{ℕ}
 use borrow.Author.Tests.{eq-eqb, ne_eqb, lt-ltb, le-ltb}
-use lib.ListN.{length}
-use Rattle.machine.specs.Table.{domains}
-use Rattle.machine.specs.Check.{table_code, Accepted}
 use Rattle.machine.specs.Call.{Call, caller_of, split}
 use Rattle.machine.specs.DomainSet.{called_by}
-use Rattle.turns_theory.specs.Turns.{Turns, most_pending, is_one_of, hand_in_code, turn_of, turn_code, answer_code, Turn.idle, Turn.serves}
-use Rattle.turns_theory.specs.Claims.{OneCallOf, HandInCode, EveryHandInCode, TurnCode, EveryTurnCode}
+use Rattle.turns_theory.specs.Turns.{is_one_of, hand_in_code, turn_code, answer_code}
+use Rattle.turns_theory.specs.Claims.{OneCallOf, EveryHandInCode, EveryTurnCode}
 
 -- ---- handing in
 
