@@ -7,7 +7,7 @@ ghost use Rattle.std.specs.Prelude.{◌≤◌, ◌≡◌, length, take, OnOk};
 ghost use Rattle.std.specs.Io.KnownBytes.{Appends};
 ghost use Rattle.linerun_input.specs.Stage.{have_of, wanted_of, ended_of, StageAfter};
 ghost use Rattle.linerun_report.specs.Report.{answer_space, report};
-ghost use Rattle.linerun_report.specs.Cursor.{Prints};
+ghost use Rattle.linerun_report.specs.Cursor.{given_of, Prints};
 
 use format::answers::MOST_ANSWER_WORDS;
 use linerun_input::reading::{MOST_INPUT, read_input};
@@ -24,6 +24,14 @@ fn answer_input(buffer: &[u8], input: Input, answers: &mut [u32]) -> Lines
     ensures { Prints (take (have_of input) buffer.now) (ended_of input) result answers.new }
 {
     answer(&buffer[..input.have()], answers)
+}
+
+// Writes the part that was given last. Where the writer's bytes are known and it could be written, it is what they grew by.
+fn write_part<W: Write>(writer: &mut W, lines: Lines, out: &[u8]) -> io::Result<()>
+    ensures { OnOk result
+        (Appends (W.contents writer.old) (W.contents writer.new) (take (given_of lines) out.now)) }
+{
+    writer.write_all(part(lines, out))
 }
 
 // Writes the lines of the cursor, part by part until all were given. No part is written after one that can't be. Where the writer's
@@ -45,7 +53,7 @@ fn write_lines<W: Write>(
     let mut lines = first;
     while !lines.ended() {
         lines = next(lines, answers, &mut out);
-        writer.write_all(part(lines, &out))?;
+        write_part(writer, lines, &out)?;
     }
     Ok(())
 }

@@ -58,7 +58,7 @@ loop-out-preserved g c =
       within = next-within at_loop.going is;
       printed =
           continues _ c.loop-out.lines c.next-lines.result c.args.answers.now c.loop-out.out c.next-lines.new.out at_loop.room at_loop.going next.value
-          _ _ _ (sym c.ended.ensures ∙ c.loop-out-test.true) next.out_after next.result_in_bounds at_loop.printed (rw c.part.ensures at c.in_ok-write_all.ensures.bytes);
+          _ _ _ (sym c.ended.ensures ∙ c.loop-out-test.true) next.out_after next.result_in_bounds at_loop.printed c.in_ok-write_part.ensures;
     }
 
 pub returns : goal.returns

@@ -1,8 +1,9 @@
 -- A turn writes the line of its call, whose answer is the chunk that comes.
-use Rattle.std.proofs.Common.{rules, ◌+◌, ◌-◌, ◌*◌, ◌≤◌, ◌<◌, ◌≡◌, length, take, drop, ℕ, List, [], ◌∷◌, ◌++◌, refl, sym, ◌∙◌, arith, length-append, length-take}
+use Rattle.std.proofs.Common.{rules, ◌+◌, ◌-◌, ◌*◌, ◌≤◌, ◌<◌, ◌≡◌, length, take, drop, ℕ, List, [], ◌∷◌, ◌++◌, refl, sym, ◌∙◌, arith, length-append, length-take, subst}
 use lib.ListN.{get_or}
 use Rattle.std.specs.Iterator.Adapters.{zip_second}
 use Rattle.std.specs.Slice.Iter.{chunks_exact_rest}
+use Rattle.text.specs.Write.{Writes}
 use Rattle.text.proofs.WriteLaws.{writes_nothing}
 use Rattle.linerun_text.proofs.LineLaws.{length-call_line}
 use Rattle.linerun_report.specs.Lines.{lines_from}
@@ -39,7 +40,8 @@ loop-i-preserved c =
     let left : drop (3 * k) words ≡ chunk ++ chunks_exact_rest (zip_second c.next.new.self) = sym before.left ∙ step.1.1.0 in
     let size : length chunk ≡ 3 = step.1.1.1 ∙ before.size in
     let call : c.in-Some.i ≡ from + k = step.0.1.1 ∙ before.next in
-    let line = rw (line-is words chunk _ k left size answers from most c.in-Some.i refl few call) at c.call_line-at.ensures in
+    let line = subst (λ (s : List ℕ). Writes c.loop-i.at s c.loop-i.out c.call_line-at.result c.call_line-at.new.out)
+        (line-is words chunk _ k left size answers from most c.in-Some.i refl few call) c.call_line-at.ensures in
     let word = λ (j : ℕ) (h : j < 3). word_is words chunk _ k left size answers from most j refl few h in
     rw more
     (record {
