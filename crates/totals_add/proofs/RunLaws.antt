@@ -1,25 +1,24 @@
 -- What a list that ran shows of its counts: they balance at each endpoint, so that what was lost is computed from what was sent,
 -- received and waits; and they are the list's totals. Assumes nothing.
-use Rattle.std.proofs.Common.{◌≡◌, ℕ, ◌+◌, ◌-◌, ◌*◌, ◌^◌, ◌<◌, ◌≤◌, Bool, List, [], ◌++◌, length, get_or, drop, sym, refl, ap, ◌∙◌, subst, append-nil, arith, eq-eqb, ne_eqb}
+use Rattle.std.proofs.Common.{◌≡◌, ℕ, ◌+◌, ◌-◌, ◌*◌, ◌<◌, ◌≤◌, Bool, List, [], ◌++◌, length, drop, sym, refl, ap, ◌∙◌, append-nil, arith, ne_eqb}
 use Rattle.machine.specs.Below.{words_below}
 use Rattle.machine.specs.Table.{endpoints, endpoint}
 use Rattle.machine.specs.Queue.{waiting}
 use Rattle.machine.specs.Check.{Accepted}
 use Rattle.machine.specs.Call.{Call, Kind, split}
 use Rattle.machine.specs.Run as machine
-use Rattle.machine.specs.Counts.{is_send, is_receive, count_done, sent_to, received_from, full_sends}
+use Rattle.machine.specs.Counts.{is_send, is_receive, count_done, sent_to, received_from}
 use Rattle.machine.specs.Entry.{Outcome, longest_list, Runs, ran}
 use Rattle.machine.specs.Promise.{RunPromise}
-use Rattle.machine.proofs.Below.{words-length, words-at}
 use Rattle.machine.proofs.Accepted.{accepted-counts}
 use Rattle.machine.proofs.Step.{run-accepted}
-use Rattle.machine.proofs.Queue.{lost-small}
 use Rattle.machine.proofs.Counts.{counts-conserved, count-append}
 use Rattle.machine.proofs.Promise.{runs-accepted, runs-short, entry-ran, entry-code}
 use Rattle.totals_theory.specs.Totals.{list_totals}
-use Rattle.totals_theory.proofs.TotalsLaws.{done-few, list-few}
-use Rattle.totals_add.specs.Added.{added_below, added_if_run}
-use Rattle.totals_add.specs.Counts.{came_in, accounted_for, Countable}
+use Rattle.totals_theory.proofs.TotalsLaws.{list-few}
+use Rattle.totals_add.specs.declared.Tally.{Tally}
+use Rattle.totals_add.specs.Added.{added_below, added_if_run, ListAdded}
+use Rattle.totals_add.specs.Counts.{came_in, accounted_for, Countable, CountsAdded}
 use Rattle.totals_add.proofs.SumLaws.{word_at, added-same}
 
 -- A list that ran: its table was accepted and it was short enough, and its answers and its table are the machine's.
@@ -103,13 +102,41 @@ module _ {t ws answers end before : List ℕ} (r : RunOf t ws answers end) (befo
   pub lost-is : (e : ℕ) → e < endpoints end → came_in e ws answers before - accounted_for e end ws answers ≡ (list_totals e t ws).lost
   lost-is e l = omega (arith, made_up e l)
 
-  -- so a tally to which these counts are added has the list's totals
-  pub added-ran : {code : ℕ} (xs : List ℕ) {xs' : List ℕ} (f g : ℕ → ℕ) → code ≡ 0 → ((e : ℕ) → e < endpoints end → f e ≡ g e)
-      → xs' ≡ added_below (endpoints end) xs f → xs' ≡ added_if_run code t xs g
+  -- so words to which these counts are added have the list's totals
+  added-ran : (xs : List ℕ) {xs' : List ℕ} (f g : ℕ → ℕ) → ((e : ℕ) → e < endpoints end → f e ≡ g e)
+      → xs' ≡ added_below (endpoints end) xs f → xs' ≡ added_if_run 0 t xs g
   unfolding added_if_run
-  added-ran {code} xs {xs'} f g z same sum =
-      rw z (sum ∙ added-same xs (endpoints end) f g same ∙ ap (λ (m : ℕ). added_below m xs g) (same-endpoints r))
+  added-ran xs f g same sum =
+      sum ∙ added-same xs (endpoints end) f g same ∙ ap (λ (m : ℕ). added_below m xs g) (same-endpoints r)
 
-pub added-refused : (code : ℕ) (t xs : List ℕ) (f : ℕ → ℕ) → (code ≡ 0 → ⊥) → xs ≡ added_if_run code t xs f
+-- a run whose counts are added to a tally
+pub list-added : {t ws space holders answers end kept before : List ℕ} {calls : ℕ} {tally tally' : Tally}
+    → RunPromise t ws space holders 0 calls answers end kept
+    → before ≡ words_below 32 (λ e. waiting (endpoint t e))
+    → CountsAdded end ws answers before tally tally'
+    → ListAdded t ws space holders (record { code = 0; calls = calls; table = end; answers = answers; holders = kept }) tally tally'
+list-added p before-is added =
+    let r = run_of p refl in
+    record {
+      run = p;
+      sent_added = added-ran r before-is _ _ _ (λ e _. sent_is r e) added.sent_added;
+      received_added = added-ran r before-is _ _ _ (λ e _. received_is r e) added.received_added;
+      lost_added = added-ran r before-is _ _ _ (lost-is r before-is) added.lost_added;
+    }
+
+-- a refused list adds nothing
+added-refused : (code : ℕ) (t xs : List ℕ) (f : ℕ → ℕ) → (code ≡ 0 → ⊥) → xs ≡ added_if_run code t xs f
 unfolding added_if_run
 added-refused code t xs f n = rw (ne_eqb code 0 n)
+
+pub nothing-added : {t ws space holders answers end kept : List ℕ} {code calls : ℕ} {tally : Tally}
+    → RunPromise t ws space holders code calls answers end kept
+    → (code ≡ 0 → ⊥)
+    → ListAdded t ws space holders (record { code = code; calls = calls; table = end; answers = answers; holders = kept }) tally tally
+nothing-added {t} p refused =
+    record {
+      run = p;
+      sent_added = added-refused _ t _ _ refused;
+      received_added = added-refused _ t _ _ refused;
+      lost_added = added-refused _ t _ _ refused;
+    }

@@ -1,6 +1,6 @@
 -- The laws of adding counts to totals: one endpoint after another, and what a sum depends on. Also those of the loop that computes
 -- what was lost. Assumes nothing.
-use Rattle.std.proofs.Common.{◌≡◌, ℕ, ◌+◌, ◌-◌, ◌%◌, ◌^◌, ◌<◌, ◌≤◌, min, Bool, true, false, cond, ltb, List, [], ◌∷◌, ◌++◌, length, get_or, take, set, sym, refl, ap, ◌∙◌, ap₂, ⊎_elim, add-one, arith, length-set, get_or-set_other, get_or-set_same, take-suc-set, ext_get_or, ltb-true, le-ltb, lt-ltb}
+use Rattle.std.proofs.Common.{◌≡◌, ℕ, ◌+◌, ◌-◌, ◌%◌, ◌^◌, ◌<◌, min, Bool, cond, ltb, List, length, get_or, set, sym, refl, ap, ◌∙◌, ⊎_elim, arith, length-set, get_or-set_other, get_or-set_same, ext_get_or, ltb-true, le-ltb, lt-ltb}
 use native.Mathlib.Decide.{dec_lt}
 use Rattle.machine.specs.Below.{words_below}
 use Rattle.machine.proofs.Bools.{cond_same}
@@ -91,7 +91,6 @@ size k f is = ap length is ∙ words-length k f
 -- What a list counts, as the words that were computed: where no more is accounted for than came in, they balance.
 pub record CountsOf (t ws answers before sends receives after : List ℕ) : Type 0 where
   pub countable : Countable t ws answers before
-  pub before_size : length before ≡ 32
   pub sends_are : sends ≡ words_below 32 (λ e. sent_to e (split ws) answers)
   pub receives_are : receives ≡ words_below 32 (λ e. received_from e (split ws) answers)
   pub after_is : after ≡ words_below 32 (λ e. waiting (endpoint t e))
@@ -110,10 +109,6 @@ module _ {t ws answers before sends receives after : List ℕ} (x : CountsOf t w
   can-balance m is =
       record {
         few = omega (arith, x.countable.few);
-        sent_size = omega (arith, size 32 (λ e. sent_to e (split ws) answers) x.sends_are);
-        received_size = omega (arith, size 32 (λ e. received_from e (split ws) answers) x.receives_are);
-        before_size = omega (arith, x.before_size);
-        after_size = omega (arith, size 32 (λ e. waiting (endpoint t e)) x.after_is);
         enough =
             λ e l.
             let below : e < endpoints t = omega arith in

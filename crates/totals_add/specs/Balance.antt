@@ -1,14 +1,10 @@
 -- The counts of one list at each endpoint below m, and what makes them balance (document 02 (e)): what was sent, and waited before
 -- it, is what was received, what was lost and what waits after it.
-use Rattle.std.specs.Prelude.{◌≡◌, ℕ, ◌+◌, ◌^◌, ◌<◌, ◌≤◌, List, length, slice_index}
+use Rattle.std.specs.Prelude.{◌≡◌, ℕ, ◌+◌, ◌^◌, ◌<◌, ◌≤◌, List, slice_index}
 
 -- no more came out than was there, and the sum of what was there fits a word
 pub record CanBalance (m : ℕ) (sent received before after : List ℕ) : Type 0 where
   pub few : m ≤ 32
-  pub sent_size : 32 ≤ length sent
-  pub received_size : 32 ≤ length received
-  pub before_size : 32 ≤ length before
-  pub after_size : 32 ≤ length after
   pub enough : (e : ℕ) → e < m → slice_index received e + slice_index after e ≤ slice_index sent e + slice_index before e
   pub fits : (e : ℕ) → e < m → slice_index sent e + slice_index before e < 2 ^ 64
 
