@@ -91,13 +91,13 @@ rows-count (k ∷ (u ∷ (a ∷ (b ∷ [])))) = (omega arith, omega arith)
 rows-count (k ∷ (u ∷ (a ∷ (b ∷ (c ∷ ws))))) = (omega (arith, (rows-count ws).0), omega (arith, (rows-count ws).1))
 
 -- five words from an index on, as the code takes them
-pub cut-row : (ws : List ℕ) (at : ℕ) (x : Call)
+pub cut_row : (ws : List ℕ) (at : ℕ) (x : Call)
     → x ≡ row_call (get_or (take (length ws - at) (drop at ws)) 0 0) (get_or (take (length ws - at) (drop at ws)) 1 0)
     (get_or (take (length ws - at) (drop at ws)) 2 0) (get_or (take (length ws - at) (drop at ws)) 3 0)
     (get_or (take (length ws - at) (drop at ws)) 4 0)
     → at + 5 ≤ length ws
     → x ≡ call_at ws at
-cut-row ws at x is h =
+cut_row ws at x is h =
     let all : take (length ws - at) (drop at ws) ≡ drop at ws = take_all (length ws - at) (drop at ws) (omega (arith, length-drop at ws)) in
     let words = simp (all, get_or-drop, add-zero) at is in
     words ∙ a-row ws at h

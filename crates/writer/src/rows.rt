@@ -54,13 +54,14 @@ fn row_call(kind: u32, caller: u32, a: u32, b: u32, c: u32) -> Call
 }
 
 // Returns the call of the row of an index. Fewer than five words are no call.
+#[tactic(auto, using(crate::proofs::RowAt::too_few, crate::proofs::RowAt::cut_row))]
 fn call_at(rows: &[u32], i: usize) -> Call
     requires { 5 * i ≤ length rows.now }
     ensures { result ≡ call_at rows.now (5 * i) }
 {
     match &rows[5 * i..] {
         [kind, caller, a, b, c, ..] => row_call(*kind, *caller, *a, *b, *c),
-        _ => NO_CALL,
+        _ => NO_CALL, // fewer than five words
     }
 }
 
