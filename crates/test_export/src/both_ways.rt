@@ -3,23 +3,16 @@
 ghost use Rattle.std.specs.Prelude.{◌≡◌};
 ghost use Rattle.test_export.specs.BothWays.{same_end, SameBothWays};
 
-use run_result::Ran;
+use result_code::code;
+use run_result::EntryRefusal;
 
 // Returns 1 where two runs ended the same, by the same code and after as many calls, else 0.
-fn same_end(a: Ran, b: Ran) -> u32
+fn same_end(a: Result<usize, EntryRefusal>, b: Result<usize, EntryRefusal>) -> u32
     ensures { result ≡ same_end a b }
 {
-    let code = a.code();
-    let other_code = b.code();
-    if code != other_code {
-        return 0;
-    }
-    let calls = a.calls();
-    let other_calls = b.calls();
-    if calls != other_calls {
-        return 0;
-    }
-    1
+    let same_code = code(a) == code(b);
+    let same_calls = a.unwrap_or(0) == b.unwrap_or(0);
+    u32::from(same_code && same_calls)
 }
 
 // Runs a list in place on a table, and on the working layout of a copy, with an answer space and holders for each. Returns 1 where

@@ -10,17 +10,11 @@ ghost use Rattle.calls.specs.Split.{call_of};
 ghost use Rattle.single_call.specs.Single.{SingleCall};
 ghost use Rattle.test_export.specs.Exported.{second_given};
 
-use calls::split::Second;
-
 // Returns a second word as C passes it: the word, or nothing where `has` is 0.
-fn given(word: u32, has: u32) -> Second
+fn given(word: u32, has: u32) -> Option<u32>
     ensures { result ≡ second_given word has }
 {
-    if has == 0 {
-        Second::Nothing
-    } else {
-        Second::Word(word)
-    }
+    (has != 0).then_some(word)
 }
 
 // Runs one call on any table. Returns 0, or the table's 2 to 5, or 6 where the holders aren't one word a domain; 99, which no paper

@@ -9,7 +9,7 @@ ghost use Rattle.test_export.specs.ExportedQueues.{done_code};
 fn code(done: bool) -> u32
     ensures { result ≡ done_code done }
 {
-    if done { 1 } else { 0 }
+    u32::from(done)
 }
 
 // Sends a message to an endpoint's words and returns whether it was done.

@@ -5,21 +5,21 @@ use mathlib.Core.Path.{◌≡◌, sym}
 use mathlib.Core.List.{List}
 use borrow.Author.Tests.{eq-eqb}
 use Rattle.machine.specs.Promise.{RunPromise}
-use Rattle.run_result.specs.declared.Ran.{Ran}
+use Rattle.std.specs.Prelude.{Result}
+use Rattle.run_result.specs.declared.EntryRefusal.{EntryRefusal}
 use Rattle.run_result.specs.Entry.{ran_code, ran_calls}
 use Rattle.working_theory.proofs.TwoRuns.{both-give-the-same}
 use Rattle.test_export.specs.BothWays.{same_end, SameBothWays}
 use Rattle.test_export.proofs.both_ways.balkwizu_test_both_ways.Goals as goal
 
 -- of two runs that keep the promise
-both : (t t₂ ws space space₂ holders holders₂ : List ℕ) (a b : Ran) (answers answers' end end' kept kept' : List ℕ)
+both : (t t₂ ws space space₂ holders holders₂ : List ℕ) (a b : Result ℕ EntryRefusal) (answers answers' end end' kept kept' : List ℕ)
     → RunPromise t ws space holders (ran_code a) (ran_calls a) answers end kept
     → RunPromise t₂ ws space₂ holders₂ (ran_code b) (ran_calls b) answers' end' kept'
     → t₂ ≡ t
     → space₂ ≡ space
     → holders₂ ≡ holders
     → SameBothWays (same_end a b) end end' answers answers' kept kept'
-unfolding same_end
 both t t₂ ws space space₂ holders holders₂ a b answers answers' end end' kept kept' p q table answer holder =
     let same = both-give-the-same t ws space holders _ _ _ _ _ _ _ _ _ _ p (rw (table, answer, holder) at q) in
     record {
