@@ -92,10 +92,6 @@ may_receive q h =
       slots = leb-true _ _ (and_right (twelve && some) (leb (waiting q) 8) h);
     }
 
-pub not-received : (q : List ℕ) → receivable q ≡ false → q ≡ left_by_receive q
-unfolding left_by_receive
-not-received q h = rw h
-
 pub received-there : (q : List ℕ) → receivable q ≡ true → received q ≡ left_by_receive q
 unfolding left_by_receive
 received-there q h = rw h

@@ -14,9 +14,6 @@ use lib.Seq.{get_or-set_same, get_or-set_other}
 use Rattle.machine.proofs.Below.{all_of}
 use Rattle.table_check.specs.Names.{new_at, flag_of, Flagged}
 
-pub flag-below : (name : ℕ) → flag_of name < 512
-flag-below name = omega arith
-
 -- a name whose flag isn't set
 pub flag_unset : (names flags : List ℕ) (e : ℕ) → Flagged names flags e → get_or flags (flag_of (get_or names e 0)) 0 ≡ 0 → true ≡ new_at names e
 unfolding new_at

@@ -3,6 +3,5 @@ pub mod Fill
 pub mod Flags
 pub mod Fresh
 pub mod Places
-pub mod Bounds
 pub mod Gather
 pub mod Refusals

@@ -18,10 +18,6 @@ use Rattle.machine.specs.Check.{header_word_ok, rights_word_ok, header_ok, lengt
 use Rattle.machine.proofs.Bools.{and_right}
 use Rattle.table_check.specs.Checked.{Headed}
 
--- a field of eight bits times itself is small
-pub square-small : (x : ℕ) → (x % 256) * (x % 256) ≤ 65025
-square-small x = let h : x % 256 ≤ 255 = omega arith in mul-le-mul h h
-
 -- what a place says of its test where the code gets past it, and where it stops there
 pub past : {a b : Bool} → a ≡ b → not a ≡ false → b ≡ true
 past {a} e h = sym e ∙ not-false a h
@@ -76,15 +72,3 @@ module _ (t : List ℕ) where
   pub code-3 : header_ok t ≡ true → length_ok t ≡ false → 3 ≡ table_code t
   unfolding table_code
   code-3 h l = rw (h, l)
-
-  pub code-4 : Headed t → rights_ok t ≡ false → 4 ≡ table_code t
-  unfolding table_code
-  code-4 h r = rw (h.header, h.size, r)
-
-  pub code-5 : Headed t → rights_ok t ≡ true → endpoints_ok t ≡ false → 5 ≡ table_code t
-  unfolding table_code
-  code-5 h r e = rw (h.header, h.size, r, e)
-
-  pub code-0 : Headed t → rights_ok t ≡ true → endpoints_ok t ≡ true → 0 ≡ table_code t
-  unfolding table_code
-  code-0 h r e = rw (h.header, h.size, r, e)

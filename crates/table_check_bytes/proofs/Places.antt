@@ -38,14 +38,6 @@ counted-endpoint b n from m c e = rw (c.start, c.domains)
 pub counted-name : (b : List ℕ) (n from m : ℕ) → Counted b n from m → (e : ℕ) → get_or (words_of b) (from + 12 * e) 0 % 268435456 ≡ name (endpoint (words_of b) e)
 counted-name b n from m c e = rw (c.start, c.domains) (part-name (words_of b) e)
 
--- the bytes of endpoint e are there, and those of its name
-module _ {b : List ℕ} {n from m : ℕ} (c : Counted b n from m) {e : ℕ} (l : e < m) where
-  pub counted-within : 4 * (from + 12 * e) + 48 ≤ length b
-  counted-within = omega (arith, c.room)
-
-  pub counted-first : 4 * (from + 12 * e) + 4 ≤ length b
-  counted-first = omega (arith, c.room)
-
 module _ (b : List ℕ) where
   pub under_four : length b < 4 → header_ok (words_of b) ≡ false
   under_four h = empty-header (words_of b) (let n = length-words_of b in omega arith)

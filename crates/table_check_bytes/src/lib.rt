@@ -1,5 +1,6 @@
 // The check of a table's image, which is its words as little-endian bytes (document 01, 'Into firmware and onto the bench').
-// The words are read from the bytes in place. Only the loops are here: every test of a word is in crate table_words.
+// The words are read from the bytes in place. Only the loops are here: every test of a word is in crate table_words. No one function
+// over a reader of words serves this and crate table_check: that lends an endpoint's twelve words without a copy, which bytes can't.
 #![tactic(auto)]
 
 ghost use Rattle.std.specs.Prelude.{◌≡◌, true, ◌+◌, ◌-◌, ◌*◌, ◌≤◌, eqb, length, get_or, take, drop, Result};

@@ -1,3 +1,2 @@
--- What is proved besides the functions: the laws of places, and what is read by them.
+-- What is proved besides the functions: the laws of places.
 pub mod Places
-pub mod Reading

@@ -80,26 +80,6 @@ none-gathered a b = go (eqb a 0) refl
     go true e = rw (eqb-true a 0 e) (ap (λ (x : ℕ). eqb x 0) (or_zero_l b))
     go false e = ne_eqb (bit_or a b) 0 (λ q. eqb-false a 0 e (omega (arith, or_add_and a b, and_le_r a b)))
 
--- a rights word differs from one without a right in rights alone
-pub rights-right : (w : ℕ) → leb (bit_xor w 536870912) 15 ≡ rights_word_ok w
-unfolding rights_word_ok
-rights-right w = go (eqb (kind w) 2) refl
-  where
-    top : bit_xor w 536870912 / 268435456 ≡ bit_xor (kind w) 2
-    top = xor_shr w 536870912 28
-
-    rest : bit_xor w 536870912 % 268435456 ≡ payload w
-    rest = xor_mod w 536870912 28 ∙ xor_zero_r (payload w)
-
-    go : (t : Bool) → eqb (kind w) 2 ≡ t → leb (bit_xor w 536870912) 15 ≡ (t && leb (payload w) all_rights)
-    go true e =
-        let k : bit_xor w 536870912 / 268435456 ≡ 0 = top ∙ eqb-true _ 0 (none-differs (kind w) 2 ∙ e) in
-        let same : bit_xor w 536870912 ≡ payload w = omega (arith, rest) in
-        ap (λ (x : ℕ). leb x 15) same
-    go false e =
-        let k = eqb-false (bit_xor (kind w) 2) 0 (none-differs (kind w) 2 ∙ e) in
-        lt-leb (bit_xor w 536870912) 15 (let h = pos_of_ne-zero k in omega (arith, top))
-
 -- rights alone are gathered where there were rights alone and rights alone are added
 pub rights-gathered : (a b : ℕ) → leb (bit_or a b) 15 ≡ (leb a 15 && leb b 15)
 rights-gathered a b = go (leb a 15) refl (leb b 15) refl

@@ -97,7 +97,7 @@ pub fn slot_wrong(waiting: u32, i: u32, w: u32) -> u32
     ensures value { result ≡ slot_wrong waiting i w }
     ensures valid { eqb result 0 ≡ slot_word_ok (waiting - word 5 0) i w }
 {
-    let waits = NONE_WAITING + (i as u64) < waiting as u64;
+    let waits = NONE_WAITING + u64::from(i) < u64::from(waiting);
     let asked = bits_asked(waits);
     (w ^ EMPTY_SLOT) & asked
 }
