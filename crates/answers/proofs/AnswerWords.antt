@@ -22,7 +22,7 @@ use Rattle.machine.specs.Call.{first, Call.one}
 use Rattle.machine.specs.Machine.{owned_bits, rights_bits, shown_caller, answer_word}
 use Rattle.machine.proofs.Below.{sum_same}
 use Rattle.table_layout.proofs.Places.{eight-bits}
-use Rattle.answers.specs.Answer.{answer_of, head_of, has_endpoints, has_row, shown}
+use Rattle.answers.specs.Answer.{answer_of, head_of, has_endpoints, has_row}
 use Rattle.answers.specs.Eight.{Eight}
 use Rattle.answers.proofs.Digits.{digit_sum, digits-end}
 
@@ -63,15 +63,6 @@ head_room w fits = go (ℕ_discrete (kind w) 15)
     go : Dec (kind w ≡ 15) → head_of w + 23 < 2 ^ 32
     go (yes is) = omega (arith, head_stray w is)
     go (no other) = omega (arith, head_other w other)
-
--- what is there is shown, 32 bits of it, and what isn't there is not
-pub shows : {there : Bool} (x : ℕ) {y : ℕ} → there ≡ true → y ≡ x % 2 ^ 32 → y ≡ shown there x
-unfolding shown
-shows x there is = rw there is
-
-pub shows-none : {there : Bool} (x : ℕ) → there ≡ false → 0 ≡ shown there x
-unfolding shown
-shows-none x past = rw past
 
 -- the places of the data, by n: in the table or past it
 module _ (t : List ℕ) (n : ℕ) (is : n ≡ domains t) where

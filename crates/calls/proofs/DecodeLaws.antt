@@ -1,6 +1,6 @@
 -- The decoding of a call, by what the code tests: a sum for the unused fields, a match for the second word and for the kind.
 -- Assumes nothing.
-use Prim.Native.Nat.{ℕ, ◌+◌, ◌*◌, ◌%◌, ◌<◌, ◌≤◌}
+use Prim.Native.Nat.{ℕ, ◌+◌, ◌*◌, ◌%◌}
 use mathlib.Core.Path.{◌≡◌, refl, sym, ap, ◌∙◌}
 use mathlib.Core.Logic.{◌↔◌}
 use mathlib.Core.Bool.{Bool, true, false, not, ◌&&◌}
@@ -10,13 +10,13 @@ use lib.Arith.{mod-mul}
 use lib.Dec.{eqb, lit<}
 use borrow.Author.Tests.{eqb-true, eqb-false, eq-eqb, ne_eqb}
 use Rattle.std.specs.Prelude.{Option, None}
-use Rattle.machine.specs.Word.{kind, caller, field_a, field_b, field_c}
-use Rattle.machine.specs.Call.{Kind, kind_of, unused_fields, all_zero, has_second}
-use Rattle.calls.specs.Decode.{needs_second, whole, of_kind, decoded}
+use Rattle.machine.specs.Word.{caller, field_a, field_b, field_c}
+use Rattle.machine.specs.Call.{Kind, unused_fields, all_zero, has_second}
+use Rattle.calls.specs.Decode.{needs_second, whole}
 use Rattle.calls.specs.Split.{call_of}
 use Rattle.calls.specs.declared.Call.{Call}
 use Rattle.calls.specs.declared.Call.TheVariants.{Refused}
-use Rattle.calls.specs.declared.Refusal.TheVariants.{UnknownKind, UnusedField, NoSecondWord}
+use Rattle.calls.specs.declared.Refusal.TheVariants.{UnusedField, NoSecondWord}
 
 abbrev pub total : List ℕ → ℕ
 total [] = 0
@@ -65,25 +65,3 @@ pub no_second : (w : ℕ) (k : Kind) (next : Call)
     → Refused (caller w) NoSecondWord ≡ whole w None k next
 unfolding whole has_second
 no_second w k next h wants = rw (all-zero, eq-eqb _ _ h, wants)
-
--- a call is decoded by its kind
-pub of-kind : {n : ℕ} (w : ℕ) (s : Option ℕ) → kind w ≡ n → of_kind w s (kind_of n) ≡ decoded w s
-unfolding decoded
-of-kind w s is = ap (λ (k : ℕ). of_kind w s (kind_of k)) (sym is)
-
--- kinds 9 to 14 are unknown
-pub unknown-kind : (w : ℕ) (s : Option ℕ) → 9 ≤ kind w → kind w < 15 → Refused (caller w) UnknownKind ≡ decoded w s
-unfolding decoded of_kind kind_of
-unknown-kind w s low high =
-    let differs : (k : ℕ) → (kind w ≡ k → ⊥) → eqb (kind w) k ≡ false = ne_eqb (kind w) in
-    rw (
-      differs 1 (omega arith),
-      differs 2 (omega arith),
-      differs 3 (omega arith),
-      differs 4 (omega arith),
-      differs 5 (omega arith),
-      differs 6 (omega arith),
-      differs 7 (omega arith),
-      differs 8 (omega arith),
-      differs 15 (omega arith),
-    )

@@ -139,10 +139,6 @@ module _ {cs : List Call} {list₀ list : List ℕ} {at i : ℕ} (p : Putting cs
             ∙ drop-drop (length (encoded_words c)) at list₀
             ∙ ap (λ (k : ℕ). drop (at + k) list₀) (sym e)
 
-  -- the index is in the list
-  pub place-within : at ≤ length list₀
-  place-within = omega (arith, p.size, p.long, ap length p.filled, length-append p.done (drop at list₀))
-
   -- no call is left
   pub put-done : length cs ≤ i → list ≡ written cs ++ drop (length (written cs)) list₀
   unfolding written
