@@ -4,7 +4,7 @@ use mathlib.Core.Path.{◌≡◌, sym, ap, ◌∙◌}
 use mathlib.Core.Bool.{Bool, true, false, ◌&&◌, not}
 use mathlib.Core.List.{List}
 use Prim.Native.Nat.{ℕ, ◌+◌, ◌-◌, ◌*◌, ◌/◌, ◌%◌, ◌≤◌}
-use native.Mathlib.Nat.{le-add_right, mul-le-mul, add-sub_cancel_left}
+use native.Mathlib.Nat.{le-add_right, add-sub_cancel_left}
 use native.Mathlib.Omega.{arith}
 use borrow.Author.Tests.{leb-true, eqb-true, ne_eqb, not-true, not-false}
 use lib.Dec.{eqb, leb}
@@ -14,7 +14,7 @@ use Rattle.machine.specs.Below.{all_below}
 use Rattle.machine.proofs.Below.{all_same}
 use Rattle.machine.specs.Word.{kind, upper, field_b, field_c}
 use Rattle.machine.specs.Table.{domains, endpoints, length_for}
-use Rattle.machine.specs.Check.{header_word_ok, rights_word_ok, header_ok, length_ok, rights_ok, endpoints_ok, table_code}
+use Rattle.machine.specs.Check.{header_word_ok, rights_word_ok, header_ok, length_ok, rights_ok, table_code}
 use Rattle.machine.proofs.Bools.{and_right}
 use Rattle.table_check.specs.Checked.{Headed}
 

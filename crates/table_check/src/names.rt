@@ -38,7 +38,8 @@ fn flag_of(name: u32) -> usize
 // Returns whether the name at e differs from all before it. Precondition: the flags of all those are set.
 #[tactic(auto, using(crate::proofs::Flags::flag_unset))]
 fn is_new_by_flags(flags: &[u8; 512], names: &[u32], e: usize) -> bool
-    requires { Flagged names.now flags.now e × (e < length names.now) }
+    requires flagged { Flagged names.now flags.now e }
+    requires there { e < length names.now }
     ensures { result ≡ new_at names.now e }
 {
     let flag = flag_of(names[e]);

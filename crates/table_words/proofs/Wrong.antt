@@ -1,16 +1,16 @@
 -- Bits that are wrong in a word, and what a loop gathers of them by `|`. Assumes nothing.
 use mathlib.Core.Path.{◌≡◌, refl, sym, ap, ◌∙◌}
 use mathlib.Core.Bool.{Bool, true, false, cond, ◌&&◌, ◌||◌, and-true, and-false}
-use Prim.Native.Nat.{ℕ, ◌+◌, ◌-◌, ◌*◌, ◌/◌, ◌%◌, ◌^◌, ◌<◌}
-use native.Mathlib.Nat.{mod-eq_of_lt, pos_of_ne-zero}
+use Prim.Native.Nat.{ℕ, ◌+◌, ◌-◌, ◌*◌, ◌%◌, ◌^◌, ◌<◌}
+use native.Mathlib.Nat.{mod-eq_of_lt}
 use native.Mathlib.Omega.{arith}
 use borrow.Author.Tests.{eqb-true, eqb-false, eq-eqb, ne_eqb, lt-ltb, le-ltb, ltb-true, ltb-false, le-leb, lt-leb, leb-true, leb-false}
 use lib.Dec.{eqb, ltb, leb}
-use lib.Bits.{bit_and, bit_or, bit_xor, and_le_l, and_le_r, or_add_and, xor_add_and, xor_self, xor_zero_r, xor_lt, xor_shr, xor_mod, and_mask, and_high, or_zero_l, or_lt}
-use Rattle.machine.specs.Word.{kind, payload}
+use lib.Bits.{bit_and, bit_or, bit_xor, and_le_l, and_le_r, or_add_and, xor_add_and, xor_self, xor_lt, xor_shr, and_mask, and_high, or_zero_l, or_lt}
+use Rattle.machine.specs.Word.{kind}
 use Rattle.machine.specs.Right.{all_rights}
 use Rattle.machine.specs.Queue.{empty_slot}
-use Rattle.machine.specs.Check.{slot_word_ok, rights_word_ok}
+use Rattle.machine.specs.Check.{slot_word_ok}
 use Rattle.table_words.specs.Wrong.{slot_asked, slot_wrong}
 use Rattle.table_words.proofs.Scan.{Scanned, scan-next}
 
