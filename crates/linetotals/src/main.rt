@@ -22,8 +22,8 @@ use std::io::{Read, Write};
 // At most 146 bytes in the line of each of 32 endpoints and 43 in the last.
 const MOST_BYTES: usize = 4715;
 
-// Reads a reader's bytes and runs them until nothing more is wanted, and returns the last stage. Where the reader's bytes are known,
-// the parts that ran are the first of them. The caller must lend space for the longest table.
+// Reads a reader's bytes and runs them until nothing more is wanted, and returns the last stage. Where the reader's bytes are
+// known, the parts that ran are the first of them. The caller must lend space for the longest table.
 fn run_input<R: Read>(reader: &mut R, table: &mut [u32]) -> Stage
     requires { longest_table ≤ length table.old }
     ensures { (ran : InputRan table.old result table.new)
@@ -59,8 +59,7 @@ fn write_sheet<W: Write>(writer: &mut W, stage: Stage, table: &[u32]) -> bool
 {
     let mut out = [0u8; MOST_BYTES];
     let printed = report(stage, table, &mut out);
-    let lines = &out[..];
-    writer.write_all(&lines[0..printed]).is_ok()
+    writer.write_all(&out[0..printed]).is_ok()
 }
 
 // Writes the lines for standard input to standard output. The exit status is 0 in any case, so lines that can't be written are

@@ -14,6 +14,8 @@ use Rattle.input_words.proofs.TableLaws.{Whole, whole, whole-table, whole-more, 
 use Rattle.linetotals_text.specs.Lines.{last_line}
 use Rattle.linetotals_input.specs.Input.{most_lists, lists_from, wanted}
 use Rattle.linetotals_input.proofs.ListLaws.{still-wanted}
+use Rattle.totals_add.specs.declared.Tally.{Tally}
+use Rattle.linetotals_run.specs.declared.Phase.{Phase}
 use Rattle.linetotals_run.specs.declared.Stage.{Stage}
 use Rattle.linetotals_run.specs.Step.{waiting_at}
 use Rattle.linetotals_theory.specs.Sheet.{totals_lines, table_sheet, sheet}
@@ -42,9 +44,15 @@ pub record Known (head : List ℕ) (s : Stage) : Type 0 where
   pub is_whole : Whole head
   pub ends : length head ≡ table_end head
   pub accepted : Accepted (table_of head)
-  pub words : s.words ≡ length (table_of head)
-  pub endpoints_are : s.endpoints ≡ endpoints (table_of head)
-  pub start_is : s.start ≡ waiting_at (table_of head)
+  pub words : s.counts.words ≡ length (table_of head)
+  pub endpoints_are : s.counts.endpoints ≡ endpoints (table_of head)
+  pub start_is : s.counts.start ≡ waiting_at (table_of head)
+
+-- a stage that has the same words, endpoints and waiting messages at the start knows the same
+pub same-known : {head : List ℕ} {s : Stage} {p : Phase} {count : ℕ} {tally : Tally} → Known head s
+    → Known head (record s { phase = p; counts = record s.counts { count = count; tally = tally } })
+same-known k =
+    record { is_whole = k.is_whole; ends = k.ends; accepted = k.accepted; words = k.words; endpoints_are = k.endpoints_are; start_is = k.start_is }
 
 module _ {head : List ℕ} {s : Stage} (k : Known head s) (xs : List ℕ) where
   behind : after_table (head ++ xs) ≡ xs

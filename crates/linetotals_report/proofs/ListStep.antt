@@ -6,6 +6,7 @@ use native.Mathlib.Omega.{arith}
 use lib.ListN.{length, take, drop, length-append, length-take, length-drop}
 use lib.Seq.{length-take-le, take_at}
 use borrow.Author.Tests.{le-ltb}
+use Rattle.std.specs.Prelude.{Option, None, Some, Result, Ok, Err}
 use Rattle.machine.specs.Table.{domains}
 use Rattle.machine.specs.Check.{Accepted}
 use Rattle.machine.specs.Call.{split}
@@ -30,9 +31,9 @@ use Rattle.totals_add.specs.Added.{added_if_run, ListAdded}
 use Rattle.totals_add.specs.Tallied.{Tallied}
 use Rattle.totals_add.proofs.TallyLaws.{every-tally-list-by-list}
 use Rattle.linetotals_input.specs.Input.{most_lists, head_wanted, wanted}
-use Rattle.linetotals_input.specs.Next.{next_of}
-use Rattle.linetotals_input.specs.declared.Next.{Next}
-use Rattle.linetotals_input.specs.declared.Next.TheVariants.{Ends, Words}
+use Rattle.linetotals_input.specs.Next.{list_refusal_code, next_of}
+use Rattle.linetotals_input.specs.declared.ListRefusal.{ListRefusal}
+use Rattle.linetotals_input.proofs.ListLoop as loop
 use Rattle.linetotals_input.proofs.ListLoop.{AtHead, Going, GoesOn, goes_on, list-taken, list-short, wanted-now}
 use Rattle.linetotals_run.specs.declared.Phase.{Phase}
 use Rattle.linetotals_run.specs.declared.Phase.TheVariants.{TableLength, TableWords, FirstLength, ListWords, Over}
@@ -42,14 +43,14 @@ use Rattle.linetotals_theory.specs.Sheet.{sheet}
 use Rattle.linetotals_report.specs.Report.{stage_lines}
 use Rattle.linetotals_report.specs.Claims.{Space}
 use Rattle.linetotals_report.proofs.SheetLaws.{over-lines}
-use Rattle.linetotals_report.proofs.InputLaws.{Known, wanted-behind, sheet-behind}
+use Rattle.linetotals_report.proofs.InputLaws.{Known, same-known, wanted-behind, sheet-behind}
 
 -- The bytes are those of a table and of lists after it, which were run and counted.
 pub record Counted (bytes : List ℕ) (x : State) (lists : List (List ℕ)) (head read : List ℕ) : Type 0 where
   pub bytes_are : bytes ≡ head ++ read
   pub known : Known head x.stage
-  pub count_is : x.stage.count ≡ length lists
-  pub tallied : Tallied (table_of head) lists x.stage.tally (table_at x)
+  pub count_is : x.stage.counts.count ≡ length lists
+  pub tallied : Tallied (table_of head) lists x.stage.counts.tally (table_at x)
 
 -- A list of n words follows.
 pub record Listing (n : ℕ) (bytes : List ℕ) (x : State) : Type 0 where
@@ -72,27 +73,31 @@ pub record Headed (bytes hd : List ℕ) (left : ℕ) (p : Phase) (x : State) : T
 
 module _ {bytes : List ℕ} {x : State} {lists : List (List ℕ)} {head read hd : List ℕ} {left : ℕ} (y : Counted bytes x lists head read)
     (z : AtHead read lists left hd) where
-  after : (next : Next) → GoesOn read lists left (head_wanted left - length hd) next
-      → Headed bytes hd left (next_phase next) (at_stage x (in_phase (next_phase next) x.stage))
-  after (Ends code) over =
+  ended : (code : ℕ) → loop.Over read lists code (head_wanted left - length hd) → Headed bytes hd left (Over code) (at_stage x (in_phase (Over code) x.stage))
+  ended code over =
       record {
         over =
             λ c e.
             over-lines (table_of head) lists x.stage x.table code y.known.accepted y.known.endpoints_are y.known.start_is y.count_is y.tallied
             ∙ sym (ap sheet y.bytes_are ∙ sheet-behind y.known read ∙ rw (over.all_lists, over.by_code));
-        listing = λ n e. let zero_one : ◌≡◌ {A = ℕ} 0 1 = cc in absurd (omega arith);
-        no_length = λ e. let zero_one : ◌≡◌ {A = ℕ} 0 1 = cc in absurd (omega arith);
-        no_words = λ n e. let zero_one : ◌≡◌ {A = ℕ} 0 1 = cc in absurd (omega arith);
-        no_first = λ e. let zero_one : ◌≡◌ {A = ℕ} 0 1 = cc in absurd (omega arith);
+        listing = λ n e. cc;
+        no_length = λ e. cc;
+        no_words = λ n e. cc;
+        no_first = λ e. cc;
         asks = λ h. absurd (omega arith);
         exact = λ h. ap wanted y.bytes_are ∙ wanted-behind y.known read ∙ over.missing ∙ omega arith;
       }
-  after (Words n) going =
+
+  after : (next : Result (Option ℕ) ListRefusal) → GoesOn read lists left (head_wanted left - length hd) next
+      → Headed bytes hd left (next_phase next) (at_stage x (in_phase (next_phase next) x.stage))
+  after (Ok None) over = ended 0 over
+  after (Err r) over = ended (list_refusal_code r) over
+  after (Ok (Some n)) going =
       let same : wanted bytes ≡ 4 * n + head_wanted (left - 1) = ap wanted y.bytes_are ∙ wanted-behind y.known read ∙ wanted-now going [] (omega arith) in
-      let place : left - 1 ≡ most_lists - (x.stage.count + 1) = omega (arith, y.count_is, z.count) in
+      let place : left - 1 ≡ most_lists - (x.stage.counts.count + 1) = omega (arith, y.count_is, z.count) in
       let next : left - 1 ≡ most_lists - (length lists + 1) = omega (arith, y.count_is, z.count) in
       record {
-        over = λ c e. let zero_one : ◌≡◌ {A = ℕ} 0 1 = cc in absurd (omega arith);
+        over = λ c e. cc;
         listing =
             λ m e.
             let is : n ≡ m = cc in
@@ -100,17 +105,17 @@ module _ {bytes : List ℕ} {x : State} {lists : List (List ℕ)} {head read hd 
               lists = lists;
               head = head;
               read = read;
-              counted = record { bytes_are = y.bytes_are; known = record { is_whole = y.known.is_whole; ends = y.known.ends; accepted = y.known.accepted; words = y.known.words; endpoints_are = y.known.endpoints_are; start_is = y.known.start_is }; count_is = y.count_is; tallied = y.tallied };
+              counted = record { bytes_are = y.bytes_are; known = same-known y.known; count_is = y.count_is; tallied = y.tallied };
               going = rw (is, next) at going;
             };
-        no_length = λ e. let zero_one : ◌≡◌ {A = ℕ} 0 1 = cc in absurd (omega arith);
-        no_words = λ m e. let zero_one : ◌≡◌ {A = ℕ} 0 1 = cc in absurd (omega arith);
-        no_first = λ e. let zero_one : ◌≡◌ {A = ℕ} 0 1 = cc in absurd (omega arith);
+        no_length = λ e. cc;
+        no_words = λ m e. cc;
+        no_first = λ e. cc;
         asks = λ h. same ∙ ap (λ (l : ℕ). 4 * n + head_wanted l) place;
         exact = λ h. same ∙ ap (λ (l : ℕ). 4 * n + head_wanted l) place;
       }
 
-  pub headed : left ≡ most_lists - x.stage.count → Headed bytes hd left (head_read x.stage hd).phase (at_stage x (head_read x.stage hd))
+  pub headed : left ≡ most_lists - x.stage.counts.count → Headed bytes hd left (head_read x.stage hd).phase (at_stage x (head_read x.stage hd))
   unfolding head_read
   headed is = rw (← is) (after (next_of left hd) (goes_on z (next_of left hd) refl))
 
@@ -145,7 +150,7 @@ module _ {n : ℕ} {bytes : List ℕ} {x : State} (l : Listing n bytes x) (space
   unfolding t
   still-accepted = rw is-run (run-accepted (table_of l.head) (calls_of l.lists) l.counted.known.accepted).accepted
 
-  table-size : length (table_at x) ≡ x.stage.words
+  table-size : length (table_at x) ≡ x.stage.counts.words
   unfolding t
   table-size =
       ap length is-run
@@ -173,9 +178,9 @@ module _ {n : ℕ} {bytes : List ℕ} {x : State} (l : Listing n bytes x) (space
   o = entered x ws
 
   tally' : Tally
-  tally' = tally_with (table_at x) ws x.stage.tally
+  tally' = tally_with (table_at x) ws x.stage.counts.tally
 
-  added : ListAdded (table_at x) ws x.answers (take (domains (table_at x)) x.holders) o x.stage.tally tally'
+  added : ListAdded (table_at x) ws x.answers (take (domains (table_at x)) x.holders) o x.stage.counts.tally tally'
   unfolding added_if_run tally_with o tally'
   added =
       record {
@@ -194,7 +199,7 @@ module _ {n : ℕ} {bytes : List ℕ} {x : State} (l : Listing n bytes x) (space
   unfolding o ran
   left-table = ap (λ (u : Outcome). u.table) (entry-ran (table_at x) ws x.answers (take (domains (table_at x)) x.holders) runs)
 
-  left-size : length o.table ≡ x.stage.words
+  left-size : length o.table ≡ x.stage.counts.words
   left-size = ap length left-table ∙ (run-accepted (table_at x) (split ws) still-accepted).frame.size ∙ table-size
 
   -- the state with the list counted, before the bytes after it are looked at
@@ -202,7 +207,7 @@ module _ {n : ℕ} {bytes : List ℕ} {x : State} (l : Listing n bytes x) (space
   state' =
       record {
         stage = counted x.stage tally';
-        table = o.table ++ drop x.stage.words x.table;
+        table = o.table ++ drop x.stage.counts.words x.table;
         list = (list_whole n x part).list;
         answers = o.answers;
         holders = (list_whole n x part).holders;
@@ -216,9 +221,9 @@ module _ {n : ℕ} {bytes : List ℕ} {x : State} (l : Listing n bytes x) (space
         let same : ws ≡ take n (words_of part) = take-words_of n part in
         record {
           bytes_are = ap (λ (u : List ℕ). u ++ part) y.bytes_are ∙ append_assoc l.head l.read part;
-          known = record { is_whole = y.known.is_whole; ends = y.known.ends; accepted = y.known.accepted; words = y.known.words; endpoints_are = y.known.endpoints_are; start_is = y.known.start_is };
+          known = same-known y.known;
           count_is = omega (arith, y.count_is, length-append l.lists (take n (words_of part) ∷ []));
-          tallied = rw (take_at o.table (drop x.stage.words x.table) x.stage.words left-size) (rw same at tallied');
+          tallied = rw (take_at o.table (drop x.stage.counts.words x.table) x.stage.counts.words left-size) (rw same at tallied');
         }
 
     is_state : list_read n x part ≡ at_stage state' (head_read (counted x.stage tally') (drop (4 * n) part))
@@ -248,7 +253,7 @@ module _ {n : ℕ} {bytes : List ℕ} {x : State} (l : Listing n bytes x) (space
         ∙ omega (arith, answers-length (table_at x) (split ws), length-drop (3 * length (split ws)) x.answers) in
         rw (le-ltb (length part) (4 * n) all)
         (record {
-          table = omega (arith, space.table, length-append o.table (drop x.stage.words x.table), left-size, length-drop x.stage.words x.table);
+          table = omega (arith, space.table, length-append o.table (drop x.stage.counts.words x.table), left-size, length-drop x.stage.counts.words x.table);
           list = omega (arith, space.list, length-overwrite 0 (words_of (take (4 * n) part)) x.list);
           answers = omega (arith, space.answers, answered);
           holders = omega (arith, space.holders, kept, length-append o.holders (drop (domains (table_at x)) x.holders), length-drop (domains (table_at x)) x.holders);

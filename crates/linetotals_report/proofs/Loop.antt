@@ -14,9 +14,9 @@ use Rattle.input_words.specs.Bytes.{word_at, words_of}
 use Rattle.input_words.specs.TableInput.{longest_table}
 use Rattle.input_words.proofs.TableLaws.{length-table_of}
 use Rattle.linetotals_input.specs.Input.{most_lists}
+use Rattle.std.specs.Prelude.{Option, None, Some, Result, Ok, Err}
 use Rattle.linetotals_input.specs.Next.{next_of}
-use Rattle.linetotals_input.specs.declared.Next.{Next}
-use Rattle.linetotals_input.specs.declared.Next.TheVariants.{Ends, Words}
+use Rattle.linetotals_input.specs.declared.ListRefusal.{ListRefusal}
 use Rattle.linetotals_input.proofs.ListLaws.{head_few}
 use Rattle.linetotals_run.specs.declared.Phase.{Phase}
 use Rattle.linetotals_run.specs.declared.Phase.TheVariants.{TableLength, TableWords, FirstLength, ListWords, Over}
@@ -54,17 +54,17 @@ reach x r (part ∷ parts) o =
 
 -- it wants no more than the longest list and a length word, and there is space for what it wants
 fits-at : (p : Phase) (bytes : List ℕ) (x : State) → Space x → AtPhase p bytes x
-    → (phase_wanted p x.stage.count ≤ 16388) × (phase_fits p x.stage.words x.stage.count x.table x.list ≡ true)
+    → (phase_wanted p x.stage.counts.count ≤ 16388) × (phase_fits p x.stage.counts.words x.stage.counts.count x.table x.list ≡ true)
 fits-at TableLength bytes x s at = (omega arith, refl)
 fits-at (TableWords n) bytes x s at = (omega (arith, at.few), le-leb n (length x.table) (omega (arith, at.few, s.table)))
 fits-at FirstLength bytes x s at = (omega arith, refl)
 fits-at (ListWords n) bytes x s at =
     let k = at.counted.known in
-    let words : x.stage.words ≤ length x.table = omega (arith, k.words, length-table_of at.head k.is_whole, s.table) in
+    let words : x.stage.counts.words ≤ length x.table = omega (arith, k.words, length-table_of at.head k.is_whole, s.table) in
     let list : n ≤ length x.list = omega (arith, at.going.short, s.list) in
-    let count : x.stage.count < most_lists = omega (arith, at.counted.count_is, at.going.count) in (
-      omega (arith, at.going.short, head_few (most_lists - (x.stage.count + 1))),
-      and_intro (and_intro (le-leb x.stage.words (length x.table) words) (le-leb n (length x.list) list)) (lt-ltb x.stage.count most_lists count),
+    let count : x.stage.counts.count < most_lists = omega (arith, at.counted.count_is, at.going.count) in (
+      omega (arith, at.going.short, head_few (most_lists - (x.stage.counts.count + 1))),
+      and_intro (and_intro (le-leb x.stage.counts.words (length x.table) words) (le-leb n (length x.list) list)) (lt-ltb x.stage.counts.count most_lists count),
     )
 fits-at (Over code) bytes x s at = (omega arith, refl)
 
@@ -77,19 +77,20 @@ rank (ListWords n) count = 65537 - count
 rank (Over code) count = 0
 
 abbrev pub rank_of : Stage → ℕ
-rank_of s = rank s.phase s.count
+rank_of s = rank s.phase s.counts.count
 
-next-below : (next : Next) (count k : ℕ) → 65537 - count < k → rank (next_phase next) count < k
-next-below (Ends code) count k h = omega arith
-next-below (Words n) count k h = h
+next-below : (next : Result (Option ℕ) ListRefusal) (count k : ℕ) → 65537 - count < k → rank (next_phase next) count < k
+next-below (Ok None) count k h = omega arith
+next-below (Ok (Some n)) count k h = h
+next-below (Err r) count k h = omega arith
 
 length-below : (s : Stage) (part : List ℕ) → rank_of (length_read s part) < 65540
 unfolding length_read
 length-below s part =
-    cond-elim (λ (p : Phase). rank p s.count < 65540) (ltb (length part) 4) (λ _. omega arith)
+    cond-elim (λ (p : Phase). rank p s.counts.count < 65540) (ltb (length part) 4) (λ _. omega arith)
     (λ _.
-    cond-elim (λ (p : Phase). rank p s.count < 65540) (ltb longest_table (word_at part 0)) (λ _. omega arith)
-    (λ _. cond-elim (λ (p : Phase). rank p s.count < 65540) (eqb (word_at part 0) 0) (λ _. omega arith) (λ _. omega arith)))
+    cond-elim (λ (p : Phase). rank p s.counts.count < 65540) (ltb longest_table (word_at part 0)) (λ _. omega arith)
+    (λ _. cond-elim (λ (p : Phase). rank p s.counts.count < 65540) (eqb (word_at part 0) 0) (λ _. omega arith) (λ _. omega arith)))
 
 table_below : (n : ℕ) (s : Stage) (part : List ℕ) → rank_of (table_read n s part) < 65539
 unfolding table_read table_checked
@@ -97,20 +98,20 @@ table_below n s part =
     cond-elim (λ (y : Stage). rank_of y < 65539) (ltb (length part) (4 * n)) (λ _. omega arith)
     (λ _. cond-elim (λ (y : Stage). rank_of y < 65539) (eqb (table_code (words_of (take (4 * n) part))) 0) (λ _. omega arith) (λ _. omega arith))
 
-head-below : (s : Stage) (head : List ℕ) (k : ℕ) → 65537 - s.count < k → rank_of (head_read s head) < k
+head-below : (s : Stage) (head : List ℕ) (k : ℕ) → 65537 - s.counts.count < k → rank_of (head_read s head) < k
 unfolding head_read
-head-below s head k h = next-below (next_of (most_lists - s.count) head) s.count k h
+head-below s head k h = next-below (next_of (most_lists - s.counts.count) head) s.counts.count k h
 
-list-below : (n : ℕ) (x : State) (part : List ℕ) → x.stage.count < most_lists → rank_of (list_read n x part).stage < 65537 - x.stage.count
+list-below : (n : ℕ) (x : State) (part : List ℕ) → x.stage.counts.count < most_lists → rank_of (list_read n x part).stage < 65537 - x.stage.counts.count
 unfolding list_read list_whole list_ran counted
 list-below n x part few =
-    cond-elim (λ (y : State). rank_of y.stage < 65537 - x.stage.count) (ltb (length part) (4 * n)) (λ _. omega arith)
+    cond-elim (λ (y : State). rank_of y.stage < 65537 - x.stage.counts.count) (ltb (length part) (4 * n)) (λ _. omega arith)
     (λ _.
-    cond-elim (λ (y : Stage). rank_of y < 65537 - x.stage.count) (eqb (entered x (words_of (take (4 * n) part))).code 0)
-    (λ _. head-below (counted x.stage (tally_with (table_at x) (words_of (take (4 * n) part)) x.stage.tally)) (drop (4 * n) part) (65537 - x.stage.count) (omega arith))
+    cond-elim (λ (y : Stage). rank_of y < 65537 - x.stage.counts.count) (eqb (entered x (words_of (take (4 * n) part))).code 0)
+    (λ _. head-below (counted x.stage (tally_with (table_at x) (words_of (take (4 * n) part)) x.stage.counts.tally)) (drop (4 * n) part) (65537 - x.stage.counts.count) (omega arith))
     (λ _. omega arith))
 
-below : (x : State) (bytes part : List ℕ) (p : Phase) → AtPhase p bytes x → 0 < phase_wanted p x.stage.count → rank_of (phase_read p x part).stage < rank p x.stage.count
+below : (x : State) (bytes part : List ℕ) (p : Phase) → AtPhase p bytes x → 0 < phase_wanted p x.stage.counts.count → rank_of (phase_read p x part).stage < rank p x.stage.counts.count
 below x bytes part TableLength at some = length-below x.stage part
 below x bytes part (TableWords n) at some = table_below n x.stage part
 below x bytes part FirstLength at some = head-below x.stage part 65538 (omega arith)

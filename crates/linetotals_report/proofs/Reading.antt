@@ -39,8 +39,8 @@ use Rattle.linetotals_report.proofs.ListStep.{Counted, Listing, Headed, headed, 
 
 -- no table is known yet
 pub record Fresh (s : Stage) : Type 0 where
-  pub no_endpoints : s.endpoints ≡ 0
-  pub no_lists : s.count ≡ 0
+  pub no_endpoints : s.counts.endpoints ≡ 0
+  pub no_lists : s.counts.count ≡ 0
 
 -- the table's n words follow
 pub record Follows (n : ℕ) (bytes : List ℕ) (x : State) : Type 0 where
@@ -72,6 +72,10 @@ from-headed FirstLength h = absurd (h.no_first refl)
 from-headed (ListWords n) h = h.listing n refl
 from-headed (Over code) h = h.over code refl
 
+-- another stage has the same space
+same-space : {x : State} {s : Stage} → Space x → Space (at_stage x s)
+same-space space = record { table = space.table; list = space.list; answers = space.answers; holders = space.holders }
+
 -- ---- the table
 
 -- an input without a table, by its length word or by its length
@@ -80,7 +84,7 @@ module _ (x : State) (bytes : List ℕ) (fresh : Fresh x.stage) (space : Space x
   unfolding wanted
   none full e done =
       record {
-        space = record { table = space.table; list = space.list; answers = space.answers; holders = space.holders };
+        space = same-space space;
         at = no_lines x.stage x.table 7 fresh.no_endpoints fresh.no_lists ∙ sym (sheet-none bytes e);
         asks = λ h. absurd (omega arith);
         exact = λ f. simp e (done f);
@@ -121,7 +125,7 @@ length-step x part fresh space few = go (dec_lt (length part) 4) (dec_lt longest
         let same : wanted part ≡ 4 * word_at part 0 = simp (word, fits, more) (omega arith) in
         rw (word, fits, ne_eqb (word_at part 0) 0 (omega arith))
         (record {
-          space = record { table = space.table; list = space.list; answers = space.answers; holders = space.holders };
+          space = same-space space;
           at =
               record {
                 fresh = record { no_endpoints = fresh.no_endpoints; no_lists = fresh.no_lists };
@@ -178,8 +182,8 @@ module _ (x : State) (n : ℕ) (bytes part : List ℕ) (f : Follows n bytes x) (
         let fits : length t ≤ length x.table = omega (arith, space.table, f.few, length-words_of (take (4 * n) part), length-take (4 * n) part) in
         (fills-front {items = t} {buffer = x.table} {count = length t} fits (record { count-is = omega arith; items-are = refl })).1
 
-    known-table : (s : Stage) → table_code (words_of (take (4 * n) part)) ≡ 0 → s.words ≡ length (words_of (take (4 * n) part))
-        → s.endpoints ≡ endpoints (words_of (take (4 * n) part)) → s.start ≡ waiting_at (words_of (take (4 * n) part)) → Known (bytes ++ part) s
+    known-table : (s : Stage) → table_code (words_of (take (4 * n) part)) ≡ 0 → s.counts.words ≡ length (words_of (take (4 * n) part))
+        → s.counts.endpoints ≡ endpoints (words_of (take (4 * n) part)) → s.counts.start ≡ waiting_at (words_of (take (4 * n) part)) → Known (bytes ++ part) s
     known-table s code words ends starts =
         record {
           is_whole = is-whole;
@@ -238,32 +242,32 @@ first_step x bytes part y space few =
     record { bytes_are = refl; known = y.known; count_is = y.count_is; tallied = y.tallied } in
     let h = headed y' z (omega (arith, y.count_is)) in
     record {
-      space = record { table = space.table; list = space.list; answers = space.answers; holders = space.holders };
+      space = same-space space;
       at = from-headed (head_read x.stage part).phase h;
       asks = h.asks;
       exact = h.exact;
     }
 
 cut_step : (x : State) (n : ℕ) (bytes part : List ℕ) (l : Listing n bytes x) → Space x → (asked : length part ≤ 4 * n + head_wanted (most_lists - (length l.lists + 1)))
-    → length part < 4 * n → Represents (bytes ++ part) (length part ≡ 4 * n + head_wanted (most_lists - (x.stage.count + 1))) (list_read n x part)
+    → length part < 4 * n → Represents (bytes ++ part) (length part ≡ 4 * n + head_wanted (most_lists - (x.stage.counts.count + 1))) (list_read n x part)
 unfolding list_read
 cut_step x n bytes part l space asked h =
     rw (lt-ltb (length part) (4 * n) h)
     (record {
-      space = record { table = space.table; list = space.list; answers = space.answers; holders = space.holders };
+      space = same-space space;
       at = cut-lines l space part asked h;
       asks = λ g. absurd (omega arith);
       exact = λ e. absurd (omega arith);
     })
 
-list-step : (x : State) (n : ℕ) (bytes part : List ℕ) → Listing n bytes x → Space x → length part ≤ 4 * n + head_wanted (most_lists - (x.stage.count + 1))
-    → Represents (bytes ++ part) (length part ≡ 4 * n + head_wanted (most_lists - (x.stage.count + 1))) (list_read n x part)
+list-step : (x : State) (n : ℕ) (bytes part : List ℕ) → Listing n bytes x → Space x → length part ≤ 4 * n + head_wanted (most_lists - (x.stage.counts.count + 1))
+    → Represents (bytes ++ part) (length part ≡ 4 * n + head_wanted (most_lists - (x.stage.counts.count + 1))) (list_read n x part)
 list-step x n bytes part l space few = go (dec_lt (length part) (4 * n))
   where
     asked : length part ≤ 4 * n + head_wanted (most_lists - (length l.lists + 1))
     asked = rw l.counted.count_is at few
 
-    go : Dec (length part < 4 * n) → Represents (bytes ++ part) (length part ≡ 4 * n + head_wanted (most_lists - (x.stage.count + 1))) (list_read n x part)
+    go : Dec (length part < 4 * n) → Represents (bytes ++ part) (length part ≡ 4 * n + head_wanted (most_lists - (x.stage.counts.count + 1))) (list_read n x part)
     go (yes h) = cut_step x n bytes part l space asked h
     go (no h) =
         let all : 4 * n ≤ length part = omega arith in
@@ -280,8 +284,8 @@ pub step : (x : State) (bytes part : List ℕ) (full : Type 0) → Represents by
 unfolding stepped
 step x bytes part full s some few = go x.stage.phase s.at some few
   where
-    go : (p : Phase) → AtPhase p bytes x → 0 < phase_wanted p x.stage.count → length part ≤ phase_wanted p x.stage.count
-        → Represents (bytes ++ part) (length part ≡ phase_wanted p x.stage.count) (phase_read p x part)
+    go : (p : Phase) → AtPhase p bytes x → 0 < phase_wanted p x.stage.counts.count → length part ≤ phase_wanted p x.stage.counts.count
+        → Represents (bytes ++ part) (length part ≡ phase_wanted p x.stage.counts.count) (phase_read p x part)
     go TableLength at some few = rw at.0 (length-step x part at.1 s.space few)
     go (TableWords n) at some few = table_step x n bytes part at s.space few
     go FirstLength at some few = first_step x bytes part at s.space few
@@ -291,11 +295,11 @@ step x bytes part full s some few = go x.stage.phase s.at some few
 -- ---- all the parts
 
 -- where nothing more is wanted, the reading is over
-over-of : (p : Phase) (bytes : List ℕ) (x : State) → phase_wanted p x.stage.count ≡ 0 → AtPhase p bytes x → stage_lines x.stage x.table ≡ sheet bytes
+over-of : (p : Phase) (bytes : List ℕ) (x : State) → phase_wanted p x.stage.counts.count ≡ 0 → AtPhase p bytes x → stage_lines x.stage x.table ≡ sheet bytes
 over-of TableLength bytes x e at = absurd (omega arith)
 over-of (TableWords n) bytes x e at = absurd (omega (arith, at.some))
 over-of FirstLength bytes x e at = absurd (omega arith)
-over-of (ListWords n) bytes x e at = absurd (omega (arith, head_few (most_lists - (x.stage.count + 1))))
+over-of (ListWords n) bytes x e at = absurd (omega (arith, head_few (most_lists - (x.stage.counts.count + 1))))
 over-of (Over code) bytes x e at = at
 
 reading : (x : State) (bytes : List ℕ) (full : Type 0) → Represents bytes full x → Needed bytes → (parts : List (List ℕ)) → InOrder x parts

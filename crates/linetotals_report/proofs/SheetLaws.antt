@@ -50,19 +50,19 @@ module _ (t : List ℕ) (lists : List (List ℕ)) {tally : Tally} {start end : L
   lines_are (suc k) l f = ap₂ (λ (a b : List ℕ). a ++ b) (lines_are k (omega arith) (omega arith)) (line-is k (omega arith) (omega arith))
 
 -- a stage that counted the lists
-pub over-lines : (t : List ℕ) (lists : List (List ℕ)) (s : Stage) (table : List ℕ) (code : ℕ) → Accepted t → s.endpoints ≡ endpoints t
-    → s.start ≡ waiting_at t → s.count ≡ length lists → Tallied t lists s.tally (take s.words table)
+pub over-lines : (t : List ℕ) (lists : List (List ℕ)) (s : Stage) (table : List ℕ) (code : ℕ) → Accepted t → s.counts.endpoints ≡ endpoints t
+    → s.counts.start ≡ waiting_at t → s.counts.count ≡ length lists → Tallied t lists s.counts.tally (take s.counts.words table)
     → stage_lines (in_phase (Over code) s) table ≡ totals_lines t lists code
 unfolding stage_lines totals_lines
 over-lines t lists s table code a ends starts count tallied =
     let few = (accepted-counts t a).2 in
-    let all : min s.endpoints 32 ≡ endpoints t = omega (arith, ends, few) in
+    let all : min s.counts.endpoints 32 ≡ endpoints t = omega (arith, ends, few) in
     ap₂ (λ (u v : List ℕ). u ++ v)
-    (ap (counts_lines s.tally.sent s.tally.received s.tally.lost s.start (waiting_at (take s.words table))) all
+    (ap (counts_lines s.counts.tally.sent s.counts.tally.received s.counts.tally.lost s.counts.start (waiting_at (take s.counts.words table))) all
     ∙ lines_are t lists tallied.tally_is starts (ap waiting_at tallied.table_is) (endpoints t) (omega arith) few)
     (ap (λ (n : ℕ). last_line n code) count)
 
 -- a stage that counted nothing
-pub no_lines : (s : Stage) (table : List ℕ) (code : ℕ) → s.endpoints ≡ 0 → s.count ≡ 0 → stage_lines (in_phase (Over code) s) table ≡ last_line 0 code
+pub no_lines : (s : Stage) (table : List ℕ) (code : ℕ) → s.counts.endpoints ≡ 0 → s.counts.count ≡ 0 → stage_lines (in_phase (Over code) s) table ≡ last_line 0 code
 unfolding stage_lines counts_lines
 no_lines s table code ends count = rw (ends, count)

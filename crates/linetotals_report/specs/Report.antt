@@ -2,7 +2,7 @@
 use Rattle.std.specs.Prelude.{ℕ, zero, suc, min, List, [], ◌++◌, get_or, take}
 use Rattle.linetotals_text.specs.Lines.{endpoint_line, last_line}
 use Rattle.linetotals_run.specs.declared.Stage.{Stage}
-use Rattle.linetotals_run.specs.Stage.{counts_at}
+use Rattle.linetotals_run.specs.Stage.{counts_at, code_at}
 use Rattle.linetotals_run.specs.Step.{waiting_at}
 
 -- the most bytes that a sheet has: at most 146 in the line of each of 32 endpoints, 43 in the last
@@ -26,4 +26,4 @@ stage_lines s table =
     let said = counts_at s in
     counts_lines said.tally.sent said.tally.received said.tally.lost said.start (waiting_at (take said.words table))
     (min said.endpoints 32)
-    ++ last_line said.count said.code
+    ++ last_line said.count (code_at s)

@@ -24,5 +24,5 @@ pub fn report(stage: Stage, table: &[u32], out: &mut [u8]) -> usize
     let end = waiting_counts(&table[0..words]);
     let m = counts.endpoints.min(ENDPOINT_PLACES);
     let at = endpoint_lines(m, &counts.tally, &counts.start, &end, out);
-    last_line(counts.count, counts.code, out, at)
+    last_line(counts.count, stage.code(), out, at)
 }

@@ -22,6 +22,7 @@ pub fn endpoint_lines(
     ensures upper_bound { result ≤ 146 * m }
 {
     let mut at = 0;
+    // goes by the index: five slices zipped are no plainer
     for e in 0..m {
         at = endpoint_line(
             e,

@@ -1,10 +1,14 @@
 -- A stage of the reading of linetotals' input (document 02 (e), end-of-shift totals): what the next bytes are, and so how many are
 -- wanted; and what was counted so far. A stage is made by the functions of this crate alone.
 use Rattle.std.specs.Prelude.{ℕ, ◌+◌, ◌-◌, ◌*◌, replicate}
+use Rattle.table_check.specs.Checked.{refusal_code}
+use Rattle.run_result.specs.Entry.{entry_refusal_code}
 use Rattle.totals_add.specs.Added.{no_totals}
 use Rattle.linetotals_input.specs.Input.{most_lists, head_wanted}
 use Rattle.linetotals_run.specs.declared.Phase.{Phase}
 use Rattle.linetotals_run.specs.declared.Phase.TheVariants.{TableLength, TableWords, FirstLength, ListWords, Over}
+use Rattle.linetotals_run.specs.declared.ReadRefusal.{ReadRefusal}
+use Rattle.linetotals_run.specs.declared.ReadRefusal.TheVariants.{CutShort, BadTable, BadList}
 use Rattle.linetotals_run.specs.declared.Stage.{Stage}
 use Rattle.linetotals_run.specs.declared.Counts.{Counts}
 
@@ -18,7 +22,7 @@ phase_wanted (ListWords n) count = 4 * n + head_wanted (most_lists - (count + 1)
 phase_wanted (Over code) count = 0
 
 abbrev pub wanted_at : Stage → ℕ
-wanted_at s = phase_wanted s.phase s.count
+wanted_at s = phase_wanted s.phase s.counts.count
 
 -- the code that ended the reading; 7 where it isn't over
 abbrev pub phase_code : Phase → ℕ
@@ -28,23 +32,28 @@ phase_code FirstLength = 7
 phase_code (ListWords n) = 7
 phase_code (Over code) = code
 
+-- a refusal's code
+abbrev pub read_refusal_code : ReadRefusal → ℕ
+read_refusal_code CutShort = 7
+read_refusal_code (BadTable r) = refusal_code r
+read_refusal_code (BadList r) = entry_refusal_code r
+
 -- the first stage
 abbrev pub first_stage : Stage
-first_stage = record { phase = TableLength; words = 0; endpoints = 0; count = 0; start = replicate 32 0; tally = no_totals }
+first_stage =
+    record {
+      phase = TableLength;
+      counts = record { words = 0; endpoints = 0; count = 0; start = replicate 32 0; tally = no_totals };
+    }
 
 -- a stage with another phase
 abbrev pub in_phase : Phase → Stage → Stage
-in_phase p s =
-    record { phase = p; words = s.words; endpoints = s.endpoints; count = s.count; start = s.start; tally = s.tally }
+in_phase p s = record s { phase = p }
 
--- what a stage says, for what is printed
+-- what was counted so far
 abbrev pub counts_at : Stage → Counts
-counts_at s =
-    record {
-      words = s.words;
-      endpoints = s.endpoints;
-      count = s.count;
-      code = phase_code s.phase;
-      start = s.start;
-      tally = s.tally;
-    }
+counts_at s = s.counts
+
+-- the code that ended the reading; 7 where it isn't over
+abbrev pub code_at : Stage → ℕ
+code_at s = phase_code s.phase

@@ -1,6 +1,6 @@
 -- The step from a stage and the bytes that were read for it to the next stage, with the lent words (document 02 (e), end-of-shift
 -- totals). It is total: it says what becomes of every stage, whatever the lent words are.
-use Rattle.std.specs.Prelude.{ℕ, ◌+◌, ◌-◌, ◌*◌, ◌≡◌, Bool, true, cond, ◌&&◌, List, ◌++◌, eqb, ltb, leb, length, take, drop}
+use Rattle.std.specs.Prelude.{Option, None, Some, Result, Ok, Err, ℕ, ◌+◌, ◌-◌, ◌*◌, ◌≡◌, Bool, true, cond, ◌&&◌, List, ◌++◌, eqb, ltb, leb, length, take, drop}
 use Rattle.machine.specs.Below.{words_below}
 use Rattle.machine.specs.Table.{domains, endpoints, endpoint}
 use Rattle.machine.specs.Queue.{waiting}
@@ -13,13 +13,13 @@ use Rattle.totals_theory.specs.Totals.{list_totals}
 use Rattle.totals_add.specs.declared.Tally.{Tally}
 use Rattle.totals_add.specs.Added.{no_totals, added_below}
 use Rattle.linetotals_input.specs.Input.{most_lists}
-use Rattle.linetotals_input.specs.Next.{next_of}
-use Rattle.linetotals_input.specs.declared.Next.{Next}
-use Rattle.linetotals_input.specs.declared.Next.TheVariants.{Ends, Words}
+use Rattle.linetotals_input.specs.Next.{list_refusal_code, next_of}
+use Rattle.linetotals_input.specs.declared.ListRefusal.{ListRefusal}
 use Rattle.linetotals_run.specs.declared.Phase.{Phase}
 use Rattle.linetotals_run.specs.declared.Phase.TheVariants.{TableLength, TableWords, FirstLength, ListWords, Over}
+use Rattle.linetotals_run.specs.declared.ReadRefusal.{ReadRefusal}
 use Rattle.linetotals_run.specs.declared.Stage.{Stage}
-use Rattle.linetotals_run.specs.Stage.{wanted_at, in_phase}
+use Rattle.linetotals_run.specs.Stage.{wanted_at, in_phase, read_refusal_code}
 
 -- a stage, and the words that are lent: space for the table, for a list, for its answers and for the holders
 pub record State : Type 0 where
@@ -31,7 +31,12 @@ pub record State : Type 0 where
 
 -- the same lent words with another stage
 abbrev pub at_stage : State → Stage → State
-at_stage x s = record { stage = s; table = x.table; list = x.list; answers = x.answers; holders = x.holders }
+at_stage x s = record x { stage = s }
+
+-- the stage after a reading: a refusal ends it with its code
+abbrev pub next_or_over : Stage → Result Stage ReadRefusal → Stage
+next_or_over s (Ok next) = next
+next_or_over s (Err r) = in_phase (Over (read_refusal_code r)) s
 
 -- ---- the table
 
@@ -52,11 +57,7 @@ abbrev pub lists_follow : List ℕ → Stage
 lists_follow t =
     record {
       phase = FirstLength;
-      words = length t;
-      endpoints = endpoints t;
-      count = 0;
-      start = waiting_at t;
-      tally = no_totals;
+      counts = record { words = length t; endpoints = endpoints t; count = 0; start = waiting_at t; tally = no_totals };
     }
 
 -- after the table t: its code where it is refused, else the lists follow
@@ -75,13 +76,14 @@ table_stored n bytes table = cond (ltb (length bytes) (4 * n)) table (overwrite 
 -- ---- the lists
 
 -- by the bytes before a list, the lists end with a code, or a list follows
-abbrev pub next_phase : Next → Phase
-next_phase (Ends code) = Over code
-next_phase (Words n) = ListWords n
+abbrev pub next_phase : Result (Option ℕ) ListRefusal → Phase
+next_phase (Ok None) = Over 0
+next_phase (Ok (Some n)) = ListWords n
+next_phase (Err r) = Over (list_refusal_code r)
 
 -- after the bytes before a list
 unfoldable pub head_read : Stage → List ℕ → Stage
-head_read s head = in_phase (next_phase (next_of (most_lists - s.count) head)) s
+head_read s head = in_phase (next_phase (next_of (most_lists - s.counts.count) head)) s
 
 -- a tally with what the list ws counts, run from the table t
 unfoldable pub tally_with : List ℕ → List ℕ → Tally → Tally
@@ -94,8 +96,7 @@ tally_with t ws tally =
 
 -- a stage with one list more that ran, and the tally with it
 unfoldable pub counted : Stage → Tally → Stage
-counted s tally =
-    record { phase = s.phase; words = s.words; endpoints = s.endpoints; count = s.count + 1; start = s.start; tally = tally }
+counted s tally = record s { counts = record s.counts { count = s.counts.count + 1; tally = tally } }
 
 -- after a list that the entry gave a code: a refused one ends the lists with its code, and counts nothing; one that ran is counted,
 -- and the bytes before the next list are looked at
@@ -105,7 +106,7 @@ list_ran s code tally head = cond (eqb code 0) (head_read (counted s tally) head
 -- the table of a state, and what the entry makes of the list ws from it: a word for each domain is lent for the holders, as far as
 -- there are
 abbrev pub table_at : State → List ℕ
-table_at x = take x.stage.words x.table
+table_at x = take x.stage.counts.words x.table
 
 abbrev pub entered : State → List ℕ → Outcome
 entered x ws = entry (table_at x) ws x.answers (take (domains (table_at x)) x.holders)
@@ -116,8 +117,8 @@ list_whole n x bytes =
     let ws = words_of (take (4 * n) bytes) in
     let o = entered x ws in
     record {
-      stage = list_ran x.stage o.code (tally_with (table_at x) ws x.stage.tally) (drop (4 * n) bytes);
-      table = o.table ++ drop x.stage.words x.table;
+      stage = list_ran x.stage o.code (tally_with (table_at x) ws x.stage.counts.tally) (drop (4 * n) bytes);
+      table = o.table ++ drop x.stage.counts.words x.table;
       list = overwrite 0 ws x.list;
       answers = o.answers;
       holders = o.holders ++ drop (domains (table_at x)) x.holders;
@@ -133,13 +134,7 @@ list_read n x bytes = cond (ltb (length bytes) (4 * n)) (at_stage x (in_phase (O
 abbrev pub phase_read : Phase → State → List ℕ → State
 phase_read TableLength x bytes = at_stage x (length_read x.stage bytes)
 phase_read (TableWords n) x bytes =
-    record {
-      stage = table_read n x.stage bytes;
-      table = table_stored n bytes x.table;
-      list = x.list;
-      answers = x.answers;
-      holders = x.holders;
-    }
+    record x { stage = table_read n x.stage bytes; table = table_stored n bytes x.table }
 phase_read FirstLength x bytes = at_stage x (head_read x.stage bytes)
 phase_read (ListWords n) x bytes = list_read n x bytes
 phase_read (Over code) x bytes = x
@@ -158,7 +153,7 @@ phase_fits (Over code) words count table list = true
 -- a stage takes a reading of `want` bytes, `count` of which came into the input, where it wanted so many and there is space
 unfoldable pub takes : Stage → ℕ → ℕ → List ℕ → List ℕ → List ℕ → Bool
 takes s want count input table list =
-    eqb want (wanted_at s) && leb count (length input) && phase_fits s.phase s.words s.count table list
+    eqb want (wanted_at s) && leb count (length input) && phase_fits s.phase s.counts.words s.counts.count table list
 
 -- the step of every stage: a reading that it doesn't take leaves everything as it is
 unfoldable pub step_on : State → ℕ → ℕ → List ℕ → State

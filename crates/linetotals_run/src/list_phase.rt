@@ -1,62 +1,54 @@
 // Reads a list and runs it, and reads the bytes before a list (document 02 (e), end-of-shift totals).
-ghost use Rattle.std.specs.Prelude.{◌≤◌, ◌<◌, min, ◌≡◌, length};
-ghost use Rattle.machine.specs.Table.{domains as domains_of};
+ghost use Rattle.std.specs.Prelude.{◌≤◌, ◌<◌, ◌≡◌, length};
 ghost use Rattle.run_result.specs.Entry.{ran_code};
 ghost use Rattle.linetotals_input.specs.Input.{most_lists};
-ghost use Rattle.linetotals_run.specs.Step.{head_read, list_ran, list_read, Left};
+ghost use Rattle.linetotals_run.specs.Step.{next_or_over, head_read, list_ran, list_read, Left};
 
-use crate::{Phase, Stage, left_after};
+use crate::{Counts, MOST_LISTS, Phase, ReadRefusal, Stage};
 use input_words::words::fill;
-use linetotals_input::{Next, next_list};
+use linetotals_input::next_list;
+use result_code::Coded;
+use run_result::EntryRefusal;
 use table_layout::domains;
-use totals_add::{Added, add_list};
+use totals_add::Tally;
 
 // Goes on by the bytes before a list.
+#[tactic(auto, unfolding(crate::specs::Step::head_read))]
 pub fn head_read(stage: Stage, head: &[u8]) -> Stage
     ensures { result ≡ head_read stage head.now }
 {
-    let next = next_list(left_after(stage.count), head);
-    match next {
-        Next::Ends(code) => stage.at(Phase::Over(code)),
-        Next::Words(n) => stage.at(Phase::ListWords(n)),
+    match next_list(MOST_LISTS.saturating_sub(stage.counts.count), head) {
+        Ok(Some(n)) => stage.at(Phase::ListWords(n)),
+        Ok(None) => stage.at(Phase::Over(0)),
+        Err(refusal) => stage.at(Phase::Over(refusal.code())),
     }
 }
 
-// Goes on after a list, by its code and the totals with it and by the bytes before the next list. A list that was refused ends the
+// Goes on after a list that was run, by the totals with it and by the bytes before the next list. A list that was refused ends the
 // lists. The caller must have counted fewer lists than there may be.
-fn list_ran(stage: Stage, added: Added, head: &[u8]) -> Stage
-    requires { stage.count < most_lists }
-    ensures { result ≡ list_ran stage (ran_code added.ran) added.tally head.now }
+#[tactic(auto, unfolding(crate::specs::Step::list_ran, crate::specs::Step::counted))]
+fn list_ran(
+    stage: Stage,
+    ran: Result<usize, EntryRefusal>,
+    tally: Tally,
+    head: &[u8],
+) -> Result<Stage, ReadRefusal>
+    requires { stage.counts.count < most_lists }
+    ensures { next_or_over stage result ≡ list_ran stage (ran_code ran) tally head.now }
 {
-    let ran = added.ran;
-    let code = ran.code();
-    if code != 0 {
-        return stage.at(Phase::Over(code));
-    }
-    let phase = stage.phase;
-    let start = stage.start;
-    let tally = added.tally;
-    let counted = Stage {
-        phase,
-        words: stage.words,
-        endpoints: stage.endpoints,
-        count: stage.count + 1,
-        start,
+    ran?;
+    let counts = Counts {
+        count: stage.counts.count + 1,
         tally,
+        ..stage.counts
     };
-    head_read(counted, head)
+    Ok(head_read(Stage { counts, ..stage }, head))
 }
 
-// Returns how many words are lent for the holders: one for each domain, as far as there are.
-fn holders_lent(table: &[u32], most: usize) -> usize
-    ensures { result ≡ min (domains_of table.now) most }
-{
-    let n = domains(table) as usize;
-    if most < n { most } else { n }
-}
-
-// Goes on by a list of n words and the bytes before the next list: the list is run, and what it counts is added. The caller must
-// have space for the list and its table, and have counted fewer lists than there may be.
+// Goes on by a list of n words and the bytes before the next list: the list is run, and what it counts is added. One word a domain
+// is lent for the holders, as far as there are. The caller must have space for the list and its table, and have counted fewer lists
+// than there may be.
+#[tactic(auto, unfolding(crate::specs::Step::list_read))]
 pub fn list_read(
     stage: Stage,
     n: u32,
@@ -65,8 +57,8 @@ pub fn list_read(
     list: &mut [u32],
     answers: &mut [u32],
     holders: &mut [u32],
-) -> Stage
-    requires { (stage.words ≤ length table.old) × (n ≤ length list.old) × (stage.count < most_lists) }
+) -> Result<Stage, ReadRefusal>
+    requires { (stage.counts.words ≤ length table.old) × (n ≤ length list.old) × (stage.counts.count < most_lists) }
     ensures { Left
         (list_read n (record {
           stage = stage;
@@ -75,22 +67,16 @@ pub fn list_read(
           answers = answers.old;
           holders = holders.old;
         }) bytes.now)
-        result table.new list.new answers.new holders.new }
+        (next_or_over stage result) table.new list.new answers.new holders.new }
 {
     let end = 4 * (n as usize);
     if bytes.len() < end {
-        return stage.at(Phase::Over(7));
+        return Err(ReadRefusal::CutShort);
     }
     let listed = fill(&bytes[0..end], list);
-    let words = stage.words;
-    let lent = holders_lent(&table[0..words], holders.len());
-    let tally = stage.tally;
-    let added = add_list(
-        &mut table[0..words],
-        &list[0..listed],
-        answers,
-        &mut holders[0..lent],
-        tally,
-    );
-    list_ran(stage, added, &bytes[end..])
+    let table = &mut table[0..stage.counts.words];
+    let lent = (domains(table) as usize).min(holders.len());
+    let mut tally = stage.counts.tally;
+    let ran = tally.add_list(table, &list[0..listed], answers, &mut holders[0..lent]);
+    list_ran(stage, ran, tally, &bytes[end..])
 }

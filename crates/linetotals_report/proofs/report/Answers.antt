@@ -10,9 +10,9 @@ pub returns-clause-writes : goal.returns-clause-writes
 returns-clause-writes c =
     let waits = rw (sub-zero c.min-words.result) at c.waiting_counts-end.ensures in
     let all = stage-lines c.args.stage c.args.table.now c.counts-counts.ensures c.min-words.ensures waits c.min-m.ensures in
-    rw (← all) (then c.endpoint_lines-at.ensures.writes c.last_line.ensures)
+    rw (← all, ← c.code.ensures) (then c.endpoint_lines-at.ensures.writes c.last_line.ensures)
 
 pub returns-clause-upper_bound : goal.returns-clause-upper_bound
 returns-clause-upper_bound c =
     let said = c.counts-counts.result in
-    omega (arith, c.last_line.ensures.place, length-last_line said.count said.code (omega arith) (omega arith))
+    omega (arith, c.last_line.ensures.place, length-last_line said.count c.code.result (omega arith) (omega arith))

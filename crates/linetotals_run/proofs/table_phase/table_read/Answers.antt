@@ -1,38 +1,18 @@
--- `table_phase::table_read` meets its contract. Assumes nothing.
-use Prim.Native.Nat.{ℕ, ◌-◌, ◌*◌, ◌≤◌}
-use mathlib.Core.Path.{◌≡◌, ap}
+-- `table_phase::table_read` meets its contract: the words at the front of the lent table are those that were read. Assumes nothing.
+use Rattle.std.proofs.Common.{◌*◌, ◌≤◌, length, take, length-take, arith}
+use borrow.Author.Tests.{le-ltb}
 use native.Mathlib.Nat.{sub-zero}
-use native.Mathlib.Omega.{arith}
-use lib.ListN.{length, take, length-take}
-use borrow.Author.Tests.{lt-ltb, le-ltb}
 use Rattle.text.proofs.WriteLaws.{fills-part}
 use Rattle.input_words.specs.Bytes.{words_of}
 use Rattle.input_words.proofs.WordLaws.{length-words_of}
-use Rattle.linetotals_run.specs.Step.{table_read, table_stored}
-use borrow.Author.Rules.{rules}
+use Rattle.linetotals_run.specs.Step.{table_read}
 use Rattle.linetotals_run.proofs.table_phase.table_read.Goals as goal
 
-pub returns-then-bytes-end : goal.returns-then-bytes-end
-unfolding table_read table_stored
-returns-then-bytes-end c =
-    let cut = lt-ltb _ _ c.if-bytes-end.true in
-    record {
-      value = rw cut c.at.ensures;
-      table_after = rw cut;
-    }
-
-pub returns : goal.returns
-unfolding table_read table_stored
-returns c =
-    let else = c in
-    let start = else in
-    let whole = le-ltb _ _ else.if-bytes-end.false in
-    let end = 4 * start.args.n in
-    let part : take (end - 0) start.args.bytes.now ≡ take end start.args.bytes.now = ap (λ (k : ℕ). take k start.args.bytes.now) (sub-zero end) in
-    let filled = rw part at c.fill-words.ensures in
-    let few : length (words_of (take end start.args.bytes.now)) ≤ length start.args.table.now = omega (arith, start.requires, length-words_of (take end start.args.bytes.now), length-take end start.args.bytes.now) in
-    let table = fills-part few filled in
-    record {
-      value = rw (whole, ← table) c.table_checked.ensures;
-      table_after = rw whole filled.items-are;
-    }
+pub returns-clause-value : goal.returns-clause-value
+unfolding table_read
+returns-clause-value c stage =
+    let end = 4 * c.args.n in
+    let bytes = c.args.bytes.now in
+    let filled = rw (sub-zero end) at c.fill-words.ensures in
+    let few : length (words_of (take end bytes)) ≤ length c.args.table.now = omega (arith, length-words_of (take end bytes), length-take end bytes) in
+    rw (le-ltb (length bytes) end c.if-bytes-end.false, ← fills-part few filled) (c.table_checked.ensures stage)
