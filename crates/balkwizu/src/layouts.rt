@@ -3,6 +3,9 @@
 ghost use Rattle.std.specs.Prelude.{◌/◌, ◌%◌};
 ghost use Rattle.machine.specs.Promise.{RunPromise};
 
+use crate::one_word;
+use result_code::code;
+
 // Runs a list of calls on a table that is loaded once and stored once, with the promise of balkwizu_run, word for word: the
 // parameters, the answer and every word left are those of balkwizu_run. The table is loaded after the entry's checks, and none of
 // its words is read or written from then until the last call has run.
@@ -19,9 +22,7 @@ pub extern "C" fn balkwizu_run_working(
         (result / 65536) answers.new table.new holders.new }
 {
     let ran = working::run_working(table, list, answers, holders);
-    let code = ran.code();
-    let calls = ran.calls();
-    code + 65536 * calls as u32
+    one_word(code(ran), ran.unwrap_or(0) as u32)
 }
 
 // Runs a list of calls, by the working run where the list is long enough for it, else in place, with the promise of balkwizu_run,
@@ -38,8 +39,6 @@ pub extern "C" fn balkwizu_run_by_length(
     ensures { RunPromise table.old list.now answers.old holders.old (result % 65536)
         (result / 65536) answers.new table.new holders.new }
 {
-    let ran = working::by_length::run_by_length(table, list, answers, holders);
-    let code = ran.code();
-    let number = ran.calls();
-    code + 65536 * number as u32
+    let outcome = working::by_length::run_by_length(table, list, answers, holders);
+    one_word(code(outcome), outcome.unwrap_or(0) as u32)
 }

@@ -5,7 +5,7 @@
 mod layouts;
 mod release;
 
-ghost use Rattle.std.specs.Prelude.{◌≡◌, ◌/◌, ◌%◌};
+ghost use Rattle.std.specs.Prelude.{◌≡◌, ◌/◌, ◌%◌, ◌<◌};
 ghost use Rattle.machine.specs.Promise.{RunPromise};
 ghost use Rattle.writer.specs.Rows.{writing_rows, outcome_of};
 ghost use Rattle.holders.specs.Asked.{ReachReported};
@@ -15,7 +15,18 @@ ghost use Rattle.repair.specs.Repair.{RepairPromise};
 ghost use Rattle.potential.specs.Reported.{PotentialReported};
 ghost use Rattle.influence.specs.Reported.{InfluenceReported};
 
-use writer::Written;
+use result_code::code;
+use writer::WriteRefusal;
+
+// Returns one word with a code in its low 16 bits and a number in its high 16 bits.
+fn one_word(code: u32, number: u32) -> u32
+    requires small { code < 65536 }
+    requires few { number < 65536 }
+    ensures low { result % 65536 ≡ code }
+    ensures high { result / 65536 ≡ number }
+{
+    code + 65536 * number
+}
 
 // Checks a table before the kernel runs on it. Returns document 01's code, and the first check that fails decides:
 //   0  the table is accepted
@@ -31,8 +42,7 @@ use writer::Written;
 pub extern "C" fn balkwizu_table_check(bytes: &[u8]) -> u32
     ensures { result ≡ bytes_code bytes.now }
 {
-    let checked = table_check_bytes::check(bytes);
-    checked.code()
+    code(table_check_bytes::check(bytes))
 }
 
 // Runs a list of calls on a table. Returns the entry's code, 0 to 6, in the low 16 bits, and the count of calls in the high 16
@@ -56,9 +66,7 @@ pub extern "C" fn balkwizu_run(
         (result / 65536) answers.new table.new holders.new }
 {
     let ran = kernel::run(table, list, answers, holders);
-    let code = ran.code();
-    let calls = ran.calls();
-    code + 65536 * calls as u32
+    one_word(code(ran), ran.unwrap_or(0) as u32)
 }
 
 // Returns who can reach a domain, by the holders that a run keeps: every domain with a chain of rights to it, of any length, that
@@ -71,10 +79,8 @@ pub extern "C" fn balkwizu_run(
 pub extern "C" fn balkwizu_who_reaches(holders: &[u32], domain: u32) -> u32
     ensures { ReachReported holders.now domain (result % 65536) (result / 65536) }
 {
-    let asked = holders::who_reaches(holders, domain);
-    let code = asked.code();
-    let domains = asked.set();
-    code + 65536 * domains
+    let domains = holders::who_reaches(holders, domain);
+    one_word(code(domains), domains.unwrap_or(0))
 }
 
 // Returns the connected component of a domain in a table, where two domains are joined when either has a right on the other. The
@@ -87,10 +93,8 @@ pub extern "C" fn balkwizu_who_reaches(holders: &[u32], domain: u32) -> u32
 pub extern "C" fn balkwizu_component(table: &[u32], domain: u32) -> u32
     ensures { ComponentReported table.now domain (result % 65536) (result / 65536) }
 {
-    let component = components::component_of(table, domain);
-    let code = component.code();
-    let members = component.members();
-    code + 65536 * members
+    let members = components::component_of(table, domain);
+    one_word(code(members), members.unwrap_or(0))
 }
 
 // Repairs a table from a worn card, without ever adding a right. Returns the code in the low 16 bits:
@@ -111,9 +115,7 @@ pub extern "C" fn balkwizu_repair(table: &mut [u32], changes: &mut [u32]) -> u32
         changes.new }
 {
     let repaired = repair::repair(table, changes);
-    let code = repaired.code();
-    let count = repaired.count();
-    code + 65536 * count as u32
+    one_word(code(repaired), repaired.unwrap_or(0) as u32)
 }
 
 // Writes the potential rights in a table where some domains act and the others do nothing: bit u of `actors` is set for each domain
@@ -127,8 +129,7 @@ pub extern "C" fn balkwizu_repair(table: &mut [u32], changes: &mut [u32]) -> u32
 pub extern "C" fn balkwizu_potential(table: &[u32], actors: u32, rights: &mut [u32]) -> u32
     ensures { PotentialReported table.now actors rights.old result rights.new }
 {
-    let filled = potential::potential_of(table, actors, rights);
-    filled.code()
+    code(potential::potential_of(table, actors, rights))
 }
 
 // Returns who could ever influence a domain in a table where some domains act and the others do nothing: bit u of `actors` is set for
@@ -143,10 +144,8 @@ pub extern "C" fn balkwizu_potential(table: &[u32], actors: u32, rights: &mut [u
 pub extern "C" fn balkwizu_could_influence(table: &[u32], actors: u32, domain: u32) -> u32
     ensures { InfluenceReported table.now actors domain (result % 65536) (result / 65536) }
 {
-    let influence = influence::could_influence(table, actors, domain);
-    let code = influence.code();
-    let set = influence.set();
-    code + 65536 * set
+    let set = influence::could_influence(table, actors, domain);
+    one_word(code(set), set.unwrap_or(0))
 }
 
 // Encodes a call list from five words a call: its kind, its caller, A, B, and C or, for a look up and a send, what the second word
@@ -162,10 +161,9 @@ pub extern "C" fn balkwizu_could_influence(table: &[u32], actors: u32, domain: u
 pub extern "C" fn balkwizu_write(calls: &[u32], list: &mut [u32]) -> u64
     ensures { outcome_of result list.new ≡ writing_rows calls.now list.old }
 {
-    let written = writer::rows::write_rows(calls, list);
-    match written {
-        Written::Done(words) => words as u64,
-        Written::TooLong => 4097,
-        Written::BadCall(index) => 4098 + index as u64,
+    match writer::rows::write_rows(calls, list) {
+        Ok(words) => words as u64,
+        Err(WriteRefusal::TooLong) => 4097,
+        Err(WriteRefusal::BadCall(index)) => 4098 + index as u64,
     }
 }
