@@ -3,8 +3,6 @@
 ghost use Rattle.std.specs.Prelude.{◌≡◌, length};
 ghost use Rattle.machine.specs.Table as machine;
 ghost use Rattle.result_code.specs.Code.{result_code};
-ghost use Rattle.table_check.specs.Checked.{refusal_code};
-ghost use Rattle.run_result.specs.Entry.{entry_refusal_code};
 ghost use Rattle.calls.specs.Split.{second_at, width_of};
 ghost use Rattle.answers.specs.Answer.{answer_words, answers_put};
 ghost use Rattle.kernel.specs.Entered.{entered_code};
@@ -18,7 +16,6 @@ use calls::split::second_at;
 use holders::fill;
 use result_code::Coded;
 use run_result::EntryRefusal;
-use table_check::TableRefusal;
 use table_layout::domains;
 
 // Returns n, the table's count of domains. Total: accepts arbitrary words as the table.
@@ -77,16 +74,9 @@ pub fn code<T: Copy, E: Coded>(outcome: Result<T, E>) -> u32
     result_code::code(outcome)
 }
 
-// Returns document 01's code for a table's refusal.
-pub fn table_refusal_code(refusal: TableRefusal) -> u32
-    ensures { result ≡ refusal_code refusal }
+// Returns the code of a refusal.
+pub fn refusal_code<E: Coded>(refusal: E) -> u32
+    ensures { result ≡ E.code_of refusal }
 {
     refusal.code()
-}
-
-// Returns document 01's code for a refusal at the entry.
-pub fn entry_refusal_code(refused: EntryRefusal) -> u32
-    ensures { result ≡ entry_refusal_code refused }
-{
-    refused.code()
 }

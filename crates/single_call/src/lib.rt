@@ -1,5 +1,5 @@
-// One call by itself with its answer put into lent words, as C has it: what the single step for firmware (crate balkwizu_turns) and
-// that for the bench (crate test_export) share.
+// One call by itself with its answer put into lent words, and the code that C gets in the place of a Result: what the single step
+// for firmware (crate balkwizu_turns) and that for the bench (crate test_export) share.
 #![tactic(auto)]
 
 ghost use Rattle.calls.specs.Split.{call_of};

@@ -12,7 +12,7 @@ ghost use Rattle.turns.specs.declared.HandInRefusal.TheVariants.{BadTable};
 ghost use Rattle.turns.specs.declared.TurnRefusal.TheVariants.{Entry};
 
 use kernel::check;
-use kernel::reports::{domain_count, entry_refusal_code, show_holders, table_refusal_code};
+use kernel::reports::{domain_count, refusal_code, show_holders};
 use result_code::Coded;
 use run_result::EntryRefusal;
 use serving::{idle, refused_or, serve};
@@ -37,7 +37,7 @@ impl Coded for HandInRefusal {
     // Returns the code of the refusal.
     fn code(self) -> u32 {
         match self {
-            HandInRefusal::BadTable(refusal) => table_refusal_code(refusal),
+            HandInRefusal::BadTable(refusal) => refusal_code(refusal),
             HandInRefusal::UnknownDomain => 35,
             HandInRefusal::NotOneCall => 36,
             HandInRefusal::BadTurns => 99,
@@ -67,7 +67,7 @@ impl Coded for TurnRefusal {
     // Returns the code of the refusal.
     fn code(self) -> u32 {
         match self {
-            TurnRefusal::Entry(refusal) => entry_refusal_code(refusal),
+            TurnRefusal::Entry(refusal) => refusal_code(refusal),
             TurnRefusal::BadTurns => 99,
         }
     }

@@ -32,6 +32,7 @@ pub fn add(state: &mut [u32], domain: u8, words: &[u32]) -> bool
 }
 
 // Returns the first word of the domain's oldest pending call, where it has one, and 0 where its seventeen words aren't all there.
+// It is no Option: whoever asks has found that the domain has a call, and would test it a second time.
 pub fn first_of_oldest(state: &[u32], domain: u8) -> u32
     ensures { result ≡ first_of_oldest (block state.now domain) }
 {
