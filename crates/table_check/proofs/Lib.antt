@@ -1,7 +1,6 @@
 -- Laws that the proofs of several functions cite.
 pub mod Fill
 pub mod Flags
-pub mod Fresh
 pub mod Places
 pub mod Gather
 pub mod Refusals
