@@ -55,6 +55,7 @@ fn mend_endpoints(table: &mut [u32])
     let n = (header / 256 % 256) as usize;
     let m = (header % 256) as usize;
     let from = 1 + n * n;
+    // Lends each endpoint by its index: of parts lent by chunks_exact_mut a proof knows no word once they are given back.
     for e in 0..m {
         let start = from + ENDPOINT_WORDS * e;
         let end = start + ENDPOINT_WORDS;
