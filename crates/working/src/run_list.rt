@@ -33,6 +33,7 @@ pub fn run_list(
 {
     let mut calls: usize = 0;
     let mut i: usize = 0;
+    // Goes on by hand: a call is one word or two, so no iterator over the list has its steps.
     while i < list.len() {
         let first = list[i];
         let second = second_at(list, i);
