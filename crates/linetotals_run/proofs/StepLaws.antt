@@ -1,31 +1,24 @@
 -- The step of a stage, phase by phase: what each function leaves is what the definition says. Assumes nothing.
-use Prim.Native.Nat.{ℕ, ◌+◌, ◌-◌, ◌*◌, ◌≤◌, ◌<◌, min}
-use mathlib.Core.Path.{◌≡◌, refl, sym, ap, ap₂, subst, ◌∙◌}
-use mathlib.Core.Bool.{Bool, true, false, cond, ◌&&◌}
+use Prim.Native.Nat.{ℕ, ◌*◌, ◌≤◌, min}
+use mathlib.Core.Path.{◌≡◌, refl, sym, ap, ap₂, ◌∙◌}
+use mathlib.Core.Bool.{Bool, true, false}
 use mathlib.Core.List.{List, ◌++◌}
-use native.Mathlib.Nat.{sub-zero}
 use native.Mathlib.Decide.{dec_le}
 use native.Mathlib.Omega.{arith}
-use borrow.Author.Tests.{eqb-true, leb-true, ltb-true, eq-eqb, ne_eqb, lt-ltb, le-ltb}
-use lib.Dec.{eqb, ltb, leb}
-use lib.ListN.{length, take, drop, length-take, drop_of_length-le}
+use borrow.Author.Tests.{le-ltb}
+use lib.Dec.{eqb}
+use lib.ListN.{length, take, drop, drop_of_length-le}
 use lib.Seq.{take_all}
-use Rattle.machine.proofs.Bools.{and_left, and_right}
-use Rattle.machine.specs.Table.{domains, endpoints}
-use Rattle.machine.specs.Entry.{Outcome, entry}
+use Rattle.machine.specs.Table.{domains}
+use Rattle.machine.specs.Entry.{Outcome}
 use Rattle.text.specs.Write.{overwrite}
-use Rattle.input_words.specs.Bytes.{word_at, words_of}
-use Rattle.input_words.specs.TableInput.{longest_table}
+use Rattle.input_words.specs.Bytes.{words_of}
 use Rattle.totals_theory.specs.Totals.{list_totals}
 use Rattle.totals_add.specs.declared.Tally.{Tally}
 use Rattle.totals_add.specs.Added.{added_if_run, ListAdded}
 use Rattle.totals_add.proofs.TallyLaws.{same-tally}
-use Rattle.linetotals_input.specs.Input.{most_lists}
-use Rattle.linetotals_run.specs.declared.Phase.{Phase}
-use Rattle.linetotals_run.specs.declared.Phase.TheVariants.{TableLength, TableWords, FirstLength, ListWords, Over}
 use Rattle.linetotals_run.specs.declared.Stage.{Stage}
-use Rattle.linetotals_run.specs.Stage.{wanted_at, in_phase}
-use Rattle.linetotals_run.specs.Step.{State, at_stage, length_read, table_read, table_stored, head_read, tally_with, list_ran, table_at, entered, list_whole, list_read, phase_read, phase_fits, stepped, takes, step_on, Left}
+use Rattle.linetotals_run.specs.Step.{State, tally_with, list_ran, table_at, entered, list_whole, list_read, Left}
 
 -- ---- parts that are lent
 
