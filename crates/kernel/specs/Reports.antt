@@ -2,7 +2,6 @@
 use Rattle.std.specs.Prelude.{ℕ, ◌≡◌, cond, List, eqb, length}
 use Rattle.machine.specs.Holders.{holders_of}
 use Rattle.kernel.specs.Step.{step_entry_code}
-
 -- the codes of refusals, which a layer above the kernel has in its own
 pub use Rattle.table_check.specs.Checked.{refusal_code}
 pub use Rattle.run_result.specs.Entry.{entry_refusal_code}

@@ -4,4 +4,3 @@ use Rattle.reachability.proofs.closure.Given as goal
 
 abbrev pub invariant-loop-round : goal.invariant-loop-round
 invariant-loop-round l = Closing l.words l.set l.reached l._round
-

@@ -4,4 +4,3 @@ use Rattle.reachability.proofs.widen.Given as goal
 
 abbrev pub invariant-loop-word : goal.invariant-loop-word
 invariant-loop-word l = Widening l.words l.set l.wide l.members l.word-index
-

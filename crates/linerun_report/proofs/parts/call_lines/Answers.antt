@@ -41,7 +41,7 @@ loop-i-preserved c =
     let size : length chunk ≡ 3 = step.1.1.1 ∙ before.size in
     let call : c.in-Some.i ≡ from + k = step.0.1.1 ∙ before.next in
     let line = subst (λ (s : List ℕ). Writes c.loop-i.at s c.loop-i.out c.call_line-at.result c.call_line-at.new.out)
-        (line-is words chunk _ k left size answers from most c.in-Some.i refl few call) c.call_line-at.ensures in
+    (line-is words chunk _ k left size answers from most c.in-Some.i refl few call) c.call_line-at.ensures in
     let word = λ (j : ℕ) (h : j < 3). word_is words chunk _ k left size answers from most j refl few h in
     rw more
     (record {
