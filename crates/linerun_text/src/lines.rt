@@ -13,7 +13,7 @@ pub fn first_line(calls: usize, code: u32, out: &mut [u8], at: usize) -> usize
     ensures { Writes at (first_line calls code) out.old result out.new }
 {
     let calls_end = put_labelled(b"calls ", calls as u64, out, at);
-    let code_end = put_labelled(b" code ", code as u64, out, calls_end);
+    let code_end = put_labelled(b" code ", u64::from(code), out, calls_end);
     put(b"\n", out, code_end)
 }
 
@@ -25,10 +25,10 @@ pub fn call_line(i: usize, w: u32, x: u32, y: u32, out: &mut [u8], at: usize) ->
     let kind = w / KIND_UNIT;
     let code = w % CODE;
     let call_end = put_labelled(b"call ", i as u64, out, at);
-    let caller_end = put_labelled(b" caller ", caller as u64, out, call_end);
-    let kind_end = put_labelled(b" kind ", kind as u64, out, caller_end);
-    let code_end = put_labelled(b" code ", code as u64, out, kind_end);
-    let first_end = put_labelled(b" data ", x as u64, out, code_end);
-    let second_end = put_labelled(b" ", y as u64, out, first_end);
+    let caller_end = put_labelled(b" caller ", u64::from(caller), out, call_end);
+    let kind_end = put_labelled(b" kind ", u64::from(kind), out, caller_end);
+    let code_end = put_labelled(b" code ", u64::from(code), out, kind_end);
+    let first_end = put_labelled(b" data ", u64::from(x), out, code_end);
+    let second_end = put_labelled(b" ", u64::from(y), out, first_end);
     put(b"\n", out, second_end)
 }

@@ -7,7 +7,8 @@ use Rattle.linerun_text.proofs.lines.call_line.Goals as goal
 pub returns : goal.returns
 unfolding call_line ascii
 returns c =
-    then
+    rw (← c.from.ensures, ← c.from-2.ensures, ← c.from-3.ensures, ← c.from-4.ensures, ← c.from-5.ensures)
+    (then
     (then
     (then
     (then
@@ -15,7 +16,7 @@ returns c =
     c.put_labelled-code_end.ensures)
     c.put_labelled-first_end.ensures)
     c.put_labelled-second_end.ensures)
-    c.put.ensures
+    c.put.ensures)
 
 pub shape_of-out : goal.shape_of-out
 unfolding call_line ascii

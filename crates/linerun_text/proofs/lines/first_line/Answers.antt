@@ -7,4 +7,5 @@ use Rattle.linerun_text.proofs.lines.first_line.Goals as goal
 pub returns : goal.returns
 unfolding first_line ascii
 returns c =
-    then (then c.put_labelled-calls_end.ensures c.put_labelled-code_end.ensures) c.put.ensures
+    rw (← c.from.ensures)
+    (then (then c.put_labelled-calls_end.ensures c.put_labelled-code_end.ensures) c.put.ensures)
