@@ -1,25 +1,18 @@
 -- The passes over a table and its mended copy: the invariant of each, iteration by iteration. Assumes nothing.
 use Prim.Native.Nat.{ℕ, zero, suc, ◌+◌, ◌*◌, ◌-◌, ◌<◌, ◌≤◌}
 use mathlib.Core.Path.{◌≡◌, refl, sym, ap, ap₂, subst, ◌∙◌}
-use mathlib.Core.Bool.{Bool, true, false, cond, not}
+use mathlib.Core.Bool.{Bool, true, false, cond}
 use mathlib.Core.List.{List, [], ◌∷◌, ◌++◌, append-nil}
 use native.Mathlib.Nat.{le_antisymm, zero-add, suc-add}
 use native.Mathlib.Numerals.{add-one, add-one-le}
 use native.Mathlib.Omega.{arith}
 use borrow.Author.Tests.{eq-eqb, ne_eqb}
-use lib.Dec.{eqb}
-use Rattle.std.specs.List.{zip, count_by}
-use Rattle.std.proofs.lemmas.Slice.Zip.{get_or-zip, length-zip}
-use Rattle.std.proofs.lemmas.List.Sums.{count_by_more_yes, count_by_more_no}
+use Rattle.std.specs.Int.{from_bool}
 use lib.ListN.{length, get_or, take, drop, set, length-append, length-set}
 use lib.Seq.{take-length, drop-length, take_at, drop_at, drop-drop, drop-cons, get_or_at, set-get_or, set_at, sets-eq, take-suc, append_snoc, length-take-le}
 use Rattle.machine.specs.Below.{numbers_below}
 use Rattle.repair_theory.specs.Changes.{differing, change_pairs, changes}
 use Rattle.repair_theory.proofs.Changes.{differs_at, lists-numbers, pairs-length, pairs-append}
-
--- whether a pair is of two words
-abbrev pub differ : ℕ × ℕ → Bool
-differ p = not (eqb p.0 p.1)
 
 -- ---- one word more is passed
 
@@ -32,41 +25,16 @@ module _ (old new : List ℕ) (i : ℕ) where
   unfolding numbers_below
   no_more same = rw (add-one i, eq-eqb _ _ same) (append-nil _)
 
--- ---- the first pass: as many of the first i pairs of words differ as there are such places
-module _ (old new : List ℕ) (same : length new ≡ length old) where
-  all-pairs : length (zip old new) ≡ length old
-  all-pairs = length-zip old new ∙ omega arith
-
-  counted_below : (i : ℕ) → i ≤ length old → count_by differ (take i (zip old new)) ≡ length (numbers_below i (differs_at old new))
+-- ---- the first pass: one place more is counted
+module _ (old new : List ℕ) where
+  pub counted_next : (i : ℕ) {count step : ℕ} → count ≡ length (numbers_below i (differs_at old new)) → step ≡ from_bool (differs_at old new i)
+      → (step ≤ 1) × (count + step ≡ length (numbers_below (i + 1) (differs_at old new)))
   unfolding numbers_below
-  counted_below zero l = refl
-  counted_below (suc i) l = ap (λ k. count_by differ (take k (zip old new))) (sym (add-one i)) ∙ go (counted_below i (omega arith)) (differs_at old new i) refl
+  counted_next i {count} {step} before is = rw (add-one i, is) (go (differs_at old new i))
     where
-      inside : i < length (zip old new)
-      inside = omega (arith, all-pairs)
-
-      pair : differ (get_or (zip old new) i (0, 0)) ≡ differs_at old new i
-      pair = ap differ (get_or-zip old new i (0, 0) (omega arith) (omega arith))
-
-      go : count_by differ (take i (zip old new)) ≡ length (numbers_below i (differs_at old new))
-          → (b : Bool)
-          → differs_at old new i ≡ b
-          → count_by differ (take (i + 1) (zip old new)) ≡ length (numbers_below i (differs_at old new) ++ cond b (i ∷ []) [])
-      go before true h =
-          count_by_more_yes differ (zip old new) i (0, 0) inside (pair ∙ h)
-          ∙ ap (λ k. k + 1) before
-          ∙ sym (length-append (numbers_below i (differs_at old new)) (i ∷ []))
-      go before false h =
-          count_by_more_no differ (zip old new) i (0, 0) inside (pair ∙ h)
-          ∙ before
-          ∙ ap length (sym (append-nil (numbers_below i (differs_at old new))))
-
-  pub counted-is : {count : ℕ} → count ≡ count_by differ (zip old new) → count ≡ length (differing old new)
-  unfolding differing
-  counted-is e =
-      e
-      ∙ ap (count_by differ) (sym (ap (λ k. take k (zip old new)) (sym all-pairs) ∙ take-length (zip old new)))
-      ∙ counted_below (length old) (omega arith)
+      go : (b : Bool) → (from_bool b ≤ 1) × (count + from_bool b ≡ length (numbers_below i (differs_at old new) ++ cond b (i ∷ []) []))
+      go true = (omega arith, ap (λ k. k + 1) before ∙ sym (length-append (numbers_below i (differs_at old new)) (i ∷ [])))
+      go false = (omega arith, omega arith ∙ before ∙ ap length (sym (append-nil (numbers_below i (differs_at old new)))))
 
 -- ---- words copied from the front: the first i words of d are those of s
 pub record Copied (d s copy : List ℕ) (i : ℕ) : Type 0 where

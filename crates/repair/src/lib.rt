@@ -5,7 +5,7 @@
 
 pub mod mend;
 
-ghost use Rattle.std.specs.Prelude.{◌≡◌, ◌==◌, ◌++◌, ◌≤◌, not, length, drop, zip, count_by};
+ghost use Rattle.std.specs.Prelude.{◌≡◌, ◌++◌, ◌≤◌, length, drop};
 ghost use Rattle.repair_theory.specs.Mend.{mended, mendable};
 ghost use Rattle.repair_theory.specs.Changes.{differing, changes};
 ghost use Rattle.repair_theory.specs.Repair.{RepairPromise};
@@ -51,9 +51,14 @@ fn mend_copy(table: &[u32], copy: &mut [u32]) -> bool
 // Returns how many words differ: the first pass, which writes nothing.
 fn count_differing(old: &[u32], new: &[u32]) -> usize
     requires { length new.now ≡ length old.now }
-    ensures { result ≡ count_by (λ p. not (p.0 == p.1)) (zip old.now new.now) }
+    ensures { result ≡ length (differing old.now new.now) }
 {
-    old.iter().zip(new).filter(|(was, is)| was != is).count()
+    let mut count: usize = 0;
+    // Goes by the index, without a branch; filter and count have one for each word.
+    for i in 0..old.len() {
+        count += usize::from(old[i] != new[i]);
+    }
+    count
 }
 
 // Makes the second pass, lowest place first: where a word differs, writes the pair into the list and the new word into the table.

@@ -2,7 +2,6 @@
 use mathlib.Core.Path.{sym, ◌∙◌}
 use native.Mathlib.Omega.{arith}
 use Rattle.repair.proofs.Outcomes.{bad-frame, count_fits, list-too-short, room, done}
-use Rattle.repair.proofs.Passes.{counted-is}
 use Rattle.repair.proofs.repair_by_copy.Goals as goal
 
 pub returns-then-not-mend_copy : goal.returns-then-not-mend_copy
@@ -11,19 +10,19 @@ returns-then-not-mend_copy c = bad-frame _ _ (sym c.mend_copy.ensures.value ∙ 
 pub overflow_mul-count : goal.overflow_mul-count
 overflow_mul-count c =
     let can = sym c.mend_copy.ensures.value ∙ c.if-not-mend_copy.false in
-    omega (arith, count_fits _ c.args.list.now can _ c.mend_copy.ensures.copy_after _ (counted-is _ _ (c.mend_copy.auto.copy ∙ c.requires.same_size) c.count_differing-count.ensures))
+    omega (arith, count_fits _ c.args.list.now can _ c.mend_copy.ensures.copy_after _ c.count_differing-count.ensures)
 
 pub returns-then-list-count : goal.returns-then-list-count
 returns-then-list-count c =
     let can = sym c.mend_copy.ensures.value ∙ c.if-not-mend_copy.false in
-    list-too-short _ _ can _ c.mend_copy.ensures.copy_after _ (counted-is _ _ (c.mend_copy.auto.copy ∙ c.requires.same_size) c.count_differing-count.ensures) c.if-list-count.true
+    list-too-short _ _ can _ c.mend_copy.ensures.copy_after _ c.count_differing-count.ensures c.if-list-count.true
 
 pub replace-requires-clause-room : goal.replace-requires-clause-room
 replace-requires-clause-room c =
     let can = sym c.mend_copy.ensures.value ∙ c.if-not-mend_copy.false in
-    room _ _ can _ c.mend_copy.ensures.copy_after _ (counted-is _ _ (c.mend_copy.auto.copy ∙ c.requires.same_size) c.count_differing-count.ensures) c.if-list-count.false
+    room _ _ can _ c.mend_copy.ensures.copy_after _ c.count_differing-count.ensures c.if-list-count.false
 
 pub returns : goal.returns
 returns c =
     let can = sym c.mend_copy.ensures.value ∙ c.if-not-mend_copy.false in
-    done _ _ can _ c.mend_copy.ensures.copy_after _ (counted-is _ _ (c.mend_copy.auto.copy ∙ c.requires.same_size) c.count_differing-count.ensures) c.if-list-count.false _ _ c.replace.ensures.table_after c.replace.ensures.list_after
+    done _ _ can _ c.mend_copy.ensures.copy_after _ c.count_differing-count.ensures c.if-list-count.false _ _ c.replace.ensures.table_after c.replace.ensures.list_after
