@@ -147,7 +147,7 @@ constexpr size_t balkwizu_count(Element (&)[Number]) noexcept
  *   libbalkwizu.a
  *     balkwizu_component: general and xmm registers, aligned stack
  *     balkwizu_could_influence: general and xmm registers, aligned stack
- *     balkwizu_potential: general and xmm registers, aligned stack, unmarked jumps
+ *     balkwizu_potential: general and xmm registers, aligned stack
  *     balkwizu_repair: general and xmm registers, aligned stack
  *     balkwizu_run: general and xmm registers, aligned stack, unmarked jumps
  *     balkwizu_run_by_length: general and xmm registers, aligned stack, unmarked jumps
@@ -155,7 +155,7 @@ constexpr size_t balkwizu_count(Element (&)[Number]) noexcept
  *     balkwizu_table_check: general and xmm registers, aligned stack
  *     balkwizu_version: general registers
  *     balkwizu_who_reaches: general registers
- *     balkwizu_write: general and xmm registers, aligned stack, unmarked jumps
+ *     balkwizu_write: general registers, red zone, unmarked jumps
  *   libbalkwizu_turns.a
  *     balkwizu_hand_in: general and xmm registers, aligned stack
  *     balkwizu_step: general and xmm registers, aligned stack, unmarked jumps
