@@ -16,6 +16,7 @@ fn copy(text: &[u8], n: usize, out: &mut [u8], at: usize)
 }
 
 // Writes a text, and returns the index after it.
+#[inline(always)]
 pub fn put(text: &[u8], out: &mut [u8], at: usize) -> usize
     ensures { Writes at text.now out.old result out.new }
 {
@@ -43,6 +44,15 @@ fn put_digit(x: u64, out: &mut [u8], at: usize) -> usize
     at + 1
 }
 
+// Writes a number in decimal, and returns the index after it.
+#[inline(never)]
+fn put_digits(x: u64, out: &mut [u8], at: usize) -> usize
+    ensures { Writes at (decimal x) out.old result out.new }
+{
+    let mut digits = Buffer::new();
+    put(digits.format(x).as_bytes(), out, at)
+}
+
 // Writes a number in decimal, and returns the index after it. Most have one digit, which needs no buffer of digits.
 pub fn put_decimal(x: u64, out: &mut [u8], at: usize) -> usize
     ensures { Writes at (decimal x) out.old result out.new }
@@ -50,11 +60,12 @@ pub fn put_decimal(x: u64, out: &mut [u8], at: usize) -> usize
     if x < 10 {
         return put_digit(x, out, at);
     }
-    let mut digits = Buffer::new();
-    put(digits.format(x).as_bytes(), out, at)
+    put_digits(x, out, at)
 }
 
-// Writes a label and right after it a number in decimal, and returns the index after both.
+// Writes a label and right after it a number in decimal, and returns the index after both. Inlined where it is called, so that a
+// label of known length is copied by a few moves.
+#[inline(always)]
 pub fn put_labelled(label: &[u8], x: u64, out: &mut [u8], at: usize) -> usize
     ensures { Writes at (labelled label.now x) out.old result out.new }
 {
