@@ -18,9 +18,10 @@ pub fn owned_bits(table: &[u32], n: u32, m: u32, caller: u32) -> u32
 {
     let mut bits = 0;
     for e in (0..m).rev() {
+        bits = bits % 0x8000_0000 * 2;
         let at = endpoint_at(n, e) + 1;
         let owns = table[at] / 256 % 256 == caller;
-        bits = bits % 0x8000_0000 * 2 + u32::from(owns);
+        bits += u32::from(owns);
     }
     bits
 }

@@ -61,7 +61,16 @@ pub fn rights_listed(table: &[u32], caller: u32) -> (u32, u32)
     if table.len() < end {
         return (0, 0);
     }
-    let low = rights_bits(table, n, caller, 0, n.min(8));
-    let high = rights_bits(table, n, caller, 8, n.min(16));
+    // Whole words by bounds that are constants, so that the compiler has no loop of them.
+    let low = if n < 8 {
+        rights_bits(table, n, caller, 0, n)
+    } else {
+        rights_bits(table, n, caller, 0, 8)
+    };
+    let high = if n < 16 {
+        rights_bits(table, n, caller, 8, n)
+    } else {
+        rights_bits(table, n, caller, 8, 16)
+    };
     (low, high)
 }

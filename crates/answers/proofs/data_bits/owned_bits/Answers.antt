@@ -34,12 +34,12 @@ loop-e-preserved c =
     ap field_b
     (ap (λ (k : ℕ). get_or t (k + 1) 0) c.endpoint_at-at.ensures ∙ endpoint-read _ _ c.requires.n_is_domains _ 1 (omega arith))
     in
-    let digit : c.from.result ≡ owns_at t a.caller (c.loop-e.e - 1) =
-    c.from.ensures ∙ byte _ ∙ ap (λ (o : ℕ). cond (eqb o a.caller) 1 0) owned
+    let digit : c.from-bits.result ≡ owns_at t a.caller (c.loop-e.e - 1) =
+    c.from-bits.ensures ∙ byte _ ∙ ap (λ (o : ℕ). cond (eqb o a.caller) 1 0) owned
     in
-    let few : c.from.result ≤ 1 = omega (arith, digit, one-bit (eqb (owner (endpoint t (c.loop-e.e - 1))) a.caller)) in
-    one_kept 2 _ c.loop-e.e c.loop-e.bits _ c.from.result _ c.loop-e-test.true c.loop-e.invariant digit
-    (λ all is. bit-more c.loop-e.bits all c.from.result few is)
+    let few : c.from-bits.result ≤ 1 = omega (arith, digit, one-bit (eqb (owner (endpoint t (c.loop-e.e - 1))) a.caller)) in
+    one_kept 2 _ c.loop-e.e c.loop-e.bits _ c.from-bits.result _ c.loop-e-test.true c.loop-e.invariant digit
+    (λ all is. bit-more c.loop-e.bits all c.from-bits.result few is)
 
 pub returns : goal.returns
 returns c =
