@@ -51,7 +51,9 @@ impl WriteRefusal {
     }
 }
 
-// Makes the first pass over n calls and returns how many words they are.
+// Makes the first pass over n calls and returns how many words they are. Is called and not inlined: a writer that calls nothing
+// keeps words below the stack pointer, where an interrupt on the same stack writes.
+#[inline(never)]
 fn measure<F: Fn(usize) -> Call>(n: usize, call_at: &F) -> Result<usize, WriteRefusal>
     requires few { n < 2 ^ 62 }
     requires callable { (i : ℕ) → i < n → F.pre call_at.now i }
