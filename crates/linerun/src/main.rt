@@ -3,11 +3,11 @@
 // was read and gives the lines. This crate passes the one's result to the other, and writes the lines, part by part.
 #![tactic(auto)]
 
-ghost use Rattle.std.specs.Prelude.{◌≤◌, ◌≡◌, length, take, OnOk};
+ghost use Rattle.std.specs.Prelude.{◌≤◌, ◌≡◌, true, length, take, IsErr, OnOk};
 ghost use Rattle.std.specs.Io.KnownBytes.{Appends};
 ghost use Rattle.linerun_input.specs.Stage.{have_of, wanted_of, ended_of, StageAfter};
 ghost use Rattle.linerun_report.specs.Report.{answer_space, report};
-ghost use Rattle.linerun_report.specs.Cursor.{given_of, Prints};
+ghost use Rattle.linerun_report.specs.Cursor.{calls_of, code_of, given_of, ended, Prints};
 
 use format::answers::MOST_ANSWER_WORDS;
 use linerun_input::reading::{MOST_INPUT, read_input};
@@ -26,36 +26,48 @@ fn answer_input(buffer: &[u8], input: Input, answers: &mut [u32]) -> Lines
     answer(&buffer[..input.have()], answers)
 }
 
-// Writes the part that was given last. Where the writer's bytes are known and it could be written, it is what they grew by.
-fn write_part<W: Write>(writer: &mut W, lines: Lines, out: &[u8]) -> io::Result<()>
-    ensures { OnOk result
+// Writes the part that was given last, unless one before it could not be written. Where the writer's bytes are known and all could be
+// written, it is what they grew by.
+fn write_part<W: Write>(
+    writer: &mut W,
+    lines: Lines,
+    out: &[u8],
+    before: io::Result<()>,
+) -> io::Result<()>
+    ensures unwritten { IsErr before → IsErr result }
+    ensures written { OnOk result
         (Appends (W.contents writer.old) (W.contents writer.new) (take (given_of lines) out.now)) }
 {
+    before?;
     writer.write_all(part(lines, out))
 }
 
-// Writes the lines of the cursor, part by part until all were given. No part is written after one that can't be. Where the writer's
-// bytes are known and all parts could be written, the report of the bytes that were read is what they grew by. Precondition: the lines
-// are that report, which nothing more is wanted after.
+// Writes the lines of the cursor, part by part until all were given, and returns the cursor after them and whether all were written.
+// No part is written after one that can't be. Where the writer's bytes are known and all were written, the report of the bytes that
+// were read is what they grew by. Precondition: the lines are that report, which nothing more is wanted after.
 fn write_lines<W: Write>(
     writer: &mut W,
     buffer: &[u8],
     input: Input,
     first: Lines,
     answers: &[u32],
-) -> io::Result<()>
+) -> (Lines, io::Result<()>)
     requires stage_after { StageAfter (take (have_of input) buffer.now) input × (wanted_of input ≡ 0) }
     requires prints { Prints (take (have_of input) buffer.now) (ended_of input) first answers.now }
-    ensures { OnOk result
+    ensures given { (ended result.0 ≡ true)
+        × (calls_of result.0 ≡ calls_of first)
+        × (code_of result.0 ≡ code_of first) }
+    ensures written { OnOk result.1
         (Appends (W.contents writer.old) (W.contents writer.new) (report (take (have_of input) buffer.now))) }
 {
     let mut out = [0u8; PART_BYTES];
     let mut lines = first;
+    let mut written: io::Result<()> = Ok(());
     while !lines.ended() {
         lines = next(lines, answers, &mut out);
-        write_part(writer, lines, &out)?;
+        written = write_part(writer, lines, &out, written);
     }
-    Ok(())
+    (lines, written)
 }
 
 // Reads standard input, runs it, and writes its lines to standard output. The exit status is 0 in any case, so lines that can't be
@@ -66,7 +78,7 @@ fn main(rt: HostRuntime) {
     // three words for each call of the longest list
     let mut answers = [0u32; MOST_ANSWER_WORDS];
     let lines = answer_input(&buffer, input, &mut answers);
-    let written = write_lines(&mut rt.stdout(), &buffer, input, lines, &answers);
+    let (_, written) = write_lines(&mut rt.stdout(), &buffer, input, lines, &answers);
     if written.is_err() {
         let _ = rt
             .stderr()
