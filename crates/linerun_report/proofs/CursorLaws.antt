@@ -3,20 +3,22 @@ use Prim.Native.Nat.{ℕ, zero, suc, ◌+◌, ◌-◌, ◌*◌, ◌≤◌, ◌<�
 use mathlib.Core.Path.{◌≡◌, refl, sym, ap, ◌∙◌}
 use mathlib.Core.Bool.{Bool, true, false, cond, ◌&&◌}
 use mathlib.Core.List.{List, [], ◌++◌, append_assoc, append-nil}
-use borrow.Author.Tests.{ltb-true, ltb-false, le-leb, leb-true}
+use borrow.Author.Tests.{eqb-true, eqb-false, ltb-true, ltb-false, le-leb, leb-true}
 use native.Mathlib.Omega.{arith}
-use lib.Dec.{leb}
+use lib.Dec.{eqb, leb}
 use lib.ListN.{length, take}
-use Rattle.machine.specs.Entry.{longest_list}
-use Rattle.machine.proofs.Bools.{and_left, and_right}
+use Rattle.std.specs.Prelude.{Result}
+use Rattle.machine.specs.Entry.{Outcome, longest_list}
+use Rattle.machine.proofs.Bools.{and_left, and_right, cond-elim}
 use Rattle.text.specs.Write.{overwrite, Writes}
 use Rattle.text.proofs.WriteLaws.{length-overwrite, overwrite-none, writes-length, fills-front}
 use Rattle.linerun_report.specs.Lines.{all_lines, printed_before, lines_between, part_bytes, line_after, part_from}
 use Rattle.linerun_report.specs.Report.{answer_space, outcome_lines, answered, report}
-use Rattle.linerun_report.specs.Cursor.{calls_of, code_of, line_of, given_of, ended, gives, part_of, advanced, parts_from, PartsAreReport}
+use Rattle.linerun_report.specs.Cursor.{refusal_code, ran_calls, ran_code, calls_of, code_of, line_of, given_of, FirstLines, refusal_of, first_lines, ended, gives, part_of, advanced, parts_from, PartsAreReport}
 use Rattle.linerun_report.specs.declared.Lines.{Lines}
+use Rattle.linerun_report.specs.declared.Refusal.{Refusal}
 use Rattle.linerun_report.proofs.LineLaws.{at-number, lines_join, all-printed}
-use Rattle.linerun_report.proofs.ReportLaws.{answered-few, answers-lent}
+use Rattle.linerun_report.proofs.ReportLaws.{answered-few, answered-code, refused-none, answers-lent}
 
 -- the part from a line on continues what is printed before it
 pub part-joins : (calls code : ℕ) (answers : List ℕ) (line : ℕ) → line ≤ calls
@@ -78,9 +80,10 @@ pub none-printed : (l : Lines) (answers : List ℕ) → line_of l ≡ 0 → prin
 unfolding printed_before
 none-printed l answers start = at-number (printed_before (calls_of l) (code_of l) answers) (line_of l) 0 start
 
-pub parts-are-report : PartsAreReport
+from-first : (bytes : List ℕ) (l : Lines) (space most : ℕ) → FirstLines (answered bytes answer_space) l → part_bytes ≤ space
+    → longest_list < most → parts_from most l (answered bytes answer_space).answers space ≡ report bytes
 unfolding report outcome_lines
-parts-are-report bytes l space most first fits enough =
+from-first bytes l space most first fits enough =
     let o = answered bytes answer_space in
     let few : calls_of l ≤ longest_list = omega (arith, first.calls, answered-few bytes answer_space) in
     let lent : 3 * calls_of l ≤ length o.answers = omega (arith, first.calls, answers-lent bytes answer_space) in
@@ -89,6 +92,46 @@ parts-are-report bytes l space most first fits enough =
     ∙ sym (all-printed (calls_of l) (code_of l) o.answers)
     ∙ ap (λ (k : ℕ). all_lines k (code_of l) o.answers) first.calls
     ∙ ap (λ (k : ℕ). all_lines o.calls k o.answers) first.code
+
+-- each code from 1 to 7 is that of its refusal
+code-of-refusal : (k : ℕ) → 0 < k → k ≤ 7 → refusal_code (refusal_of k) ≡ k
+code-of-refusal k some most =
+    cond-elim has (eqb k 1) (λ e. sym (eqb-true k 1 e))
+    (λ a.
+    cond-elim has (eqb k 2) (λ e. sym (eqb-true k 2 e))
+    (λ b.
+    cond-elim has (eqb k 3) (λ e. sym (eqb-true k 3 e))
+    (λ c.
+    cond-elim has (eqb k 4) (λ e. sym (eqb-true k 4 e))
+    (λ d.
+    cond-elim has (eqb k 5) (λ e. sym (eqb-true k 5 e))
+    (λ e.
+    cond-elim has (eqb k 6) (λ e. sym (eqb-true k 6 e))
+    (λ f. omega (arith, some, most, eqb-false k 1 a, eqb-false k 2 b, eqb-false k 3 c, eqb-false k 4 d, eqb-false k 5 e, eqb-false k 6 f)))))))
+  where
+    has : Refusal → Type 0
+    has r = refusal_code r ≡ k
+
+-- the cursor that is made of an outcome is before its first line
+first-begins : (o : Outcome) → o.code ≤ 7 → (0 < o.code → o.calls ≡ 0) → FirstLines o (first_lines o)
+unfolding first_lines
+first-begins o most none =
+    record {
+      calls =
+          cond-elim (λ (r : Result ℕ Refusal). ran_calls r ≡ o.calls) (eqb o.code 0) (λ _. refl)
+          (λ e. sym (none (omega (arith, eqb-false o.code 0 e))));
+      code =
+          cond-elim (λ (r : Result ℕ Refusal). ran_code r ≡ o.code) (eqb o.code 0) (λ e. sym (eqb-true o.code 0 e))
+          (λ e. code-of-refusal o.code (omega (arith, eqb-false o.code 0 e)) most);
+      line = refl;
+      given = refl;
+    }
+
+pub parts-are-report : PartsAreReport
+parts-are-report = (
+  from-first,
+  λ bytes. first-begins (answered bytes answer_space) (answered-code bytes answer_space) (refused-none bytes answer_space),
+)
 
 -- ---- what `next` returns and leaves
 

@@ -2,7 +2,7 @@
 -- word too long gives code 1, whatever is wrong with the table and whatever follows. Code 6 never comes, since there is space for
 -- every list that is short enough, and a word for each domain of a table that is accepted. Assumes nothing.
 use Prim.Native.Nat.{ℕ, ◌-◌, ◌*◌, ◌%◌, ◌≤◌, ◌<◌}
-use mathlib.Core.Path.{◌≡◌, refl, sym, ap, ◌∙◌}
+use mathlib.Core.Path.{◌≡◌, sym, ap, ◌∙◌}
 use mathlib.Core.Bool.{true, not, or-true}
 use mathlib.Core.List.{List, ◌++◌, append-nil}
 use borrow.Author.Tests.{eqb-true, ltb-true, ltb-false, lt-ltb, ne_eqb}
@@ -13,7 +13,7 @@ use lib.ListN.{length, length-append, length-take, length-replicate}
 use Rattle.machine.specs.Call.{split}
 use Rattle.machine.specs.Table.{domains}
 use Rattle.machine.specs.Check.{header_ok, length_ok, rights_ok, endpoints_ok, table_code, Accepted}
-use Rattle.machine.specs.Entry.{Outcome, longest_list, space_code, entry_code, refusal, ran, entry}
+use Rattle.machine.specs.Entry.{Outcome, longest_list, space_code, entry_code, refusal}
 use Rattle.machine.proofs.Bools.{cond-elim}
 use Rattle.machine.proofs.Split.{split-few}
 use Rattle.machine.proofs.Accepted.{accepted-counts}
@@ -29,7 +29,7 @@ use Rattle.linerun_report.specs.Lines.{call_lines, all_lines}
 use Rattle.linerun_report.specs.Report.{answer_space, holders_space, outcome_lines, answered, report}
 use Rattle.linerun_report.specs.Report.{EveryLongListStops, SevenByTable, EverySeven, EveryRefusedAlone, NeverSix}
 use Rattle.linerun_input.proofs.InputLaws.{no-left-over}
-use Rattle.linerun_report.proofs.ReportLaws.{answered-unreadable}
+use Rattle.linerun_report.proofs.ReportLaws.{answered-unreadable, refused-none}
 
 -- where there are as many list words as are read, the list is one word too long
 long : (bytes : List ℕ) → 4 * list_words_read ≤ length (after_table bytes) → longest_list < length (list_of bytes)
@@ -69,20 +69,8 @@ unfolding outcome_lines all_lines call_lines
 no-calls o none = rw none (append-nil (first_line 0 o.code))
 
 pub refused-alone : EveryRefusedAlone
-unfolding report answered entry refusal ran
-refused-alone bytes code = no-calls (answered bytes answer_space) (calls code)
-  where
-    t : List ℕ
-    t = table_of bytes
-
-    calls : 0 < (answered bytes answer_space).code → (answered bytes answer_space).calls ≡ 0
-    calls =
-        cond-elim (λ (o : Outcome). 0 < o.code → o.calls ≡ 0) (unreadable bytes) (λ _ _. refl)
-        (λ _.
-        cond-elim (λ (o : Outcome). 0 < o.code → o.calls ≡ 0)
-        (eqb (entry_code t (list_of bytes) (length answer_space) (length (holders_space t))) 0)
-        (λ _ some. absurd (omega arith))
-        (λ _ _. refl))
+unfolding report
+refused-alone bytes code = no-calls (answered bytes answer_space) (refused-none bytes answer_space code)
 
 -- an input that is refused by 7
 unreadable-seven : (bytes : List ℕ) → unreadable bytes ≡ true → report bytes ≡ first_line 0 7

@@ -1,6 +1,6 @@
 -- The report as the functions make it: the two cases of the definition, and how many calls there are. Where the reading stops
 -- before the input ends, no further byte makes a difference to it. Assumes nothing.
-use Prim.Native.Nat.{ℕ, zero, suc, ◌*◌, ◌%◌, ◌≤◌, min, zero-le}
+use Prim.Native.Nat.{ℕ, zero, suc, ◌*◌, ◌%◌, ◌≤◌, ◌<◌, min, zero-le}
 use mathlib.Core.Path.{◌≡◌, refl, sym, ap, ◌∙◌}
 use mathlib.Core.Bool.{Bool, true, false, and-false}
 use mathlib.Core.List.{List, [], ◌∷◌, ◌++◌, append-nil}
@@ -17,7 +17,7 @@ use Rattle.machine.specs.Run.{answers}
 use Rattle.machine.specs.Promise.{RunPromise}
 use Rattle.machine.proofs.Bools.{cond-elim}
 use Rattle.machine.proofs.Counts.{answers-length}
-use Rattle.machine.proofs.Promise.{calls-few}
+use Rattle.machine.proofs.Promise.{calls-few, code-small}
 use Rattle.text.specs.Write.{Fills}
 use Rattle.text.proofs.WriteLaws.{fills-front}
 use Rattle.input_words.specs.Bytes.{words_of, bytes_of, AllWords}
@@ -75,6 +75,24 @@ unfolding answered refusal
 answered-few bytes space =
     cond-elim (λ (o : Outcome). o.calls ≤ longest_list) (unreadable bytes) (λ _. zero-le)
     (λ _. calls-few (table_of bytes) (list_of bytes) space (holders_space (table_of bytes)))
+
+-- the code is 0, one of the entry's, or the program's own
+pub answered-code : (bytes space : List ℕ) → (answered bytes space).code ≤ 7
+unfolding answered refusal
+answered-code bytes space =
+    cond-elim (λ (o : Outcome). o.code ≤ 7) (unreadable bytes) (λ _. omega arith)
+    (λ _. omega (arith, code-small (table_of bytes) (list_of bytes) space (holders_space (table_of bytes))))
+
+-- what is refused has no calls
+pub refused-none : (bytes space : List ℕ) → 0 < (answered bytes space).code → (answered bytes space).calls ≡ 0
+unfolding answered entry refusal ran
+refused-none bytes space =
+    cond-elim (λ (o : Outcome). 0 < o.code → o.calls ≡ 0) (unreadable bytes) (λ _ _. refl)
+    (λ _.
+    cond-elim (λ (o : Outcome). 0 < o.code → o.calls ≡ 0)
+    (eqb (entry_code (table_of bytes) (list_of bytes) (length space) (length (holders_space (table_of bytes)))) 0)
+    (λ _ some. absurd (omega arith))
+    (λ _ _. refl))
 
 -- the answers of all calls are in the words that are left
 pub answers-lent : (bytes space : List ℕ) → 3 * (answered bytes space).calls ≤ length (answered bytes space).answers

@@ -1,12 +1,14 @@
 -- What `linerun` prints, part by part: a cursor over its lines gives the next part and goes on after it. Only a run makes a cursor,
 -- before its first line (document 01, 'Into firmware and onto the bench').
-use Rattle.std.specs.Prelude.{ℕ, zero, suc, ◌*◌, ◌≤◌, ◌<◌, ◌≡◌, Bool, cond, ◌&&◌, List, [], ◌++◌, ltb, leb, length, Result}
+use Rattle.std.specs.Prelude.{ℕ, zero, suc, ◌*◌, ◌≤◌, ◌<◌, ◌≡◌, Bool, cond, ◌&&◌, List, [], ◌++◌, eqb, ltb, leb, length, Result, Ok, Err}
 use Rattle.machine.specs.Entry.{Outcome, longest_list}
 use Rattle.linerun_report.specs.Lines.{all_lines, part_bytes, line_after, part_from}
 use Rattle.linerun_report.specs.Report.{answer_space, answered, report, Follows}
 use Rattle.std.specs.Result.{result_unwrap_or}
 use Rattle.result_code.specs.Code.{result_code}
+use Rattle.table_check.specs.declared.TableRefusal.TheVariants.{BadHeader, BadLength, BadRights, BadEndpoint}
 use Rattle.run_result.specs.Entry.{entry_refusal_code}
+use Rattle.run_result.specs.declared.EntryRefusal.TheVariants.{ListTooLong, BadTable, SpaceTooSmall}
 use Rattle.linerun_report.specs.declared.Lines.{Lines}
 use Rattle.linerun_report.specs.declared.Refusal.{Refusal}
 use Rattle.linerun_report.specs.declared.Refusal.TheVariants.{Unreadable, Entry}
@@ -43,6 +45,20 @@ pub record FirstLines (o : Outcome) (l : Lines) : Type 0 where
   pub line : line_of l ≡ 0
   pub given : given_of l ≡ 0
 
+-- the refusal that has a code: 1 to 6 are the entry's, and 7 is the program's own
+abbrev pub refusal_of : ℕ → Refusal
+refusal_of code =
+    cond (eqb code 1) (Entry ListTooLong)
+    (cond (eqb code 2) (Entry (BadTable BadHeader))
+    (cond (eqb code 3) (Entry (BadTable BadLength))
+    (cond (eqb code 4) (Entry (BadTable BadRights))
+    (cond (eqb code 5) (Entry (BadTable BadEndpoint))
+    (cond (eqb code 6) (Entry SpaceTooSmall) Unreadable)))))
+
+-- such a cursor, made of the outcome
+unfoldable pub first_lines : Outcome → Lines
+first_lines o = record { ran = cond (eqb o.code 0) (Ok o.calls) (Err (refusal_of o.code)); line = 0; given = 0 }
+
 -- all lines were given
 unfoldable pub ended : Lines → Bool
 ended l = ltb (calls_of l) (line_of l)
@@ -71,10 +87,13 @@ parts_from zero l answers space = []
 parts_from (suc most) l answers space =
     cond (ended l) [] (part_of l answers space ++ parts_from most (advanced l answers space) answers space)
 
--- The parts from line 0 on concatenate to the report, where there is space for the longest part. There are no more parts than lines.
+-- The parts from line 0 on concatenate to the report, where there is space for the longest part, from every cursor before the first
+-- line of what is answered; and for every input there is one. There are no more parts than lines.
 abbrev pub PartsAreReport : Type 0
-PartsAreReport = (bytes : List ℕ) (l : Lines) (space most : ℕ) → FirstLines (answered bytes answer_space) l → part_bytes ≤ space
-    → longest_list < most → parts_from most l (answered bytes answer_space).answers space ≡ report bytes
+PartsAreReport =
+    ((bytes : List ℕ) (l : Lines) (space most : ℕ) → FirstLines (answered bytes answer_space) l → part_bytes ≤ space
+    → longest_list < most → parts_from most l (answered bytes answer_space).answers space ≡ report bytes)
+    × ((bytes : List ℕ) → FirstLines (answered bytes answer_space) (first_lines (answered bytes answer_space)))
 
 -- what a cursor will print of the bytes read, where the input ended after them or not: from line 0 on their report, and so that of
 -- the whole input, whatever else is in it
