@@ -5,7 +5,7 @@ ghost use Rattle.machine.specs.Table.{domains};
 ghost use Rattle.reachability.specs.Chain.{link_words};
 ghost use Rattle.isolation_theory.specs.Component.{joined, component};
 
-use reachability::steps::step_words;
+use reachability::steps::{Steps, step_words};
 use reachability::{bit, closure};
 use table_layout::rights;
 
@@ -17,13 +17,30 @@ fn joins(table: &[u32], n: u32, u: u32, v: u32) -> bool
     rights(table, n, u, v).has_any() | rights(table, n, v, u).has_any()
 }
 
+// The joins of a table of n domains.
+#[derive(Drop)]
+struct TableJoins<'a> {
+    table: &'a [u32],
+    n: u32,
+    ghost counted: { n ≡ domains table.now },
+}
+
+impl<'a> Steps for TableJoins<'a> {
+    ghost has = { λ joins. joined joins.table.now };
+
+    // Returns whether either of two domains has a right on the other.
+    fn has_step(&self, u: u32, v: u32) -> bool {
+        joins(self.table, self.n, u, v)
+    }
+}
+
 // Returns the words of all n domains, from the first place on.
 fn joined_words(table: &[u32], n: u32) -> [u32; 16]
     requires domains { n ≡ domains table.now }
     requires few { n ≤ 16 }
     ensures { take n result ≡ link_words n (joined table.now) }
 {
-    step_words(n, |u, v| joins(table, n, u, v))
+    step_words(n, &TableJoins { table, n })
 }
 
 // Returns the connected component of a domain below n.

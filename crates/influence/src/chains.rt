@@ -6,7 +6,7 @@ ghost use Rattle.reachability.specs.Chain.{link_words};
 ghost use Rattle.influence.specs.Reported.{reaches_in};
 
 use potential::places::cell_at;
-use reachability::steps::step_words;
+use reachability::steps::{Steps, step_words};
 use reachability::{bit, closure};
 use table_layout::word;
 
@@ -19,12 +19,31 @@ fn reaches(rights: &[u32], n: u32, actors: u32, u: u32, v: u32) -> bool
     acts & (word(rights, cell_at(n, u, v)) != 0)
 }
 
+// The steps in a matrix of n domains, of those that act.
+#[derive(Drop)]
+struct MatrixSteps<'a> {
+    rights: &'a [u32],
+    n: u32,
+    actors: u32,
+}
+
+impl<'a> Steps for MatrixSteps<'a> {
+    ghost has = { λ steps. reaches_in steps.n steps.actors steps.rights.now };
+
+    // Returns whether a domain acts and has some right on another.
+    fn has_step(&self, u: u32, v: u32) -> bool {
+        let actors = self.actors;
+        u < 32 && reaches(self.rights, self.n, actors, u, v)
+    }
+}
+
 // Returns the words of all n domains, from the first place on.
 fn reach_words(rights: &[u32], n: u32, actors: u32) -> [u32; 16]
     requires { n ≤ 16 }
     ensures { take n result ≡ link_words n (reaches_in n actors rights.now) }
 {
-    step_words(n, |u, v| reaches(rights, n, actors, u, v))
+    let steps = MatrixSteps { rights, n, actors };
+    step_words(n, &steps)
 }
 
 // Returns the set of all that have a chain to a domain below n, that domain included.

@@ -1,5 +1,5 @@
 -- Chains of steps, of any length, and the claim that the closure holds exactly those that have one.
-use Rattle.std.specs.Prelude.{ℕ, ◌^◌, ◌<◌, ◌≡◌, Bool, true, ◌&&◌, ◌↔◌, List, ltb, get_or}
+use Rattle.std.specs.Prelude.{ℕ, ◌^◌, ◌≡◌, Bool, true, ◌&&◌, ◌↔◌, List, ltb, get_or}
 use Rattle.machine.specs.Below.{has_bit, words_below, bits_below}
 use Rattle.reachability.specs.Closure.{closed}
 
@@ -21,10 +21,6 @@ ClosedExactly =
 -- the relation r among the numbers below n, as words: bit u of word v is set where u is related to v
 unfoldable pub link_words : ℕ → (ℕ → ℕ → Bool) → List ℕ
 link_words n r = words_below n (λ v. bits_below n (λ u. r u v))
-
--- what a test may return of each two below n, post, is the relation r of them
-abbrev pub Tells : (ℕ → ℕ → Bool → Type 0) → ℕ → (ℕ → ℕ → Bool) → Type 0
-Tells post n r = (u v : ℕ) (b : Bool) → u < n → v < n → post u v b → b ≡ r u v
 
 -- u is related to v, and both are below n
 unfoldable pub among : ℕ → (ℕ → ℕ → Bool) → ℕ → ℕ → Bool

@@ -7,20 +7,19 @@ use Rattle.reachability.proofs.steps.step_words.Goals as goal
 
 pub loop-v-init : goal.loop-v-init
 unfolding words_below
-loop-v-init g c = (refl, λ r tells. refl)
+loop-v-init g c = (refl, refl)
 
 pub loop-v-preserved : goal.loop-v-preserved
 loop-v-preserved g c =
     let inv = c.loop-v.invariant in (
       simp length-set inv.0,
-      λ r tells.
-          ap (λ w. take (c.loop-v.v + 1) (slice_set c.loop-v.words c.loop-v.v w)) (c.step_word.ensures r tells)
-          ∙ words_next (λ v. bits_below c.args.n (λ u. r u v)) c.loop-v.words c.loop-v.v (omega arith) (inv.1 r tells),
+      ap (λ w. take (c.loop-v.v + 1) (slice_set c.loop-v.words c.loop-v.v w)) c.step_word.ensures
+          ∙ words_next _ c.loop-v.words c.loop-v.v (omega arith) inv.1,
     )
 
 pub returns : goal.returns
 unfolding link_words
 returns g c =
-    λ r tells.
-    let all : c.loop-v.v ≡ c.args.n = omega arith in
-    subst (λ k. take k c.loop-v.words ≡ words_below k (λ v. bits_below c.args.n (λ u. r u v))) all (c.loop-v.invariant.1 r tells)
+    let all : c.loop-v.v ≡ c.min-few.result = omega arith in
+    subst (λ k. take k c.loop-v.words ≡ words_below k (λ v. bits_below k (λ u. g.S.Steps.has c.args.steps.now u v))) c.min-few.ensures
+    (subst (λ k. take k c.loop-v.words ≡ words_below k (λ v. bits_below c.min-few.result (λ u. g.S.Steps.has c.args.steps.now u v))) all c.loop-v.invariant.1)
