@@ -155,7 +155,7 @@ constexpr size_t balkwizu_count(Element (&)[Number]) noexcept
  *     balkwizu_table_check: general and xmm registers, aligned stack
  *     balkwizu_version: general registers
  *     balkwizu_who_reaches: general registers
- *     balkwizu_write: general registers, red zone, unmarked jumps
+ *     balkwizu_write: general and xmm registers, aligned stack, unmarked jumps
  *   libbalkwizu_turns.a
  *     balkwizu_hand_in: general and xmm registers, aligned stack
  *     balkwizu_step: general and xmm registers, aligned stack, unmarked jumps
@@ -192,7 +192,7 @@ constexpr size_t balkwizu_count(Element (&)[Number]) noexcept
  */
 #define BALKWIZU_RUN_INSTRUCTIONS(words) (5800u + 350u * (words))
 #define BALKWIZU_RUN_WORKING_INSTRUCTIONS(words) (12400u + 175u * (words))
-#define BALKWIZU_RUN_BY_LENGTH_INSTRUCTIONS(words) (28000u + 175u * (words))
+#define BALKWIZU_RUN_BY_LENGTH_INSTRUCTIONS(words) (26000u + 175u * (words))
 #define BALKWIZU_TABLE_CHECK_INSTRUCTIONS 4300u
 #define BALKWIZU_COMPONENT_INSTRUCTIONS 12600u
 #define BALKWIZU_REPAIR_INSTRUCTIONS 17400u
